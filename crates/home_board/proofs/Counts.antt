@@ -24,3 +24,14 @@ checkers-by_point (a ∷ b ∷ c ∷ d ∷ e ∷ f ∷ g ∷ xs) h = absurd (ome
 pub checkers-none : (x : List ℕ) (p : ℕ) → length x ≡ 6 → p < 1 → ((q : ℕ) → p < q → count x q ≡ 0) → checkers x ≡ 0
 checkers-none x p h low empty =
     omega (arith, checkers-by_point x h, empty 1 (omega arith), empty 2 (omega arith), empty 3 (omega arith), empty 4 (omega arith), empty 5 (omega arith), empty 6 (omega arith))
+
+-- a list of six is its six elements
+pub listed-six : (x : List ℕ) → length x ≡ 6 → get_or x 0 0 ∷ get_or x 1 0 ∷ get_or x 2 0 ∷ get_or x 3 0 ∷ get_or x 4 0 ∷ get_or x 5 0 ∷ [] ≡ x
+listed-six [] h = absurd (omega arith)
+listed-six (a ∷ []) h = absurd (omega arith)
+listed-six (a ∷ b ∷ []) h = absurd (omega arith)
+listed-six (a ∷ b ∷ c ∷ []) h = absurd (omega arith)
+listed-six (a ∷ b ∷ c ∷ d ∷ []) h = absurd (omega arith)
+listed-six (a ∷ b ∷ c ∷ d ∷ e ∷ []) h = absurd (omega arith)
+listed-six (a ∷ b ∷ c ∷ d ∷ e ∷ f ∷ []) h = refl
+listed-six (a ∷ b ∷ c ∷ d ∷ e ∷ f ∷ g ∷ xs) h = absurd (omega arith)

@@ -4,5 +4,7 @@
 #![tactic(auto)]
 
 pub use position::{MAX_BOUND, Position, TooMany};
+pub use text::{PositionFault, parse_position, write_position};
 
 pub mod position;
+pub mod text;
