@@ -5,5 +5,4 @@ ghost use Rattle.race_model.specs.Plays.{Step};
 /// An unfinished position has a step for every die (the bearing-off rules of backgammon).
 pub fn law_playable()
     ensures { (x : Board) (d : Die) → IsPosition x → ¬ IsFinished x → (y : Board) × Step x d y }
-{
-}
+{}
