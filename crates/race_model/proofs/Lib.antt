@@ -1,2 +1,4 @@
 pub mod Points
 pub mod Steps
+pub mod Throws
+pub mod Results
