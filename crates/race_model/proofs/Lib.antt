@@ -2,3 +2,5 @@ pub mod Points
 pub mod Steps
 pub mod Throws
 pub mod Results
+pub mod Sums
+pub mod Histories

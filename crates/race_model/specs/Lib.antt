@@ -5,3 +5,6 @@ pub mod Ranks
 pub mod Files
 pub mod LocalEquations
 pub mod FirstFault
+pub mod Strategies
+pub mod RightFiles
+pub mod BuiltFile
