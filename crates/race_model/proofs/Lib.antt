@@ -4,3 +4,4 @@ pub mod Throws
 pub mod Results
 pub mod Sums
 pub mod Histories
+pub mod Horizons

@@ -8,3 +8,4 @@ pub mod FirstFault
 pub mod Strategies
 pub mod RightFiles
 pub mod BuiltFile
+pub mod Horizon

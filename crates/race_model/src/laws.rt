@@ -3,7 +3,7 @@
 
 pub use dice::law_rolls;
 pub use plays::{law_playable, law_results, law_reversed};
-pub use strategies::{law_scale, law_turn};
+pub use strategies::{law_horizon, law_scale, law_turn};
 
 pub mod dice;
 pub mod plays;

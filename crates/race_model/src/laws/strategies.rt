@@ -1,7 +1,8 @@
-ghost use Rattle.std.specs.Prelude.{◌≡◌, ℕ, zero, suc, ◌+◌, ◌*◌, ◌^◌, sum_by};
-ghost use Rattle.race_model.specs.Positions.{Board};
+ghost use Rattle.std.specs.Prelude.{◌≡◌, ℕ, zero, suc, ◌+◌, ◌*◌, ◌^◌, ◌<◌, ◌≤◌, sum_by};
+ghost use Rattle.race_model.specs.Positions.{Board, IsPosition, pips};
 ghost use Rattle.race_model.specs.Dice.{Throw, throws};
-ghost use Rattle.race_model.specs.Strategies.{Strategy, turn, total_over, count_over, IsWithin};
+ghost use Rattle.race_model.specs.Horizon.{most_rolls};
+ghost use Rattle.race_model.specs.Strategies.{Strategy, turn, Fits, total_over, count_over, count_of, IsWithin, EndsIn};
 
 /// What a turn adds, for every m. Its rolls over all sequences of m + 1 throws are one for each of these
 /// 36 ^ (m + 1) sequences and those of its branches over all sequences of m throws; and it needs k + 1 rolls
@@ -17,4 +18,16 @@ pub fn law_turn()
 pub fn law_scale()
     ensures total { (m : ℕ) (s : Strategy) → IsWithin m s → total_over (suc m) s ≡ 36 * total_over m s }
     ensures count { (m : ℕ) (s : Strategy) (k : ℕ) → IsWithin m s → count_over (suc m) s k ≡ 36 * count_over m s k }
+{}
+
+/// How long a game can take, however it is played. From at most 58 pips it is over within 22 rolls, so that the
+/// sequences of 22 throws cut no game short, and from any position within the most rolls of its pip count, so
+/// that no strategy ever needs more: each roll after which a checker remains takes at least 6 from
+/// 2 * pips + checkers, and 1 more where a checker stands above point 1 (the bearing-off rules of backgammon).
+pub fn law_horizon()
+    ensures ends { (x : Board) → IsPosition x → pips x ≤ 58 → EndsIn 22 x }
+    ensures turns { (x : Board) (s : Strategy) → IsPosition x → pips x ≤ 58 → Fits s x → IsWithin 22 s }
+    ensures most { (x : Board) (s : Strategy) → IsPosition x → Fits s x → IsWithin (most_rolls (pips x)) s }
+    ensures beyond { (x : Board) (s : Strategy) (k : ℕ) → IsPosition x → Fits s x → most_rolls (pips x) < k → count_of s k ≡ 0 }
+    ensures limit { (p : ℕ) → p ≤ 58 → most_rolls p ≤ 22 }
 {}
