@@ -1,5 +1,5 @@
 -- Dice, throws and rolls. Source: the rules of backgammon; the index of a roll is this project's profile.
-use Rattle.std.specs.Prelude.{◌≡◌, ℕ, ◌+◌, ◌-◌, ◌*◌, ◌/◌, ◌≤◌, min, max, Bool, ◌==◌, if◌then◌else◌, List, [], ◌∷◌, flat_map, map, slice_index_or}
+use Rattle.std.specs.Prelude.{ℕ, ◌+◌, ◌-◌, ◌*◌, ◌/◌, ◌≤◌, min, max, ◌==◌, if◌then◌else◌, List, [], ◌∷◌, flat_map, map, slice_index_or}
 
 -- a die
 pub data Die : Type 0 where
@@ -40,7 +40,6 @@ throws = flat_map (λ a. map (λ b. record { first = a; second = b }) dice) dice
 abbrev pub IsRoll : Throw → Type 0
 IsRoll v = number v.second ≤ number v.first
 
-
 -- the 21 rolls, in the order of their index
 unfoldable pub all_rolls : List Throw
 all_rolls = flat_map (λ a. map (λ b. record { first = a; second = b }) (dice_to a)) dice where
@@ -61,6 +60,7 @@ abbrev pub roll_index : Throw → ℕ
 roll_index v = high * (high - 1) / 2 + low - 1 where
   high : ℕ
   high = max (number v.first) (number v.second)
+
   low : ℕ
   low = min (number v.first) (number v.second)
 

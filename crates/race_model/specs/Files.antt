@@ -1,5 +1,5 @@
 -- The database file: a header, then a record for each rank. Source: this project's profile.
-use Rattle.std.specs.Prelude.{◌≡◌, ℕ, ◌+◌, ◌-◌, ◌*◌, ◌^◌, ◌≤◌, List, [], ◌∷◌, ◌++◌, length, take, drop, replicate, sum, codes}
+use Rattle.std.specs.Prelude.{◌≡◌, ℕ, ◌+◌, ◌*◌, ◌≤◌, List, ◌++◌, length, take, drop, replicate, codes}
 use Rattle.std.specs.Int.{w16, w32, w128, from_be_bytes, to_be_bytes}
 use Rattle.race_model.specs.Positions.{Board}
 use Rattle.race_model.specs.Dice.{Throw, roll_index}

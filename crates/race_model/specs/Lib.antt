@@ -6,3 +6,7 @@ pub mod Ranks
 pub mod Files
 pub mod LocalEquations
 pub mod FirstFault
+pub mod Strategies
+pub mod RightFiles
+pub mod BuiltFile
+pub mod Horizon

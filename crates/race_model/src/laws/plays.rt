@@ -1,9 +1,31 @@
-ghost use Rattle.race_model.specs.Positions.{Board, IsPosition, IsFinished};
-ghost use Rattle.race_model.specs.Dice.{Die};
-ghost use Rattle.race_model.specs.Plays.{Step};
+ghost use Rattle.std.specs.Prelude.{◌≡◌, ℕ, ◌<◌, ◌≤◌, ◌↔◌, List};
+ghost use Rattle.race_model.specs.Positions.{Board, IsPosition, IsFinished, finished, pips};
+ghost use Rattle.race_model.specs.Dice.{Die, Throw, reversed, IsRoll, roll_at};
+ghost use Rattle.race_model.specs.Plays.{Step, Legal};
+ghost use Rattle.race_model.specs.LocalEquations.{IsPlayed, IsBest};
 
 /// An unfinished position has a step for every die (the bearing-off rules of backgammon).
 pub fn law_playable()
     ensures { (x : Board) (d : Die) → IsPosition x → ¬ IsFinished x → (y : Board) × Step x d y }
-{
-}
+{}
+
+/// A throw leads where the throw that shows the same dice the other way round leads. So plays that are
+/// recorded for the 21 rolls are recorded for the 36 throws, and are least there if they are for the rolls
+/// (the bearing-off rules of backgammon).
+pub fn law_reversed()
+    ensures legal { (x : Board) (v : Throw) (y : Board) → Legal x v y ↔ Legal x (reversed v) y }
+    ensures played { (f : List ℕ) (x : Board) → ((i : ℕ) → i < 21 → IsPlayed f x (roll_at i)) → (v : Throw) → IsPlayed f x v }
+    ensures best { (f : List ℕ) (x : Board) → ((i : ℕ) → i < 21 → IsBest f x (roll_at i)) → (v : Throw) → IsBest f x v }
+{}
+
+/// What a throw may lead to from a position: always somewhere, to a position, with no more pips, and with
+/// fewer where a checker was left. From the finished position, which is the one with six empty points, it
+/// leads to that one alone (the bearing-off rules of backgammon).
+pub fn law_results()
+    ensures some { (x : Board) (v : Throw) → (y : Board) × Legal x v y }
+    ensures position { (x : Board) (v : Throw) (y : Board) → IsPosition x → Legal x v y → IsPosition y }
+    ensures pips { (x : Board) (v : Throw) (y : Board) → Legal x v y → pips y ≤ pips x }
+    ensures fewer_pips { (x : Board) (v : Throw) (y : Board) → ¬ IsFinished x → Legal x v y → pips y < pips x }
+    ensures at_end { (x : Board) (v : Throw) (y : Board) → IsFinished x → Legal x v y ↔ (y ≡ x) }
+    ensures end { (x : Board) → IsPosition x → IsFinished x → x ≡ finished }
+{}

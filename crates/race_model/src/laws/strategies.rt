@@ -1,0 +1,33 @@
+ghost use Rattle.std.specs.Prelude.{◌≡◌, ℕ, zero, suc, ◌+◌, ◌*◌, ◌^◌, ◌<◌, ◌≤◌, sum_by};
+ghost use Rattle.race_model.specs.Positions.{Board, IsPosition, pips};
+ghost use Rattle.race_model.specs.Dice.{Throw, throws};
+ghost use Rattle.race_model.specs.Horizon.{most_rolls};
+ghost use Rattle.race_model.specs.Strategies.{Strategy, turn, Fits, total_over, count_over, count_of, IsWithin, EndsIn};
+
+/// What a turn adds, for every m. Its rolls over all sequences of m + 1 throws are one for each of these
+/// 36 ^ (m + 1) sequences and those of its branches over all sequences of m throws; and it needs k + 1 rolls
+/// just where the branch of the first throw needs k, and never none.
+pub fn law_turn()
+    ensures total { (m : ℕ) (to : Throw → Board) (next : Throw → Strategy) → total_over (suc m) (turn to next) ≡ 36 ^ suc m + sum_by (λ v. total_over m (next v)) throws }
+    ensures count { (m : ℕ) (to : Throw → Board) (next : Throw → Strategy) (k : ℕ) → count_over (suc m) (turn to next) (suc k) ≡ sum_by (λ v. count_over m (next v) k) throws }
+    ensures none { (m : ℕ) (to : Throw → Board) (next : Throw → Strategy) → count_over (suc m) (turn to next) zero ≡ 0 }
+{}
+
+/// What a throw more does, for every m: a strategy of at most m turns has over all sequences of m + 1 throws
+/// 36 times the rolls that it has over those of m throws, and 36 times the sequences for each number of rolls.
+pub fn law_scale()
+    ensures total { (m : ℕ) (s : Strategy) → IsWithin m s → total_over (suc m) s ≡ 36 * total_over m s }
+    ensures count { (m : ℕ) (s : Strategy) (k : ℕ) → IsWithin m s → count_over (suc m) s k ≡ 36 * count_over m s k }
+{}
+
+/// How long a game can take, however it is played. From at most 58 pips it is over within 22 rolls, so that the
+/// sequences of 22 throws cut no game short, and from any position within the most rolls of its pip count, so
+/// that no strategy ever needs more: each roll after which a checker remains takes at least 6 from
+/// 2 * pips + checkers, and 1 more where a checker stands above point 1 (the bearing-off rules of backgammon).
+pub fn law_horizon()
+    ensures ends { (x : Board) → IsPosition x → pips x ≤ 58 → EndsIn 22 x }
+    ensures turns { (x : Board) (s : Strategy) → IsPosition x → pips x ≤ 58 → Fits s x → IsWithin 22 s }
+    ensures most { (x : Board) (s : Strategy) → IsPosition x → Fits s x → IsWithin (most_rolls (pips x)) s }
+    ensures beyond { (x : Board) (s : Strategy) (k : ℕ) → IsPosition x → Fits s x → most_rolls (pips x) < k → count_of s k ≡ 0 }
+    ensures limit { (p : ℕ) → p ≤ 58 → most_rolls p ≤ 22 }
+{}
