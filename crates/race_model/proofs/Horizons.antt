@@ -72,7 +72,7 @@ abbrev Weighs : ℕ → Board → Type 0
 Weighs n x = IsShort n (pips x) (checkers x)
 
 -- dice that differ show different numbers
-numbers_apart : (a b : Die) → a ≢ b → number a ≢ number b
+pub numbers_apart : (a b : Die) → a ≢ b → number a ≢ number b
 numbers_apart one one apart = absurd (apart refl)
 numbers_apart one two apart = omega arith
 numbers_apart one three apart = omega arith

@@ -5,3 +5,7 @@ pub mod Results
 pub mod Sums
 pub mod Histories
 pub mod Horizons
+pub mod Totals
+pub mod FromLocal
+pub mod FromRight
+pub mod Right

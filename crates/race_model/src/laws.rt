@@ -3,8 +3,10 @@
 
 pub use dice::law_rolls;
 pub use plays::{law_playable, law_results, law_reversed};
+pub use right_files::law_right;
 pub use strategies::{law_horizon, law_scale, law_turn};
 
 pub mod dice;
 pub mod plays;
+pub mod right_files;
 pub mod strategies;
