@@ -4,3 +4,4 @@
 //! facts about the definitions that the crates above may use. It stands on `std` alone.
 #![tactic(auto)]
 
+pub mod laws;

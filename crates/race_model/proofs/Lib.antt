@@ -1,0 +1,3 @@
+pub mod BoxCounts
+pub mod RankCounts
+pub mod RankOrder
