@@ -3,10 +3,12 @@
 
 pub use dice::law_rolls;
 pub use plays::{law_playable, law_results, law_reversed};
+pub use ranks::{law_counts, law_rank};
 pub use right_files::law_right;
 pub use strategies::{law_horizon, law_scale, law_turn};
 
 pub mod dice;
 pub mod plays;
+pub mod ranks;
 pub mod right_files;
 pub mod strategies;
