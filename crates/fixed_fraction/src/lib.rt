@@ -3,5 +3,7 @@
 #![tactic(auto)]
 
 pub use scaled::{MOST, Scaled, WHOLE, pull};
+pub use spread::Spread;
 
 pub mod scaled;
+pub mod spread;

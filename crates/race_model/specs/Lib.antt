@@ -4,6 +4,7 @@ pub mod Plays
 pub mod PositionText
 pub mod Ranks
 pub mod Files
+pub mod Headers
 pub mod LocalEquations
 pub mod FirstFault
 pub mod Strategies
