@@ -9,3 +9,6 @@ pub mod Totals
 pub mod FromLocal
 pub mod FromRight
 pub mod Right
+pub mod Spreads
+pub mod RightFacts
+pub mod Built

@@ -9,3 +9,4 @@ pub mod Strategies
 pub mod RightFiles
 pub mod BuiltFile
 pub mod Horizon
+pub mod Losses
