@@ -1,6 +1,6 @@
 -- A right file meets the local equations: its strategy is the same with one turn more, and the strategy that
 -- plays otherwise at one throw has no lower total.
-use Rattle.std.proofs.Common.{◌≡◌, ⊎_elim, ℕ, zero, suc, ◌+◌, ◌*◌, ◌≤◌, List, sum_by, Bool, true, false, ◌&&◌, eqb, cond, refl, ap, sym, subst, ◌∙◌, arith, le_trans, le_of_lt, le_of_eq, eqb-true}
+use Rattle.std.proofs.Common.{ap₂, eq-eqb, ◌≡◌, ⊎_elim, ℕ, zero, suc, ◌+◌, ◌*◌, ◌≤◌, List, sum_by, Bool, true, false, ◌&&◌, eqb, cond, refl, ap, sym, subst, ◌∙◌, arith, le_trans, le_of_lt, le_of_eq, eqb-true}
 use Rattle.race_model.specs.Positions.{Board, IsPosition, IsFinished, pips}
 use Rattle.race_model.specs.Dice.{Die, one, two, three, four, five, six, number, Throw, throws}
 use Rattle.race_model.specs.Plays.{Legal}
@@ -18,7 +18,7 @@ use Rattle.race_model.proofs.Totals.{total_of_turn, count_of_turn, count_of_turn
 use Rattle.race_model.proofs.FromLocal.{follow_finished, follow_unfinished, means_by_rolls, shares_by_rolls}
 
 -- the two throws show the same dice in the same order
-abbrev is_throw : Throw → Throw → Bool
+abbrev pub is_throw : Throw → Throw → Bool
 is_throw v u = eqb (number v.first) (number u.first) && eqb (number v.second) (number u.second)
 
 -- dice that show the same number are the same
@@ -26,7 +26,7 @@ same_number : (a b : Die) → number a ≡ number b → a ≡ b
 same_number a b e = ⊎_elim (λ same. same) (λ apart. absurd (numbers_apart a b apart e)) (same_die a b)
 
 -- .. and then they are the same throw
-same_throw : (v u : Throw) → is_throw v u ≡ true → v ≡ u
+pub same_throw : (v u : Throw) → is_throw v u ≡ true → v ≡ u
 same_throw v u e =
     let parts = both (eqb (number v.first) (number u.first)) (eqb (number v.second) (number u.second)) e in
     let first = same_number v.first u.first (eqb-true _ _ parts.0) in
@@ -38,8 +38,12 @@ same_throw v u e =
     both false b e = absurd (cc)
 
 -- the plays of a strategy, but for one throw
-abbrev otherwise_at : Throw → Board → (Throw → Board) → Throw → Board
+abbrev pub otherwise_at : Throw → Board → (Throw → Board) → Throw → Board
 otherwise_at v z to u = cond (is_throw v u) z (to u)
+
+-- .. and at that throw the play is the other one
+pub otherwise_here : (v : Throw) (z : Board) (to : Throw → Board) → otherwise_at v z to v ≡ z
+otherwise_here v z to = ap₂ (λ b c. cond (b && c) z (to v)) (eq-eqb (number v.first) (number v.first) refl) (eq-eqb (number v.second) (number v.second) refl)
 
 -- a sum over the throws in which one place is another
 one_changed_at : (a b : Die) (g : Board → ℕ) (z : Board) (to : Throw → Board) → sum_by (λ u. g (otherwise_at (record { first = a; second = b }) z to u)) throws + g (to (record { first = a; second = b })) ≡ sum_by (λ u. g (to u)) throws + g z
@@ -82,7 +86,7 @@ one_changed_at six five g z to = omega arith
 one_changed_at six six g z to = omega arith
 
 -- .. at any throw
-one_changed : (v : Throw) (g : Board → ℕ) (z : Board) (to : Throw → Board) → sum_by (λ u. g (otherwise_at v z to u)) throws + g (to v) ≡ sum_by (λ u. g (to u)) throws + g z
+pub one_changed : (v : Throw) (g : Board → ℕ) (z : Board) (to : Throw → Board) → sum_by (λ u. g (otherwise_at v z to u)) throws + g (to v) ≡ sum_by (λ u. g (to u)) throws + g z
 one_changed v g z to = one_changed_at v.first v.second g z to
 
 -- each position of at most the bound of the file is recorded right, and its games are over within 22 rolls
@@ -111,27 +115,27 @@ module _ (f : List ℕ) (right : (x : Board) → IsPosition x → pips x ≤ bou
       to_low : (v : Throw) → pips (to v) ≤ bound_of f
       to_low v = le_trans (legal_pips x v (to v) (legal v)) low
 
-      to_right : (v : Throw) → IsRightAt f (to v)
+      pub to_right : (v : Throw) → IsRightAt f (to v)
       to_right v = right (to v) (to_position v) (to_low v)
 
-      next_within : (v : Throw) → IsWithin 21 (follow f 22 (to v))
+      pub next_within : (v : Throw) → IsWithin 21 (follow f 22 (to v))
       next_within v = fits_within 21 (to v) (follow f 22 (to v)) (ends v (to v) (legal v)) (to_right v).fits
 
-      plan : Strategy
+      unfoldable pub plan : Strategy
       plan = turn to (λ v. follow f 22 (to v))
 
-      plan_fits : Fits plan x
+      pub plan_fits : Fits plan x
       unfolding plan
       plan_fits = (unfinished, λ v. (legal v, (to_right v).fits))
 
-      plan_total : 36 * total plan ≡ 36 * whole + sum_by (λ v. mean f (to v)) throws
+      pub plan_total : 36 * total plan ≡ 36 * whole + sum_by (λ v. mean f (to v)) throws
       unfolding plan
       plan_total =
           let ours = total_of_turn to (λ v. follow f 22 (to v)) next_within in
           let branches = sum_equal (λ v. total (follow f 22 (to v))) (λ v. mean f (to v)) throws (λ v. (to_right v).mean_is) in
           omega (arith, ours, branches)
 
-      plan_count : (k : ℕ) → k ≤ 22 → 36 * count_of plan (suc k) ≡ sum_by (λ v. spread f (to v) k) throws
+      pub plan_count : (k : ℕ) → k ≤ 22 → 36 * count_of plan (suc k) ≡ sum_by (λ v. spread f (to v) k) throws
       unfolding plan
       plan_count k le =
           let ours = count_of_turn to (λ v. follow f 22 (to v)) k next_within in
@@ -139,20 +143,20 @@ module _ (f : List ℕ) (right : (x : Board) → IsPosition x → pips x ≤ bou
           ours ∙ branches
 
     -- what is recorded for a throw is legal
-    goes : (v : Throw) → Legal x v (recorded f x v)
+    pub goes : (v : Throw) → Legal x v (recorded f x v)
     goes v = ((right x at low).played v).legal
 
     -- the strategy that plays what is recorded is the plan to do so and then to go on
-    follow_is_plan : follow f 22 x ≡ plan (recorded f x) goes
+    pub follow_is_plan : follow f 22 x ≡ plan (recorded f x) goes
     unfolding plan
     follow_is_plan = follow_unfinished f 21 x unfinished ∙ ap (turn (recorded f x)) (fun_ext (λ v. sym (follow_more 21 (recorded f x v) (ends v (recorded f x v) (goes v)) (to_position (recorded f x) goes v) (to_low (recorded f x) goes v))))
 
     -- the recorded means of what is recorded
-    recorded_means : sum_by (λ v. mean f (recorded f x v)) throws ≡ sum_by (λ v. mean_at f (play f x v)) throws
+    pub recorded_means : sum_by (λ v. mean f (recorded f x v)) throws ≡ sum_by (λ v. mean_at f (play f x v)) throws
     recorded_means = sum_equal (λ v. mean f (recorded f x v)) (λ v. mean_at f (play f x v)) throws (λ v. ap (mean_at f) ((right x at low).played v).ranked)
 
     -- the mean equation
-    mean_before : 36 * mean f x ≡ 36 * whole + sum_by (λ v. mean f (recorded f x v)) throws
+    pub mean_before : 36 * mean f x ≡ 36 * whole + sum_by (λ v. mean f (recorded f x v)) throws
     mean_before = ap (λ t. 36 * t) (sym (right x at low).mean_is ∙ ap total follow_is_plan) ∙ plan_total (recorded f x) goes
 
     -- the spread equation
@@ -165,20 +169,21 @@ module _ (f : List ℕ) (right : (x : Board) → IsPosition x → pips x ≤ bou
     share_at_start : spread f x 0 ≡ 0
     share_at_start = (right x at low).spread_is 0 (omega arith) ∙ ap (λ s. count_of s 0) (follow_unfinished f 21 x unfinished) ∙ count_of_turn_none (recorded f x) (λ v. follow f 21 (recorded f x v))
 
+    -- to play otherwise at one throw is legal
+    pub otherwise_legal : (v : Throw) (z : Board) → Legal x v z → (u : Throw) → Legal x u (otherwise_at v z (recorded f x) u)
+    otherwise_legal v z leads u = at_test (is_throw v u) refl
+      where
+        at_test : (b : Bool) → is_throw v u ≡ b → Legal x u (cond b z (recorded f x u))
+        at_test true e = subst (λ w. Legal x w z) (same_throw v u e) leads
+        at_test false e = goes u
+
     -- the least equation: the plan that plays to z at one throw has no lower total
-    best_before : (v : Throw) (z : Board) → Legal x v z → mean f (recorded f x v) ≤ mean f z
+    pub best_before : (v : Throw) (z : Board) → Legal x v z → mean f (recorded f x v) ≤ mean f z
     best_before v z leads =
-        let least = (right x at low).least.least (plan (otherwise_at v z (recorded f x)) legal) (plan_fits (otherwise_at v z (recorded f x)) legal) in
-        let theirs = plan_total (otherwise_at v z (recorded f x)) legal in
+        let least = (right x at low).least.least (plan (otherwise_at v z (recorded f x)) (otherwise_legal v z leads)) (plan_fits (otherwise_at v z (recorded f x)) (otherwise_legal v z leads)) in
+        let theirs = plan_total (otherwise_at v z (recorded f x)) (otherwise_legal v z leads) in
         let swapped = one_changed v (mean f) z (recorded f x) in
         omega (arith, least, theirs, swapped, mean_before)
-      where
-        legal : (u : Throw) → Legal x u (otherwise_at v z (recorded f x) u)
-        legal u = at_test (is_throw v u) refl
-          where
-            at_test : (b : Bool) → is_throw v u ≡ b → Legal x u (cond b z (recorded f x u))
-            at_test true e = subst (λ w. Legal x w z) (same_throw v u e) leads
-            at_test false e = goes u
 
   -- the local equations of an unfinished position
   local_before : (x : Board) → IsPosition x → pips x ≤ bound_of f → ¬ IsFinished x → IsLocalAt f x

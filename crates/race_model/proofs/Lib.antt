@@ -12,3 +12,6 @@ pub mod Right
 pub mod BoxCounts
 pub mod RankCounts
 pub mod RankOrder
+pub mod Spreads
+pub mod RightFacts
+pub mod Built

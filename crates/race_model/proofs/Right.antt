@@ -10,7 +10,7 @@ use Rattle.race_model.proofs.FromLocal.{right_at}
 use Rattle.race_model.proofs.FromRight.{local_at}
 
 -- a position of at most the bound of a file to at most 58 pips is over within 22 rolls
-short : (limit : ℕ) (f : List ℕ) → limit ≤ 58 → IsFileTo limit f → (x : Board) → IsPosition x → pips x ≤ bound_of f → EndsIn 22 x
+pub short : (limit : ℕ) (f : List ℕ) → limit ≤ 58 → IsFileTo limit f → (x : Board) → IsPosition x → pips x ≤ bound_of f → EndsIn 22 x
 short limit f small file x at low = ends_in_22 x at (le_trans low (le_trans file.bounded small))
 
 -- a file that meets the local equations is right

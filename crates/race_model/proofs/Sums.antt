@@ -1,5 +1,6 @@
 -- Sums over lists and over the 36 throws.
-use Rattle.std.proofs.Common.{◌≡◌, ℕ, ◌+◌, ◌*◌, ◌≤◌, List, [], ◌∷◌, length, map, flat_map, sum_by, refl, ap, arith}
+use Rattle.std.proofs.Common.{zero, suc, ◌≡◌, ℕ, ◌+◌, ◌*◌, ◌<◌, ◌≤◌, List, [], ◌∷◌, length, map, flat_map, sum_by, refl, ap, arith}
+use Rattle.std.specs.List.{range_with_len}
 use Rattle.std.proofs.lemmas.List.Sums.{sum_by-cons, sum_by-append}
 use Rattle.race_model.specs.Dice.{throws, all_rolls, roll_index}
 use Rattle.race_model.specs.LocalEquations.{weighted}
@@ -48,3 +49,8 @@ throw_count = refl
 pub by_rolls : (g : ℕ → ℕ) → sum_by (λ v. g (roll_index v)) throws ≡ weighted (λ v. g (roll_index v))
 unfolding throws all_rolls
 by_rolls g = omega arith
+
+-- sums over a range of numbers that are equal there
+pub sum_equal_within : (g h : ℕ → ℕ) (a n : ℕ) → ((k : ℕ) → k < a + n → g k ≡ h k) → sum_by g (range_with_len a n) ≡ sum_by h (range_with_len a n)
+sum_equal_within g h a zero e = refl
+sum_equal_within g h a (suc n) e = omega (arith, sum_by-cons g a (range_with_len (a + 1) n), sum_by-cons h a (range_with_len (a + 1) n), e a (omega arith), sum_equal_within g h (a + 1) n (λ k le. e k (omega arith)))

@@ -11,3 +11,4 @@ pub mod Strategies
 pub mod RightFiles
 pub mod BuiltFile
 pub mod Horizon
+pub mod Losses

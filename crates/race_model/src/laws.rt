@@ -2,12 +2,14 @@
 //! caller's proof, and costs nothing when it runs.
 
 pub use dice::law_rolls;
+pub use losses::law_loss;
 pub use plays::{law_playable, law_results, law_reversed};
 pub use ranks::{law_counts, law_rank};
-pub use right_files::law_right;
+pub use right_files::{law_agree, law_right, law_spread};
 pub use strategies::{law_horizon, law_scale, law_turn};
 
 pub mod dice;
+pub mod losses;
 pub mod plays;
 pub mod ranks;
 pub mod right_files;

@@ -1,6 +1,13 @@
-ghost use Rattle.std.specs.Prelude.{ℕ, ◌≤◌, List};
-ghost use Rattle.race_model.specs.LocalEquations.{IsLocal};
+ghost use Rattle.std.specs.Prelude.{◌≡◌, ℕ, ◌+◌, ◌*◌, ◌<◌, ◌≤◌, List, sum_by};
+ghost use Rattle.std.specs.List.{range_with_len};
+ghost use Rattle.race_model.specs.Positions.{Board, IsPosition, pips};
+ghost use Rattle.race_model.specs.Dice.{Throw};
+ghost use Rattle.race_model.specs.Files.{bound_of, mean, play, spread};
+ghost use Rattle.race_model.specs.LocalEquations.{whole, IsLocal};
+ghost use Rattle.race_model.specs.Strategies.{Strategy, Fits, total, count_of};
 ghost use Rattle.race_model.specs.RightFiles.{IsRight};
+ghost use Rattle.race_model.specs.BuiltFile.{IsBuilt};
+ghost use Rattle.race_model.specs.Horizon.{most_rolls};
 
 /// The local equations, which test each record against records of lower rank alone, hold of a list of bytes
 /// exactly where it is a right file: its means are the least over all strategies, also those that look at the
@@ -9,4 +16,23 @@ ghost use Rattle.race_model.specs.RightFiles.{IsRight};
 pub fn law_right()
     ensures right { (limit : ℕ) (f : List ℕ) → limit ≤ 58 → IsLocal limit f → IsRight limit f }
     ensures local { (limit : ℕ) (f : List ℕ) → limit ≤ 58 → IsRight limit f → IsLocal limit f }
+{}
+
+/// Right files agree on the mean of each position of at most the bound of both. Built files of one bound agree
+/// on every number: the builder records of the plays to the least mean the one to the lowest rank.
+pub fn law_agree()
+    ensures right { (limit : ℕ) (f g : List ℕ) → IsRight limit f → IsRight limit g → (x : Board) → IsPosition x → pips x ≤ bound_of f → pips x ≤ bound_of g → mean f x ≡ mean g x }
+    ensures built_means { (limit bound : ℕ) (f g : List ℕ) → limit ≤ 58 → IsBuilt limit bound f → IsBuilt limit bound g → (x : Board) → IsPosition x → pips x ≤ bound → mean f x ≡ mean g x }
+    ensures built_plays { (limit bound : ℕ) (f g : List ℕ) → limit ≤ 58 → IsBuilt limit bound f → IsBuilt limit bound g → (x : Board) (v : Throw) → IsPosition x → pips x ≤ bound → play f x v ≡ play g x v }
+    ensures built_shares { (limit bound : ℕ) (f g : List ℕ) → limit ≤ 58 → IsBuilt limit bound f → IsBuilt limit bound g → (k : ℕ) (x : Board) → k ≤ 22 → IsPosition x → pips x ≤ bound → spread f x k ≡ spread g x k }
+{}
+
+/// The shares of a position. Those of a strategy from at most 58 pips add up to the whole, and each times its
+/// number of rolls to the total; so do those that a right file records, and it records no share beyond the most
+/// rolls of a pip count: a record that leaves these out loses none.
+pub fn law_spread()
+    ensures strategy { (x : Board) (s : Strategy) → IsPosition x → pips x ≤ 58 → Fits s x → sum_by (count_of s) (range_with_len 0 23) ≡ whole }
+    ensures mean { (x : Board) (s : Strategy) → IsPosition x → pips x ≤ 58 → Fits s x → sum_by (λ k. count_of s k * k) (range_with_len 0 23) ≡ total s }
+    ensures recorded { (limit : ℕ) (f : List ℕ) → limit ≤ 58 → IsRight limit f → (x : Board) → IsPosition x → pips x ≤ bound_of f → sum_by (spread f x) (range_with_len 0 23) ≡ whole }
+    ensures beyond { (limit : ℕ) (f : List ℕ) → IsRight limit f → (x : Board) (k : ℕ) → IsPosition x → pips x ≤ bound_of f → most_rolls (pips x) < k → k ≤ 22 → spread f x k ≡ 0 }
 {}

@@ -1,0 +1,10 @@
+-- The plan that plays to the result at that throw and else as recorded is least just where nothing is lost.
+use Rattle.race_model.proofs.RightFacts.{recorded_least, loss_is_loss, begins, no_loss}
+use Rattle.race_model.proofs.laws.losses.law_loss.Goals as goal
+
+pub returns : goal.returns
+returns c = record {
+  least = recorded_least;
+  loss = loss_is_loss;
+  none = λ limit f small right x at low unfinished v y leads. (begins limit f small right x at low unfinished v y leads, λ found. no_loss limit f small right x at low unfinished v y found.0 found.1 found.2 found.3);
+}
