@@ -109,6 +109,15 @@ impl Position {
     }
 }
 
+/// The finished position.
+impl Default for Position {
+    ghost is_default = { λ position. position ≡ finished };
+
+    fn default() -> Self {
+        Position::EMPTY
+    }
+}
+
 /// The order of ranks: fewer pips first, and of as many the smaller list of counts.
 impl Ord for Position {
     ghost cmp = { rank_cmp };
