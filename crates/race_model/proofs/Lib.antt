@@ -15,3 +15,4 @@ pub mod RankOrder
 pub mod Spreads
 pub mod RightFacts
 pub mod Built
+pub mod Bounded

@@ -1,6 +1,7 @@
 //! Facts about the definitions, each on a function with an empty body: a call brings the fact into the
 //! caller's proof, and costs nothing when it runs.
 
+pub use bounds::law_bounds;
 pub use dice::law_rolls;
 pub use losses::law_loss;
 pub use plays::{law_playable, law_results, law_reversed};
@@ -8,6 +9,7 @@ pub use ranks::{law_counts, law_rank};
 pub use right_files::{law_agree, law_right, law_spread};
 pub use strategies::{law_horizon, law_scale, law_turn};
 
+pub mod bounds;
 pub mod dice;
 pub mod losses;
 pub mod plays;
