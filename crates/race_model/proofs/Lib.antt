@@ -12,3 +12,5 @@ pub mod Right
 pub mod Spreads
 pub mod RightFacts
 pub mod Built
+pub mod Needs
+pub mod MostPlays

@@ -3,7 +3,7 @@
 
 pub use dice::law_rolls;
 pub use losses::law_loss;
-pub use plays::{law_playable, law_results, law_reversed};
+pub use plays::{law_most_dice, law_playable, law_results, law_reversed};
 pub use right_files::{law_agree, law_right, law_spread};
 pub use strategies::{law_horizon, law_scale, law_turn};
 
