@@ -9,6 +9,9 @@ pub mod Totals
 pub mod FromLocal
 pub mod FromRight
 pub mod Right
+pub mod BoxCounts
+pub mod RankCounts
+pub mod RankOrder
 pub mod Spreads
 pub mod RightFacts
 pub mod Built

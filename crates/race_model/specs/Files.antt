@@ -28,17 +28,31 @@ pub record IsFileTo (limit : ℕ) (f : List ℕ) : Type 0 where
 abbrev pub record_place : ℕ → ℕ
 record_place r = 32 + 426 * r
 
--- in the record of a rank: the numerator over 36 ^ 22 of the mean number of rolls
-unfoldable pub mean_at : List ℕ → ℕ → ℕ
-mean_at f r = from_be_bytes w128 (bytes_at f (record_place r) 16)
+-- the bytes of the record of a rank
+abbrev pub record_at : List ℕ → ℕ → List ℕ
+record_at f r = bytes_at f (record_place r) 426
+
+-- in the bytes of a record: the numerator over 36 ^ 22 of the mean number of rolls
+unfoldable pub mean_of : List ℕ → ℕ
+mean_of record_bytes = from_be_bytes w128 (bytes_at record_bytes 0 16)
 
 -- .. the rank of the position that a roll leads to
-unfoldable pub play_at : List ℕ → ℕ → ℕ → ℕ
-play_at f r roll = from_be_bytes w16 (bytes_at f (record_place r + 16 + 2 * roll) 2)
+unfoldable pub play_of : List ℕ → ℕ → ℕ
+play_of record_bytes roll = from_be_bytes w16 (bytes_at record_bytes (16 + 2 * roll) 2)
 
 -- .. the numerator over 36 ^ 22 of the share of exactly k rolls
+unfoldable pub share_of : List ℕ → ℕ → ℕ
+share_of record_bytes k = from_be_bytes w128 (bytes_at record_bytes (58 + 16 * k) 16)
+
+-- what the record of a rank says
+unfoldable pub mean_at : List ℕ → ℕ → ℕ
+mean_at f r = mean_of (record_at f r)
+
+unfoldable pub play_at : List ℕ → ℕ → ℕ → ℕ
+play_at f r roll = play_of (record_at f r) roll
+
 unfoldable pub spread_at : List ℕ → ℕ → ℕ → ℕ
-spread_at f r k = from_be_bytes w128 (bytes_at f (record_place r + 58 + 16 * k) 16)
+spread_at f r k = share_of (record_at f r) k
 
 -- the recorded mean of a position, as a numerator over 36 ^ 22
 abbrev pub mean : List ℕ → Board → ℕ

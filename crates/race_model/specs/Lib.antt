@@ -1,8 +1,10 @@
 pub mod Positions
 pub mod Dice
 pub mod Plays
+pub mod PositionText
 pub mod Ranks
 pub mod Files
+pub mod Headers
 pub mod LocalEquations
 pub mod FirstFault
 pub mod Strategies

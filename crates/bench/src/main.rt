@@ -1,0 +1,43 @@
+//! The speed of `results`: a program that runs it over all positions of at most a number of pips (the first
+//! word, else 44) and all 21 rolls, and prints how many results there are. It rests on `legal_plays`; nothing
+//! stands on it.
+#![tactic(auto)]
+
+use home_board::{MAX_BOUND, Position};
+use legal_plays::{Roll, results};
+use std::{env, io};
+
+fn main(rt: HostRuntime) -> io::Result<()> {
+    let mut bound = MAX_BOUND;
+    for word in env::args(&rt)?.skip(1) {
+        bound = word.as_str().parse().unwrap_or(bound);
+    }
+    let count = count_results([0; 6], 6, bound);
+    println!(rt; "pips {bound} results {count}")?;
+    Ok(())
+}
+
+/// How many results the rolls have, over the positions that put checkers with at most these pips on the
+/// points up to `point`, beside the ones in `counts`.
+fn count_results(counts: [u8; 6], point: u8, pips: u8) -> u64 {
+    if point == 0 || point > 6 {
+        return Position::new(counts).map_or(0, |position| count_results_of(&position));
+    }
+    let mut total = 0u64;
+    let mut counts = counts;
+    for count in 0..=pips / point {
+        counts[usize::from(point) - 1] = count;
+        total = total.saturating_add(count_results(counts, point - 1, pips - count * point));
+    }
+    total
+}
+
+fn count_results_of(position: &Position) -> u64 {
+    let mut total = 0u64;
+    for index in 0..21 {
+        if let Some(roll) = Roll::from_index(index) {
+            total = total.saturating_add(results(position, roll).len() as u64);
+        }
+    }
+    total
+}

@@ -1,0 +1,7 @@
+//! The database file as bytes: its header and its records. It rests on `race_model` for the grammar of the
+//! file; the crates above may use that bytes are read exactly where the grammar has them.
+#![tactic(auto)]
+
+pub use record::{RECORD_BYTES, RecordView};
+
+pub mod record;

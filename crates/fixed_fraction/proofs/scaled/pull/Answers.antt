@@ -1,0 +1,50 @@
+use Rattle.std.proofs.Common.{◌+◌, ◌*◌, ◌<◌, ◌≤◌, ◌/◌, length, sum_by, take, arith}
+use Rattle.std.proofs.lemmas.List.{take_all}
+use Rattle.std.proofs.lemmas.List.Sums.{sum_by_more, sum_by_more_le}
+use Rattle.race_model.specs.LocalEquations.{whole}
+use Rattle.fixed_fraction.proofs.Pulls.{part-small, sum-fits, whole-is}
+use Rattle.fixed_fraction.proofs.scaled.pull.Goals as goal
+
+pub loop-weight-init : goal.loop-weight-init
+loop-weight-init c = record { total = omega (arith, whole-is); small = omega (arith, whole-is) }
+
+-- the weights so far and the next one are within 36
+weights : (c : goal.After-numerator) → sum_by (λ part. part.0) (take (c.loop-weight.weight-index + 1) c.args.parts.now) ≤ 36
+weights c =
+    let lt : c.loop-weight.weight-index < length c.args.parts.now = omega arith in
+    let more = sum_by_more (λ part. part.0) c.args.parts.now c.loop-weight.weight-index c.loop-weight-item.result lt in
+    omega (arith, sum_by_more_le (λ part. part.0) c.args.parts.now c.loop-weight.weight-index c.loop-weight-item.result lt, c.requires)
+
+-- the sum with the next part is within the bound by the weights
+bounded : (c : goal.After-numerator) → c.loop-weight.total + c.from.result * c.numerator.result ≤ 36 * whole + sum_by (λ part. part.0) (take (c.loop-weight.weight-index + 1) c.args.parts.now) * (22 * whole)
+bounded c =
+    let lt : c.loop-weight.weight-index < length c.args.parts.now = omega arith in
+    let more = sum_by_more (λ part. part.0) c.args.parts.now c.loop-weight.weight-index c.loop-weight-item.result lt in
+    part-small c.loop-weight.total c.from.result c.numerator.result _ _ (22 * whole) (36 * whole) c.numerator.ensures.range (rw c.from.ensures more) c.loop-weight.invariant.small
+
+pub overflow_mul-total-in-loop-weight : goal.overflow_mul-total-in-loop-weight
+overflow_mul-total-in-loop-weight c =
+    let fits = sum-fits _ _ (weights c) (bounded c) in
+    omega arith
+
+pub overflow_add-total : goal.overflow_add-total
+overflow_add-total c =
+    let fits = sum-fits _ _ (weights c) (bounded c) in
+    omega arith
+
+pub loop-weight-preserved : goal.loop-weight-preserved
+loop-weight-preserved c =
+    let lt : c.loop-weight.weight-index < length c.args.parts.now = omega arith in
+    let more = sum_by_more (λ part. part.0 * part.1) c.args.parts.now c.loop-weight.weight-index c.loop-weight-item.result lt in
+    record {
+      total = rw (more, c.from.ensures, c.numerator.ensures.value) (omega (arith, c.loop-weight.invariant.total));
+      small = bounded c;
+    }
+
+pub returns-then-total-eq0-clause-some : goal.returns-then-total-eq0-clause-some
+returns-then-total-eq0-clause-some c =
+    let all = take_all c.loop-weight.weight-index c.args.parts.now (omega arith) in
+    let total = rw all at c.loop-weight.invariant.total in (
+      λ is. (c.loop-weight.total / 36, c.new.ensures.some.0 is, omega arith),
+      λ w. c.new.ensures.some.1 (omega (arith, w.1, w.2)),
+    )

@@ -1,0 +1,108 @@
+ghost use Rattle.std.specs.Prelude.{◌≡◌, ℕ, ◌<◌, ◌≤◌, ◌↔◌, List, All, IfOk, IfSome, IsNone};
+ghost use Rattle.race_model.specs.Positions.{checkers};
+ghost use Rattle.race_model.specs.PositionText.{count_value, IsPositionText};
+
+use crate::position::{Position, TooMany};
+use arrayvec::{ArrayString, ArrayVec};
+use itoa::Buffer;
+use thiserror::Error;
+
+/// Why a text is refused as a position, in the order of the tests.
+#[derive(Clone, Copy, Debug, PartialEq, Eq, Error)]
+pub enum PositionFault {
+    /// The bytes are no position text.
+    #[error("not a position text")]
+    BadText,
+
+    /// The counts add up to more than 15.
+    #[error("more than 15 checkers")]
+    TooMany,
+}
+
+/// The number that one to three digits state, where the first of several is not 0.
+fn parse_count(text: &[u8]) -> Option<u16>
+    ensures value { result ≡ count_value text.now }
+    ensures range { IfSome result (λ count. count < 1000) }
+{
+    match text {
+        [ones @ b'0'..=b'9'] => Some(u16::from(*ones - b'0')),
+        [tens @ b'1'..=b'9', ones @ b'0'..=b'9'] => {
+            Some(10 * u16::from(*tens - b'0') + u16::from(*ones - b'0'))
+        }
+        [
+            hundreds @ b'1'..=b'9',
+            tens @ b'0'..=b'9',
+            ones @ b'0'..=b'9',
+        ] => Some(
+            100 * u16::from(*hundreds - b'0')
+                + 10 * u16::from(*tens - b'0')
+                + u16::from(*ones - b'0'),
+        ),
+        _ => None,
+    }
+}
+
+/// The six counts that a text states.
+fn parse_counts(text: &[u8]) -> Option<[u16; 6]>
+    ensures read { IfSome result (λ counts. IsPositionText text.now counts × All (λ count. count < 1000) counts) }
+    ensures none { IsNone result → (counts : List ℕ) → ¬ IsPositionText text.now counts }
+{
+    let mut counts: ArrayVec<u16, 6> = ArrayVec::new();
+    for part in text.split(|byte| *byte == b',') {
+        let count = parse_count(part)?;
+        if counts.is_full() {
+            return None;
+        }
+        counts.push(count);
+    }
+    match counts.as_slice() {
+        [ones, twos, threes, fours, fives, sixes] => {
+            Some([*ones, *twos, *threes, *fours, *fives, *sixes])
+        }
+        _ => None,
+    }
+}
+
+/// The position that a text states: six counts of one to three digits with commas between, that of point 1
+/// first (this project's profile). Refused as `BadText` where the bytes are no such text, and as `TooMany`
+/// where the counts add up to more than 15.
+pub fn parse_position(text: &[u8]) -> Result<Position, PositionFault>
+    ensures read { IfOk result (λ position. IsPositionText text.now position) }
+    ensures bad_text { (result ≡ Err PositionFault.BadText) ↔ ((counts : List ℕ) → ¬ IsPositionText text.now counts) }
+    ensures too_many { (result ≡ Err PositionFault.TooMany) ↔ ((counts : List ℕ) × (IsPositionText text.now counts × (15 < checkers counts))) }
+{
+    let [ones, twos, threes, fours, fives, sixes] = parse_counts(text).ok_or(
+        PositionFault::BadText,
+    )?;
+    if ones + twos + threes + fours + fives + sixes > 15 {
+        return Err(PositionFault::TooMany);
+    }
+    let counts = [
+        ones as u8,
+        twos as u8,
+        threes as u8,
+        fours as u8,
+        fives as u8,
+        sixes as u8,
+    ];
+    match Position::new(counts) {
+        Ok(position) => Ok(position),
+        Err(TooMany) => Err(PositionFault::TooMany),
+    }
+}
+
+/// The text of a position: its six counts in decimal with commas between, that of point 1 first.
+pub fn write_position(position: &Position) -> ArrayString<12>
+    ensures { IsPositionText result.bytes position.now }
+{
+    let mut text = ArrayString::new();
+    for written in 0..6 {
+        let count = position.count(written + 1);
+        if written > 0 {
+            text.push_str(",");
+        }
+        let mut buffer = Buffer::new();
+        text.push_str(buffer.format(count));
+    }
+    text
+}

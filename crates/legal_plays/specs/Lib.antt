@@ -1,0 +1,3 @@
+pub mod Faces
+pub mod RankOrder
+pub mod Reach

@@ -1,0 +1,15 @@
+//! Dice, and what a roll can do with a position: the steps of a die, the positions that a roll can reach,
+//! and the play that reaches one of them. It rests on `home_board` for positions and on `race_model` for the
+//! rules; the crates above may use that `results` has exactly the legal positions, each once and by rising
+//! rank, and that `play_to` is the first play to its target, which exists exactly where the target is legal.
+#![tactic(auto)]
+
+pub use die::Die;
+pub use reach::results;
+pub use roll::Roll;
+pub use steps::step;
+
+pub mod die;
+pub mod reach;
+pub mod roll;
+pub mod steps;

@@ -1,0 +1,99 @@
+//! The positions that a roll can reach.
+ghost use Rattle.std.specs.Prelude.{◌≡◌, ℕ, ◌+◌, ◌*◌, ◌^◌, ◌<◌, ◌≤◌, ◌↔◌, ◌⊎◌, List, length, Contains};
+ghost use Rattle.arrayvec.specs.ArrayVec.{array_vec_len};
+ghost use Rattle.race_model.specs.Positions.{IsFinished};
+ghost use Rattle.race_model.specs.Plays.{Step, Run, Legal};
+ghost use Rattle.legal_plays.specs.RankOrder.{IsInRankOrder, IsAscending};
+ghost use Rattle.legal_plays.specs.Reach.{Turns};
+
+use crate::{Die, Roll, step};
+use arrayvec::ArrayVec;
+use home_board::Position;
+
+// Adds a position to those found, which stay in order, unless it is there.
+fn include(found: &mut ArrayVec<Position, 1296>, position: Position)
+    requires room { array_vec_len found.old < 1296 }
+    requires ordered { IsAscending found.old.items }
+    ensures members { (y : List ℕ) → Contains found.new.items y ↔ (Contains found.old.items y ⊎ (y ≡ position)) }
+    ensures ordered { IsAscending found.new.items }
+    ensures len { array_vec_len found.new ≤ array_vec_len found.old + 1 }
+{
+    if let Err(place) = found.as_slice().binary_search(&position) {
+        found.insert(place, position);
+    }
+}
+
+// Adds positions to those found, which stay in order, unless they are there.
+fn include_all(found: &mut ArrayVec<Position, 1296>, others: &[Position])
+    requires room { array_vec_len found.old + length others.now ≤ 1296 }
+    requires ordered { IsAscending found.old.items }
+    ensures members { (y : List ℕ) → Contains found.new.items y ↔ (Contains found.old.items y ⊎ Contains others.now y) }
+    ensures ordered { IsAscending found.new.items }
+{
+    for other in others {
+        include(found, *other);
+    }
+}
+
+// Adds the positions that a step with the die leads to.
+fn include_steps(found: &mut ArrayVec<Position, 1296>, position: &Position, die: Die)
+    requires room { array_vec_len found.old + 6 ≤ 1296 }
+    requires ordered { IsAscending found.old.items }
+    ensures members { (y : List ℕ) → Contains found.new.items y ↔ (Contains found.old.items y ⊎ Step position.now die y) }
+    ensures ordered { IsAscending found.new.items }
+    ensures len { array_vec_len found.new ≤ array_vec_len found.old + 6 }
+{
+    for source in 1..=position.highest() {
+        if let Some(after) = step(position, die, source) {
+            include(found, after);
+        }
+    }
+}
+
+// The positions that one die leads to from these: a finished position stays.
+fn after_die(positions: &[Position], die: Die) -> ArrayVec<Position, 1296>
+    requires { 6 * length positions.now ≤ 1296 }
+    ensures members { (y : List ℕ) → Contains result.items y ↔ ((x : List ℕ) × (Contains positions.now x × Turns x die y)) }
+    ensures ordered { IsAscending result.items }
+    ensures len { array_vec_len result ≤ 6 * length positions.now }
+{
+    let mut found = ArrayVec::new();
+    for position in positions {
+        if position.is_finished() {
+            include(&mut found, *position);
+        } else {
+            include_steps(&mut found, position, die);
+        }
+    }
+    found
+}
+
+// The positions that the dice lead to, one after another.
+fn after_dice(position: &Position, dice: &[Die]) -> ArrayVec<Position, 1296>
+    requires { length dice.now ≤ 4 }
+    ensures members { (y : List ℕ) → Contains result.items y ↔ Run position.now dice.now y }
+    ensures ordered { IsAscending result.items }
+    ensures len { array_vec_len result ≤ 6 ^ length dice.now }
+{
+    let mut positions = ArrayVec::new();
+    positions.push(*position);
+    for die in dice {
+        positions = after_die(positions.as_slice(), *die);
+    }
+    positions
+}
+
+/// The positions that the roll can reach, each once and by rising rank: by its two dice in either order, or
+/// by a double four times. From the finished position that is the finished position.
+pub fn results(position: &Position, roll: Roll) -> ArrayVec<Position, 1296>
+    ensures members { (y : List ℕ) → Contains result.items y ↔ Legal position.now roll y }
+    ensures ordered { IsInRankOrder result.items }
+{
+    let (high, low) = (roll.high(), roll.low());
+    if high == low {
+        return after_dice(position, &[high; 4]);
+    }
+    let mut found = after_dice(position, &[high, low]);
+    include_all(&mut found, after_dice(position, &[low, high]).as_slice());
+    found
+}

@@ -1,0 +1,30 @@
+ghost use Rattle.std.specs.Prelude.{◌≡◌, ℕ, ◌+◌, ◌<◌, ◌≤◌, ◌↔◌};
+ghost use Rattle.race_model.specs.Positions.{Board, IsPosition, pips, finished};
+ghost use Rattle.race_model.specs.Ranks.{rank, at_rank, count_to, first_of, position_count};
+
+/// The ranks are the numbers below 54,264: each position has one, and each of them has one position. They
+/// rise with the pips, so the positions of at most a number of pips have the ranks below their count. (This
+/// project's profile.)
+pub fn law_rank()
+    ensures found { (x : Board) → IsPosition x → at_rank (rank x) ≡ x }
+    ensures apart { (x y : Board) → IsPosition x → IsPosition y → rank x ≡ rank y → x ≡ y }
+    ensures fewer { (x y : Board) → IsPosition x → IsPosition y → pips x < pips y → rank x < rank y }
+    ensures within { (x : Board) (bound : ℕ) → IsPosition x → (rank x < count_to bound) ↔ (pips x ≤ bound) }
+    ensures ranked { (x : Board) → IsPosition x → rank x < 54264 }
+    ensures least { rank finished ≡ 0 }
+    ensures position { (r : ℕ) → IsPosition (at_rank r) }
+    ensures reached { (r : ℕ) → r < 54264 → rank (at_rank r) ≡ r }
+    ensures beyond { (r : ℕ) → 54264 ≤ r → at_rank r ≡ finished }
+{}
+
+/// How many positions there are: 54,264 in all, and 64 of at most 8 pips. The counts rise with the pips, up
+/// to 90 pips, the most of any position. (This project's profile.)
+pub fn law_counts()
+    ensures all { position_count ≡ 54264 }
+    ensures eight { count_to 8 ≡ 64 }
+    ensures most { (bound : ℕ) → count_to bound ≤ 54264 }
+    ensures complete { (bound : ℕ) → 90 ≤ bound → count_to bound ≡ 54264 }
+    ensures rising { (m n : ℕ) → m ≤ n → count_to m ≤ count_to n }
+    ensures none { first_of 0 ≡ 0 }
+    ensures next { (m : ℕ) → first_of (m + 1) ≡ count_to m }
+{}
