@@ -17,3 +17,4 @@ pub mod RightFacts
 pub mod Built
 pub mod Needs
 pub mod MostPlays
+pub mod Faults

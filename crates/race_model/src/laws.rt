@@ -2,6 +2,7 @@
 //! caller's proof, and costs nothing when it runs.
 
 pub use dice::law_rolls;
+pub use faults::law_first_fault;
 pub use losses::law_loss;
 pub use plays::{law_most_dice, law_playable, law_results, law_reversed};
 pub use ranks::{law_counts, law_rank};
@@ -9,6 +10,7 @@ pub use right_files::{law_agree, law_right, law_spread};
 pub use strategies::{law_horizon, law_scale, law_turn};
 
 pub mod dice;
+pub mod faults;
 pub mod losses;
 pub mod plays;
 pub mod ranks;
