@@ -18,3 +18,4 @@ pub mod Built
 pub mod Needs
 pub mod MostPlays
 pub mod Faults
+pub mod HeaderFacts

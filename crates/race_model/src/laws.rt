@@ -2,7 +2,7 @@
 //! caller's proof, and costs nothing when it runs.
 
 pub use dice::law_rolls;
-pub use faults::law_first_fault;
+pub use faults::{law_first_fault, law_header};
 pub use losses::law_loss;
 pub use plays::{law_most_dice, law_playable, law_results, law_reversed};
 pub use ranks::{law_counts, law_rank};
