@@ -16,3 +16,7 @@ pub mod Spreads
 pub mod RightFacts
 pub mod Built
 pub mod Bounded
+pub mod Needs
+pub mod MostPlays
+pub mod Faults
+pub mod HeaderFacts

@@ -27,7 +27,7 @@ playable x d unfinished = from (highest x unfinished)
         above h = (fewer x p, (p, from_highest (λ q le. top.above q (omega arith)) top refl))
 
 -- what a write that takes one away does to a weighted sum
-less_one : (a b c g : ℕ) → 0 < g → a + c * g ≡ b + c * (g - 1) → a + c ≡ b
+pub less_one : (a b c g : ℕ) → 0 < g → a + c * g ≡ b + c * (g - 1) → a + c ≡ b
 less_one a b c g h e = by (g - 1) (omega arith)
   where
     by : (m : ℕ) → g ≡ m + 1 → a + c ≡ b
@@ -36,7 +36,7 @@ less_one a b c g h e = by (g - 1) (omega arith)
         omega (arith, here)
 
 -- what a write that adds one does to a weighted sum
-one_more_of : (a b c g : ℕ) → a + c * g ≡ b + c * (g + 1) → a ≡ b + c
+pub one_more_of : (a b c g : ℕ) → a + c * g ≡ b + c * (g + 1) → a ≡ b + c
 one_more_of a b c g e = omega arith
 
 -- how a position changes: as many points, so many checkers and so many pips fewer

@@ -100,7 +100,7 @@ pub best_by_rolls : (f : List ℕ) (x : Board) → ((v : Throw) → IsRoll v →
 best_by_rolls f x h v = ⊎_elim (λ r. h v r) (λ r. best_reversed f x v (h (reversed v) r)) (roll_or_reversed v)
 
 -- what holds for the roll of each index holds for each roll
-by_index : (P : Throw → Type 0) → ((i : ℕ) → i < 21 → P (roll_at i)) → (v : Throw) → IsRoll v → P v
+pub by_index : (P : Throw → Type 0) → ((i : ℕ) → i < 21 → P (roll_at i)) → (v : Throw) → IsRoll v → P v
 by_index P h v r = let place = index_of_roll v r in subst P place.1 (h (roll_index v) place.0)
 
 -- plays recorded for the 21 indices are recorded for the 36 throws

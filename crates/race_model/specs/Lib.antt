@@ -12,3 +12,4 @@ pub mod RightFiles
 pub mod BuiltFile
 pub mod Horizon
 pub mod Losses
+pub mod MostDice

@@ -2,6 +2,7 @@ ghost use Rattle.std.specs.Prelude.{◌≡◌, ℕ, ◌<◌, ◌≤◌, ◌↔�
 ghost use Rattle.race_model.specs.Positions.{Board, IsPosition, IsFinished, finished, pips};
 ghost use Rattle.race_model.specs.Dice.{Die, Throw, reversed, IsRoll, roll_at};
 ghost use Rattle.race_model.specs.Plays.{Step, Legal};
+ghost use Rattle.race_model.specs.MostDice.{MostDice};
 ghost use Rattle.race_model.specs.LocalEquations.{IsPlayed, IsBest};
 
 /// An unfinished position has a step for every die (the bearing-off rules of backgammon).
@@ -28,4 +29,11 @@ pub fn law_results()
     ensures fewer_pips { (x : Board) (v : Throw) (y : Board) → ¬ IsFinished x → Legal x v y → pips y < pips x }
     ensures at_end { (x : Board) (v : Throw) (y : Board) → IsFinished x → Legal x v y ↔ (y ≡ x) }
     ensures end { (x : Board) → IsPosition x → IsFinished x → x ≡ finished }
+{}
+
+/// The rule of the most dice, that as many of the numbers thrown must be used as is legally possible, and the
+/// greater one where only one can be, leads to exactly the positions to which a legal play leads, which goes on
+/// until the dice are used or no checker is left (the rules of backgammon).
+pub fn law_most_dice()
+    ensures { (x : Board) (v : Throw) (y : Board) → MostDice x v y ↔ Legal x v y }
 {}
