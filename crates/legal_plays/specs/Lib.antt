@@ -1,3 +1,4 @@
 pub mod Faces
+pub mod FirstPlay
 pub mod RankOrder
 pub mod Reach

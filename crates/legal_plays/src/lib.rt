@@ -5,11 +5,15 @@
 #![tactic(auto)]
 
 pub use die::Die;
+pub use moves::Move;
+pub use plays::{Play, play_to};
 pub use reach::results;
 pub use roll::Roll;
 pub use steps::step;
 
 pub mod die;
+pub mod moves;
+pub mod plays;
 pub mod reach;
 pub mod roll;
 pub mod steps;
