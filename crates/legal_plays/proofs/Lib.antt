@@ -6,3 +6,4 @@ pub mod RankLemmas
 pub mod ReachLemmas
 pub mod RollLemmas
 pub mod StepLemmas
+pub mod TextLemmas

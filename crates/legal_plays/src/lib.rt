@@ -10,6 +10,7 @@ pub use plays::{Play, play_to};
 pub use reach::results;
 pub use roll::Roll;
 pub use steps::step;
+pub use text::{parse_roll, write_play};
 
 pub mod die;
 pub mod moves;
@@ -17,3 +18,4 @@ pub mod plays;
 pub mod reach;
 pub mod roll;
 pub mod steps;
+pub mod text;
