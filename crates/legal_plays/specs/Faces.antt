@@ -1,6 +1,7 @@
--- How a number stands for a die.
+-- How a number stands for a die, and two dice for a roll.
 use Rattle.std.proofs.Common.{◌≡◌, ℕ, zero, suc, ◌≤◌, arith, refl}
-use Rattle.race_model.specs.Dice.{Die, number, one, two, three, four, five, six}
+use Rattle.std.specs.Prelude.{nat_lt, if◌then◌else◌}
+use Rattle.race_model.specs.Dice.{Die, Throw, number, one, two, three, four, five, six}
 
 -- the die that shows this number; which one it is for a number that no die shows is never asked
 abbrev pub face : ℕ → Die
@@ -22,3 +23,7 @@ number-face (suc (suc (suc (suc zero)))) low high = refl
 number-face (suc (suc (suc (suc (suc zero))))) low high = refl
 number-face (suc (suc (suc (suc (suc (suc zero)))))) low high = refl
 number-face (suc (suc (suc (suc (suc (suc (suc n))))))) low high = absurd (omega arith)
+
+-- the roll of two dice, in either order
+abbrev pub roll_of : Die → Die → Throw
+roll_of a b = if nat_lt (number a) (number b) then record { first = b; second = a } else record { first = a; second = b }

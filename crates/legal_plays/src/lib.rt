@@ -5,11 +5,17 @@
 #![tactic(auto)]
 
 pub use die::Die;
+pub use moves::Move;
+pub use plays::{Play, play_to};
 pub use reach::results;
 pub use roll::Roll;
 pub use steps::step;
+pub use text::{parse_roll, write_play};
 
 pub mod die;
+pub mod moves;
+pub mod plays;
 pub mod reach;
 pub mod roll;
 pub mod steps;
+pub mod text;

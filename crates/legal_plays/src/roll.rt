@@ -1,5 +1,6 @@
-ghost use Rattle.std.specs.Prelude.{◌≡◌, ◌<◌, ◌≤◌, ◌↔◌, max, min, IsSome, IfSome};
-ghost use Rattle.race_model.specs.Dice.{number, IsRoll, roll_at, roll_index, weight};
+ghost use Rattle.std.specs.Prelude.{◌≡◌, ◌<◌, ◌↔◌, IsSome, IfSome};
+ghost use Rattle.race_model.specs.Dice.{IsRoll, roll_at, roll_index, weight};
+ghost use Rattle.legal_plays.specs.Faces.{roll_of};
 
 use crate::Die;
 use std::marker::Model;
@@ -28,8 +29,7 @@ impl Model for Roll {
 impl Roll {
     /// The roll of these two dice, in either order.
     pub fn new(one: Die, other: Die) -> Self
-        ensures high { number result.first ≡ max (number one) (number other) }
-        ensures low { number result.second ≡ min (number one) (number other) }
+        ensures value { result ≡ roll_of one other }
         ensures roll { IsRoll result }
     {
         if one.number() < other.number() {
