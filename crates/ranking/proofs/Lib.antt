@@ -1,0 +1,4 @@
+pub mod Cells
+pub mod TableCounts
+pub mod Filling
+pub mod Reading

@@ -1,0 +1,105 @@
+ghost use Rattle.std.specs.Prelude.{◌≡◌, ℕ, ◌+◌, ◌-◌, ◌*◌, ◌<◌, ◌≤◌, ◌↔◌, List, IsSome, IfSome, slice_index, slice_index_or};
+ghost use Rattle.race_model.specs.Positions.{IsPosition};
+ghost use Rattle.race_model.specs.Ranks.{rank, first_of, count_to};
+ghost use Rattle.ranking.specs.declared.table.Table.{Table};
+ghost use Rattle.ranking.specs.Lists.{ways, used};
+ghost use Rattle.ranking.specs.Tables.{IsTable, IsRow};
+
+use crate::row::Row;
+use crate::table::Table;
+use home_board::Position;
+
+/// The greatest pip count of a position: 15 checkers on point 6.
+const MOST_PIPS: u8 = 90;
+
+/// How many positions there are.
+const POSITIONS: u16 = 54264;
+
+/// The ranks of all positions, by a table that is counted once. The rank of a position is the number of
+/// positions before it: those of fewer pips, and of as many pips those with the smaller list of counts.
+/// (This project's profile.)
+#[derive(Drop)]
+pub struct Ranks {
+    // for each point: how many lists on the points from it on have a checker there
+    tables: [Table; 6],
+    // for each pip count, and one beyond: how many positions have fewer pips
+    starts: [u16; 92],
+    ghost counted: { (i : ℕ) (d : Table) → i < 6 → IsTable (used (i + 1)) (slice_index_or tables i d) },
+    ghost summed: { (m : ℕ) → m < 92 → slice_index starts m ≡ first_of m },
+}
+
+impl Ranks {
+    /// The table, counted anew. It takes no memory but its own.
+    pub fn new() -> Self {
+        let mut ways = Table::of_no_points();
+        let sixes = ways.add_point(6);
+        let fives = ways.add_point(5);
+        let fours = ways.add_point(4);
+        let threes = ways.add_point(3);
+        let twos = ways.add_point(2);
+        let ones = ways.add_point(1);
+        Ranks {
+            tables: [ones, twos, threes, fours, fives, sixes],
+            starts: starts_of(&ways.rows[15]),
+        }
+    }
+
+    /// How many positions have fewer than so many pips: the rank of the first position of so many pips, and
+    /// 54,264 above 90 pips.
+    pub fn first_of(&self, pips: u8) -> u16
+        ensures { result ≡ first_of pips }
+    {
+        self.starts[usize::from(pips.min(MOST_PIPS + 1))]
+    }
+
+    /// How many positions have at most so many pips; 54,264 from 90 pips on.
+    pub fn count_to(&self, pips: u8) -> u16
+        ensures { result ≡ count_to pips }
+    {
+        self.starts[usize::from(pips.min(MOST_PIPS)) + 1]
+    }
+
+    /// The rank of a position: how many positions are before it.
+    pub fn rank(&self, position: &Position) -> u16
+        ensures value { result ≡ rank position.now }
+        ensures range { result < 54264 }
+    {
+        let pips = position.pips();
+        let mut checkers_left = 15;
+        let mut pips_left = pips;
+        let mut later = 0;
+        for point in 1..=6 {
+            let count = position.count(point);
+            checkers_left -= count;
+            pips_left -= point * count;
+            later += self.used(point, checkers_left, pips_left);
+        }
+        self.starts[usize::from(pips) + 1] - 1 - later
+    }
+
+    // How many lists of counts on the points from one on have a checker there, at most so many checkers, and
+    // so many pips.
+    fn used(&self, point: u8, checkers: u8, pips: u8) -> u16
+        requires first { 1 ≤ point }
+        requires last { point ≤ 6 }
+        requires few { checkers ≤ 15 }
+        requires low { pips ≤ 90 }
+        ensures { result ≡ used point checkers pips }
+    {
+        let table = &self.tables[usize::from(point) - 1];
+        let row = &table.rows[usize::from(checkers)];
+        row.cells[usize::from(pips)]
+    }
+}
+
+/// How many positions have fewer pips, for each pip count from 0 to 91.
+fn starts_of(row: &Row) -> [u16; 92]
+    requires { IsRow (ways 1 15) row.now }
+    ensures { (m : ℕ) → m < 92 → slice_index result m ≡ first_of m }
+{
+    let mut starts = [0; 92];
+    for pips in 0..91 {
+        starts[pips + 1] = starts[pips] + row.cells[pips];
+    }
+    starts
+}
