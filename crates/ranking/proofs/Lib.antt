@@ -2,3 +2,4 @@ pub mod Cells
 pub mod TableCounts
 pub mod Filling
 pub mod Reading
+pub mod Counting

@@ -1,6 +1,6 @@
 ghost use Rattle.std.specs.Prelude.{◌≡◌, ℕ, ◌+◌, ◌-◌, ◌*◌, ◌<◌, ◌≤◌, ◌↔◌, List, IsSome, IfSome, slice_index, slice_index_or};
 ghost use Rattle.race_model.specs.Positions.{IsPosition};
-ghost use Rattle.race_model.specs.Ranks.{rank, first_of, count_to};
+ghost use Rattle.race_model.specs.Ranks.{rank, at_rank, first_of, count_to};
 ghost use Rattle.ranking.specs.declared.table.Table.{Table};
 ghost use Rattle.ranking.specs.Lists.{ways, used};
 ghost use Rattle.ranking.specs.Tables.{IsTable, IsRow};
@@ -75,6 +75,61 @@ impl Ranks {
             later += self.used(point, checkers_left, pips_left);
         }
         self.starts[usize::from(pips) + 1] - 1 - later
+    }
+
+    /// The position of a rank; none for 54,264 and above, which are no ranks.
+    pub fn unrank(&self, index: u16) -> Option<Position>
+        ensures some { IsSome result ↔ (index < 54264) }
+        ensures ranked { IfSome result (λ position. rank position ≡ index) }
+        ensures value { IfSome result (λ position. position ≡ at_rank index) }
+        ensures position { IfSome result IsPosition }
+    {
+        if index >= POSITIONS {
+            return None;
+        }
+        let pips = self.pips_of(index);
+        let mut later = self.starts[usize::from(pips) + 1] - 1 - index;
+        let mut checkers_left = 15;
+        let mut pips_left = pips;
+        let mut counts = [0; 6];
+        for point in 1..=6 {
+            let count = self.count_at(point, checkers_left, pips_left, later);
+            counts[usize::from(point) - 1] = count;
+            checkers_left -= count;
+            pips_left -= point * count;
+            later -= self.used(point, checkers_left, pips_left);
+        }
+        Position::new(counts).ok()
+    }
+
+    // The pip count of the position of a rank.
+    fn pips_of(&self, index: u16) -> u8
+        requires { index < 54264 }
+        ensures from { first_of result ≤ index }
+        ensures to { index < first_of (result + 1) }
+        ensures range { result ≤ 90 }
+    {
+        let above = self.starts.partition_point(|start| *start <= index);
+        above as u8 - 1
+    }
+
+    // How many checkers stand on a point, where so many positions come later: the least number for which
+    // no more come later with a checker more on that point.
+    fn count_at(&self, point: u8, checkers: u8, pips: u8, later: u16) -> u8
+        requires first { 1 ≤ point }
+        requires last { point ≤ 6 }
+        requires few { checkers ≤ 15 }
+        requires low { pips ≤ 90 }
+        ensures fits { result ≤ checkers }
+        ensures weight { point * result ≤ pips }
+        ensures enough { used point (checkers - result) (pips - point * result) ≤ later }
+        ensures least { (j : ℕ) → j < result → later < used point (checkers - j) (pips - point * j) }
+    {
+        let mut count = 0;
+        while later < self.used(point, checkers - count, pips - point * count) {
+            count += 1;
+        }
+        count
     }
 
     // How many lists of counts on the points from one on have a checker there, at most so many checkers, and
