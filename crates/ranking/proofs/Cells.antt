@@ -1,5 +1,5 @@
 -- Lists that a loop fills from the front.
-use Rattle.std.proofs.Common.{◌≡◌, ◌≢◌, ℕ, zero, suc, ◌+◌, ◌<◌, List, length, get_or, slice_set, slice_index, replicate, refl, ◌∙◌, below_more, get_or-set_other, get_or-set_same, arith}
+use Rattle.std.proofs.Common.{◌≡◌, ◌≢◌, ℕ, zero, suc, ◌+◌, ◌<◌, List, length, slice_set, slice_index, replicate, refl, ◌∙◌, below_more, get_or-set_other, get_or-set_same, arith}
 use Rattle.std.proofs.lemmas.List.{length-set}
 
 -- the first i numbers are what f says, and the list is as long as it was
@@ -13,7 +13,7 @@ filled_more f n i v xs h room e = record {
   long = length-set xs i v ∙ h.long;
   below =
       let lt : i < length xs = omega (arith, h.long) in
-      below_more (λ m. slice_index (slice_set xs i v) m ≡ f m) i (λ m l. let ne : m ≢ i = omega arith in get_or-set_other xs i m v 0 ne ∙ h.below m l) (get_or-set_same xs i v 0 lt ∙ e)
+      below_more (λ m. slice_index (slice_set xs i v) m ≡ f m) i (λ m l. let ne : m ≢ i = omega arith in get_or-set_other xs i m v 0 ne ∙ h.below m l) (get_or-set_same xs i v 0 lt ∙ e);
 }
 
 -- a list of zeros has zeros

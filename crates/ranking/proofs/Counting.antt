@@ -1,9 +1,9 @@
 -- How the counts of a position are found again from the number of positions that come later.
-use Rattle.std.proofs.Common.{◌≡◌, ◌≢◌, ℕ, zero, suc, ◌+◌, ◌-◌, ◌*◌, ◌^◌, ◌<◌, ◌≤◌, List, [], ◌∷◌, length, get_or, slice_index, slice_set, drop, replicate, get_or-set_same, get_or-set_other, if◌then◌else◌, nat_lt, nat_le, true, false, refl, sym, ◌∙◌, ap, subst, add-one, inl, inr, below_more, arith}
+use Rattle.std.proofs.Common.{◌≡◌, ◌≢◌, ℕ, zero, suc, ◌+◌, ◌-◌, ◌*◌, ◌<◌, ◌≤◌, List, ◌∷◌, length, slice_index, slice_set, drop, replicate, get_or-set_same, get_or-set_other, if◌then◌else◌, nat_le, true, false, refl, sym, ◌∙◌, ap, subst, add-one, inl, inr, below_more, arith}
 use Rattle.std.specs.Prelude.{◌⊎◌, sum}
 use Rattle.std.proofs.lemmas.Bool.{lt-ltb, leb-true, leb-false, cases_lt, cases_order}
 use Rattle.std.specs.List.Sorted.{IsPartitionPoint, IsNonDecreasingBy}
-use Rattle.std.proofs.lemmas.List.{drop_more, drop_all, length-drop, get_or_default, length-set}
+use Rattle.std.proofs.lemmas.List.{drop_more, length-drop, get_or_default, length-set}
 use Rattle.std.proofs.lemmas.Grind.{same_number_lists}
 use Rattle.race_model.specs.Positions.{Board, IsPosition, pips_from, pips, count}
 use Rattle.race_model.specs.Ranks.{rank, at_rank, first_of, count_to}
@@ -12,7 +12,7 @@ use Rattle.race_model.proofs.RankCounts.{later, split-all}
 use Rattle.race_model.proofs.RankCounts as counts
 use Rattle.race_model.proofs.RankOrder as order
 use Rattle.ranking.specs.Lists.{used, ways}
-use Rattle.ranking.proofs.TableCounts.{used-is, ways-is, used-none, used-step}
+use Rattle.ranking.proofs.TableCounts.{used-is, used-none, used-step}
 use Rattle.ranking.proofs.Reading.{IsRead, IsNext, read-start, read-next}
 
 -- c checkers fit on point p, and with fewer there more than t positions come later
@@ -47,14 +47,16 @@ fewer-later p k d j cs low few h long =
     let heavy : p * d ≡ p * (e + suc j) = ap (λ z. p * z) d_is in
     let room : p ≤ pips_from p (d ∷ cs) - p * j = omega (arith, heavy) in
     let m_is : pips_from p (d ∷ cs) - p * j - p ≡ pips_from p (e ∷ cs) = omega (arith, heavy) in
-    omega (arith,
+    omega (
+      arith,
       ap (λ q. used p q (pips_from p (d ∷ cs) - p * j)) k_is,
       used-is (length cs) p (suc l) (pips_from p (d ∷ cs) - p * j) long,
       counts.used-more (length cs) p l (pips_from p (d ∷ cs) - p * j) (omega arith) room,
       ap (λ q. counts.ways (suc (length cs)) p l q) m_is,
       split-all (e ∷ cs) p l (omega (arith, sum-cons e cs)) (omega arith),
       ap (λ q. counts.used (length cs) p q (pips_from (suc p) cs)) same,
-      ap (λ q. later (suc p) q cs) same)
+      ap (λ q. later (suc p) q cs) same,
+    )
 
 -- the count that is found is that of the list
 found-list : (p k m t c d : ℕ) (cs : List ℕ) → p ≤ 6 → k ≤ 15 → length cs + p ≡ 6 → d + sum cs ≤ k → pips_from p (d ∷ cs) ≡ m → later p k (d ∷ cs) ≡ t →
@@ -98,15 +100,19 @@ pips-found starts index above long low most sums point = record { some = some; f
     by_cases : (0 < above) ⊎ (above ≤ 0) → 1 ≤ above
     by_cases (inl h) = h
     by_cases (inr h) = absurd (omega (arith, leb-false (slice_index starts 0) index (point.1 0 0 h (omega (arith, long))), sums 0 (omega arith), order.first_of-zero))
+
   from : first_of (above - 1) ≤ index
   from = omega (arith, leb-true (slice_index starts (above - 1)) index (point.0 (above - 1) 0 (omega arith) (omega (arith, some))), sums (above - 1) (omega (arith, some, most, long)))
+
   inside : above < 92
   inside = by_cases (cases_lt above 92) where
     by_cases : (above < 92) ⊎ (92 ≤ above) → above < 92
     by_cases (inl h) = h
     by_cases (inr h) = absurd (omega (arith, h, low, from, order.first_of-all (above - 1) (omega arith)))
+
   to : index < first_of above
   to = omega (arith, leb-false (slice_index starts above) index (point.1 above 0 (omega arith) (omega (arith, inside, long))), sums above inside)
+
   again : above - 1 + 1 ≡ above
   again = omega (arith, some)
 
@@ -140,7 +146,7 @@ start-at index m start low from to e =
     let w : pips (at_rank index) ≡ m = pips-are (at_rank index) m p (omega arith) (omega arith) in
     let e2 : m + 1 ≡ suc m = add-one m in
     let whole : rank (at_rank index) + suc (later 1 15 (at_rank index)) ≡ first_of (m + 1) =
-        order.rank-later (at_rank index) p ∙ ap count_to w ∙ sym (order.first_of-suc m) ∙ ap first_of (sym e2) in
+    order.rank-later (at_rank index) p ∙ ap count_to w ∙ sym (order.first_of-suc m) ∙ ap first_of (sym e2) in
     record { is_position = p; weighs = w; inside = omega arith; under = omega arith; left = omega arith }
 
 count-at : (x : List ℕ) (p : ℕ) → 1 ≤ p → count x p ≡ slice_index x (p - 1)
@@ -161,7 +167,7 @@ written-start x m t p e h l = record {
   read = subst (λ n. IsRead x 1 15 n 0) e (read-start x p (omega arith));
   left = omega arith;
   long = refl;
-  same = λ j h. absurd (omega arith)
+  same = λ j h. absurd (omega arith);
 }
 
 -- one count more is written
@@ -181,13 +187,13 @@ written-next x p k m t c counts q low high w counted enough =
         read = n.next;
         left = omega (arith, w.left);
         long = length-set counts (p - 1) c ∙ w.long;
-        same = λ j h. same j h (cases_order j (p - 1)) c_is
-      }
+        same = λ j h. same j h (cases_order j (p - 1)) c_is;
+      };
     } where
-  same : (j : ℕ) → j < p + 1 - 1 → (j ≡ p - 1) ⊎ ((j < p - 1) ⊎ (p - 1 < j)) → c ≡ count x p → slice_index (slice_set counts (p - 1) c) j ≡ slice_index x j
-  same j h (inl e) c_is = rw e (let lt : p - 1 < length counts = omega (arith, w.long) in get_or-set_same counts (p - 1) c 0 lt ∙ c_is ∙ count-at x p low)
-  same j h (inr (inl less)) c_is = let ne : j ≢ p - 1 = omega arith in get_or-set_other counts (p - 1) j c 0 ne ∙ w.same j less
-  same j h (inr (inr more)) c_is = absurd (omega arith)
+      same : (j : ℕ) → j < p + 1 - 1 → (j ≡ p - 1) ⊎ ((j < p - 1) ⊎ (p - 1 < j)) → c ≡ count x p → slice_index (slice_set counts (p - 1) c) j ≡ slice_index x j
+      same j h (inl e) c_is = rw e (let lt : p - 1 < length counts = omega (arith, w.long) in get_or-set_same counts (p - 1) c 0 lt ∙ c_is ∙ count-at x p low)
+      same j h (inr (inl less)) c_is = let ne : j ≢ p - 1 = omega arith in get_or-set_other counts (p - 1) j c 0 ne ∙ w.same j less
+      same j h (inr (inr more)) c_is = absurd (omega arith)
 
 -- all counts are written: it is the position
 pub written-all : (x : List ℕ) (p k m t : ℕ) (counts : List ℕ) → IsPosition x → p ≡ 7 → IsWritten x p k m t counts → counts ≡ x

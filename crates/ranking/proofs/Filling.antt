@@ -1,6 +1,6 @@
 -- How a table is filled, a point at a time and a row at a time.
-use Rattle.std.proofs.Common.{◌≡◌, ◌≢◌, ℕ, zero, suc, ◌+◌, ◌-◌, ◌*◌, ◌^◌, ◌<◌, ◌≤◌, Bool, true, false, cond, if◌then◌else◌, nat_lt, List, [], ◌∷◌, length, get_or, slice_index, slice_index_or, slice_set, replicate, refl, sym, ◌∙◌, ap, subst, inl, inr, add-one, get_or-set_other, get_or-set_same, arith}
-use Rattle.std.specs.Prelude.{◌⊎◌, ◌==◌}
+use Rattle.std.proofs.Common.{◌≡◌, ◌≢◌, ℕ, zero, suc, ◌+◌, ◌-◌, ◌^◌, ◌<◌, ◌≤◌, cond, if◌then◌else◌, nat_lt, List, length, slice_index, slice_index_or, slice_set, replicate, refl, sym, ◌∙◌, ap, subst, inl, inr, add-one, get_or-set_other, get_or-set_same, arith}
+use Rattle.std.specs.Prelude.{◌⊎◌}
 use Rattle.std.proofs.lemmas.Bool.{lt-ltb, le-ltb, ne_eqb, cases_lt, cases_order}
 use Rattle.std.proofs.lemmas.List.{length-set, get_or-replicate}
 use Rattle.ranking.specs.declared.row.Row.{Row}
@@ -36,12 +36,13 @@ partway-start p rows h l above = record {
   long_added = refl;
   done = λ k d low. first k d (omega arith);
   rest = λ k d low high. above k d high;
-  counted = λ k d low. none k d (omega arith)
+  counted = λ k d low. none k d (omega arith);
 } where
   first : (k : ℕ) (d : Row) → k ≡ 0 → IsRow (ways p k) (slice_index_or rows k d)
-  first k d e = record { each = λ m low. (above k d (omega arith)).each m low ∙ same k m e }  where
+  first k d e = record { each = λ m low. (above k d (omega arith)).each m low ∙ same k m e } where
     same : (k m : ℕ) → k ≡ 0 → ways (p + 1) k m ≡ ways p k m
     same k m e = rw (e, add-one) (omega (arith, ways-step p 0 m h (omega arith), used-none p m h))
+
   none : (k : ℕ) (d : Row) → k ≡ 0 → IsRow (used p k) (slice_index_or (replicate 16 (record { cells = replicate 91 0 })) k d)
   none k d e = rw e (record { each = λ m low. zeros 91 m ∙ sym (used-none p m h) })
 
@@ -77,14 +78,16 @@ partway-more p j rows added d row more h l w u s = record {
   long_added = length-set added j more ∙ w.long_added;
   done = λ k d low. in_done k d low (cases_order k j);
   rest = λ k d low high. let ne : k ≢ j = omega arith in subst (IsRow (ways (p + 1) k)) (sym (get_or-set_other rows j k row d ne)) (w.rest k d (omega arith) high);
-  counted = λ k d low. in_counted k d low (cases_order k j)
+  counted = λ k d low. in_counted k d low (cases_order k j);
 } where
   new_row : IsRow (ways p j) row
   new_row = record { each = λ m low. let e : p + 1 ≡ suc p = add-one p in omega (arith, s m low, (w.rest j d (omega arith) l).each m low, u.each m low, ap (λ q. ways q j m) e, ways-step p j m h (omega arith)) }
+
   in_done : (k : ℕ) (d : Row) → k < j + 1 → (k ≡ j) ⊎ ((k < j) ⊎ (j < k)) → IsRow (ways p k) (slice_index_or (slice_set rows j row) k d)
   in_done k d low (inl e) = rw e (let lt : j < length rows = omega (arith, w.long) in subst (IsRow (ways p j)) (sym (get_or-set_same rows j row d lt)) new_row)
   in_done k d low (inr (inl less)) = let ne : k ≢ j = omega arith in subst (IsRow (ways p k)) (sym (get_or-set_other rows j k row d ne)) (w.done k d less)
   in_done k d low (inr (inr more)) = absurd (omega arith)
+
   in_counted : (k : ℕ) (d : Row) → k < j + 1 → (k ≡ j) ⊎ ((k < j) ⊎ (j < k)) → IsRow (used p k) (slice_index_or (slice_set added j more) k d)
   in_counted k d low (inl e) = rw e (let lt : j < length added = omega (arith, w.long_added) in subst (IsRow (used p j)) (sym (get_or-set_same added j more d lt)) u)
   in_counted k d low (inr (inl less)) = let ne : k ≢ j = omega arith in subst (IsRow (used p k)) (sym (get_or-set_other added j k more d ne)) (w.counted k d less)

@@ -1,9 +1,9 @@
 -- How a position is read point by point: what is left of it, and how many positions come after it.
-use Rattle.std.proofs.Common.{◌≡◌, ◌≢◌, ℕ, zero, suc, ◌+◌, ◌-◌, ◌*◌, ◌^◌, ◌<◌, ◌≤◌, List, [], ◌∷◌, length, get_or, slice_index, drop, refl, sym, ◌∙◌, ap, subst, add-one, arith}
+use Rattle.std.proofs.Common.{◌≡◌, ℕ, zero, suc, ◌+◌, ◌-◌, ◌*◌, ◌<◌, ◌≤◌, List, [], ◌∷◌, length, slice_index, drop, refl, sym, ◌∙◌, ap, subst, add-one, arith}
 use Rattle.std.specs.Prelude.{sum}
 use Rattle.std.proofs.lemmas.List.{drop_more, drop_all, length-drop}
-use Rattle.race_model.specs.Positions.{Board, IsPosition, pips_from, pips, count}
-use Rattle.race_model.specs.Ranks.{rank, first_of, count_to}
+use Rattle.race_model.specs.Positions.{IsPosition, pips_from, pips, count}
+use Rattle.race_model.specs.Ranks.{rank, first_of}
 use Rattle.race_model.proofs.BoxCounts.{sum-cons}
 use Rattle.race_model.proofs.RankCounts.{later}
 use Rattle.race_model.proofs.RankOrder.{rank-later, rank-range, count_to-most, first_of-suc}
@@ -44,11 +44,11 @@ read-list x cs p k m s c h l d e r =
         weighs = subst (λ ys. pips_from (p + 1) ys ≡ m - p * c) (sym rest) (ap (λ q. pips_from q cs) p_is ∙ m_is);
         low = omega (arith, r.low);
         added = subst (λ ys. s + used p (k - c) (m - p * c) + later (p + 1) (k - c) ys ≡ later 1 15 x) (sym rest)
-            (omega (arith, added, used-is (length cs) p (k - c) (m - p * c) l, ap (λ j. used p (k - c) j) m_is, used-is (length cs) p (k - c) (pips_from (suc p) cs) l, ap (λ q. later q (k - c) cs) p_is))
-      }
+            (omega (arith, added, used-is (length cs) p (k - c) (m - p * c) l, ap (λ j. used p (k - c) j) m_is, used-is (length cs) p (k - c) (pips_from (suc p) cs) l, ap (λ q. later q (k - c) cs) p_is));
+      };
     } where
-  omega-back : (p : ℕ) → p + 1 - 1 ≡ p
-  omega-back p = omega arith
+      omega-back : (p : ℕ) → p + 1 - 1 ≡ p
+      omega-back p = omega arith
 
 pub read-next : (x : List ℕ) (p k m s c : ℕ) → IsPosition x → 1 ≤ p → p ≤ 6 → c ≡ count x p → IsRead x p k m s → IsNext x p k m s c
 read-next x zero k m s c q low high e r = absurd (omega arith)

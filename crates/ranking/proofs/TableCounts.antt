@@ -1,9 +1,9 @@
 -- The recurrences of the table, from those of the counts of lists.
-use Rattle.std.proofs.Common.{◌≡◌, ℕ, zero, suc, ◌+◌, ◌-◌, ◌*◌, ◌<◌, ◌≤◌, Bool, true, false, cond, ◌&&◌, if◌then◌else◌, nat_lt, min, List, [], ◌∷◌, length, refl, sym, ◌∙◌, ap, subst, inl, inr, add-one, arith}
-use Rattle.std.specs.Prelude.{◌⊎◌, ◌==◌, sum}
+use Rattle.std.proofs.Common.{◌≡◌, ℕ, zero, suc, ◌+◌, ◌-◌, ◌<◌, ◌≤◌, cond, ◌&&◌, if◌then◌else◌, nat_lt, min, refl, sym, ◌∙◌, ap, inl, inr, add-one, arith}
+use Rattle.std.specs.Prelude.{◌⊎◌, ◌==◌}
 use Rattle.std.proofs.lemmas.Bool.{lt-ltb, le-ltb, cases_lt}
-use Rattle.race_model.specs.Positions.{Board, IsPosition, pips_from, pips}
-use Rattle.race_model.specs.Ranks.{rank, first_of, count_to}
+use Rattle.race_model.specs.Positions.{pips_from}
+use Rattle.race_model.specs.Ranks.{first_of, count_to}
 use Rattle.race_model.proofs.BoxCounts.{within}
 use Rattle.race_model.proofs.RankCounts as counts
 use Rattle.race_model.proofs.RankOrder as order

@@ -1,5 +1,5 @@
 -- What the table counts: lists of counts on the points from one on. Source: this project's profile.
-use Rattle.std.specs.Prelude.{ℕ, suc, ◌-◌, Bool, true, false, ◌&&◌, ◌==◌, nat_lt, nat_le, List, [], ◌∷◌, count_by, sum}
+use Rattle.std.specs.Prelude.{ℕ, ◌-◌, Bool, false, ◌&&◌, ◌==◌, nat_lt, nat_le, List, [], ◌∷◌, count_by, sum}
 use Rattle.race_model.specs.Positions.{pips_from}
 use Rattle.race_model.specs.Ranks.{boards}
 

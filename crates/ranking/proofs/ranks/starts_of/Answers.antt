@@ -1,8 +1,8 @@
-use Rattle.std.proofs.Common.{◌≡◌, ℕ, zero, suc, ◌+◌, ◌<◌, refl, sym, ◌∙◌, slice_index, replicate, w16, arith}
+use Rattle.std.proofs.Common.{◌≡◌, ℕ, zero, suc, ◌+◌, ◌<◌, refl, sym, slice_index, replicate, w16, arith}
 use Rattle.std.proofs.Math.Facts.{Fits-of_lt}
 use Rattle.race_model.specs.Ranks.{first_of}
 use Rattle.race_model.proofs.RankOrder.{first_of-zero}
-use Rattle.ranking.proofs.Cells.{filled_more, zeros}
+use Rattle.ranking.proofs.Cells.{filled_more}
 use Rattle.ranking.proofs.TableCounts.{start-step, start-most}
 use Rattle.ranking.proofs.ranks.starts_of.Goals as goal
 

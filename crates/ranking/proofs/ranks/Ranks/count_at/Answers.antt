@@ -1,5 +1,4 @@
-use Rattle.std.proofs.Common.{◌≡◌, ◌+◌, ◌-◌, ◌*◌, ◌<◌, subst, arith}
-use Rattle.ranking.specs.Lists.{used}
+use Rattle.std.proofs.Common.{◌+◌, ◌<◌, subst, arith}
 use Rattle.ranking.proofs.Counting.{IsCounted, counted-more}
 use Rattle.ranking.proofs.ranks.Ranks.count_at.Goals as goal
 

@@ -1,4 +1,4 @@
-use Rattle.std.proofs.Common.{◌≡◌, ℕ, ◌+◌, ◌-◌, ◌*◌, ◌<◌, ◌≤◌}
+use Rattle.std.proofs.Common.{◌-◌}
 use Rattle.ranking.proofs.Counting.{IsCounted}
 use Rattle.ranking.proofs.ranks.Ranks.count_at.Given as goal
 

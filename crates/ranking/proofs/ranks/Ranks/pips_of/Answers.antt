@@ -1,5 +1,5 @@
-use Rattle.std.proofs.Common.{◌≡◌, ℕ, ◌≤◌, length, nat_le, true, false, rules, arith}
-use Rattle.std.specs.List.Sorted.{IsPartitionPoint, IsPartitionedBy, IsNonDecreasingBy}
+use Rattle.std.proofs.Common.{◌≡◌, length, nat_le, rules}
+use Rattle.std.specs.List.Sorted.{IsNonDecreasingBy}
 use Rattle.std.proofs.lemmas.List.Sorted.{IsPartitionPoint-from_clause, IsPartitionedBy-leb}
 use Rattle.ranking.proofs.Counting.{IsPipsOf, pips-found, starts-rise}
 use Rattle.ranking.proofs.ranks.Ranks.pips_of.Goals as goal

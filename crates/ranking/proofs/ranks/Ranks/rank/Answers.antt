@@ -1,7 +1,7 @@
-use Rattle.std.proofs.Common.{◌≡◌, ◌+◌, w16, get_or, ap, ◌∙◌, arith}
+use Rattle.std.proofs.Common.{◌+◌, w16, get_or, ap, ◌∙◌, arith}
 use Rattle.std.proofs.Math.Facts.{Fits-of_lt}
 use Rattle.race_model.specs.Ranks.{first_of}
-use Rattle.ranking.proofs.Reading.{IsRead, IsNext, IsRanked, read-next, rank-read, later-most}
+use Rattle.ranking.proofs.Reading.{IsNext, IsRanked, read-next, rank-read, later-most}
 use Rattle.ranking.proofs.ranks.Ranks.rank.Goals as goal
 
 next : (c : goal.After-used-later) →

@@ -1,22 +1,21 @@
-use Rattle.std.proofs.Common.{◌≡◌, ℕ, ◌+◌, ◌-◌, ◌<◌, ◌≤◌, List, get_or, slice_set, Result, Ok, Err, IfOk, IfSome, IsOk, IsSome, ap, subst, sym, ◌∙◌, arith}
+use Rattle.std.proofs.Common.{◌≡◌, ℕ, ◌+◌, ◌≤◌, List, get_or, Result, Ok, Err, IfOk, IfSome, ap, subst, sym, ◌∙◌, arith}
 use Rattle.std.specs.Result.{result_ok}
-use Rattle.race_model.specs.Positions.{IsPosition, checkers}
+use Rattle.race_model.specs.Positions.{checkers}
 use Rattle.race_model.specs.Ranks.{rank, at_rank, first_of}
 use Rattle.race_model.proofs.RankOrder.{at_rank-position, rank-at_rank}
-use Rattle.ranking.specs.Lists.{used}
-use Rattle.ranking.proofs.Counting.{IsCounted, IsStart, start-at, IsWritten, written-start, IsWrittenNext, written-next, written-all}
+use Rattle.ranking.proofs.Counting.{IsCounted, IsStart, start-at, written-start, written-next, written-all}
 use Rattle.ranking.proofs.ranks.Ranks.unrank.Goals as goal
 
 pub loop-point-init : goal.loop-point-init
 loop-point-init c =
     let start : IsStart c.args.index c.pips_of-pips.result (get_or c.args.self.now.starts (c.from.result + 1) 0) =
-        start-at _ _ _ c.if-index-ge-POSITIONS.false c.pips_of-pips.ensures.from c.pips_of-pips.ensures.to (c.args.self.now.summed (c.from.result + 1) (omega arith) ∙ ap (λ m. first_of (m + 1)) c.from.ensures) in
+    start-at _ _ _ c.if-index-ge-POSITIONS.false c.pips_of-pips.ensures.from c.pips_of-pips.ensures.to (c.args.self.now.summed (c.from.result + 1) (omega arith) ∙ ap (λ m. first_of (m + 1)) c.from.ensures) in
     written-start _ _ _ start.is_position start.weighs c.pips_of-pips.ensures.range start.left
 
 pub loop-point-preserved : goal.loop-point-preserved
 loop-point-preserved c =
     let counted : IsCounted c.loop-point.point c.loop-point.checkers_left c.loop-point.pips_left c.loop-point.later c.count_at-count.result =
-        record { fits = c.count_at-count.ensures.fits; weight = c.count_at-count.ensures.weight; least = c.count_at-count.ensures.least } in
+    record { fits = c.count_at-count.ensures.fits; weight = c.count_at-count.ensures.weight; least = c.count_at-count.ensures.least } in
     let next = written-next _ _ _ _ _ _ _ (at_rank-position c.args.index) c.loop-point.auto.point c.loop-point-test.true c.loop-point.invariant counted c.count_at-count.ensures.enough in
     rw (c.used-later.ensures, c.from-in-loop-point.ensures) next.next
 

@@ -1,4 +1,4 @@
-use Rattle.std.proofs.Common.{◌≡◌, ℕ, ◌+◌, ◌<◌, slice_index}
+use Rattle.std.proofs.Common.{◌+◌, slice_index}
 use Rattle.ranking.proofs.Cells.{IsFilled}
 use Rattle.ranking.proofs.row.Row.plus.Given as goal
 

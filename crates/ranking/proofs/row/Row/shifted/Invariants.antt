@@ -1,4 +1,4 @@
-use Rattle.std.proofs.Common.{◌≡◌, ℕ, ◌-◌, ◌<◌, nat_lt, slice_index, if◌then◌else◌}
+use Rattle.std.proofs.Common.{◌-◌, nat_lt, slice_index, if◌then◌else◌}
 use Rattle.ranking.proofs.Cells.{IsFilled}
 use Rattle.ranking.proofs.row.Row.shifted.Given as goal
 
