@@ -13,3 +13,5 @@ pub mod BuiltFile
 pub mod Horizon
 pub mod Losses
 pub mod MostDice
+pub mod Fractions
+pub mod FaultLines
