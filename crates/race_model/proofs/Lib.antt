@@ -20,3 +20,4 @@ pub mod Needs
 pub mod MostPlays
 pub mod Faults
 pub mod HeaderFacts
+pub mod EqualReplies

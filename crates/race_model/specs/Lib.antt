@@ -15,3 +15,8 @@ pub mod Losses
 pub mod MostDice
 pub mod Fractions
 pub mod FaultLines
+pub mod FirstPlays
+pub mod Queries
+pub mod Replies
+pub mod Levels
+pub mod SameNumbers

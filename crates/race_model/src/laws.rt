@@ -7,6 +7,7 @@ pub use faults::{law_first_fault, law_header};
 pub use losses::law_loss;
 pub use plays::{law_most_dice, law_playable, law_results, law_reversed};
 pub use ranks::{law_counts, law_rank};
+pub use replies::law_replies;
 pub use right_files::{law_agree, law_right, law_spread};
 pub use strategies::{law_horizon, law_scale, law_turn};
 
@@ -16,5 +17,6 @@ pub mod faults;
 pub mod losses;
 pub mod plays;
 pub mod ranks;
+pub mod replies;
 pub mod right_files;
 pub mod strategies;
