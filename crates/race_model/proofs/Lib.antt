@@ -21,3 +21,4 @@ pub mod MostPlays
 pub mod Faults
 pub mod HeaderFacts
 pub mod EqualReplies
+pub mod SampleCounts

@@ -20,3 +20,4 @@ pub mod Queries
 pub mod Replies
 pub mod Levels
 pub mod SameNumbers
+pub mod Samples
