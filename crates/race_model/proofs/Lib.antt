@@ -22,3 +22,4 @@ pub mod Faults
 pub mod HeaderFacts
 pub mod EqualReplies
 pub mod SampleCounts
+pub mod LowestTerms
