@@ -2,6 +2,6 @@
 //! file; the crates above may use that bytes are read exactly where the grammar has them.
 #![tactic(auto)]
 
-pub use record::{RECORD_BYTES, RecordView};
+pub use record::{HEADER_BYTES, RECORD_BYTES, RecordView};
 
 pub mod record;

@@ -4,6 +4,9 @@ ghost use Rattle.std.specs.Int.{w16, w128, from_be_bytes};
 
 use std::marker::Model;
 
+/// How many bytes a header has (this project's profile).
+pub const HEADER_BYTES: usize = 32;
+
 /// How many bytes a record has (this project's profile).
 pub const RECORD_BYTES: usize = 426;
 

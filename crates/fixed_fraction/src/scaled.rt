@@ -28,6 +28,9 @@ impl Model for Scaled {
 }
 
 impl Scaled {
+    /// No roll.
+    pub const ZERO: Scaled = Scaled { numerator: 0 };
+
     /// The number with this numerator over 36 ^ 22; none exactly where it is over 22 rolls.
     #[tactic(auto, unfolding(race_model::specs::LocalEquations::whole))]
     pub fn new(numerator: u128) -> Option<Self>

@@ -258,6 +258,39 @@ size-within : (n k : ℕ) → k ≤ 15 → within n k (λ _. true) ≡ size n k
 size-within zero k h = within-nil k (λ _. true)
 size-within (suc n) k h = size-sum n (size-within n) k h
 
+-- more points or more checkers, more lists
+size-checkers : (n k : ℕ) → size n k ≤ size n (suc k)
+size-checkers zero k = omega arith
+size-checkers (suc n) k = omega arith
+
+size-points : (n k : ℕ) → size n k ≤ size (suc n) k
+size-points n zero = omega arith
+size-points n (suc k) = omega arith
+
+size-most : (n k : ℕ) → n ≤ 6 → k ≤ 15 → size n k ≤ 54264
+size-most n k h l = omega (arith, by_points n k (6 - n), by_checkers k (15 - k), ap (λ j. size j k) (omega-points n h), ap (size 6) (omega-checkers k l)) where
+  omega-points : (n : ℕ) → n ≤ 6 → n + (6 - n) ≡ 6
+  omega-points n h = omega arith
+
+  omega-checkers : (k : ℕ) → k ≤ 15 → k + (15 - k) ≡ 15
+  omega-checkers k h = omega arith
+
+  by_points : (n k d : ℕ) → size n k ≤ size (n + d) k
+  by_points n k zero = let e : n + 0 ≡ n = omega arith in omega (arith, ap (λ j. size j k) e)
+  by_points n k (suc d) = let e : n + suc d ≡ suc (n + d) = omega arith in omega (arith, ap (λ j. size j k) e, size-points (n + d) k, by_points n k d)
+
+  by_checkers : (k d : ℕ) → size 6 k ≤ size 6 (k + d)
+  by_checkers k zero = let e : k + 0 ≡ k = omega arith in omega (arith, ap (size 6) e)
+  by_checkers k (suc d) = let e : k + suc d ≡ suc (k + d) = omega arith in omega (arith, ap (size 6) e, size-checkers 6 (k + d), by_checkers k d)
+
+-- no test lets more lists pass than there are positions
+pub within-most : (n k : ℕ) (test : List ℕ → Bool) → n ≤ 6 → k ≤ 15 → within n k test ≤ 54264
+within-most n k test h l =
+    omega (arith, size-most n k h l, size-within n k l, within-add n k (λ _. true) test (λ y. not (test y)) (λ y. either (test y))) where
+      either : (c : Bool) → cond {A = ℕ} true 1 0 ≡ cond c 1 0 + cond (not c) 1 0
+      either true = refl
+      either false = refl
+
 -- how many positions there are
 pub positions-all : position_count ≡ 54264
 unfolding position_count count_positions within

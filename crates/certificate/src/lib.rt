@@ -1,0 +1,8 @@
+//! The checker: whether a list of bytes is a database, with the first fault where it isn't, and the answers
+//! of one that is.
+#![tactic(auto)]
+
+mod equations;
+mod table;
+
+pub use table::Whole;

@@ -1,0 +1,5 @@
+pub mod Cells
+pub mod TableCounts
+pub mod Filling
+pub mod Reading
+pub mod Counting

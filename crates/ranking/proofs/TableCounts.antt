@@ -1,0 +1,66 @@
+-- The recurrences of the table, from those of the counts of lists.
+use Rattle.std.proofs.Common.{◌≡◌, ℕ, zero, suc, ◌+◌, ◌-◌, ◌<◌, ◌≤◌, cond, ◌&&◌, if◌then◌else◌, nat_lt, min, refl, sym, ◌∙◌, ap, inl, inr, add-one, arith}
+use Rattle.std.specs.Prelude.{◌⊎◌, ◌==◌}
+use Rattle.std.proofs.lemmas.Bool.{lt-ltb, le-ltb, cases_lt}
+use Rattle.race_model.specs.Positions.{pips_from}
+use Rattle.race_model.specs.Ranks.{first_of, count_to}
+use Rattle.race_model.proofs.BoxCounts.{within}
+use Rattle.race_model.proofs.RankCounts as counts
+use Rattle.race_model.proofs.RankOrder as order
+use Rattle.ranking.specs.Lists.{ways, used, is_used}
+
+pub ways-is : (n p k m : ℕ) → n + p ≡ 7 → ways p k m ≡ counts.ways n p k m
+unfolding ways within counts.ways
+ways-is n p k m e = let n_is : 7 - p ≡ n = omega arith in ap (λ j. within j k (λ y. pips_from p y == m)) n_is
+
+pub used-is : (n p k m : ℕ) → n + p ≡ 6 → used p k m ≡ counts.used n p k m
+unfolding used within counts.used
+used-is n p k m e = let n_is : 7 - p ≡ suc n = omega arith in ap (λ j. within j k (λ y. (pips_from p y == m) && is_used y)) n_is
+
+-- no number of lists is above that of the positions
+pub ways-most : (p k m : ℕ) → 1 ≤ p → k ≤ 15 → ways p k m ≤ 54264
+unfolding ways within
+ways-most p k m h l = order.within-most (7 - p) k (λ y. pips_from p y == m) (omega arith) l
+
+-- on no points there is one list, of no pips
+pub ways-end : (k m : ℕ) → ways 7 k m ≡ cond (0 == m) 1 0
+ways-end k m = ways-is 0 7 k m refl ∙ counts.ways-nil 7 k m
+
+-- the first point is empty or used
+pub ways-step : (p k m : ℕ) → p ≤ 6 → k ≤ 15 → ways p k m ≡ ways (suc p) k m + used p k m
+ways-step p k m h l =
+    omega (arith, counts.ways-used (6 - p) p k m l, ways-is (suc (6 - p)) p k m (omega arith), ways-is (6 - p) (suc p) k m (omega arith), used-is (6 - p) p k m (omega arith))
+
+-- without a checker no point is used
+pub used-none : (p m : ℕ) → p ≤ 6 → used p 0 m ≡ 0
+used-none p m h = used-is (6 - p) p 0 m (omega arith) ∙ counts.used-zero (6 - p) p m
+
+-- with one, it is taken away
+pub used-step : (p k m : ℕ) → p ≤ 6 → k < 15 → used p (suc k) m ≡ (if nat_lt m p then 0 else ways p k (m - p))
+used-step p k m h l = used-is (6 - p) p (suc k) m (omega arith) ∙ by_room (cases_lt m p) where
+  by_room : (m < p) ⊎ (p ≤ m) → counts.used (6 - p) p (suc k) m ≡ (if nat_lt m p then 0 else ways p k (m - p))
+  by_room (inl low) = rw (lt-ltb m p low) (counts.used-low (6 - p) p k m l low)
+  by_room (inr room) = rw (le-ltb m p room) (counts.used-more (6 - p) p k m l room ∙ sym (ways-is (suc (6 - p)) p k (m - p) (omega arith)))
+
+-- the positions of at most m pips are those of fewer and those of m
+pub start-step : (m : ℕ) → first_of (m + 1) ≡ first_of m + ways 1 15 m
+start-step m =
+    let e : m + 1 ≡ suc m = add-one m in
+    omega (arith, ap first_of e, order.first_of-suc m, order.count_to-step m, ways-is 6 1 15 m refl)
+
+pub start-most : (m : ℕ) → first_of m ≤ 54264
+start-most zero = omega (arith, order.first_of-zero)
+start-most (suc m) = omega (arith, order.first_of-suc m, order.count_to-most m)
+
+-- pip counts above 90 count as 90, or 91 where fewer are counted
+pub first-capped : (b : ℕ) → first_of (min b 91) ≡ first_of b
+first-capped b = by_cases (cases_lt b 91) where
+  by_cases : (b < 91) ⊎ (91 ≤ b) → first_of (min b 91) ≡ first_of b
+  by_cases (inl less) = let e : min b 91 ≡ b = omega arith in ap first_of e
+  by_cases (inr more) = let e : min b 91 ≡ 91 = omega arith in ap first_of e ∙ order.first_of-all 91 (omega arith) ∙ sym (order.first_of-all b (omega arith))
+
+pub count-capped : (b : ℕ) → first_of (min b 90 + 1) ≡ count_to b
+count-capped b = by_cases (cases_lt b 90) where
+  by_cases : (b < 90) ⊎ (90 ≤ b) → first_of (min b 90 + 1) ≡ count_to b
+  by_cases (inl less) = let e : min b 90 + 1 ≡ suc b = omega arith in ap first_of e ∙ order.first_of-suc b
+  by_cases (inr more) = let e : min b 90 + 1 ≡ 91 = omega arith in ap first_of e ∙ order.first_of-all 91 (omega arith) ∙ sym (order.count_to-all b more)

@@ -1,0 +1,24 @@
+use Rattle.std.proofs.Common.{◌≡◌, length, nat_le, rules}
+use Rattle.std.specs.List.Sorted.{IsNonDecreasingBy}
+use Rattle.std.proofs.lemmas.List.Sorted.{IsPartitionPoint-from_clause, IsPartitionedBy-leb}
+use Rattle.ranking.proofs.Counting.{IsPipsOf, pips-found, starts-rise}
+use Rattle.ranking.proofs.ranks.Ranks.pips_of.Goals as goal
+
+pips : (c : goal.After-partition_point-above) → IsPipsOf c.args.index c.partition_point-above.result
+pips c =
+    let long : length c.args.self.now.starts ≡ 92 = search rules in
+    let rising : IsNonDecreasingBy (λ x. x) c.args.self.now.starts = starts-rise c.args.self.now.starts long c.args.self.now.summed in
+    pips-found c.args.self.now.starts c.args.index c.partition_point-above.result long c.requires c.partition_point-above.ensures.bound c.args.self.now.summed
+    (IsPartitionPoint-from_clause (λ y. nat_le y c.args.index) _ _ c.partition_point-above.ensures.partitioned (IsPartitionedBy-leb (λ x. x) _ c.args.index rising) (λ a r q k. search rules))
+
+pub overflow_sub-result : goal.overflow_sub-result
+overflow_sub-result c = (pips c).some
+
+pub returns-clause-from : goal.returns-clause-from
+returns-clause-from c = (pips c).from
+
+pub returns-clause-to : goal.returns-clause-to
+returns-clause-to c = (pips c).to
+
+pub returns-clause-range : goal.returns-clause-range
+returns-clause-range c = (pips c).range
