@@ -1,11 +1,10 @@
 -- How large recorded numbers can be where the equations hold: no mean is over 22 rolls, no share over the whole.
-use Rattle.std.proofs.Common.{◌≡◌, ⊎_elim, ℕ, zero, suc, ◌+◌, ◌*◌, ◌<◌, ◌≤◌, List, length, sum_by, ap, sym, arith, le_trans, le_of_lt}
-use Rattle.race_model.specs.Positions.{Board, IsPosition, IsFinished, pips}
+use Rattle.std.proofs.Common.{⊎_elim, ℕ, zero, suc, ◌*◌, ◌<◌, ◌≤◌, List, sum_by, ap, arith}
+use Rattle.race_model.specs.Positions.{Board, IsPosition, IsFinished}
 use Rattle.race_model.specs.Dice.{Throw, throws}
-use Rattle.race_model.specs.Plays.{Legal}
 use Rattle.race_model.specs.Ranks.{rank}
 use Rattle.race_model.specs.Files.{mean, mean_at, play, spread, spread_at}
-use Rattle.race_model.specs.LocalEquations.{recorded, weighted, whole, IsPlayed, HasLeastMean, IsLocalAt}
+use Rattle.race_model.specs.LocalEquations.{recorded, whole, IsPlayed, HasLeastMean, IsLocalAt}
 use Rattle.race_model.specs.Strategies.{EndsIn}
 use Rattle.race_model.proofs.Throws.{played_by_rolls}
 use Rattle.race_model.proofs.Sums.{sum_at_most, sum_of_same, throw_count}

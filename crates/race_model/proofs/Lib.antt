@@ -20,3 +20,6 @@ pub mod Needs
 pub mod MostPlays
 pub mod Faults
 pub mod HeaderFacts
+pub mod EqualReplies
+pub mod SampleCounts
+pub mod LowestTerms

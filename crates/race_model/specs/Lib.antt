@@ -13,3 +13,11 @@ pub mod BuiltFile
 pub mod Horizon
 pub mod Losses
 pub mod MostDice
+pub mod Fractions
+pub mod FaultLines
+pub mod FirstPlays
+pub mod Queries
+pub mod Replies
+pub mod Levels
+pub mod SameNumbers
+pub mod Samples

@@ -4,17 +4,21 @@
 pub use bounds::law_bounds;
 pub use dice::law_rolls;
 pub use faults::{law_first_fault, law_header};
+pub use fractions::law_fractions;
 pub use losses::law_loss;
 pub use plays::{law_most_dice, law_playable, law_results, law_reversed};
 pub use ranks::{law_counts, law_rank};
+pub use replies::law_replies;
 pub use right_files::{law_agree, law_right, law_spread};
-pub use strategies::{law_horizon, law_scale, law_turn};
+pub use strategies::{law_horizon, law_sample, law_scale, law_turn};
 
 pub mod bounds;
 pub mod dice;
 pub mod faults;
+pub mod fractions;
 pub mod losses;
 pub mod plays;
 pub mod ranks;
+pub mod replies;
 pub mod right_files;
 pub mod strategies;
