@@ -97,3 +97,46 @@ pub fn results(position: &Position, roll: Roll) -> ArrayVec<Position, 1296>
     include_all(&mut found, after_dice(position, &[low, high]).as_slice());
     found
 }
+
+#[cfg(test)]
+mod tests {
+    use super::*;
+    use crate::parse_roll;
+    use std::process::Abort;
+    use std::test::Fail;
+
+    fn assert_results(
+        rt: &impl Abort,
+        counts: [u8; 6],
+        roll: &[u8],
+        expected: &[[u8; 6]],
+    ) -> Result<(), Fail> {
+        let position = Position::new(counts)?;
+        let roll = parse_roll(roll).ok_or("no roll")?;
+        let found = results(&position, roll);
+        assert_eq!(rt; found.len(), expected.len());
+        for (reached, counts) in found.as_slice().iter().zip(expected) {
+            assert_eq!(rt; *reached, Position::new(*counts)?);
+        }
+        Ok(())
+    }
+
+    #[test]
+    fn worked_rows(rt: HostRuntime) -> Result<(), Fail> {
+        assert_results(
+            &rt,
+            [0, 0, 1, 1, 0, 0],
+            b"41",
+            &[[0, 1, 0, 0, 0, 0], [0, 0, 1, 0, 0, 0]],
+        )?;
+        assert_results(&rt, [0, 0, 0, 0, 0, 1], b"11", &[[0, 1, 0, 0, 0, 0]])?;
+        assert_results(
+            &rt,
+            [0, 0, 0, 2, 0, 0],
+            b"12",
+            &[[0, 1, 1, 0, 0, 0], [1, 0, 0, 1, 0, 0]],
+        )?;
+        assert_results(&rt, [3, 0, 1, 0, 0, 0], b"21", &[[3, 0, 0, 0, 0, 0]])?;
+        assert_results(&rt, [0; 6], b"66", &[[0; 6]])
+    }
+}
