@@ -1,6 +1,6 @@
 ghost use Rattle.std.specs.Prelude.{◌≡◌, ℕ, ◌+◌, ◌*◌, ◌^◌, ◌<◌, ◌≤◌, ◌↔◌, List, length, IsSome, IfSome};
 ghost use Rattle.race_model.specs.Files.{bytes_at, mean_of, play_of, share_of};
-ghost use Rattle.std.specs.Int.{w16, w128, from_be_bytes};
+ghost use Rattle.std.specs.Int.{w16, w32, w128, from_be_bytes};
 
 use std::marker::Model;
 
@@ -81,12 +81,23 @@ fn read_wide(bytes: &[u8], place: usize) -> u128
 }
 
 /// The number in the 2 bytes from a place on, high byte first.
-fn read_short(bytes: &[u8], place: usize) -> u16
+pub(crate) fn read_short(bytes: &[u8], place: usize) -> u16
     requires { place + 2 ≤ length bytes.now }
     ensures { result ≡ from_be_bytes w16 (bytes_at bytes.now place 2) }
 {
     match bytes[place..place + 2].try_into() {
         Ok(number) => u16::from_be_bytes(number),
+        Err(_) => unreachable!(),
+    }
+}
+
+/// The number in the 4 bytes from a place on, high byte first.
+pub(crate) fn read_word(bytes: &[u8], place: usize) -> u32
+    requires { place + 4 ≤ length bytes.now }
+    ensures { result ≡ from_be_bytes w32 (bytes_at bytes.now place 4) }
+{
+    match bytes[place..place + 4].try_into() {
+        Ok(number) => u32::from_be_bytes(number),
         Err(_) => unreachable!(),
     }
 }
