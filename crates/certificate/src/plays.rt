@@ -68,7 +68,7 @@ pub fn best_recorded(
     ensures best { IfOk result (λ _. IsBest table.now position.now roll) }
     ensures fault { IfErr result (Applies table.now position.now roll) }
 {
-    let recorded = table.record(ranks.rank(position)).play_at(roll.index());
+    let recorded = table.record(ranks.rank(position)).play(roll);
     let seen = look_over(table, ranks, results(position, roll).as_slice(), recorded);
     if !seen.is_legal {
         return Err(PlayFault::NotLegal);

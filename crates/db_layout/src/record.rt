@@ -1,7 +1,9 @@
 ghost use Rattle.std.specs.Prelude.{◌≡◌, ℕ, ◌+◌, ◌*◌, ◌^◌, ◌<◌, ◌≤◌, ◌↔◌, List, length, IsSome, IfSome};
+ghost use Rattle.race_model.specs.Dice.{roll_index};
 ghost use Rattle.race_model.specs.Files.{bytes_at, mean_of, play_of, share_of};
 ghost use Rattle.std.specs.Int.{w16, w32, w128, from_be_bytes};
 
+use legal_plays::Roll;
 use std::marker::Model;
 
 /// How many bytes a header has (this project's profile).
@@ -46,13 +48,12 @@ impl<'a> RecordView<'a> {
         read_wide(self.bytes, 0)
     }
 
-    /// The rank that is recorded for a roll, by the roll's index. Any number of 16 bits may stand there.
+    /// The rank that is recorded for a roll. Any number of 16 bits may stand there.
     #[tactic(auto, unfolding(race_model::specs::Files::play_of))]
-    pub fn play_at(&self, roll: u8) -> u16
-        requires { roll < 21 }
-        ensures { result ≡ play_of self.now roll }
+    pub fn play(&self, roll: Roll) -> u16
+        ensures { result ≡ play_of self.now (roll_index roll) }
     {
-        read_short(self.bytes, 16 + 2 * usize::from(roll))
+        read_short(self.bytes, 16 + 2 * usize::from(roll.index()))
     }
 
     /// The numerator over 36 ^ 22 of the share of exactly `k` rolls, and 0 from 23 rolls on. Any number of

@@ -18,42 +18,43 @@ look_over-seen-requires c = rw c.as_slice.ensures.value (records-of_results c.ar
 pub returns-then-not-seen-clause-fault : goal.returns-then-not-seen-clause-fault
 returns-then-not-seen-clause-fault c =
     let refused : c.look_over-seen.result.is_legal ≡ false = search (rules, tests) in
-    let read = c.play_at-recorded.ensures ∙ (ap (λ bytes. play_of bytes c.index.result) c.record.ensures ∙ (play-of_record c.args.table.now c.rank.result c.index.result ∙ (ap (λ r. play_at c.args.table.now r c.index.result) c.rank.ensures.value ∙ ap (play_at c.args.table.now (rank c.args.position.now)) c.index.ensures.value))) in
-    let none = subst (λ (xs : List Board). All (λ y. rank y ≢ c.play_at-recorded.result) xs) c.as_slice.ensures.value (c.look_over-seen.ensures.not_legal refused) in
-    not_played c.args.table.now c.args.position.now c.args.roll c.results.result.items c.results.ensures.members c.play_at-recorded.result read none
+    let read = c.play-recorded.ensures ∙ (ap (λ bytes. play_of bytes (roll_index c.args.roll)) c.record.ensures ∙ (play-of_record c.args.table.now c.rank.result (roll_index c.args.roll) ∙ ap (λ r. play_at c.args.table.now r (roll_index c.args.roll)) c.rank.ensures.value)) in
+    let none = subst (λ (xs : List Board). All (λ y. rank y ≢ c.play-recorded.result) xs) c.as_slice.ensures.value (c.look_over-seen.ensures.not_legal refused) in
+    not_played c.args.table.now c.args.position.now c.args.roll c.results.result.items c.results.ensures.members c.play-recorded.result read none
 
 pub record-requires-2 : goal.record-requires-2
 record-requires-2 c =
     let legal : c.look_over-seen.result.is_legal ≡ true = search (rules, tests) in
-    let some = subst (λ (xs : List Board). Any (λ y. rank y ≡ c.play_at-recorded.result) xs) c.as_slice.ensures.value (c.look_over-seen.ensures.is_legal legal) in
-    let found = some-member (λ y. rank y ≡ c.play_at-recorded.result) c.results.result.items some in
+    let some = subst (λ (xs : List Board). Any (λ y. rank y ≡ c.play-recorded.result) xs) c.as_slice.ensures.value (c.look_over-seen.ensures.is_legal legal) in
+    let found = some-member (λ y. rank y ≡ c.play-recorded.result) c.results.result.items some in
     let all = records-of_results c.args.table.now c.args.position.now c.args.roll c.results.result.items c.results.ensures.members c.requires.records c.requires.position c.requires.low in
     subst (HasRecord c.args.table.now) found.2 (member-of_all (λ y. HasRecord c.args.table.now (rank y)) c.results.result.items found.0 all found.1)
 
 pub returns-then-seen-mean-clause-fault : goal.returns-then-seen-mean-clause-fault
 returns-then-seen-mean-clause-fault c =
     let legal : c.look_over-seen.result.is_legal ≡ true = search (rules, tests) in
-    let read = c.play_at-recorded.ensures ∙ (ap (λ bytes. play_of bytes c.index.result) c.record.ensures ∙ (play-of_record c.args.table.now c.rank.result c.index.result ∙ (ap (λ r. play_at c.args.table.now r c.index.result) c.rank.ensures.value ∙ ap (play_at c.args.table.now (rank c.args.position.now)) c.index.ensures.value))) in
-    let some = subst (λ (xs : List Board). Any (λ y. rank y ≡ c.play_at-recorded.result) xs) c.as_slice.ensures.value (c.look_over-seen.ensures.is_legal legal) in
-    let mean_read = c.mean.ensures ∙ (ap mean_of c.record-2.ensures ∙ mean-of_record c.args.table.now c.play_at-recorded.result) in
-    let less : c.look_over-seen.result.least < mean_at c.args.table.now c.play_at-recorded.result = omega (arith, mean_read, c.if-seen-mean.true) in
-    let least = subst (λ (xs : List Board). Any (λ y. mean c.args.table.now y ≡ c.look_over-seen.result.least) xs) c.as_slice.ensures.value (c.look_over-seen.ensures.least (omega arith)) in
-    ( is_played c.args.table.now c.args.position.now c.args.roll c.results.result.items c.results.ensures.members c.play_at-recorded.result read c.requires.position some
-    , not_best c.args.table.now c.args.position.now c.args.roll c.results.result.items c.results.ensures.members c.play_at-recorded.result c.look_over-seen.result.least read less least )
+    let read = c.play-recorded.ensures ∙ (ap (λ bytes. play_of bytes (roll_index c.args.roll)) c.record.ensures ∙ (play-of_record c.args.table.now c.rank.result (roll_index c.args.roll) ∙ ap (λ r. play_at c.args.table.now r (roll_index c.args.roll)) c.rank.ensures.value)) in
+    let some = subst (λ (xs : List Board). Any (λ y. rank y ≡ c.play-recorded.result) xs) c.as_slice.ensures.value (c.look_over-seen.ensures.is_legal legal) in
+    let mean_read = c.mean.ensures ∙ (ap mean_of c.record-2.ensures ∙ mean-of_record c.args.table.now c.play-recorded.result) in
+    let less : c.look_over-seen.result.least < mean_at c.args.table.now c.play-recorded.result = omega (arith, mean_read, c.if-seen-mean.true) in
+    let least = subst (λ (xs : List Board). Any (λ y. mean c.args.table.now y ≡ c.look_over-seen.result.least) xs) c.as_slice.ensures.value (c.look_over-seen.ensures.least (omega arith)) in (
+      is_played c.args.table.now c.args.position.now c.args.roll c.results.result.items c.results.ensures.members c.play-recorded.result read c.requires.position some,
+      not_best c.args.table.now c.args.position.now c.args.roll c.results.result.items c.results.ensures.members c.play-recorded.result c.look_over-seen.result.least read less least,
+    )
 
 pub returns-clause-recorded : goal.returns-clause-recorded
-returns-clause-recorded c = c.play_at-recorded.ensures ∙ (ap (λ bytes. play_of bytes c.index.result) c.record.ensures ∙ (play-of_record c.args.table.now c.rank.result c.index.result ∙ (ap (λ r. play_at c.args.table.now r c.index.result) c.rank.ensures.value ∙ ap (play_at c.args.table.now (rank c.args.position.now)) c.index.ensures.value)))
+returns-clause-recorded c = c.play-recorded.ensures ∙ (ap (λ bytes. play_of bytes (roll_index c.args.roll)) c.record.ensures ∙ (play-of_record c.args.table.now c.rank.result (roll_index c.args.roll) ∙ ap (λ r. play_at c.args.table.now r (roll_index c.args.roll)) c.rank.ensures.value))
 
 pub returns-clause-played : goal.returns-clause-played
 returns-clause-played c =
     let legal : c.look_over-seen.result.is_legal ≡ true = search (rules, tests) in
-    let read = c.play_at-recorded.ensures ∙ (ap (λ bytes. play_of bytes c.index.result) c.record.ensures ∙ (play-of_record c.args.table.now c.rank.result c.index.result ∙ (ap (λ r. play_at c.args.table.now r c.index.result) c.rank.ensures.value ∙ ap (play_at c.args.table.now (rank c.args.position.now)) c.index.ensures.value))) in
-    let some = subst (λ (xs : List Board). Any (λ y. rank y ≡ c.play_at-recorded.result) xs) c.as_slice.ensures.value (c.look_over-seen.ensures.is_legal legal) in
-    is_played c.args.table.now c.args.position.now c.args.roll c.results.result.items c.results.ensures.members c.play_at-recorded.result read c.requires.position some
+    let read = c.play-recorded.ensures ∙ (ap (λ bytes. play_of bytes (roll_index c.args.roll)) c.record.ensures ∙ (play-of_record c.args.table.now c.rank.result (roll_index c.args.roll) ∙ ap (λ r. play_at c.args.table.now r (roll_index c.args.roll)) c.rank.ensures.value)) in
+    let some = subst (λ (xs : List Board). Any (λ y. rank y ≡ c.play-recorded.result) xs) c.as_slice.ensures.value (c.look_over-seen.ensures.is_legal legal) in
+    is_played c.args.table.now c.args.position.now c.args.roll c.results.result.items c.results.ensures.members c.play-recorded.result read c.requires.position some
 
 pub returns-clause-best : goal.returns-clause-best
 returns-clause-best c =
-    let read = c.play_at-recorded.ensures ∙ (ap (λ bytes. play_of bytes c.index.result) c.record.ensures ∙ (play-of_record c.args.table.now c.rank.result c.index.result ∙ (ap (λ r. play_at c.args.table.now r c.index.result) c.rank.ensures.value ∙ ap (play_at c.args.table.now (rank c.args.position.now)) c.index.ensures.value))) in
-    let mean_read = c.mean.ensures ∙ (ap mean_of c.record-2.ensures ∙ mean-of_record c.args.table.now c.play_at-recorded.result) in
+    let read = c.play-recorded.ensures ∙ (ap (λ bytes. play_of bytes (roll_index c.args.roll)) c.record.ensures ∙ (play-of_record c.args.table.now c.rank.result (roll_index c.args.roll) ∙ ap (λ r. play_at c.args.table.now r (roll_index c.args.roll)) c.rank.ensures.value)) in
+    let mean_read = c.mean.ensures ∙ (ap mean_of c.record-2.ensures ∙ mean-of_record c.args.table.now c.play-recorded.result) in
     let all = subst (λ (xs : List Board). All (λ y. c.look_over-seen.result.least ≤ mean c.args.table.now y) xs) c.as_slice.ensures.value c.look_over-seen.ensures.no_less in
-    is_best c.args.table.now c.args.position.now c.args.roll c.results.result.items c.results.ensures.members c.play_at-recorded.result c.look_over-seen.result.least read (omega (arith, mean_read, c.if-seen-mean.false)) all
+    is_best c.args.table.now c.args.position.now c.args.roll c.results.result.items c.results.ensures.members c.play-recorded.result c.look_over-seen.result.least read (omega (arith, mean_read, c.if-seen-mean.false)) all

@@ -9,5 +9,5 @@ invariant-loop-position l = record {
   is_legal : IsTrue l.is_legal → (k : ℕ) × (k < l.position-index) × ((d : List ℕ) → rank (get_or l.found k d) ≡ l.recorded);
   not_legal : l.is_legal ≡ false → (k : ℕ) (d : List ℕ) → k < l.position-index → rank (get_or l.found k d) ≢ l.recorded;
   no_less : (k : ℕ) (d : List ℕ) → k < l.position-index → l.least ≤ mean l.table (get_or l.found k d);
-  least : l.least < 2 ^ 128 - 1 → (k : ℕ) × (k < l.position-index) × ((d : List ℕ) → mean l.table (get_or l.found k d) ≡ l.least)
+  least : l.least < 2 ^ 128 - 1 → (k : ℕ) × (k < l.position-index) × ((d : List ℕ) → mean l.table (get_or l.found k d) ≡ l.least);
 }
