@@ -1,3 +1,4 @@
 pub mod BoxCounts
 pub mod RankCounts
 pub mod RankOrder
+pub mod PositionTotals
