@@ -1,2 +1,3 @@
 pub mod RecordedPlays
 pub mod PlayFaults
+pub mod RecordFaults

@@ -4,6 +4,7 @@
 
 mod equations;
 mod plays;
+mod record_check;
 mod table;
 
 pub use table::Whole;
