@@ -3,3 +3,4 @@ pub mod Tests
 pub mod Members
 pub mod PlayTests
 pub mod RecordTests
+pub mod Fronts

@@ -2,6 +2,7 @@
 //! of one that is.
 #![tactic(auto)]
 
+mod check_fault;
 mod equations;
 mod plays;
 mod record_check;
