@@ -23,3 +23,4 @@ pub mod HeaderFacts
 pub mod EqualReplies
 pub mod SampleCounts
 pub mod LowestTerms
+pub mod Lines
