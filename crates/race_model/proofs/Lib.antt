@@ -24,3 +24,7 @@ pub mod EqualReplies
 pub mod SampleCounts
 pub mod LowestTerms
 pub mod Lines
+pub mod OrderedLists
+pub mod PlayOrder
+pub mod OneText
+pub mod OneReply

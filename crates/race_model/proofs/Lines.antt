@@ -14,12 +14,12 @@ abbrev IsNoSpace : ℕ → Type 0
 IsNoSpace c = eqb c 32 ≡ false
 
 -- a value that is given under a test was tested
-tested : (b : Bool) (a : Option ℕ) (n : ℕ) → cond b a None ≡ Some n → b ≡ true
+pub tested : (b : Bool) (a : Option ℕ) (n : ℕ) → cond b a None ≡ Some n → b ≡ true
 tested true a n e = refl
 tested false a n e = absurd (cc)
 
 -- both of two tests
-both_tests : (a b : Bool) → (a && b) ≡ true → (a ≡ true) × (b ≡ true)
+pub both_tests : (a b : Bool) → (a && b) ≡ true → (a ≡ true) × (b ≡ true)
 both_tests true b e = (refl, e)
 both_tests false b e = absurd (cc)
 
