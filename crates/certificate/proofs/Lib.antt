@@ -1,2 +1,4 @@
 pub mod Pulled
 pub mod Tests
+pub mod Members
+pub mod PlayTests

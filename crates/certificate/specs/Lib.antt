@@ -1,1 +1,2 @@
 pub mod RecordedPlays
+pub mod PlayFaults

@@ -3,6 +3,7 @@
 #![tactic(auto)]
 
 mod equations;
+mod plays;
 mod table;
 
 pub use table::Whole;

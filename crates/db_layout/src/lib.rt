@@ -2,6 +2,8 @@
 //! file; the crates above may use that bytes are read exactly where the grammar has them.
 #![tactic(auto)]
 
+pub use header::{Header, HeaderFault, parse_header};
 pub use record::{HEADER_BYTES, RECORD_BYTES, RecordView};
 
+pub mod header;
 pub mod record;

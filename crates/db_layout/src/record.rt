@@ -1,7 +1,9 @@
 ghost use Rattle.std.specs.Prelude.{◌≡◌, ℕ, ◌+◌, ◌*◌, ◌^◌, ◌<◌, ◌≤◌, ◌↔◌, List, length, IsSome, IfSome};
+ghost use Rattle.race_model.specs.Dice.{roll_index};
 ghost use Rattle.race_model.specs.Files.{bytes_at, mean_of, play_of, share_of};
-ghost use Rattle.std.specs.Int.{w16, w128, from_be_bytes};
+ghost use Rattle.std.specs.Int.{w16, w32, w128, from_be_bytes};
 
+use legal_plays::Roll;
 use std::marker::Model;
 
 /// How many bytes a header has (this project's profile).
@@ -46,13 +48,12 @@ impl<'a> RecordView<'a> {
         read_wide(self.bytes, 0)
     }
 
-    /// The rank that is recorded for a roll, by the roll's index. Any number of 16 bits may stand there.
+    /// The rank that is recorded for a roll. Any number of 16 bits may stand there.
     #[tactic(auto, unfolding(race_model::specs::Files::play_of))]
-    pub fn play_at(&self, roll: u8) -> u16
-        requires { roll < 21 }
-        ensures { result ≡ play_of self.now roll }
+    pub fn play(&self, roll: Roll) -> u16
+        ensures { result ≡ play_of self.now (roll_index roll) }
     {
-        read_short(self.bytes, 16 + 2 * usize::from(roll))
+        read_short(self.bytes, 16 + 2 * usize::from(roll.index()))
     }
 
     /// The numerator over 36 ^ 22 of the share of exactly `k` rolls, and 0 from 23 rolls on. Any number of
@@ -81,12 +82,23 @@ fn read_wide(bytes: &[u8], place: usize) -> u128
 }
 
 /// The number in the 2 bytes from a place on, high byte first.
-fn read_short(bytes: &[u8], place: usize) -> u16
+pub(crate) fn read_short(bytes: &[u8], place: usize) -> u16
     requires { place + 2 ≤ length bytes.now }
     ensures { result ≡ from_be_bytes w16 (bytes_at bytes.now place 2) }
 {
     match bytes[place..place + 2].try_into() {
         Ok(number) => u16::from_be_bytes(number),
+        Err(_) => unreachable!(),
+    }
+}
+
+/// The number in the 4 bytes from a place on, high byte first.
+pub(crate) fn read_word(bytes: &[u8], place: usize) -> u32
+    requires { place + 4 ≤ length bytes.now }
+    ensures { result ≡ from_be_bytes w32 (bytes_at bytes.now place 4) }
+{
+    match bytes[place..place + 4].try_into() {
+        Ok(number) => u32::from_be_bytes(number),
         Err(_) => unreachable!(),
     }
 }

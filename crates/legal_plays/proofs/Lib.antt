@@ -1,5 +1,6 @@
 pub mod LegalLemmas
 pub mod OrderLemmas
+pub mod PlayableLemmas
 pub mod PlayLemmas
 pub mod PlayToLemmas
 pub mod RankLemmas

@@ -1,5 +1,5 @@
 -- What dice make of positions.
-use Rattle.std.proofs.Common.{◌≡◌, ℕ, ◌+◌, ◌<◌, List, [], ◌∷◌, ◌++◌, length, get_or, take, ◌⊎◌, inl, inr, ◌↔◌, Contains, sym, ◌∙◌, ap, subst, drop, drop-cons, refl, suc, arith}
+use Rattle.std.proofs.Common.{◌≡◌, ℕ, zero, ◌+◌, ◌<◌, List, [], ◌∷◌, ◌++◌, length, get_or, take, ◌⊎◌, inl, inr, ◌↔◌, Contains, sym, ◌∙◌, ap, subst, refl, suc, arith}
 use Rattle.std.proofs.lemmas.List.{take_more}
 use Rattle.std.proofs.lemmas.List.Elements.{Contains-append_left, Contains-push, Contains-push_cases}
 use Rattle.race_model.specs.Positions.{Board, IsFinished}
@@ -54,42 +54,50 @@ pub run_finished : (x y : Board) (dice : List Die) → IsFinished x → Run x di
 run_finished x y [] done = (λ same. same, λ same. same)
 run_finished x y (d ∷ dice) done = (λ run. elim run [ inl end ↦ end.1 | inr move ↦ absurd (move.0 done) ], λ same. inl (done, same))
 
--- a run is one turn and then the run of the dice that are left
-pub run_turns : (x y : Board) (d : Die) (dice : List Die) → Run x (d ∷ dice) y ↔ ((z : Board) × (Turns x d z × Run z dice y))
-run_turns x y d dice = (there, back)
+-- one die more makes one turn more
+run_last : (x y : Board) (dice : List Die) (d : Die) → Run x (dice ++ d ∷ []) y ↔ ((z : Board) × (Run x dice z × Turns z d y))
+run_last x y [] d = (there, back)
   where
-    there : Run x (d ∷ dice) y → (z : Board) × (Turns x d z × Run z dice y)
+    there : Run x (d ∷ []) y → (z : Board) × ((z ≡ x) × Turns z d y)
     there run = elim run [
-      | inl end ↦ (x, (inl (end.0, refl), (run_finished x y dice end.0).1 end.1))
-      | inr move ↦ (move.1.0, (inr (move.0, move.1.1.0), move.1.1.1))
+      | inl end ↦ (x, (refl, inl end))
+      | inr move ↦ (x, (refl, inr (move.0, subst (Step x d) (sym move.1.1.1) move.1.1.0)))
     ]
 
-    back : ((z : Board) × (Turns x d z × Run z dice y)) → Run x (d ∷ dice) y
-    back (z, (turn, run)) = elim turn [
-      | inl end ↦ inl (end.0, (run_finished x y dice end.0).0 (subst (λ w. Run w dice y) end.1 run))
-      | inr move ↦ inr (move.0, (z, (move.1, run)))
-    ]
-
--- the dice that are left lead on from the positions after one more die
-pub one_more_die : (whole : Type 0) (dice : List Die) (i : ℕ) (d : Die) (xs zs : List Board) (y : Board) → i < length dice → d ≡ get_or dice i d
-    → (whole ↔ ((x : Board) × (Contains xs x × Run x (drop i dice) y)))
-    → ((z : Board) → Contains zs z ↔ ((x : Board) × (Contains xs x × Turns x d z)))
-    → whole ↔ ((z : Board) × (Contains zs z × Run z (drop (i + 1) dice) y))
-one_more_die whole dice i d xs zs y low at before now = (there, back)
+    back : ((z : Board) × ((z ≡ x) × Turns z d y)) → Run x (d ∷ []) y
+    back (z, (same, turn)) = elim (subst (λ w. Turns w d y) same turn) [ inl end ↦ inl end | inr move ↦ inr (move.0, (y, (move.1, refl))) ]
+run_last x y (e ∷ dice) d = (there (λ w. run_last w y dice d), back (λ w. run_last w y dice d))
   where
-    rest : drop i dice ≡ d ∷ drop (i + 1) dice
-    rest = let next : suc i ≡ i + 1 = omega arith in cc (drop-cons dice i d low)
+    there : ((w : Board) → Run w (dice ++ d ∷ []) y ↔ ((z : Board) × (Run w dice z × Turns z d y)))
+        → Run x (e ∷ (dice ++ d ∷ [])) y → (z : Board) × (Run x (e ∷ dice) z × Turns z d y)
+    there later run = elim run [
+      | inl end ↦ (x, (inl (end.0, refl), inl end))
+      | inr move ↦ let rest = (later move.1.0).0 move.1.1.1 in (rest.0, (inr (move.0, (move.1.0, (move.1.1.0, rest.1.0))), rest.1.1))
+    ]
 
-    there : whole → (z : Board) × (Contains zs z × Run z (drop (i + 1) dice) y)
-    there got =
-        let was = before.0 got in
-        let turn = (run_turns was.0 y d (drop (i + 1) dice)).0 (subst (λ ds. Run was.0 ds y) rest was.1.1) in
-        (turn.0, ((now turn.0).1 (was.0, (was.1.0, turn.1.0)), turn.1.1))
+    back : ((w : Board) → Run w (dice ++ d ∷ []) y ↔ ((z : Board) × (Run w dice z × Turns z d y)))
+        → ((z : Board) × (Run x (e ∷ dice) z × Turns z d y)) → Run x (e ∷ (dice ++ d ∷ [])) y
+    back later (z, (run, turn)) = elim run [
+      | inl end ↦ elim (subst (λ w. Turns w d y) end.1 turn) [ inl done ↦ inl done | inr move ↦ absurd (move.0 end.0) ]
+      | inr move ↦ inr (move.0, (move.1.0, (move.1.1.0, (later move.1.0).1 (z, (move.1.1.1, turn)))))
+    ]
 
-    back : ((z : Board) × (Contains zs z × Run z (drop (i + 1) dice) y)) → whole
-    back (z, (held, run)) =
-        let from = (now z).0 held in
-        before.1 (from.0, (from.1.0, subst (λ ds. Run from.0 ds y) (sym rest) ((run_turns from.0 y d (drop (i + 1) dice)).1 (z, (from.1.1, run)))))
+-- what one die more makes of the positions that dice lead to
+pub next_die : (x : Board) (dice : List Die) (d : Die) (xs zs : List Board) → ((z : Board) → Contains xs z ↔ Run x dice z)
+    → ((y : Board) → Contains zs y ↔ ((z : Board) × (Contains xs z × Turns z d y))) → (y : Board) → Contains zs y ↔ Run x (dice ++ d ∷ []) y
+next_die x dice d xs zs before now y = (
+  λ held. let from = (now y).0 held in (run_last x y dice d).1 (from.0, ((before from.0).0 from.1.0, from.1.1)),
+  λ run. let from = (run_last x y dice d).0 run in (now y).1 (from.0, ((before from.0).1 from.1.0, from.1.1)),
+)
+
+-- what the first die makes of a position
+pub first_die : (x : Board) (d : Die) (zs : List Board) → ((y : Board) → Contains zs y ↔ ((z : Board) × (Contains (x ∷ []) z × Turns z d y)))
+    → (y : Board) → Contains zs y ↔ Run x (d ∷ []) y
+first_die x d zs now y = next_die x [] d (x ∷ []) zs (λ z. ((λ held. only z held), (λ same. (zero, omega arith, sym same)))) now y
+  where
+    only : (z : Board) → Contains (x ∷ []) z → z ≡ x
+    only z (zero, low, at) = sym at
+    only z (suc k, low, at) = absurd (omega arith)
 
 -- one more of other positions
 pub one_more_other : (xs : List Board) (i : ℕ) (z y : Board) (Old Before Now : Type 0) → i < length xs → z ≡ get_or xs i z

@@ -55,3 +55,74 @@ pub fn play_to(position: &Position, roll: Roll, target: &Position) -> Option<Pla
     }
     search(position, &[low, high], target)
 }
+
+#[cfg(test)]
+mod tests {
+    use super::*;
+    use crate::{parse_roll, write_play};
+    use std::process::Abort;
+    use std::test::Fail;
+
+    fn assert_play(
+        rt: &impl Abort,
+        from: [u8; 6],
+        roll: &[u8],
+        to: [u8; 6],
+        expected: Option<&str>,
+    ) -> Result<(), Fail> {
+        let roll = parse_roll(roll).ok_or("no roll")?;
+        let play = play_to(&Position::new(from)?, roll, &Position::new(to)?);
+        let text = play.map(|play| write_play(&play));
+        assert_eq!(rt; text.as_ref().map(|text| text.as_str()), expected);
+        Ok(())
+    }
+
+    #[test]
+    fn worked_rows(rt: HostRuntime) -> Result<(), Fail> {
+        assert_play(
+            &rt,
+            [0, 0, 1, 1, 0, 0],
+            b"41",
+            [0, 0, 1, 0, 0, 0],
+            Some("4/3 3/off"),
+        )?;
+        assert_play(
+            &rt,
+            [0, 0, 1, 1, 0, 0],
+            b"41",
+            [0, 1, 0, 0, 0, 0],
+            Some("4/off 3/2"),
+        )?;
+        assert_play(&rt, [0; 6], b"66", [0; 6], Some(""))?;
+        assert_play(&rt, [0, 0, 0, 0, 0, 1], b"11", [0, 0, 0, 1, 0, 0], None)?;
+        assert_play(
+            &rt,
+            [0, 0, 0, 2, 0, 0],
+            b"21",
+            [1, 0, 0, 1, 0, 0],
+            Some("4/2 2/1"),
+        )?;
+        assert_play(&rt, [0, 0, 1, 0, 0, 0], b"13", [0; 6], Some("3/off"))?;
+        assert_play(
+            &rt,
+            [0, 0, 0, 0, 0, 1],
+            b"11",
+            [0, 1, 0, 0, 0, 0],
+            Some("6/5 5/4 4/3 3/2"),
+        )?;
+        assert_play(
+            &rt,
+            [0, 1, 0, 1, 0, 0],
+            b"21",
+            [1, 1, 0, 0, 0, 0],
+            Some("4/2 2/1"),
+        )?;
+        assert_play(
+            &rt,
+            [0, 1, 0, 1, 0, 0],
+            b"21",
+            [0, 0, 1, 0, 0, 0],
+            Some("2/off 4/3"),
+        )
+    }
+}

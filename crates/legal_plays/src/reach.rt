@@ -1,5 +1,5 @@
 //! The positions that a roll can reach.
-ghost use Rattle.std.specs.Prelude.{◌≡◌, ℕ, ◌+◌, ◌*◌, ◌^◌, ◌<◌, ◌≤◌, ◌↔◌, ◌⊎◌, List, length, Contains};
+ghost use Rattle.std.specs.Prelude.{◌≡◌, ℕ, ◌+◌, ◌*◌, ◌<◌, ◌≤◌, ◌↔◌, ◌⊎◌, List, [], ◌∷◌, length, Contains};
 ghost use Rattle.arrayvec.specs.ArrayVec.{array_vec_len};
 ghost use Rattle.race_model.specs.Positions.{IsFinished};
 ghost use Rattle.race_model.specs.Plays.{Step, Run, Legal};
@@ -11,8 +11,8 @@ use arrayvec::ArrayVec;
 use home_board::Position;
 
 // Adds a position to those found, which stay in order, unless it is there.
-fn include(found: &mut ArrayVec<Position, 1296>, position: Position)
-    requires room { array_vec_len found.old < 1296 }
+fn include<const CAP: usize>(found: &mut ArrayVec<Position, CAP>, position: Position)
+    requires room { array_vec_len found.old < CAP }
     requires ordered { IsAscending found.old.items }
     ensures members { (y : List ℕ) → Contains found.new.items y ↔ (Contains found.old.items y ⊎ (y ≡ position)) }
     ensures ordered { IsAscending found.new.items }
@@ -24,8 +24,8 @@ fn include(found: &mut ArrayVec<Position, 1296>, position: Position)
 }
 
 // Adds positions to those found, which stay in order, unless they are there.
-fn include_all(found: &mut ArrayVec<Position, 1296>, others: &[Position])
-    requires room { array_vec_len found.old + length others.now ≤ 1296 }
+fn include_all<const CAP: usize>(found: &mut ArrayVec<Position, CAP>, others: &[Position])
+    requires room { array_vec_len found.old + length others.now ≤ CAP }
     requires ordered { IsAscending found.old.items }
     ensures members { (y : List ℕ) → Contains found.new.items y ↔ (Contains found.old.items y ⊎ Contains others.now y) }
     ensures ordered { IsAscending found.new.items }
@@ -36,8 +36,12 @@ fn include_all(found: &mut ArrayVec<Position, 1296>, others: &[Position])
 }
 
 // Adds the positions that a step with the die leads to.
-fn include_steps(found: &mut ArrayVec<Position, 1296>, position: &Position, die: Die)
-    requires room { array_vec_len found.old + 6 ≤ 1296 }
+fn include_steps<const CAP: usize>(
+    found: &mut ArrayVec<Position, CAP>,
+    position: &Position,
+    die: Die,
+)
+    requires room { array_vec_len found.old + 6 ≤ CAP }
     requires ordered { IsAscending found.old.items }
     ensures members { (y : List ℕ) → Contains found.new.items y ↔ (Contains found.old.items y ⊎ Step position.now die y) }
     ensures ordered { IsAscending found.new.items }
@@ -51,8 +55,8 @@ fn include_steps(found: &mut ArrayVec<Position, 1296>, position: &Position, die:
 }
 
 // The positions that one die leads to from these: a finished position stays.
-fn after_die(positions: &[Position], die: Die) -> ArrayVec<Position, 1296>
-    requires { 6 * length positions.now ≤ 1296 }
+fn after_die<const CAP: usize>(positions: &[Position], die: Die) -> ArrayVec<Position, CAP>
+    requires { 6 * length positions.now ≤ CAP }
     ensures members { (y : List ℕ) → Contains result.items y ↔ ((x : List ℕ) × (Contains positions.now x × Turns x die y)) }
     ensures ordered { IsAscending result.items }
     ensures len { array_vec_len result ≤ 6 * length positions.now }
@@ -68,32 +72,87 @@ fn after_die(positions: &[Position], die: Die) -> ArrayVec<Position, 1296>
     found
 }
 
-// The positions that the dice lead to, one after another.
-fn after_dice(position: &Position, dice: &[Die]) -> ArrayVec<Position, 1296>
-    requires { length dice.now ≤ 4 }
-    ensures members { (y : List ℕ) → Contains result.items y ↔ Run position.now dice.now y }
+// The positions that two dice lead to, one after the other.
+fn after_two<const CAP: usize>(
+    position: &Position,
+    first: Die,
+    second: Die,
+) -> ArrayVec<Position, CAP>
+    requires { 36 ≤ CAP }
+    ensures members { (y : List ℕ) → Contains result.items y ↔ Run position.now (first ∷ second ∷ []) y }
     ensures ordered { IsAscending result.items }
-    ensures len { array_vec_len result ≤ 6 ^ length dice.now }
+    ensures len { array_vec_len result ≤ 36 }
 {
-    let mut positions = ArrayVec::new();
-    positions.push(*position);
-    for die in dice {
-        positions = after_die(positions.as_slice(), *die);
-    }
-    positions
+    let positions: ArrayVec<Position, 6> = after_die(&[*position], first);
+    after_die(positions.as_slice(), second)
+}
+
+// The positions that a double leads to: the die is played four times.
+fn after_four(position: &Position, die: Die) -> ArrayVec<Position, 1296>
+    ensures members { (y : List ℕ) → Contains result.items y ↔ Run position.now (die ∷ die ∷ die ∷ die ∷ []) y }
+    ensures ordered { IsAscending result.items }
+{
+    let two: ArrayVec<Position, 36> = after_two(position, die, die);
+    let three: ArrayVec<Position, 216> = after_die(two.as_slice(), die);
+    after_die(three.as_slice(), die)
 }
 
 /// The positions that the roll can reach, each once and by rising rank: by its two dice in either order, or
-/// by a double four times. From the finished position that is the finished position.
+/// by a double four times. There is at least one, and from the finished position that is the finished position.
 pub fn results(position: &Position, roll: Roll) -> ArrayVec<Position, 1296>
     ensures members { (y : List ℕ) → Contains result.items y ↔ Legal position.now roll y }
     ensures ordered { IsInRankOrder result.items }
+    ensures some { 0 < array_vec_len result }
 {
     let (high, low) = (roll.high(), roll.low());
     if high == low {
-        return after_dice(position, &[high; 4]);
+        return after_four(position, high);
     }
-    let mut found = after_dice(position, &[high, low]);
-    include_all(&mut found, after_dice(position, &[low, high]).as_slice());
+    let mut found = after_two(position, high, low);
+    let others: ArrayVec<Position, 36> = after_two(position, low, high);
+    include_all(&mut found, others.as_slice());
     found
+}
+
+#[cfg(test)]
+mod tests {
+    use super::*;
+    use crate::parse_roll;
+    use std::process::Abort;
+    use std::test::Fail;
+
+    fn assert_results(
+        rt: &impl Abort,
+        counts: [u8; 6],
+        roll: &[u8],
+        expected: &[[u8; 6]],
+    ) -> Result<(), Fail> {
+        let position = Position::new(counts)?;
+        let roll = parse_roll(roll).ok_or("no roll")?;
+        let found = results(&position, roll);
+        assert_eq!(rt; found.len(), expected.len());
+        for (reached, counts) in found.as_slice().iter().zip(expected) {
+            assert_eq!(rt; *reached, Position::new(*counts)?);
+        }
+        Ok(())
+    }
+
+    #[test]
+    fn worked_rows(rt: HostRuntime) -> Result<(), Fail> {
+        assert_results(
+            &rt,
+            [0, 0, 1, 1, 0, 0],
+            b"41",
+            &[[0, 1, 0, 0, 0, 0], [0, 0, 1, 0, 0, 0]],
+        )?;
+        assert_results(&rt, [0, 0, 0, 0, 0, 1], b"11", &[[0, 1, 0, 0, 0, 0]])?;
+        assert_results(
+            &rt,
+            [0, 0, 0, 2, 0, 0],
+            b"12",
+            &[[0, 1, 1, 0, 0, 0], [1, 0, 0, 1, 0, 0]],
+        )?;
+        assert_results(&rt, [3, 0, 1, 0, 0, 0], b"21", &[[3, 0, 0, 0, 0, 0]])?;
+        assert_results(&rt, [0; 6], b"66", &[[0; 6]])
+    }
 }

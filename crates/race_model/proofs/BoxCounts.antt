@@ -83,11 +83,13 @@ unfoldable pub one_more : List ℕ → List ℕ
 one_more [] = []
 one_more (c ∷ cs) = suc c ∷ cs
 
+-- .. which leaves the length as it is
 pub length-one_more : (y : List ℕ) → length (one_more y) ≡ length y
 unfolding one_more
 length-one_more [] = refl
 length-one_more (c ∷ cs) = refl
 
+-- .. and adds at most one to the sum
 pub sum-one_more : (y : List ℕ) → sum (one_more y) ≤ suc (sum y)
 unfolding one_more
 sum-one_more [] = omega arith
@@ -107,24 +109,29 @@ within-nil k test = rw (le-leb 0 k (omega arith)) (zero-add (cond (test []) 1 0)
 unfoldable starting : ℕ → ℕ → (List ℕ → Bool) → ℕ → ℕ
 starting n k test c = count_by (λ cs. nat_le (sum (c ∷ cs)) k && test (c ∷ cs)) (boards n)
 
+-- no list with more checkers on its first point than allowed is counted
 starting-none : (n k : ℕ) (test : List ℕ → Bool) (c : ℕ) → k < c → starting n k test c ≡ 0
 unfolding starting
 starting-none n k test c h =
     sum_by-none _ (boards n)
     (λ cs. ap (λ b. cond {A = ℕ} b 1 0) (and_left (nat_le (sum (c ∷ cs)) k) (test (c ∷ cs)) (lt-leb (sum (c ∷ cs)) k (omega (arith, sum-cons c cs)))))
 
+-- an empty first point may be left out
 starting-zero : (n k : ℕ) (test : List ℕ → Bool) → starting n k test 0 ≡ within n k (λ cs. test (0 ∷ cs))
 unfolding starting within
 starting-zero n k test = refl
 
+-- tests that imply each other agree
 pub same-bool : (a b : Bool) → (a ≡ true → b ≡ true) → (b ≡ true → a ≡ true) → a ≡ b
 same-bool true b f g = sym (f refl)
 same-bool false true f g = g refl
 same-bool false false f g = refl
 
+-- one more on both sides of a comparison
 pub le-suc : (a b : ℕ) → nat_le (suc a) (suc b) ≡ nat_le a b
 le-suc a b = same-bool _ _ (λ h. le-leb _ _ (omega (arith, leb-true (suc a) (suc b) h))) (λ h. le-leb _ _ (omega (arith, leb-true a b h)))
 
+-- a checker less on the first point, and one less allowed
 starting-suc : (n k : ℕ) (test : List ℕ → Bool) (c : ℕ) → starting n (suc k) test (suc c) ≡ starting n k (λ y. test (one_more y)) c
 unfolding starting one_more
 starting-suc n k test c =
@@ -134,11 +141,13 @@ starting-suc n k test c =
           let e : sum (suc c ∷ cs) ≡ suc (c + sum cs) = omega (arith, sum-cons (suc c) cs) in
           ap (λ m. nat_le m (suc k)) e ∙ le-suc (c + sum cs) k ∙ ap (λ m. nat_le m k) (sym (sum-cons c cs))
 
+-- tests that agree on the lists with first count c
 starting-same : (n k : ℕ) (p q : List ℕ → Bool) (c : ℕ) → ((cs : List ℕ) → p (c ∷ cs) ≡ q (c ∷ cs)) → starting n k p c ≡ starting n k q c
 unfolding starting
 starting-same n k p q c e =
     sum_by-same _ _ (boards n) (λ cs. ap (λ b. cond {A = ℕ} (nat_le (sum (c ∷ cs)) k && b) 1 0) (e cs))
 
+-- one more on both sides of an equation
 pub eq-suc : (a b : ℕ) → (suc a == suc b) ≡ (a == b)
 eq-suc a b = same-bool _ _ (λ h. eq-eqb a b (omega (arith, eqb-true (suc a) (suc b) h))) (λ h. eq-eqb (suc a) (suc b) (omega (arith, eqb-true a b h)))
 
@@ -174,6 +183,7 @@ within-same_cons n k p q e =
     ∙ sum_by-same _ _ (numbers_from 0 16) (λ c. starting-same n k p q c (e c))
     ∙ sym (within-by_first n k q)
 
+-- a test that fails on the lists with first count c
 starting-false : (n k : ℕ) (test : List ℕ → Bool) (c : ℕ) → ((cs : List ℕ) → test (c ∷ cs) ≡ false) → starting n k test c ≡ 0
 unfolding starting
 starting-false n k test c e =
@@ -212,6 +222,7 @@ within-none_on (suc n) (suc k) test h e =
     let some : within (suc n) k (λ y. test (one_more y)) ≡ 0 = within-none_on (suc n) k _ (omega arith) (λ y l few. e (one_more y) (length-one_more y ∙ l) (omega (arith, sum-one_more y))) in
     omega (arith, within-suc n k test (omega arith), empty, some)
 
+-- a test that passes on a list with first count c, where that is known of the rest
 within-some_first : (cs : List ℕ) → ((k : ℕ) (test : List ℕ → Bool) → k ≤ 15 → sum cs ≤ k → test cs ≡ true → 0 < within (length cs) k test) →
     (c k : ℕ) (test : List ℕ → Bool) → k ≤ 15 → c + sum cs ≤ k → test (c ∷ cs) ≡ true → 0 < within (suc (length cs)) k test
 unfolding one_more
@@ -241,6 +252,7 @@ pub record IsFound (p bad : List ℕ → Bool) (xs : List (List ℕ)) (y : List 
   pub passes : p y ≡ true
   pub good : bad y ≡ false
 
+-- a count of a list with one more in front
 count-cons : (p : List ℕ → Bool) (x : List ℕ) (xs : List (List ℕ)) → count_by p (x ∷ xs) ≡ cond (p x) 1 0 + count_by p xs
 count-cons p x xs = sum_by-cons (λ y. cond {A = ℕ} (p y) 1 0) x xs
 

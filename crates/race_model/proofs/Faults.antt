@@ -7,7 +7,8 @@ use Rattle.race_model.specs.Files.{IsFileTo, bound_of}
 use Rattle.race_model.specs.LocalEquations.{IsPlayed, IsBest, IsLocal, IsLocalAt}
 use Rattle.race_model.specs.FirstFault.{Test, play_test, least_test, mean_test, spread_test, rank_of, place_of, Holds, Asks, IsFirstFault}
 use Rattle.race_model.proofs.Throws.{roll_of_index, by_index}
-use Rattle.race_model.proofs.RankOrder.{at_rank-position, rank-at_rank, rank-bound, rank-found, count_to-most}
+use Rattle.race_model.proofs.RankOrder.{at_rank-position, rank-bound, rank-found}
+use Rattle.race_model.proofs.PositionTotals.{rank-at_rank, count_to-most}
 
 -- a rank under the count of a bound is that of a position of at most the bound
 pub within_bound : (bound r : ℕ) → r < count_to bound → IsPosition (at_rank r) × (pips (at_rank r) ≤ bound)

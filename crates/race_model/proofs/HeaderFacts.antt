@@ -7,7 +7,7 @@ use Rattle.std.proofs.lemmas.Nat.{be_bytes_2, be_bytes_4, from_be_bytes-to_be_by
 use Rattle.race_model.specs.Ranks.{count_to}
 use Rattle.race_model.specs.Files.{header, bytes_at, bound_of, IsFileTo}
 use Rattle.race_model.specs.Headers.{HeaderTest, long_enough, magic, version, bound, count, record_bytes, reserved, exact_length, IsHeader, IsFirstHeaderFault}
-use Rattle.race_model.proofs.RankOrder.{count_to-most}
+use Rattle.race_model.proofs.PositionTotals.{count_to-most}
 
 -- the fields of a header
 header_magic : (b : ℕ) → bytes_at (header b) 0 8 ≡ codes "EPCTABLE"

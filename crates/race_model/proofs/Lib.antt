@@ -28,3 +28,5 @@ pub mod OrderedLists
 pub mod PlayOrder
 pub mod OneText
 pub mod OneReply
+pub mod PositionTotals
+pub mod SameBytes

@@ -27,22 +27,28 @@ is_earlier p x y = (pips_from p y == pips_from p x) && comes_first y x
 unfoldable pub earlier : ℕ → ℕ → ℕ → List ℕ → ℕ
 earlier n p k x = within n k (λ y. is_earlier p x y)
 
+-- a checker more on the first point adds its pips
 pips-more : (p c : ℕ) (cs : List ℕ) → pips_from p (suc c ∷ cs) ≡ p + pips_from p (c ∷ cs)
 pips-more p c cs = omega arith
 
+-- an empty first point has no pips
 pips-none : (p : ℕ) (cs : List ℕ) → pips_from p (0 ∷ cs) ≡ pips_from (suc p) cs
 pips-none p cs = omega arith
 
+-- a test that passes may be left out
 and-true : (a b : Bool) → b ≡ true → (a && b) ≡ a
 and-true true b h = h
 and-true false b h = refl
 
+-- the same number on both sides of an equation
 eq-add : (p a b : ℕ) → (p + a == p + b) ≡ (a == b)
 eq-add p a b = same-bool _ _ (λ h. eq-eqb a b (omega (arith, eqb-true (p + a) (p + b) h))) (λ h. eq-eqb (p + a) (p + b) (omega (arith, eqb-true a b h)))
 
+-- a number taken to the other side of an equation
 eq-sub : (p a m : ℕ) → p ≤ m → (p + a == m) ≡ (a == m - p)
 eq-sub p a m l = same-bool _ _ (λ h. eq-eqb a (m - p) (omega (arith, eqb-true (p + a) m h))) (λ h. eq-eqb (p + a) m (omega (arith, eqb-true a (m - p) h)))
 
+-- a sum is not less than its first part
 eq-low : (p a m : ℕ) → m < p → (p + a == m) ≡ false
 eq-low p a m l = ne_eqb (p + a) m (λ e. omega arith)
 
@@ -117,26 +123,32 @@ pub earlier-nil : (p k : ℕ) → earlier 0 p k [] ≡ 0
 unfolding earlier
 earlier-nil p k = within-nil k (λ y. is_earlier p [] y)
 
+-- parts that agree, tests that agree
 and-same : (a b u v : Bool) → a ≡ u → b ≡ v → (a && b) ≡ (u && v)
 and-same a b u v e f = ap (λ s. s && b) e ∙ ap (λ s. u && s) f
 
+-- with the first points empty, the rest decides
 is_earlier-none : (p : ℕ) (cs ds : List ℕ) → is_earlier p (0 ∷ cs) (0 ∷ ds) ≡ is_earlier (suc p) cs ds
 is_earlier-none p cs ds = and-same _ _ _ _ (eq-add (p * 0) (pips_from (suc p) ds) (pips_from (suc p) cs)) refl
 
+-- no list with a checker on its first point is before one without
 is_earlier-above : (p d : ℕ) (cs ds : List ℕ) → is_earlier p (0 ∷ cs) (suc d ∷ ds) ≡ false
 is_earlier-above p d cs ds =
     and_right (pips_from p (suc d ∷ ds) == pips_from p (0 ∷ cs)) (comes_first (suc d ∷ ds) (0 ∷ cs))
     (or_from (nat_lt (suc d) 0) ((suc d == 0) && comes_first ds cs) (le-ltb (suc d) 0 (omega arith)) (and_left (suc d == 0) (comes_first ds cs) (ne_eqb (suc d) 0 (λ e. omega arith))))
 
+-- a list without a checker on its first point is before each of as many pips that has one
 is_earlier-below : (p c : ℕ) (cs ds : List ℕ) → is_earlier p (suc c ∷ cs) (0 ∷ ds) ≡ (pips_from (suc p) ds == pips_from p (suc c ∷ cs))
 is_earlier-below p c cs ds =
     and-true (pips_from p (0 ∷ ds) == pips_from p (suc c ∷ cs)) (comes_first (0 ∷ ds) (suc c ∷ cs))
     (or_left (nat_lt 0 (suc c)) ((0 == suc c) && comes_first ds cs) (lt-ltb 0 (suc c) (omega arith)))
     ∙ ap (λ s. s == pips_from p (suc c ∷ cs)) (pips-none p ds)
 
+-- one more on both sides of a comparison
 lt-suc : (a b : ℕ) → nat_lt (suc a) (suc b) ≡ nat_lt a b
 lt-suc a b = same-bool _ _ (λ h. lt-ltb a b (omega (arith, ltb-true (suc a) (suc b) h))) (λ h. lt-ltb (suc a) (suc b) (omega (arith, ltb-true a b h)))
 
+-- a checker more on both first points changes nothing
 is_earlier-more : (p c d : ℕ) (cs ds : List ℕ) → is_earlier p (suc c ∷ cs) (suc d ∷ ds) ≡ is_earlier p (c ∷ cs) (d ∷ ds)
 is_earlier-more p c d cs ds = and-same _ _ _ _ pips-same first-same where
   pips-same : (pips_from p (suc d ∷ ds) == pips_from p (suc c ∷ cs)) ≡ (pips_from p (d ∷ ds) == pips_from p (c ∷ cs))
@@ -182,6 +194,7 @@ later p k (c ∷ cs) = used (length cs) p (k - c) (pips_from (suc p) cs) + later
 abbrev pub IsSplit : ℕ → ℕ → List ℕ → Type 0
 IsSplit p k x = earlier (length x) p k x + suc (later p k x) ≡ ways (length x) p k (pips_from p x)
 
+-- that holds with c checkers on the first point, where it is known of the rest
 split-first : (p : ℕ) (cs : List ℕ) → ((k : ℕ) → sum cs ≤ k → k ≤ 15 → IsSplit (suc p) k cs) →
     (c k : ℕ) → c + sum cs ≤ k → k ≤ 15 → IsSplit p k (c ∷ cs)
 split-first p cs rest zero k few h =

@@ -1,10 +1,10 @@
 -- What ranks are: they tell positions apart, rise with pips, and leave none out.
-use Rattle.std.proofs.Common.{◌≡◌, ℕ, zero, suc, ◌+◌, ◌-◌, ◌*◌, ◌<◌, ◌≤◌, ◌⊎◌, ◌↔◌, Bool, true, false, cond, ◌&&◌, ◌||◌, not, List, [], ◌∷◌, length, refl, sym, ◌∙◌, ap, subst, zero-add, inl, inr, mul-le-mul_right, arith}
+use Rattle.std.proofs.Common.{◌≡◌, ℕ, zero, suc, ◌+◌, ◌-◌, ◌*◌, ◌<◌, ◌≤◌, ◌⊎◌, ◌↔◌, Bool, cond, ◌&&◌, ◌||◌, not, List, [], ◌∷◌, length, refl, sym, ◌∙◌, ap, subst, zero-add, inl, inr, mul-le-mul_right, arith}
 use Rattle.std.specs.Prelude.{nat_lt, nat_le, ◌==◌, sum, count_by, find, None, unwrap_or}
-use Rattle.std.proofs.lemmas.Bool.{eqb-true, eq-eqb, ne_eqb, leb-true, le-leb, lt-leb, ltb-true, ltb-false, lt-ltb, le-ltb, and_parts, not-false, cases_lt, cases_order, cases_eq}
+use Rattle.std.proofs.lemmas.Bool.{eqb-true, eq-eqb, ne_eqb, leb-true, le-leb, lt-leb, ltb-true, lt-ltb, le-ltb, and_parts, not-false, cases_lt, cases_order, cases_eq}
 use Rattle.race_model.specs.Positions.{Board, IsPosition, pips_from, pips, checkers, finished}
-use Rattle.race_model.specs.Ranks.{comes_first, is_before, boards, count_positions, rank, first_of, count_to, position_count, at_rank}
-use Rattle.race_model.proofs.BoxCounts.{within, one_more, within-same, within-nil, within-zero, within-suc, within-add, within-none_on, within-some, same-bool, sum-cons, IsFound, find-cases, boards-length}
+use Rattle.race_model.specs.Ranks.{comes_first, is_before, boards, count_positions, rank, first_of, count_to, at_rank}
+use Rattle.race_model.proofs.BoxCounts.{within, one_more, within-same, within-add, within-none_on, within-some, same-bool, sum-cons, IsFound, find-cases, boards-length}
 use Rattle.race_model.proofs.RankCounts.{ways, ways-nil, ways-zero, ways-low, ways-more, earlier, earlier-nil, earlier-empty, earlier-more, later, split-all, is_earlier}
 
 -- a rank: the positions of fewer pips, and those of as many that are before
@@ -48,9 +48,11 @@ first_of-add m (suc d) =
     let e : m + suc d ≡ suc (m + d) = omega arith in
     omega (arith, ap first_of e, first_of-suc (m + d), count_to-step (m + d), first_of-add m d)
 
+-- .. so they rise
 pub first_of-rises : (m n : ℕ) → m ≤ n → first_of m ≤ first_of n
 first_of-rises m n h = let e : m + (n - m) ≡ n = omega arith in omega (arith, ap first_of e, first_of-add m (n - m))
 
+-- more pips, more positions of at most so many
 pub count_to-rises : (m n : ℕ) → m ≤ n → count_to m ≤ count_to n
 count_to-rises m n h = omega (arith, first_of-suc m, first_of-suc n, first_of-rises (suc m) (suc n) (omega arith))
 
@@ -87,6 +89,7 @@ earlier-less p k d cs ds few h e =
     let m : pips_from (suc p) cs ≡ pips_from p (suc d ∷ ds) = omega arith in
     omega (arith, earlier-empty (length cs) p (suc k) cs (omega arith), split-all cs (suc p) (suc k) few (omega arith), earlier-more (length cs) p k d ds h, ap (ways (length cs) (suc p) (suc k)) m)
 
+-- lists with as many before them are one, where that is known of the rests
 apart-first : (p : ℕ) (cs ds : List ℕ) → length ds ≡ length cs →
     ((k : ℕ) → sum cs ≤ k → sum ds ≤ k → k ≤ 15 → pips_from (suc p) cs ≡ pips_from (suc p) ds →
     earlier (length cs) (suc p) k cs ≡ earlier (length cs) (suc p) k ds → cs ≡ ds) →
@@ -137,9 +140,11 @@ pips-most p q (c ∷ cs) e =
 pub pips-range : (y : Board) → IsPosition y → pips y ≤ 90
 pips-range y p = omega (arith, pips-most 1 6 y (omega (arith, p.six)), p.few)
 
+-- the test of a search for a rank
 unfoldable has_rank : ℕ → Board → Bool
 has_rank r y = nat_le (checkers y) 15 && (rank y == r)
 
+-- a list that is none of six counts
 unfoldable no_six : Board → Bool
 no_six y = not (length y == 6)
 
@@ -151,7 +156,7 @@ found-position r y f =
     (record { six = eqb-true (length y) 6 (not-false (length y == 6) f.good); few = leb-true (checkers y) 15 parts.0 }, eqb-true (rank y) r parts.1)
 
 -- a search for the rank of a position finds one, and any search ends at a position
-at_rank-search : (r : ℕ) → ((at_rank r ≡ finished) × (count_positions (λ y. rank y == r) ≡ 0)) ⊎ ((IsPosition (at_rank r)) × (rank (at_rank r) ≡ r))
+pub at_rank-search : (r : ℕ) → ((at_rank r ≡ finished) × (count_positions (λ y. rank y == r) ≡ 0)) ⊎ ((IsPosition (at_rank r)) × (rank (at_rank r) ≡ r))
 unfolding at_rank count_positions has_rank no_six
 at_rank-search r = by_cases (find-cases (has_rank r) no_six (boards 6) (boards-length 6)) where
   by_cases : ((find (has_rank r) (boards 6) ≡ None) × (count_by (has_rank r) (boards 6) ≡ 0)) ⊎ ((y : Board) × IsFound (has_rank r) no_six (boards 6) y) →
@@ -185,10 +190,12 @@ pub record IsAt (n p k m r : ℕ) (x : List ℕ) : Type 0 where
   pub weighs : pips_from p x ≡ m
   pub place : earlier n p k x ≡ r
 
+-- an empty point in front
 with_none : (n p k m r : ℕ) → k ≤ 15 → (x : List ℕ) × IsAt n (suc p) k m r x → (x : List ℕ) × IsAt (suc n) p k m r x
 with_none n p k m r h (x, a) =
     (0 ∷ x, record { long = ap suc a.long; few = omega (arith, a.few, sum-cons 0 x); weighs = omega (arith, a.weighs); place = earlier-empty n p k x h ∙ a.place })
 
+-- a checker more on the first point
 with_more : (n p k m r : ℕ) → k < 15 → p ≤ m → ways n (suc p) (suc k) m ≤ r →
     (x : List ℕ) × IsAt (suc n) p k (m - p) (r - ways n (suc p) (suc k) m) x → (x : List ℕ) × IsAt (suc n) p (suc k) m r x
 with_more n p k m r h room more ([], a) = absurd (omega (arith, a.long))
@@ -217,6 +224,7 @@ at-first n p rest (suc k) m r h low =
           with_more n p k m r (omega arith) room more
           (fewer (m - p) (r - ways n (suc p) (suc k) m) (omega (arith, low, more, ways-more n p k m (omega arith) room)))
 
+-- that holds of any number of points
 at-all : (n p k m r : ℕ) → k ≤ 15 → r < ways n p k m → (x : List ℕ) × IsAt n p k m r x
 at-all zero p k m r h low = by_cases (cases_eq 0 m) where
   by_cases : (0 ≡ m) ⊎ (0 ≡ m → ⊥) → (x : List ℕ) × IsAt 0 p k m r x
@@ -239,146 +247,3 @@ rank-reached (suc b) r low = by_cases (cases_lt r (first_of b)) (rank-reached b 
   by_cases (inr more) fewer = by_place (position-at b (r - first_of b) (omega (arith, low, more, first_of-suc b, count_to-step b))) where
     by_place : (x : Board) × ((IsPosition x) × ((pips x ≡ b) × (earlier 6 1 15 x ≡ r - first_of b))) → (x : Board) × ((IsPosition x) × (rank x ≡ r))
     by_place (x, a) = (x, (a.0, omega (arith, rank-split x, a.1, more, ap first_of a.1.0)))
-
--- the sum of a function at 0 to k
-abbrev sum_to : (ℕ → ℕ) → ℕ → ℕ
-sum_to f zero = f 0
-sum_to f (suc k) = f (suc k) + sum_to f k
-
--- how many lists of n counts have at most k checkers, by sums alone
-abbrev size : ℕ → ℕ → ℕ
-size zero k = 1
-size (suc n) k = sum_to (size n) k
-
-size-sum : (n : ℕ) → ((k : ℕ) → k ≤ 15 → within n k (λ _. true) ≡ size n k) → (k : ℕ) → k ≤ 15 → within (suc n) k (λ _. true) ≡ size (suc n) k
-size-sum n rest zero h = within-zero n (λ _. true) ∙ rest 0 h
-size-sum n rest (suc k) h = omega (arith, within-suc n k (λ _. true) (omega arith), rest (suc k) h, size-sum n rest k (omega arith))
-
-size-within : (n k : ℕ) → k ≤ 15 → within n k (λ _. true) ≡ size n k
-size-within zero k h = within-nil k (λ _. true)
-size-within (suc n) k h = size-sum n (size-within n) k h
-
--- more points or more checkers, more lists
-size-checkers : (n k : ℕ) → size n k ≤ size n (suc k)
-size-checkers zero k = omega arith
-size-checkers (suc n) k = omega arith
-
-size-points : (n k : ℕ) → size n k ≤ size (suc n) k
-size-points n zero = omega arith
-size-points n (suc k) = omega arith
-
-size-most : (n k : ℕ) → n ≤ 6 → k ≤ 15 → size n k ≤ 54264
-size-most n k h l = omega (arith, by_points n k (6 - n), by_checkers k (15 - k), ap (λ j. size j k) (omega-points n h), ap (size 6) (omega-checkers k l)) where
-  omega-points : (n : ℕ) → n ≤ 6 → n + (6 - n) ≡ 6
-  omega-points n h = omega arith
-
-  omega-checkers : (k : ℕ) → k ≤ 15 → k + (15 - k) ≡ 15
-  omega-checkers k h = omega arith
-
-  by_points : (n k d : ℕ) → size n k ≤ size (n + d) k
-  by_points n k zero = let e : n + 0 ≡ n = omega arith in omega (arith, ap (λ j. size j k) e)
-  by_points n k (suc d) = let e : n + suc d ≡ suc (n + d) = omega arith in omega (arith, ap (λ j. size j k) e, size-points (n + d) k, by_points n k d)
-
-  by_checkers : (k d : ℕ) → size 6 k ≤ size 6 (k + d)
-  by_checkers k zero = let e : k + 0 ≡ k = omega arith in omega (arith, ap (size 6) e)
-  by_checkers k (suc d) = let e : k + suc d ≡ suc (k + d) = omega arith in omega (arith, ap (size 6) e, size-checkers 6 (k + d), by_checkers k d)
-
--- no test lets more lists pass than there are positions
-pub within-most : (n k : ℕ) (test : List ℕ → Bool) → n ≤ 6 → k ≤ 15 → within n k test ≤ 54264
-within-most n k test h l =
-    omega (arith, size-most n k h l, size-within n k l, within-add n k (λ _. true) test (λ y. not (test y)) (λ y. either (test y))) where
-      either : (c : Bool) → cond {A = ℕ} true 1 0 ≡ cond c 1 0 + cond (not c) 1 0
-      either true = refl
-      either false = refl
-
--- how many positions there are
-pub positions-all : position_count ≡ 54264
-unfolding position_count count_positions within
-positions-all = size-within 6 15 (omega arith)
-
--- all positions have at most 90 pips
-pub count_to-all : (b : ℕ) → 90 ≤ b → count_to b ≡ 54264
-unfolding count_to position_count count_positions within
-count_to-all b h =
-    omega (arith, positions-all, none, within-add 6 15 (λ _. true) (λ y. nat_le (pips y) b) (λ y. not (nat_le (pips y) b)) (λ y. either (nat_le (pips y) b))) where
-      either : (c : Bool) → cond {A = ℕ} true 1 0 ≡ cond c 1 0 + cond (not c) 1 0
-      either true = refl
-      either false = refl
-
-      none : within 6 15 (λ y. not (nat_le (pips y) b)) ≡ 0
-      none =
-          within-none_on 6 15 (λ y. not (nat_le (pips y) b)) (omega arith)
-          (λ y l few. ap not (le-leb (pips y) b (omega (arith, pips-range y (record { six = l; few = few })))))
-
-pub first_of-all : (b : ℕ) → 90 < b → first_of b ≡ 54264
-first_of-all zero h = absurd (omega arith)
-first_of-all (suc b) h = first_of-suc b ∙ count_to-all b (omega arith)
-
-pub count_to-most : (b : ℕ) → count_to b ≤ 54264
-count_to-most b = by_cases (cases_lt b 90) where
-  by_cases : (b < 90) ⊎ (90 ≤ b) → count_to b ≤ 54264
-  by_cases (inl less) = omega (arith, count_to-rises b 90 (omega arith), count_to-all 90 (omega arith))
-  by_cases (inr more) = omega (arith, count_to-all b more)
-
--- ranks are under the number of positions
-pub rank-range : (x : Board) → IsPosition x → rank x < 54264
-rank-range x p = omega (arith, (rank-within x p).1, count_to-most (pips x))
-
--- the rank of the position of a rank is that rank
-pub rank-at_rank : (r : ℕ) → r < 54264 → rank (at_rank r) ≡ r
-rank-at_rank r h = by_position (rank-reached 91 r (omega (arith, h, first_of-all 91 (omega arith)))) where
-  by_position : (x : Board) × ((IsPosition x) × (rank x ≡ r)) → rank (at_rank r) ≡ r
-  by_position (x, a) = subst (λ q. rank (at_rank q) ≡ q) a.1 (ap rank (rank-found x a.0))
-
--- the finished position stands for each number that is no rank
-pub at_rank-past : (r : ℕ) → 54264 ≤ r → at_rank r ≡ finished
-unfolding count_positions within
-at_rank-past r h = by_search (at_rank-search r) where
-  by_search : ((at_rank r ≡ finished) × (count_positions (λ y. rank y == r) ≡ 0)) ⊎ ((IsPosition (at_rank r)) × (rank (at_rank r) ≡ r)) → at_rank r ≡ finished
-  by_search (inl none) = none.0
-  by_search (inr some) = absurd (omega (arith, h, some.1, rank-range (at_rank r) some.0))
-
--- no position is before the finished one
-pub rank-finished : rank finished ≡ 0
-rank-finished =
-    let e : pips finished ≡ 0 = refl in
-    omega (arith, rank-later finished (record { six = refl; few = omega arith }), ap count_to e, count_to-step 0, first_of-zero, ways-none 6 0 15 (omega arith)) where
-      ways-none : (n p k : ℕ) → k ≤ 15 → ways n (suc p) k 0 ≡ 1
-      ways-none zero p k h = ways-nil (suc p) k 0
-      ways-none (suc n) p zero h = ways-zero n (suc p) 0 ∙ ways-none n (suc p) 0 h
-      ways-none (suc n) p (suc k) h = ways-low n (suc p) k 0 (omega arith) (omega arith) ∙ ways-none n (suc p) (suc k) h
-
--- how many lists of n counts, of the points from p on, have at most k checkers and m pips, by sums alone
-abbrev add_up : (ℕ → ℕ → ℕ) → ℕ → ℕ → ℕ → ℕ
-add_up rest p zero m = rest 0 m
-add_up rest p (suc k) m = rest (suc k) m + elim (nat_lt m p) [ true ↦ 0 | false ↦ add_up rest p k (m - p) ]
-
-abbrev ways_sum : ℕ → ℕ → ℕ → ℕ → ℕ
-ways_sum zero p k m = cond (0 == m) 1 0
-ways_sum (suc n) p k m = add_up (ways_sum n (suc p)) p k m
-
-ways-add_up : (n p : ℕ) → ((k m : ℕ) → k ≤ 15 → ways n (suc p) k m ≡ ways_sum n (suc p) k m) →
-    (k m : ℕ) → k ≤ 15 → ways (suc n) p k m ≡ add_up (ways_sum n (suc p)) p k m
-ways-add_up n p rest zero m h = ways-zero n p m ∙ rest 0 m h
-ways-add_up n p rest (suc k) m h = by_room (nat_lt m p) refl (λ j. ways-add_up n p rest k j) where
-  by_room : (b : Bool) → nat_lt m p ≡ b → ((j : ℕ) → k ≤ 15 → ways (suc n) p k j ≡ add_up (ways_sum n (suc p)) p k j) →
-      ways (suc n) p (suc k) m ≡ ways_sum n (suc p) (suc k) m + elim (nat_lt m p) [ true ↦ 0 | false ↦ add_up (ways_sum n (suc p)) p k (m - p) ]
-  by_room true e fewer = rw e (omega (arith, ways-low n p k m (omega arith) (ltb-true m p e), rest (suc k) m h))
-  by_room false e fewer = rw e (omega (arith, ways-more n p k m (omega arith) (ltb-false m p e), rest (suc k) m h, fewer (m - p) (omega arith)))
-
-ways-ways_sum : (n p k m : ℕ) → k ≤ 15 → ways n p k m ≡ ways_sum n p k m
-ways-ways_sum zero p k m h = ways-nil p k m
-ways-ways_sum (suc n) p k m h = ways-add_up n p (ways-ways_sum n (suc p)) k m h
-
--- how many positions have fewer pips, by sums alone
-abbrev first_sum : ℕ → ℕ
-first_sum zero = 0
-first_sum (suc m) = first_sum m + ways_sum 6 1 15 m
-
-first_of-sum : (m : ℕ) → first_of m ≡ first_sum m
-first_of-sum zero = first_of-zero
-first_of-sum (suc m) = omega (arith, first_of-suc m, count_to-step m, first_of-sum m, ways-ways_sum 6 1 15 m (omega arith))
-
--- how many positions have at most 8 pips
-pub count_to-eight : count_to 8 ≡ 64
-count_to-eight = sym (first_of-suc 8) ∙ first_of-sum 9

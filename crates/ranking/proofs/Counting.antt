@@ -11,6 +11,7 @@ use Rattle.race_model.proofs.BoxCounts.{sum-cons}
 use Rattle.race_model.proofs.RankCounts.{later, split-all}
 use Rattle.race_model.proofs.RankCounts as counts
 use Rattle.race_model.proofs.RankOrder as order
+use Rattle.race_model.proofs.PositionTotals as totals
 use Rattle.ranking.specs.Lists.{used, ways}
 use Rattle.ranking.proofs.TableCounts.{used-is, used-none, used-step}
 use Rattle.ranking.proofs.Reading.{IsRead, IsNext, read-start, read-next}
@@ -91,6 +92,7 @@ pub record IsPipsOf (index above : ℕ) : Type 0 where
   pub to : index < first_of (above - 1 + 1)
   pub range : above - 1 ≤ 90
 
+-- the pip count of a rank is that before which the counts of fewer pips pass it
 pub pips-found : (starts : List ℕ) (index above : ℕ) → length starts ≡ 92 → index < 54264 → above ≤ length starts →
     ((m : ℕ) → m < 92 → slice_index starts m ≡ first_of m) →
     IsPartitionPoint (λ y. nat_le y index ≡ true) (λ y. nat_le y index ≡ false) starts above → IsPipsOf index above
@@ -108,7 +110,7 @@ pips-found starts index above long low most sums point = record { some = some; f
   inside = by_cases (cases_lt above 92) where
     by_cases : (above < 92) ⊎ (92 ≤ above) → above < 92
     by_cases (inl h) = h
-    by_cases (inr h) = absurd (omega (arith, h, low, from, order.first_of-all (above - 1) (omega arith)))
+    by_cases (inr h) = absurd (omega (arith, h, low, from, totals.first_of-all (above - 1) (omega arith)))
 
   to : index < first_of above
   to = omega (arith, leb-false (slice_index starts above) index (point.1 above 0 (omega arith) (omega (arith, inside, long))), sums above inside)
@@ -139,16 +141,18 @@ pub record IsStart (index m start : ℕ) : Type 0 where
   pub under : index ≤ start - 1
   pub left : start - 1 - index ≡ later 1 15 (at_rank index)
 
+-- so it starts
 pub start-at : (index m start : ℕ) → index < 54264 → first_of m ≤ index → index < first_of (m + 1) → start ≡ first_of (m + 1) → IsStart index m start
 start-at index m start low from to e =
     let p : IsPosition (at_rank index) = order.at_rank-position index in
-    let r : rank (at_rank index) ≡ index = order.rank-at_rank index low in
+    let r : rank (at_rank index) ≡ index = totals.rank-at_rank index low in
     let w : pips (at_rank index) ≡ m = pips-are (at_rank index) m p (omega arith) (omega arith) in
     let e2 : m + 1 ≡ suc m = add-one m in
     let whole : rank (at_rank index) + suc (later 1 15 (at_rank index)) ≡ first_of (m + 1) =
     order.rank-later (at_rank index) p ∙ ap count_to w ∙ sym (order.first_of-suc m) ∙ ap first_of (sym e2) in
     record { is_position = p; weighs = w; inside = omega arith; under = omega arith; left = omega arith }
 
+-- a point counts one more than its place in the list
 count-at : (x : List ℕ) (p : ℕ) → 1 ≤ p → count x p ≡ slice_index x (p - 1)
 count-at x zero h = absurd (omega arith)
 count-at x (suc i) h = let e : suc i - 1 ≡ i = omega arith in ap (slice_index x) (sym e)
@@ -161,6 +165,7 @@ pub record IsWritten (x : List ℕ) (p k m t : ℕ) (counts : List ℕ) : Type 0
   pub long : length counts ≡ 6
   pub same : (j : ℕ) → j < p - 1 → slice_index counts j ≡ slice_index x j
 
+-- at first none is written
 pub written-start : (x : List ℕ) (m t : ℕ) → IsPosition x → pips x ≡ m → m ≤ 90 → t ≡ later 1 15 x → IsWritten x 1 15 m t (replicate 6 0)
 written-start x m t p e h l = record {
   s = 0;
@@ -175,6 +180,7 @@ pub record IsWrittenNext (x : List ℕ) (p k m t c : ℕ) (counts : List ℕ) : 
   pub enough : used p (k - c) (m - p * c) ≤ t
   pub next : IsWritten x (p + 1) (k - c) (m - p * c) (t - used p (k - c) (m - p * c)) (slice_set counts (p - 1) c)
 
+-- the count that is found is written
 pub written-next : (x : List ℕ) (p k m t c : ℕ) (counts : List ℕ) → IsPosition x → 1 ≤ p → p ≤ 6 → IsWritten x p k m t counts →
     IsCounted p k m t c → used p (k - c) (m - p * c) ≤ t → IsWrittenNext x p k m t c counts
 written-next x p k m t c counts q low high w counted enough =

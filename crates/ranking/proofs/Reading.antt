@@ -6,7 +6,8 @@ use Rattle.race_model.specs.Positions.{IsPosition, pips_from, pips, count}
 use Rattle.race_model.specs.Ranks.{rank, first_of}
 use Rattle.race_model.proofs.BoxCounts.{sum-cons}
 use Rattle.race_model.proofs.RankCounts.{later}
-use Rattle.race_model.proofs.RankOrder.{rank-later, rank-range, count_to-most, first_of-suc}
+use Rattle.race_model.proofs.RankOrder.{rank-later, first_of-suc}
+use Rattle.race_model.proofs.PositionTotals.{rank-range, count_to-most}
 use Rattle.ranking.specs.Lists.{used}
 use Rattle.ranking.proofs.TableCounts.{used-is}
 
@@ -24,9 +25,11 @@ pub record IsNext (x : List ℕ) (p k m s c : ℕ) : Type 0 where
   pub weight : p * c ≤ m
   pub next : IsRead x (p + 1) (k - c) (m - p * c) (s + used p (k - c) (m - p * c))
 
+-- at first all is left
 pub read-start : (x : List ℕ) → IsPosition x → pips x ≤ 90 → IsRead x 1 15 (pips x) 0
 read-start x p h = record { few = p.few; room = omega arith; weighs = refl; low = h; added = omega arith }
 
+-- the next point of a list that is known
 read-list : (x cs : List ℕ) (p k m s c : ℕ) → 1 ≤ p → length cs + p ≡ 6 → drop (p - 1) x ≡ c ∷ cs → drop p x ≡ cs → IsRead x p k m s → IsNext x p k m s c
 read-list x cs p k m s c h l d e r =
     let few : sum (c ∷ cs) ≤ k = subst (λ ys. sum ys ≤ k) d r.few in
@@ -50,6 +53,7 @@ read-list x cs p k m s c h l d e r =
       omega-back : (p : ℕ) → p + 1 - 1 ≡ p
       omega-back p = omega arith
 
+-- the next point of a position
 pub read-next : (x : List ℕ) (p k m s c : ℕ) → IsPosition x → 1 ≤ p → p ≤ 6 → c ≡ count x p → IsRead x p k m s → IsNext x p k m s c
 read-next x zero k m s c q low high e r = absurd (omega arith)
 read-next x (suc i) k m s c q low high e r =
@@ -73,6 +77,7 @@ pub record IsRanked (x : List ℕ) (start s : ℕ) : Type 0 where
   pub value : start - 1 - s ≡ rank x
   pub range : rank x < 54264
 
+-- all points are read: the rank is known
 pub rank-read : (x : List ℕ) (p k m s start : ℕ) → IsPosition x → p ≡ 7 → IsRead x p k m s → start ≡ first_of (pips x + 1) → IsRanked x start s
 rank-read x p k m s start q e r f =
     let whole : rank x + suc s ≡ first_of (pips x + 1) = read-all x k m s q (subst (λ j. IsRead x j k m s) e r) in

@@ -7,12 +7,15 @@ use Rattle.race_model.specs.Ranks.{first_of, count_to}
 use Rattle.race_model.proofs.BoxCounts.{within}
 use Rattle.race_model.proofs.RankCounts as counts
 use Rattle.race_model.proofs.RankOrder as order
+use Rattle.race_model.proofs.PositionTotals as totals
 use Rattle.ranking.specs.Lists.{ways, used, is_used}
 
+-- the lists on the points from p on are those of 7 - p counts
 pub ways-is : (n p k m : ℕ) → n + p ≡ 7 → ways p k m ≡ counts.ways n p k m
 unfolding ways within counts.ways
 ways-is n p k m e = let n_is : 7 - p ≡ n = omega arith in ap (λ j. within j k (λ y. pips_from p y == m)) n_is
 
+-- .. and so are those with a checker on point p
 pub used-is : (n p k m : ℕ) → n + p ≡ 6 → used p k m ≡ counts.used n p k m
 unfolding used within counts.used
 used-is n p k m e = let n_is : 7 - p ≡ suc n = omega arith in ap (λ j. within j k (λ y. (pips_from p y == m) && is_used y)) n_is
@@ -20,7 +23,7 @@ used-is n p k m e = let n_is : 7 - p ≡ suc n = omega arith in ap (λ j. within
 -- no number of lists is above that of the positions
 pub ways-most : (p k m : ℕ) → 1 ≤ p → k ≤ 15 → ways p k m ≤ 54264
 unfolding ways within
-ways-most p k m h l = order.within-most (7 - p) k (λ y. pips_from p y == m) (omega arith) l
+ways-most p k m h l = totals.within-most (7 - p) k (λ y. pips_from p y == m) (omega arith) l
 
 -- on no points there is one list, of no pips
 pub ways-end : (k m : ℕ) → ways 7 k m ≡ cond (0 == m) 1 0
@@ -48,19 +51,21 @@ start-step m =
     let e : m + 1 ≡ suc m = add-one m in
     omega (arith, ap first_of e, order.first_of-suc m, order.count_to-step m, ways-is 6 1 15 m refl)
 
+-- no more positions have fewer pips than there are
 pub start-most : (m : ℕ) → first_of m ≤ 54264
 start-most zero = omega (arith, order.first_of-zero)
-start-most (suc m) = omega (arith, order.first_of-suc m, order.count_to-most m)
+start-most (suc m) = omega (arith, order.first_of-suc m, totals.count_to-most m)
 
 -- pip counts above 90 count as 90, or 91 where fewer are counted
 pub first-capped : (b : ℕ) → first_of (min b 91) ≡ first_of b
 first-capped b = by_cases (cases_lt b 91) where
   by_cases : (b < 91) ⊎ (91 ≤ b) → first_of (min b 91) ≡ first_of b
   by_cases (inl less) = let e : min b 91 ≡ b = omega arith in ap first_of e
-  by_cases (inr more) = let e : min b 91 ≡ 91 = omega arith in ap first_of e ∙ order.first_of-all 91 (omega arith) ∙ sym (order.first_of-all b (omega arith))
+  by_cases (inr more) = let e : min b 91 ≡ 91 = omega arith in ap first_of e ∙ totals.first_of-all 91 (omega arith) ∙ sym (totals.first_of-all b (omega arith))
 
+-- .. and so where at most so many are counted
 pub count-capped : (b : ℕ) → first_of (min b 90 + 1) ≡ count_to b
 count-capped b = by_cases (cases_lt b 90) where
   by_cases : (b < 90) ⊎ (90 ≤ b) → first_of (min b 90 + 1) ≡ count_to b
   by_cases (inl less) = let e : min b 90 + 1 ≡ suc b = omega arith in ap first_of e ∙ order.first_of-suc b
-  by_cases (inr more) = let e : min b 90 + 1 ≡ 91 = omega arith in ap first_of e ∙ order.first_of-all 91 (omega arith) ∙ sym (order.count_to-all b more)
+  by_cases (inr more) = let e : min b 90 + 1 ≡ 91 = omega arith in ap first_of e ∙ totals.first_of-all 91 (omega arith) ∙ sym (totals.count_to-all b more)

@@ -5,7 +5,7 @@ ghost use Rattle.ranking.specs.declared.table.Table.{Table};
 ghost use Rattle.ranking.specs.Lists.{ways, used};
 ghost use Rattle.ranking.specs.Tables.{IsTable, IsRow};
 
-use crate::row::Row;
+use crate::row::{PIP_COUNTS, Row};
 use crate::table::Table;
 use home_board::Position;
 
@@ -18,6 +18,9 @@ const POSITIONS: u16 = 54264;
 /// The ranks of all positions, by a table that is counted once. The rank of a position is the number of
 /// positions before it: those of fewer pips, and of as many pips those with the smaller list of counts.
 /// (This project's profile.)
+///
+/// A rank is counted back from the last position of as many pips: those that come after it have a checker
+/// more on some point than it has, and as many on each point below, which is one number of the table a point.
 #[derive(Drop)]
 pub struct Ranks {
     // for each point: how many lists on the points from it on have a checker there
@@ -153,7 +156,7 @@ fn starts_of(row: &Row) -> [u16; 92]
     ensures { (m : ℕ) → m < 92 → slice_index result m ≡ first_of m }
 {
     let mut starts = [0; 92];
-    for pips in 0..91 {
+    for pips in 0..PIP_COUNTS {
         starts[pips + 1] = starts[pips] + row.cells[pips];
     }
     starts

@@ -2,12 +2,15 @@ ghost use Rattle.std.specs.Prelude.{◌≡◌, ℕ, ◌+◌, ◌<◌, ◌≤◌}
 ghost use Rattle.ranking.specs.Lists.{ways, used};
 ghost use Rattle.ranking.specs.Tables.{IsTable};
 
-use crate::row::Row;
+use crate::row::{PIP_COUNTS, Row};
+
+/// How many numbers of checkers there are: 0 to 15.
+pub const CHECKER_COUNTS: usize = 16;
 
 /// A number of lists for each number of checkers from 0 to 15 and each pip count from 0 to 90.
 #[derive(Clone, Copy)]
 pub struct Table {
-    pub rows: [Row; 16],
+    pub rows: [Row; CHECKER_COUNTS],
 }
 
 impl Table {
@@ -15,10 +18,10 @@ impl Table {
     pub fn of_no_points() -> Table
         ensures { IsTable (ways 7) result }
     {
-        let mut cells = [0; 91];
+        let mut cells = [0; PIP_COUNTS];
         cells[0] = 1;
         Table {
-            rows: [Row { cells }; 16],
+            rows: [Row { cells }; CHECKER_COUNTS],
         }
     }
 
@@ -32,9 +35,9 @@ impl Table {
         ensures used { IsTable (used point) result }
     {
         let mut used = Table {
-            rows: [Row::EMPTY; 16],
+            rows: [Row::EMPTY; CHECKER_COUNTS],
         };
-        for checkers in 1..16 {
+        for checkers in 1..CHECKER_COUNTS {
             let more = self.rows[checkers - 1].shifted(point);
             self.rows[checkers] = self.rows[checkers].plus(&more);
             used.rows[checkers] = more;

@@ -5,7 +5,7 @@ use Rattle.legal_plays.proofs.reach.after_die.Goals as goal
 use Rattle.legal_plays.proofs.reach.after_die.Goals.{then-is_finished, else-is_finished}
 
 pub loop-position-preserved : goal.loop-position-preserved
-loop-position-preserved c =
+loop-position-preserved g c =
     elim c.if-is_finished.branch [
       | then-is_finished w ↦ rw w.found-is (record {
         ordered = w.include.ensures.ordered;
@@ -22,6 +22,6 @@ loop-position-preserved c =
     ]
 
 pub returns-clause-members : goal.returns-clause-members
-returns-clause-members c y =
+returns-clause-members g c y =
     let all : take c.loop-position.position-index c.args.positions.now ≡ c.args.positions.now = take_all _ _ (omega arith) in
     subst (λ xs. Contains c.loop-position.found.items y ↔ ((x : List ℕ) × (Contains xs x × Turns x c.args.die y))) all (c.loop-position.invariant.members y)

@@ -4,7 +4,7 @@ use Rattle.legal_plays.proofs.reach.include_steps.Goals as goal
 use Rattle.legal_plays.proofs.reach.include_steps.Goals.{in-Some, in_default}
 
 pub loop-source-preserved : goal.loop-source-preserved
-loop-source-preserved c =
+loop-source-preserved g c =
     elim c.match-step.branch [
       | in-Some w ↦ rw w.found-is (record {
         ordered = w.include.ensures.ordered;
@@ -21,11 +21,11 @@ loop-source-preserved c =
     ]
 
 pub returns-clause-members : goal.returns-clause-members
-returns-clause-members c y =
+returns-clause-members g c y =
     only_steps _ _ c.args.die c.loop-source.source y _ _ c.highest-source-end.ensures.none.0 c.highest-source-end.ensures.highest c.loop-source-test.false (c.loop-source.invariant.members y)
 
 pub returns-after-step-clause-members : goal.returns-after-step-clause-members
-returns-after-step-clause-members c y =
+returns-after-step-clause-members g c y =
     elim c.match-step.branch [
       | in-Some w ↦ rw w.found-is (only_steps _ _ c.args.die (c.loop-source.source + 1) y _ _ c.highest-source-end.ensures.none.0 c.highest-source-end.ensures.highest (omega arith)
           (one_more_step _ c.args.die c.loop-source.source w.in-Some.after y _ _ _ w.in-Some.ensures.moved (w.include.ensures.members y) (c.loop-source.invariant.members y)))

@@ -5,7 +5,7 @@ use Rattle.legal_plays.proofs.reach.include_steps.Given as goal
 
 -- the steps from the points below have been added
 abbrev pub invariant-loop-source : goal.invariant-loop-source
-invariant-loop-source l = record {
+invariant-loop-source g l = record {
   ordered : IsAscending l.found.items;
   range : l.source ≤ 7;
   few : length l.found.items + 1 ≤ length l.initial.found.items + l.source;

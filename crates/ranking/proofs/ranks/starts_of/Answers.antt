@@ -6,6 +6,7 @@ use Rattle.ranking.proofs.Cells.{filled_more}
 use Rattle.ranking.proofs.TableCounts.{start-step, start-most}
 use Rattle.ranking.proofs.ranks.starts_of.Goals as goal
 
+-- no position has fewer than no pips
 first-start : (m : ℕ) → m < 1 → slice_index (replicate 92 0) m ≡ first_of m
 first-start zero h = sym first_of-zero
 first-start (suc m) h = absurd (omega arith)

@@ -1,5 +1,6 @@
 -- Each clause is a lemma on ranks.
-use Rattle.race_model.proofs.RankOrder.{rank-found, rank-apart, rank-fewer, rank-bound, rank-range, rank-finished, at_rank-position, rank-at_rank, at_rank-past}
+use Rattle.race_model.proofs.RankOrder.{rank-found, rank-apart, rank-fewer, rank-bound}
+use Rattle.race_model.proofs.PositionTotals.{rank-range, rank-finished}
 use Rattle.race_model.proofs.laws.ranks.law_rank.Goals as goal
 
 pub returns : goal.returns
@@ -10,7 +11,4 @@ returns c = record {
   within = rank-bound;
   ranked = rank-range;
   least = rank-finished;
-  position = at_rank-position;
-  reached = rank-at_rank;
-  beyond = at_rank-past;
 }

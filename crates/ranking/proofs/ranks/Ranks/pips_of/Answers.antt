@@ -4,6 +4,7 @@ use Rattle.std.proofs.lemmas.List.Sorted.{IsPartitionPoint-from_clause, IsPartit
 use Rattle.ranking.proofs.Counting.{IsPipsOf, pips-found, starts-rise}
 use Rattle.ranking.proofs.ranks.Ranks.pips_of.Goals as goal
 
+-- where the counts of fewer pips pass the rank
 pips : (c : goal.After-partition_point-above) → IsPipsOf c.args.index c.partition_point-above.result
 pips c =
     let long : length c.args.self.now.starts ≡ 92 = search rules in

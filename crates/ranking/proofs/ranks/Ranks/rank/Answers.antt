@@ -4,6 +4,7 @@ use Rattle.race_model.specs.Ranks.{first_of}
 use Rattle.ranking.proofs.Reading.{IsNext, IsRanked, read-next, rank-read, later-most}
 use Rattle.ranking.proofs.ranks.Ranks.rank.Goals as goal
 
+-- the next point is read
 next : (c : goal.After-used-later) →
     IsNext c.args.position.now c.loop-point.point c.loop-point.checkers_left c.loop-point.pips_left c.loop-point.later c.count-count.result
 next c =
@@ -15,6 +16,7 @@ overflow_add-later c = Fits-of_lt {w = w16} (omega (arith, (next c).next.added, 
 pub loop-point-preserved : goal.loop-point-preserved
 loop-point-preserved c = rw c.used-later.ensures (next c).next
 
+-- all points are read
 ranked : (c : goal.After-result-1) → IsRanked c.args.position.now (get_or c.args.self.now.starts (c.from.result + 1) 0) c.loop-point.later
 ranked c =
     rank-read _ _ _ _ _ _ c.pips-pips.ensures.position (omega arith) c.loop-point.invariant

@@ -2,7 +2,8 @@ use Rattle.std.proofs.Common.{◌≡◌, ℕ, ◌+◌, ◌≤◌, List, get_or, 
 use Rattle.std.specs.Result.{result_ok}
 use Rattle.race_model.specs.Positions.{checkers}
 use Rattle.race_model.specs.Ranks.{rank, at_rank, first_of}
-use Rattle.race_model.proofs.RankOrder.{at_rank-position, rank-at_rank}
+use Rattle.race_model.proofs.RankOrder.{at_rank-position}
+use Rattle.race_model.proofs.PositionTotals.{rank-at_rank}
 use Rattle.ranking.proofs.Counting.{IsCounted, IsStart, start-at, written-start, written-next, written-all}
 use Rattle.ranking.proofs.ranks.Ranks.unrank.Goals as goal
 
@@ -23,6 +24,7 @@ loop-point-preserved c =
 found : (c : goal.After-ok) → c.loop-point.counts ≡ at_rank c.args.index
 found c = written-all _ _ _ _ _ _ (at_rank-position c.args.index) (omega arith) c.loop-point.invariant
 
+-- what holds of the counts holds of the position that they make
 some_from_ok : {E : Type 0} (r : Result (List ℕ) E) (P : List ℕ → Type 0) (counts : List ℕ) → P counts → IfOk r (λ x. x ≡ counts) → IfSome (result_ok r) P
 some_from_ok (Ok x) P counts p e = subst P (sym e) p
 some_from_ok (Err e) P counts p h = tt

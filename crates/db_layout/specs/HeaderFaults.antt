@@ -1,0 +1,14 @@
+-- Which question about a header a fault answers with no.
+use Rattle.race_model.specs.Headers.{HeaderTest, long_enough, magic, version, bound, count, record_bytes, reserved, exact_length}
+use Rattle.db_layout.specs.declared.header.HeaderFault.{HeaderFault}
+use Rattle.db_layout.specs.declared.header.HeaderFault.TheVariants.{TooShort, BadMagic, BadVersion, BadBound, BadCount, BadRecordBytes, BadReserved, BadLength}
+
+abbrev pub test_of : HeaderFault → HeaderTest
+test_of TooShort = long_enough
+test_of BadMagic = magic
+test_of BadVersion = version
+test_of BadBound = bound
+test_of BadCount = count
+test_of BadRecordBytes = record_bytes
+test_of BadReserved = reserved
+test_of BadLength = exact_length
