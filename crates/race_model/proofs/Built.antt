@@ -9,6 +9,7 @@ use Rattle.race_model.specs.Files.{bound_of, mean, mean_at, play, play_at, sprea
 use Rattle.race_model.specs.LocalEquations.{recorded, IsPlayed}
 use Rattle.race_model.specs.RightFiles.{IsRight}
 use Rattle.race_model.specs.BuiltFile.{IsBuilt}
+use Rattle.race_model.specs.SameNumbers.{HasSameNumbers}
 use Rattle.race_model.proofs.Throws.{roll_or_reversed, index_reversed, played_by_rolls}
 use Rattle.race_model.proofs.Sums.{sum_equal}
 use Rattle.race_model.proofs.Results.{legal_position, legal_pips, finished_or_not}
@@ -84,3 +85,14 @@ built_shares limit bound f g small built_f built_g (suc k) x le at low = ⊎_eli
             ∙ rest (recorded f x v) (legal_position x v (recorded f x v) at mine.legal) (le_trans (legal_pips x v (recorded f x v) mine.legal) low)
             ∙ ap (λ r. spread g (at_rank r) k) (built_plays limit bound f g small built_f built_g x v at low)
             ∙ ap (λ r. spread_at g r k) yours.ranked
+
+-- two built files of one bound hold the same numbers
+pub built_same : (limit bound : ℕ) (f g : List ℕ) → limit ≤ 58 → IsBuilt limit bound f → IsBuilt limit bound g → HasSameNumbers f g
+built_same limit bound f g small built_f built_g = record {
+  bound = built_f.bound_is ∙ sym built_g.bound_is;
+  means = λ x at low. built_means limit bound f g small built_f built_g x at (in_bound x low);
+  plays = λ x v at low. built_plays limit bound f g small built_f built_g x v at (in_bound x low);
+  shares = λ x k at low le. built_shares limit bound f g small built_f built_g k x le at (in_bound x low);
+} where
+  in_bound : (x : Board) → pips x ≤ bound_of f → pips x ≤ bound
+  in_bound x low = le_trans low (le_of_eq built_f.bound_is)

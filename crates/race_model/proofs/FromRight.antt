@@ -22,7 +22,7 @@ abbrev pub is_throw : Throw → Throw → Bool
 is_throw v u = eqb (number v.first) (number u.first) && eqb (number v.second) (number u.second)
 
 -- dice that show the same number are the same
-same_number : (a b : Die) → number a ≡ number b → a ≡ b
+pub same_number : (a b : Die) → number a ≡ number b → a ≡ b
 same_number a b e = ⊎_elim (λ same. same) (λ apart. absurd (numbers_apart a b apart e)) (same_die a b)
 
 -- .. and then they are the same throw

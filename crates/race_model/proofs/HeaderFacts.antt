@@ -79,7 +79,7 @@ pub header_fault_refuses : (limit : ℕ) (f : List ℕ) (t : HeaderTest) → IsF
 header_fault_refuses limit f t fault file = fault.fails (header_of_file limit f file t)
 
 -- bytes of a file whose bytes are under 256 are so
-small_bytes : (f : List ℕ) (place n : ℕ) → ((i : ℕ) → get_or f i 0 < 256) → (i : ℕ) → get_or (bytes_at f place n) i 0 < 256
+pub small_bytes : (f : List ℕ) (place n : ℕ) → ((i : ℕ) → get_or f i 0 < 256) → (i : ℕ) → get_or (bytes_at f place n) i 0 < 256
 small_bytes f place n small i = ⊎_elim
     (λ inside. subst (λ b. b < 256) (sym (get_or-take n (drop place f) i 0 inside ∙ get_or-drop place f i 0)) (small (place + i)))
     (λ past. subst (λ b. b < 256) (sym (get_or_past (take n (drop place f)) i 0 (omega (arith, length-take n (drop place f))))) (omega arith))

@@ -23,4 +23,10 @@ pub mod HeaderFacts
 pub mod EqualReplies
 pub mod SampleCounts
 pub mod LowestTerms
+pub mod Lines
+pub mod OrderedLists
+pub mod PlayOrder
+pub mod OneText
+pub mod OneReply
 pub mod PositionTotals
+pub mod SameBytes

@@ -1,5 +1,6 @@
 -- Lines of input: the six kinds of query, and when each is refused. Source: this project's profile.
-use Rattle.std.specs.Prelude.{◌≡◌, ℕ, ◌+◌, ◌<◌, ◌≤◌, ◌⊎◌, List, [], ◌∷◌, ◌++◌, codes}
+use Rattle.std.specs.Prelude.{◌≡◌, ℕ, ◌+◌, ◌<◌, ◌≤◌, ◌⊎◌, ◌==◌, List, [], ◌∷◌, ◌++◌, codes}
+use Rattle.std.specs.List.{slice_split}
 use Rattle.race_model.specs.Positions.{Board, IsFinished, checkers, pips}
 use Rattle.race_model.specs.PositionText.{IsPositionText}
 use Rattle.race_model.specs.Dice.{number, Throw, reversed, IsRoll}
@@ -34,6 +35,22 @@ IsQuery line (loss_query x v y) =
 IsQuery line (moves_query x v) =
     (p r : List ℕ) × IsPositionText p x × IsRollText r v × (line ≡ codes "moves " ++ p ++ codes " " ++ r)
 IsQuery line (rank_query x) = (p : List ℕ) × IsPositionText p x × (line ≡ codes "rank " ++ p)
+
+-- the words of a line: its parts between spaces
+abbrev pub words : List ℕ → List (List ℕ)
+words line = slice_split (λ c. c == 32) line
+
+-- the words of the line ask this
+abbrev pub HasWords : List ℕ → Query → Type 0
+HasWords line (mean_query x) = (p : List ℕ) × IsPositionText p x × (words line ≡ codes "mean" ∷ p ∷ [])
+HasWords line (dist_query x) = (p : List ℕ) × IsPositionText p x × (words line ≡ codes "dist" ∷ p ∷ [])
+HasWords line (play_query x v) =
+    (p r : List ℕ) × IsPositionText p x × IsRollText r v × (words line ≡ codes "play" ∷ p ∷ r ∷ [])
+HasWords line (loss_query x v y) =
+    (p r q : List ℕ) × IsPositionText p x × IsRollText r v × IsPositionText q y × (words line ≡ codes "loss" ∷ p ∷ r ∷ q ∷ [])
+HasWords line (moves_query x v) =
+    (p r : List ℕ) × IsPositionText p x × IsRollText r v × (words line ≡ codes "moves" ∷ p ∷ r ∷ [])
+HasWords line (rank_query x) = (p : List ℕ) × IsPositionText p x × (words line ≡ codes "rank" ∷ p ∷ [])
 
 -- the position that a query is about, which stands first in its line
 abbrev pub subject : Query → Board

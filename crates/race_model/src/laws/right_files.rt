@@ -1,12 +1,13 @@
-ghost use Rattle.std.specs.Prelude.{◌≡◌, ℕ, ◌+◌, ◌*◌, ◌<◌, ◌≤◌, List, sum_by};
+ghost use Rattle.std.specs.Prelude.{◌≡◌, ℕ, ◌+◌, ◌*◌, ◌<◌, ◌≤◌, List, slice_index, sum_by};
 ghost use Rattle.std.specs.List.{range_with_len};
 ghost use Rattle.race_model.specs.Positions.{Board, IsPosition, pips};
 ghost use Rattle.race_model.specs.Dice.{Throw};
-ghost use Rattle.race_model.specs.Files.{bound_of, mean, play, spread};
+ghost use Rattle.race_model.specs.Files.{IsFileTo, bound_of, mean, spread};
 ghost use Rattle.race_model.specs.LocalEquations.{whole, IsLocal};
 ghost use Rattle.race_model.specs.Strategies.{Strategy, Fits, total, count_of};
 ghost use Rattle.race_model.specs.RightFiles.{IsRight};
 ghost use Rattle.race_model.specs.BuiltFile.{IsBuilt};
+ghost use Rattle.race_model.specs.SameNumbers.{HasSameNumbers};
 ghost use Rattle.race_model.specs.Horizon.{most_rolls};
 
 /// The local equations, which test each record against records of lower rank alone, hold of a list of bytes
@@ -18,13 +19,14 @@ pub fn law_right()
     ensures local { (limit : ℕ) (f : List ℕ) → limit ≤ 58 → IsRight limit f → IsLocal limit f }
 {}
 
-/// Right files agree on the mean of each position of at most the bound of both. Built files of one bound agree
-/// on every number: the builder records of the plays to the least mean the one to the lowest rank.
+/// Right files agree on the mean of each position of at most the bound of both. Built files of one bound hold the
+/// same numbers, since the builder records of the plays to the least mean the one to the lowest rank; and files of
+/// bytes that hold the same numbers are byte for byte one, so there is one built file of a bound.
 pub fn law_agree()
     ensures right { (limit : ℕ) (f g : List ℕ) → IsRight limit f → IsRight limit g → (x : Board) → IsPosition x → pips x ≤ bound_of f → pips x ≤ bound_of g → mean f x ≡ mean g x }
-    ensures built_means { (limit bound : ℕ) (f g : List ℕ) → limit ≤ 58 → IsBuilt limit bound f → IsBuilt limit bound g → (x : Board) → IsPosition x → pips x ≤ bound → mean f x ≡ mean g x }
-    ensures built_plays { (limit bound : ℕ) (f g : List ℕ) → limit ≤ 58 → IsBuilt limit bound f → IsBuilt limit bound g → (x : Board) (v : Throw) → IsPosition x → pips x ≤ bound → play f x v ≡ play g x v }
-    ensures built_shares { (limit bound : ℕ) (f g : List ℕ) → limit ≤ 58 → IsBuilt limit bound f → IsBuilt limit bound g → (k : ℕ) (x : Board) → k ≤ 22 → IsPosition x → pips x ≤ bound → spread f x k ≡ spread g x k }
+    ensures built { (limit bound : ℕ) (f g : List ℕ) → limit ≤ 58 → IsBuilt limit bound f → IsBuilt limit bound g → HasSameNumbers f g }
+    ensures same_bytes { (limit : ℕ) (f g : List ℕ) → ((i : ℕ) → slice_index f i < 256) → ((i : ℕ) → slice_index g i < 256) → IsFileTo limit f → IsFileTo limit g → HasSameNumbers f g → f ≡ g }
+    ensures one_built { (limit bound : ℕ) (f g : List ℕ) → limit ≤ 58 → ((i : ℕ) → slice_index f i < 256) → ((i : ℕ) → slice_index g i < 256) → IsBuilt limit bound f → IsBuilt limit bound g → f ≡ g }
 {}
 
 /// The shares of a position. Those of a strategy from at most 58 pips add up to the whole, and each times its

@@ -1,6 +1,7 @@
--- A reply is told by the numbers of the file alone.
+-- A reply is told by the numbers of the file alone, and each part of it has one text.
+use Rattle.race_model.proofs.OneReply.{one_reply}
 use Rattle.race_model.proofs.EqualReplies.{same_reply}
 use Rattle.race_model.proofs.laws.replies.law_replies.Goals as goal
 
 pub returns : goal.returns
-returns c = same_reply
+returns c = record { one = one_reply; same = same_reply }

@@ -1,7 +1,13 @@
--- A least total is one number; the lowest rank and the shares follow from the means.
+-- A least total is one number; the lowest rank and the shares follow from the means, and the bytes from the numbers.
 use Rattle.race_model.proofs.RightFacts.{means_agree}
-use Rattle.race_model.proofs.Built.{built_means, built_plays, built_shares}
+use Rattle.race_model.proofs.Built.{built_same}
+use Rattle.race_model.proofs.SameBytes.{one_file}
 use Rattle.race_model.proofs.laws.right_files.law_agree.Goals as goal
 
 pub returns : goal.returns
-returns c = record { right = means_agree; built_means = built_means; built_plays = built_plays; built_shares = built_shares }
+returns c = record {
+  right = means_agree;
+  built = built_same;
+  same_bytes = one_file;
+  one_built = λ limit bound f g low small_f small_g built_f built_g. one_file limit f g small_f small_g built_f.local.file built_g.local.file (built_same limit bound f g low built_f built_g);
+}
