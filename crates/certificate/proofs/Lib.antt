@@ -4,3 +4,4 @@ pub mod Members
 pub mod PlayTests
 pub mod RecordTests
 pub mod Fronts
+pub mod FileTests
