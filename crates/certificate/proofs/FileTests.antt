@@ -1,11 +1,11 @@
 -- What the tests of the records of a file tell, one after another.
-use Rattle.std.proofs.Common.{◌≡◌, ⊎_elim, ℕ, ◌+◌, ◌<◌, ◌≤◌, ◌⊎◌, List, refl, sym, ap, subst, ◌∙◌, arith}
+use Rattle.std.proofs.Common.{◌≡◌, ⊎_elim, ℕ, ◌+◌, ◌<◌, ◌≤◌, List, sym, ap, subst, ◌∙◌, arith}
 use Rattle.std.proofs.lemmas.Bool.{cases_lt}
-use Rattle.race_model.specs.Positions.{Board, IsPosition, pips}
+use Rattle.race_model.specs.Positions.{Board, IsPosition}
 use Rattle.race_model.specs.Ranks.{rank, at_rank, count_to}
 use Rattle.race_model.specs.Files.{IsFileTo, bound_of}
 use Rattle.race_model.specs.LocalEquations.{IsLocalAt, IsLocal}
-use Rattle.race_model.specs.FirstFault.{Test, play_test, least_test, mean_test, spread_test, rank_of, place_of, Holds, Asks, IsFirstFault}
+use Rattle.race_model.specs.FirstFault.{Test, play_test, least_test, mean_test, spread_test, rank_of, Holds, Asks, IsFirstFault}
 use Rattle.race_model.proofs.Throws.{roll_of_index}
 use Rattle.race_model.proofs.RankOrder.{rank-bound, rank-found, at_rank-position}
 use Rattle.race_model.proofs.PositionTotals.{rank-at_rank, count_to-most}

@@ -5,3 +5,4 @@ pub mod PlayTests
 pub mod RecordTests
 pub mod Fronts
 pub mod FileTests
+pub mod Accepted

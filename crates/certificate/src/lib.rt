@@ -10,5 +10,5 @@ mod record_check;
 mod table;
 
 pub use check_fault::CheckFault;
-pub use checked::{Checked, check};
+pub use checked::{Checked, QueryFault, check};
 pub use table::Whole;
