@@ -2,3 +2,5 @@ pub mod Pulled
 pub mod Tests
 pub mod Members
 pub mod PlayTests
+pub mod RecordTests
+pub mod Fronts

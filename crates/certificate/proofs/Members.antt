@@ -1,5 +1,5 @@
 -- The members of a list.
-use Rattle.std.proofs.Common.{◌≡◌, ℕ, ◌<◌, List, length, get_or, All, Any, Contains, sym, subst}
+use Rattle.std.proofs.Common.{List, get_or, All, Any, Contains, subst}
 use Rattle.std.proofs.lemmas.List.{get_or_default}
 
 -- what holds of each member holds of all

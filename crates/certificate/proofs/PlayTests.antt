@@ -1,5 +1,5 @@
 -- What the results of a roll tell about the recorded play.
-use Rattle.std.proofs.Common.{◌≡◌, ◌≢◌, ◌↔◌, ℕ, ◌+◌, ◌*◌, ◌<◌, ◌≤◌, List, All, Any, Contains, sym, ap, subst, ◌∙◌, arith, le_trans}
+use Rattle.std.proofs.Common.{◌≡◌, ◌≢◌, ◌↔◌, ℕ, ◌<◌, ◌≤◌, List, All, Any, Contains, sym, ap, subst, ◌∙◌, arith, le_trans}
 use Rattle.race_model.specs.Positions.{Board, IsPosition, pips}
 use Rattle.race_model.specs.Dice.{Throw}
 use Rattle.race_model.specs.Plays.{Legal}

@@ -1,2 +1,4 @@
 pub mod RecordedPlays
 pub mod PlayFaults
+pub mod RecordFaults
+pub mod CheckFaults

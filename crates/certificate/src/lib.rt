@@ -2,8 +2,10 @@
 //! of one that is.
 #![tactic(auto)]
 
+mod check_fault;
 mod equations;
 mod plays;
+mod record_check;
 mod table;
 
 pub use table::Whole;

@@ -7,7 +7,10 @@ use Rattle.std.proofs.lemmas.List.Sums.{get_or-le-sum_by}
 use Rattle.race_model.specs.Positions.{Board, count, IsFinished, IsHighest}
 use Rattle.race_model.specs.Dice.{Die, number}
 use Rattle.race_model.specs.Plays.{StepFrom, Step, bear_off, move_down, from_highest}
-use Rattle.legal_plays.specs.Reach.{StepBelow}
+
+-- a step from one of the points below a limit
+abbrev pub StepBelow : Board → Die → ℕ → Board → Type 0
+StepBelow x d limit y = (s : ℕ) × (s < limit) × StepFrom x (number d) s y
 
 -- no count is greater than all together
 get_or-sum : (x : List ℕ) (i : ℕ) → get_or x i 0 ≤ sum x

@@ -16,9 +16,10 @@ abbrev pub Plays : Board → List Die → List Move → Board → Type 0
 Plays x [] [] y = y ≡ x
 Plays x [] (m ∷ moves) y = ⊥
 Plays x (d ∷ dice) [] y = IsFinished x × (y ≡ x)
-Plays x (d ∷ dice) (m ∷ moves) y = (¬ IsFinished x) × ((z : Board) × (IsMove x d m z × Plays z dice moves y))
+Plays x (d ∷ dice) (m ∷ moves) y =
+    (¬ IsFinished x) × ((z : Board) × (IsMove x d m z × Plays z dice moves y))
 
--- the search comes to the first play before the second: at their first difference its move is from a higher point
+-- the search comes to the first play before the second: at their first difference it moves from a higher point
 abbrev pub IsSooner : List Move → List Move → Type 0
 IsSooner [] others = ⊥
 IsSooner (m ∷ moves) [] = ⊥
@@ -29,9 +30,12 @@ pub record IsFirst (x : Board) (dice : List Die) (y : Board) (moves : List Move)
   pub plays : Plays x dice moves y
   pub none_sooner : (others : List Move) → Plays x dice others y → ¬ IsSooner others moves
 
--- the first play of a roll that leads from x to y: the greater die comes first, and only where that has no play
--- to y the smaller one
+-- the first play of a roll that leads from x to y: the greater die comes first, and the smaller one only where
+-- the greater one leads to no play that reaches y
 pub data IsFirstPlay (x : Board) (v : Throw) (y : Board) (moves : List Move) : Type 0 where
-  greater_first : v.first ≢ v.second → IsFirst x (v.first ∷ v.second ∷ []) y moves → IsFirstPlay x v y moves
-  smaller_first : v.first ≢ v.second → (¬ Run x (v.first ∷ v.second ∷ []) y) → IsFirst x (v.second ∷ v.first ∷ []) y moves → IsFirstPlay x v y moves
-  double : v.first ≡ v.second → IsFirst x (v.first ∷ v.first ∷ v.first ∷ v.first ∷ []) y moves → IsFirstPlay x v y moves
+  greater_first : v.first ≢ v.second → IsFirst x (v.first ∷ v.second ∷ []) y moves
+      → IsFirstPlay x v y moves
+  smaller_first : v.first ≢ v.second → (¬ Run x (v.first ∷ v.second ∷ []) y) → IsFirst x (v.second ∷ v.first ∷ []) y moves
+      → IsFirstPlay x v y moves
+  double : v.first ≡ v.second → IsFirst x (v.first ∷ v.first ∷ v.first ∷ v.first ∷ []) y moves
+      → IsFirstPlay x v y moves

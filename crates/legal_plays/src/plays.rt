@@ -8,10 +8,12 @@ use crate::{Die, Move, Roll, step};
 use arrayvec::ArrayVec;
 use home_board::Position;
 
-/// The moves of one roll, in the order in which they are made: one for each die until no checker is left.
+/// The moves of one roll, in the order in which they are made: one for each die until no checker is
+/// left.
 pub type Play = ArrayVec<Move, 4>;
 
-// The first play of the dice that leads to the target: depth first, and from the highest point down.
+// The first play of the dice, in this order, that leads to the target: depth first, and from the
+// highest point down.
 fn search(position: &Position, dice: &[Die], target: &Position) -> Option<Play>
     requires { length dice.now ≤ 4 }
     ensures first { IfSome result (λ play. IsFirst position.now dice.now target.now play.items) }
@@ -39,9 +41,10 @@ fn search(position: &Position, dice: &[Die], target: &Position) -> Option<Play>
     None
 }
 
-/// The first play of the roll that leads from the position to the target. The search takes the greater die
-/// first, and the smaller one first only where that leads nowhere; for each die it tries the points from 6 down
-/// to 1, depth first. None exactly where the target isn't one of the roll's results.
+/// The first play of the roll that leads from the position to the target (the order of search is this
+/// project's profile). The greater die is played first, and the smaller one first only where that
+/// doesn't lead to the target; for each die the points are tried from 6 down to 1, depth first. None
+/// exactly where the target isn't one of the roll's results.
 pub fn play_to(position: &Position, roll: Roll, target: &Position) -> Option<Play>
     ensures first { IfSome result (λ play. IsFirstPlay position.now roll target.now play.items) }
     ensures legal { IsSome result ↔ Legal position.now roll target.now }

@@ -14,7 +14,8 @@ use home_board::Position;
 fn include<const CAP: usize>(found: &mut ArrayVec<Position, CAP>, position: Position)
     requires room { array_vec_len found.old < CAP }
     requires ordered { IsAscending found.old.items }
-    ensures members { (y : List ℕ) → Contains found.new.items y ↔ (Contains found.old.items y ⊎ (y ≡ position)) }
+    ensures members { (y : List ℕ) →
+        Contains found.new.items y ↔ (Contains found.old.items y ⊎ (y ≡ position)) }
     ensures ordered { IsAscending found.new.items }
     ensures len { array_vec_len found.new ≤ array_vec_len found.old + 1 }
 {
@@ -27,7 +28,8 @@ fn include<const CAP: usize>(found: &mut ArrayVec<Position, CAP>, position: Posi
 fn include_all<const CAP: usize>(found: &mut ArrayVec<Position, CAP>, others: &[Position])
     requires room { array_vec_len found.old + length others.now ≤ CAP }
     requires ordered { IsAscending found.old.items }
-    ensures members { (y : List ℕ) → Contains found.new.items y ↔ (Contains found.old.items y ⊎ Contains others.now y) }
+    ensures members { (y : List ℕ) →
+        Contains found.new.items y ↔ (Contains found.old.items y ⊎ Contains others.now y) }
     ensures ordered { IsAscending found.new.items }
 {
     for other in others {
@@ -43,7 +45,8 @@ fn include_steps<const CAP: usize>(
 )
     requires room { array_vec_len found.old + 6 ≤ CAP }
     requires ordered { IsAscending found.old.items }
-    ensures members { (y : List ℕ) → Contains found.new.items y ↔ (Contains found.old.items y ⊎ Step position.now die y) }
+    ensures members { (y : List ℕ) →
+        Contains found.new.items y ↔ (Contains found.old.items y ⊎ Step position.now die y) }
     ensures ordered { IsAscending found.new.items }
     ensures len { array_vec_len found.new ≤ array_vec_len found.old + 6 }
 {
@@ -57,7 +60,8 @@ fn include_steps<const CAP: usize>(
 // The positions that one die leads to from these: a finished position stays.
 fn after_die<const CAP: usize>(positions: &[Position], die: Die) -> ArrayVec<Position, CAP>
     requires { 6 * length positions.now ≤ CAP }
-    ensures members { (y : List ℕ) → Contains result.items y ↔ ((x : List ℕ) × (Contains positions.now x × Turns x die y)) }
+    ensures members { (y : List ℕ) →
+        Contains result.items y ↔ ((x : List ℕ) × (Contains positions.now x × Turns x die y)) }
     ensures ordered { IsAscending result.items }
     ensures len { array_vec_len result ≤ 6 * length positions.now }
 {
@@ -79,7 +83,8 @@ fn after_two<const CAP: usize>(
     second: Die,
 ) -> ArrayVec<Position, CAP>
     requires { 36 ≤ CAP }
-    ensures members { (y : List ℕ) → Contains result.items y ↔ Run position.now (first ∷ second ∷ []) y }
+    ensures members { (y : List ℕ) →
+        Contains result.items y ↔ Run position.now (first ∷ second ∷ []) y }
     ensures ordered { IsAscending result.items }
     ensures len { array_vec_len result ≤ 36 }
 {
@@ -89,7 +94,8 @@ fn after_two<const CAP: usize>(
 
 // The positions that a double leads to: the die is played four times.
 fn after_four(position: &Position, die: Die) -> ArrayVec<Position, 1296>
-    ensures members { (y : List ℕ) → Contains result.items y ↔ Run position.now (die ∷ die ∷ die ∷ die ∷ []) y }
+    ensures members { (y : List ℕ) →
+        Contains result.items y ↔ Run position.now (die ∷ die ∷ die ∷ die ∷ []) y }
     ensures ordered { IsAscending result.items }
 {
     let two: ArrayVec<Position, 36> = after_two(position, die, die);
@@ -97,11 +103,14 @@ fn after_four(position: &Position, die: Die) -> ArrayVec<Position, 1296>
     after_die(three.as_slice(), die)
 }
 
-/// The positions that the roll can reach, each once and by rising rank: by its two dice in either order, or
-/// by a double four times. There is at least one, and from the finished position that is the finished position.
+/// The positions that the roll can reach, each once and by rising rank: by its two dice in either
+/// order, or by a double four times (the bearing-off rules of backgammon). There is at least one, and
+/// at most 1,296, since each of four dice has at most six steps. From the finished position it is the
+/// finished position alone.
 pub fn results(position: &Position, roll: Roll) -> ArrayVec<Position, 1296>
     ensures members { (y : List ℕ) → Contains result.items y ↔ Legal position.now roll y }
     ensures ordered { IsInRankOrder result.items }
+    ensures ascending { IsAscending result.items }
     ensures some { 0 < array_vec_len result }
 {
     let (high, low) = (roll.high(), roll.low());

@@ -9,10 +9,12 @@ use crate::{Die, Move, Play, Roll};
 use arrayvec::ArrayString;
 use itoa::Buffer;
 
-/// The roll that a text of two digits from 1 to 6 gives, in either order; None for any other text.
+/// The roll of a text of two digits from 1 to 6, in either order; None for any other text. (This
+/// project's profile.)
 pub fn parse_roll(text: &[u8]) -> Option<Roll>
     ensures valid { IsSome result ↔ ((a : Face) × (b : Face) × (text.now ≡ roll_text a b)) }
-    ensures value { (a b : Face) → text.now ≡ roll_text a b → IfSome result (λ roll. roll ≡ roll_of a b) }
+    ensures value { (a b : Face) →
+        text.now ≡ roll_text a b → IfSome result (λ roll. roll ≡ roll_of a b) }
     ensures roll { IfSome result (λ roll. IsRoll roll) }
 {
     let [one, other] = text else {
@@ -29,8 +31,8 @@ fn parse_die(digit: u8) -> Option<Die>
     Die::new(digit.checked_sub(b'0')?)
 }
 
-/// The moves with a space between each two, each from a point to a point, as `6/5`, or off the board, as
-/// `3/off`. The play without moves has no text.
+/// The moves with a space between each two, each from a point to a point, as `6/5`, or off the board,
+/// as `3/off` (this project's profile). The play without moves has the empty text.
 pub fn write_play(play: &Play) -> ArrayString<23>
     ensures { result.bytes ≡ play_text play.now.items }
 {

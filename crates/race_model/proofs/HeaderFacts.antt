@@ -39,7 +39,7 @@ front_bytes f place n rest e =
     ∙ take-take n (n + rest) (drop place f) (omega arith)
 
 -- the bound that the first 32 bytes state is that of the file
-front_bound : (f : List ℕ) → bound_of (take 32 f) ≡ bound_of f
+pub front_bound : (f : List ℕ) → bound_of (take 32 f) ≡ bound_of f
 unfolding bound_of
 front_bound f = ap (from_be_bytes w16) (front_bytes f 10 2 20 refl)
 

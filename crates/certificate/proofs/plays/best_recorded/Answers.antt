@@ -1,8 +1,8 @@
-use Rattle.std.proofs.Common.{◌≡◌, ℕ, ◌≢◌, ◌<◌, ◌≤◌, true, List, All, Any, sym, ap, subst, ◌∙◌, refl, arith, rules, tests, false}
+use Rattle.std.proofs.Common.{◌≡◌, ◌≢◌, ◌<◌, ◌≤◌, true, List, All, Any, ap, subst, ◌∙◌, arith, rules, tests, false}
 use Rattle.race_model.specs.Positions.{Board}
 use Rattle.race_model.specs.Dice.{roll_index}
 use Rattle.race_model.specs.Ranks.{rank}
-use Rattle.race_model.specs.Files.{mean, mean_of, mean_at, play_of, play_at, play}
+use Rattle.race_model.specs.Files.{mean, mean_of, mean_at, play_of, play_at}
 use Rattle.certificate.specs.RecordedPlays.{HasRecord}
 use Rattle.certificate.proofs.Members.{some-member, member-of_all}
 use Rattle.certificate.proofs.Pulled.{mean-of_record, play-of_record}

@@ -1,6 +1,6 @@
 use Rattle.std.proofs.Common.{ℕ, ◌+◌, ◌≤◌, ◌↔◌, ◌⊎◌, List, Contains, length}
 use Rattle.legal_plays.specs.RankOrder.{IsAscending}
-use Rattle.legal_plays.specs.Reach.{StepBelow}
+use Rattle.legal_plays.proofs.StepLemmas.{StepBelow}
 use Rattle.legal_plays.proofs.reach.include_steps.Given as goal
 
 -- the steps from the points below have been added
