@@ -8,3 +8,4 @@ pub mod ReachLemmas
 pub mod RollLemmas
 pub mod StepLemmas
 pub mod TextLemmas
+pub mod FirstPlayLemmas

@@ -30,3 +30,4 @@ pub mod OneText
 pub mod OneReply
 pub mod PositionTotals
 pub mod SameBytes
+pub mod SinglePlays

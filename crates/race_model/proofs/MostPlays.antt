@@ -100,13 +100,13 @@ double_most x v y same run = record {
       t.whole
 
 -- zeros are zero at each place
-zeros_at : (n j : ℕ) → get_or {A = ℕ} (replicate n 0) j 0 ≡ 0
+pub zeros_at : (n j : ℕ) → get_or {A = ℕ} (replicate n 0) j 0 ≡ 0
 zeros_at zero j = refl
 zeros_at (suc n) zero = refl
 zeros_at (suc n) (suc j) = zeros_at n j
 
 -- on the empty board each point is empty
-empty_at : (x : Board) (q : ℕ) → IsFinished x → count x q ≡ 0
+pub empty_at : (x : Board) (q : ℕ) → IsFinished x → count x q ≡ 0
 empty_at x zero none = refl
 empty_at x (suc j) none = ap (λ z. get_or z j 0) (zeros_of_sum x none) ∙ zeros_at (length x) j
 

@@ -1,9 +1,10 @@
 ghost use Rattle.std.specs.Prelude.{◌≡◌, ℕ, zero, suc, ◌+◌, ◌*◌, ◌^◌, ◌<◌, ◌≤◌, sum_by};
-ghost use Rattle.race_model.specs.Positions.{Board, IsPosition, pips};
+ghost use Rattle.race_model.specs.Positions.{Board, IsPosition, pips, more, finished};
 ghost use Rattle.race_model.specs.Dice.{Throw, throws};
 ghost use Rattle.race_model.specs.Horizon.{most_rolls};
+ghost use Rattle.race_model.specs.LocalEquations.{whole};
 ghost use Rattle.race_model.specs.Samples.{from_six_point};
-ghost use Rattle.race_model.specs.Strategies.{Strategy, turn, Fits, total_over, count_over, count_of, IsWithin, EndsIn};
+ghost use Rattle.race_model.specs.Strategies.{Strategy, turn, Fits, total_over, count_over, total, count_of, IsWithin, EndsIn};
 
 /// What a turn adds, for every m. Its rolls over all sequences of m + 1 throws are one for each of these
 /// 36 ^ (m + 1) sequences and those of its branches over all sequences of m throws; and it needs k + 1 rolls
@@ -33,10 +34,15 @@ pub fn law_horizon()
     ensures limit { (p : ℕ) → p ≤ 58 → most_rolls p ≤ 22 }
 {}
 
-/// One checker on point 6, counted by hand: over all sequences of two throws it needs 1,620 rolls in 1,296
-/// sequences, which is a mean of 5/4; in 972 of them one roll is enough, and in 324 two are needed.
+/// One checker on point 6, counted by hand: 9 of the 36 throws don't bear it off. Over all sequences of two throws
+/// it needs 1,620 rolls in 1,296 sequences; in 972 of them one roll is enough, and in 324 two are needed. So over
+/// all sequences of 22 throws its mean is 5/4, one roll has the share 3/4 and two have 1/4.
 pub fn law_sample()
+    ensures fits { Fits from_six_point (more finished 6) }
     ensures total { total_over 2 from_six_point ≡ 1620 }
     ensures one { count_over 2 from_six_point 1 ≡ 972 }
     ensures two { count_over 2 from_six_point 2 ≡ 324 }
+    ensures mean { 4 * total from_six_point ≡ 5 * whole }
+    ensures share_of_one { 4 * count_of from_six_point 1 ≡ 3 * whole }
+    ensures share_of_two { 4 * count_of from_six_point 2 ≡ whole }
 {}

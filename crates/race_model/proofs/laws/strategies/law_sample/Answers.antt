@@ -1,6 +1,15 @@
--- By computation.
-use Rattle.race_model.proofs.SampleCounts.{sample_total, sample_one, sample_two}
+-- Two throws by computation, and the others by scale.
+use Rattle.race_model.proofs.SampleCounts.{sample_total, sample_one, sample_two, sample_mean, sample_share_of_one, sample_share_of_two}
+use Rattle.race_model.proofs.SinglePlays.{sample_fits}
 use Rattle.race_model.proofs.laws.strategies.law_sample.Goals as goal
 
 pub returns : goal.returns
-returns c = record { total = sample_total; one = sample_one; two = sample_two }
+returns c = record {
+  fits = sample_fits;
+  total = sample_total;
+  one = sample_one;
+  two = sample_two;
+  mean = sample_mean;
+  share_of_one = sample_share_of_one;
+  share_of_two = sample_share_of_two;
+}
