@@ -1,5 +1,5 @@
 -- The first 32 bytes of a file, or all where there are fewer.
-use Rattle.std.proofs.Common.{◌≡◌, ⊎_elim, ℕ, ◌<◌, ◌≤◌, min, List, take, length, get_or, Result, Ok, Err, IfOk, OnOk, sym, ap, ◌∙◌, arith}
+use Rattle.std.proofs.Common.{◌≡◌, ⊎_elim, ℕ, ◌<◌, min, List, take, length, get_or, Result, Ok, Err, IfOk, OnOk, sym, ap, ◌∙◌, arith}
 use Rattle.std.proofs.lemmas.Bool.{cases_lt}
 use Rattle.std.proofs.lemmas.List.{take_all}
 use Rattle.race_model.specs.Files.{IsFileTo, bound_of}

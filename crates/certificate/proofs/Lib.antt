@@ -4,3 +4,5 @@ pub mod Members
 pub mod PlayTests
 pub mod RecordTests
 pub mod Fronts
+pub mod FileTests
+pub mod Accepted

@@ -3,9 +3,12 @@
 #![tactic(auto)]
 
 mod check_fault;
+mod checked;
 mod equations;
 mod plays;
 mod record_check;
 mod table;
 
+pub use check_fault::CheckFault;
+pub use checked::{Checked, QueryFault, check};
 pub use table::Whole;

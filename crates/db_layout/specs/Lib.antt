@@ -1,1 +1,3 @@
 pub mod HeaderFaults
+pub mod Records
+pub mod Writes

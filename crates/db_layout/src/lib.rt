@@ -4,6 +4,10 @@
 
 pub use header::{Header, HeaderFault, parse_header};
 pub use record::{HEADER_BYTES, RECORD_BYTES, RecordView};
+pub use write_fault::WriteFault;
+pub use writing::{write_header, write_record};
 
 pub mod header;
 pub mod record;
+pub mod write_fault;
+pub mod writing;

@@ -1,2 +1,3 @@
+pub mod Fractions
 pub mod Pulls
 pub mod Shares

@@ -2,8 +2,10 @@
 //! denominator; the crates above may use that `pull` is one roll and the weighted mean, exactly.
 #![tactic(auto)]
 
+pub use fraction::{Fraction, epc, mean, share, thousandths};
 pub use scaled::{MOST, Scaled, WHOLE, pull};
 pub use spread::Spread;
 
+pub mod fraction;
 pub mod scaled;
 pub mod spread;

@@ -1,4 +1,4 @@
-use Rattle.std.proofs.Common.{◌≡◌, ℕ, ◌<◌, List, take, length, get_or, IfOk, IfErr, subst, arith}
+use Rattle.std.proofs.Common.{◌≡◌, length, IfOk, IfErr, subst, arith}
 use Rattle.race_model.specs.Files.{bound_of}
 use Rattle.race_model.specs.Headers.{IsHeader, IsFirstHeaderFault}
 use Rattle.db_layout.specs.HeaderFaults.{test_of}

@@ -1,0 +1,33 @@
+-- What an accepted file records of a position of at most its bound.
+use Rattle.std.proofs.Common.{◌≡◌, ℕ, ◌*◌, ◌<◌, ◌≤◌, List, sym, ap, subst, ◌∙◌, arith}
+use Rattle.race_model.specs.Positions.{Board, IsPosition, pips}
+use Rattle.race_model.specs.Ranks.{rank}
+use Rattle.race_model.specs.Files.{bound_of, mean}
+use Rattle.race_model.specs.LocalEquations.{whole, IsLocal, IsLocalAt}
+use Rattle.race_model.specs.Strategies.{IsLeast}
+use Rattle.race_model.proofs.Horizons.{ends_in_22}
+use Rattle.race_model.proofs.Bounded.{mean_at_most}
+use Rattle.race_model.proofs.RankOrder.{rank-bound}
+use Rattle.race_model.proofs.Right.{right_of_local}
+use Rattle.certificate.specs.RecordedPlays.{HasRecord}
+use Rattle.certificate.proofs.PlayTests.{record-of_position}
+use Rattle.certificate.proofs.RecordTests.{file-records}
+
+module _ (f : List ℕ) (local : IsLocal 44 f) (x : Board) (at : IsPosition x) (low : pips x ≤ bound_of f) where
+  -- it has a record
+  pub accepted-record : HasRecord f (rank x)
+  accepted-record = record-of_position f x (file-records f local.file) at low
+
+  -- positions of no higher rank meet the equations
+  accepted-lower : (z : Board) → IsPosition z → rank z ≤ rank x → IsLocalAt f z
+  accepted-lower z is le =
+      let mine = (rank-bound x (bound_of f) at).1 low in
+      local.at_each z is ((rank-bound z (bound_of f) is).0 (omega arith))
+
+  -- the recorded mean is within 22 rolls
+  pub accepted-mean : mean f x ≤ 22 * whole
+  accepted-mean = mean_at_most f 22 x (ends_in_22 x at (omega (arith, local.file.bounded))) at (λ z is le. (accepted-lower z is le).means)
+
+  -- and is the least of all strategies
+  pub accepted-least : IsLeast x (mean f x)
+  accepted-least = ((right_of_local 44 f (omega arith) local).at_each x at low).least

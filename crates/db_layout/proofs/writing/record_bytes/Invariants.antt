@@ -1,0 +1,21 @@
+use Rattle.std.proofs.Common.{◌≡◌, ℕ, ◌+◌, ◌*◌, ◌<◌, ◌++◌, take, length, sum}
+use Rattle.std.specs.Prelude.{flat_map}
+use Rattle.arrayvec.specs.ArrayVec.{array_vec_len}
+use Rattle.race_model.specs.LocalEquations.{whole}
+use Rattle.db_layout.specs.Records.{short_bytes, wide_bytes}
+use Rattle.db_layout.proofs.writing.record_bytes.Given as goal
+
+-- the mean and the plays so far
+abbrev pub invariant-loop-play : goal.invariant-loop-play
+invariant-loop-play l = record {
+  len : array_vec_len l.bytes ≡ 16 + 2 * l.play-index;
+  items : l.bytes.items ≡ wide_bytes l.fn.mean ++ flat_map short_bytes (take l.play-index l.plays);
+}
+
+-- the mean, the plays and the shares so far
+abbrev pub invariant-loop-k : goal.invariant-loop-k
+invariant-loop-k l = record {
+  len : array_vec_len l.bytes ≡ 58 + 16 * l.k;
+  items : l.bytes.items ≡ (wide_bytes l.fn.mean ++ flat_map short_bytes l.plays) ++ flat_map wide_bytes (take l.k l.spread);
+  told : 0 < l.k → (length l.spread ≡ 23) × (sum l.spread ≡ whole);
+}

@@ -1,0 +1,110 @@
+//! The database file, written: its header and its records.
+ghost use Rattle.std.specs.Prelude.{◌≡◌, ℕ, ◌+◌, ◌*◌, ◌<◌, ◌≤◌, List, ◌++◌, length, OnOk, OnErr};
+ghost use Rattle.arrayvec.specs.ArrayVec.{array_vec_len};
+ghost use Rattle.std.specs.Io.KnownBytes.{Appends};
+ghost use Rattle.race_model.specs.Files.{header as header_of};
+ghost use Rattle.db_layout.specs.Records.{record_of, IsRecordOf};
+ghost use Rattle.db_layout.specs.Writes.{AppendsPart};
+
+use crate::header::{Header, MAGIC};
+use crate::record::{HEADER_BYTES, RECORD_BYTES};
+use crate::write_fault::WriteFault;
+use arrayvec::ArrayVec;
+use fixed_fraction::{Scaled, Spread};
+use std::io::Write;
+
+/// Writes a header: 32 bytes. Refused only where a `write` fails or takes no byte; then a prefix of the header
+/// was written.
+pub fn write_header<W: Write>(header: &Header, writer: &mut W) -> Result<(), WriteFault>
+    ensures all { OnOk result (Appends (W.contents writer.old) (W.contents writer.new) (header_of header.now.bound)) }
+    ensures part { OnErr result (AppendsPart (W.contents writer.old) (W.contents writer.new) (header_of header.now.bound)) }
+{
+    write_bytes(header_bytes(header).as_slice(), writer)
+}
+
+/// Writes a record: 426 bytes with the mean, the ranks that are played to with the rolls 0 to 20, and the
+/// shares of 0 to 22 rolls. Refused only where a `write` fails or takes no byte; then a prefix of the record was
+/// written.
+pub fn write_record<W: Write>(
+    mean: Scaled,
+    plays: &[u16; 21],
+    spread: &Spread,
+    writer: &mut W,
+) -> Result<(), WriteFault>
+    ensures all { OnOk result (Appends (W.contents writer.old) (W.contents writer.new) (record_of mean plays.now spread.now)) }
+    ensures part { OnErr result (AppendsPart (W.contents writer.old) (W.contents writer.new) (record_of mean plays.now spread.now)) }
+    ensures reads { IsRecordOf (record_of mean plays.now spread.now) mean plays.now spread.now }
+{
+    write_bytes(record_bytes(mean, plays, spread).as_slice(), writer)
+}
+
+/// Writes all of these bytes, however many a `write` takes.
+fn write_bytes<W: Write>(bytes: &[u8], writer: &mut W) -> Result<(), WriteFault>
+    ensures all { OnOk result (Appends (W.contents writer.old) (W.contents writer.new) bytes.now) }
+    ensures part { OnErr result (AppendsPart (W.contents writer.old) (W.contents writer.new) bytes.now) }
+{
+    let mut written = 0;
+    while written < bytes.len() {
+        match writer.write(&bytes[written..]) {
+            Ok(0) | Err(_) => return Err(WriteFault),
+            Ok(count) => written += count,
+        }
+    }
+    Ok(())
+}
+
+/// The 32 bytes of a header.
+fn header_bytes(header: &Header) -> ArrayVec<u8, HEADER_BYTES>
+    ensures { result.items ≡ header_of header.now.bound }
+{
+    let mut bytes = ArrayVec::new();
+    add_bytes(&mut bytes, &MAGIC);
+    add_bytes(&mut bytes, &header.version.to_be_bytes());
+    add_bytes(&mut bytes, &u16::from(header.bound).to_be_bytes());
+    add_bytes(&mut bytes, &u32::from(header.count).to_be_bytes());
+    add_bytes(&mut bytes, &header.record_bytes.to_be_bytes());
+    add_bytes(&mut bytes, &[0; 12]);
+    bytes
+}
+
+/// The 426 bytes of a record.
+fn record_bytes(mean: Scaled, plays: &[u16; 21], spread: &Spread) -> ArrayVec<u8, RECORD_BYTES>
+    ensures items { result.items ≡ record_of mean plays.now spread.now }
+    ensures reads { IsRecordOf (record_of mean plays.now spread.now) mean plays.now spread.now }
+{
+    let mut bytes = ArrayVec::new();
+    add_bytes(&mut bytes, &mean.numerator().to_be_bytes());
+    for play in plays {
+        add_bytes(&mut bytes, &play.to_be_bytes());
+    }
+    for k in 0..23 {
+        add_bytes(&mut bytes, &spread.at(k).to_be_bytes());
+    }
+    bytes
+}
+
+/// Adds bytes to those that stand before them.
+fn add_bytes<const CAP: usize>(bytes: &mut ArrayVec<u8, CAP>, more: &[u8])
+    requires { array_vec_len bytes.old + length more.now ≤ CAP }
+    ensures items { bytes.new.items ≡ bytes.old.items ++ more.now }
+    ensures len { array_vec_len bytes.new ≡ array_vec_len bytes.old + length more.now }
+{
+    bytes.try_extend_from_slice(more).unwrap();
+}
+
+#[cfg(test)]
+mod tests {
+    use super::*;
+    use std::test::Fail;
+
+    #[test]
+    fn header_of_44_pips(rt: HostRuntime) -> Result<(), Fail> {
+        let header = Header::new(1, 44).ok_or("no header")?;
+        let mut bytes = Vec::new(rt.alloc());
+        assert!(rt; write_header(&header, &mut bytes).is_ok());
+        let expected =
+            *b"EPCTABLE\x00\x01\x00\x2c\x00\x00\x66\xca\x00\x00\x01\xaa\0\0\0\0\0\0\0\0\0\0\0\0";
+        assert_eq!(rt; bytes.as_slice(), expected.as_slice());
+        Ok(())
+    }
+}
