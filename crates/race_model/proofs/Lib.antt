@@ -31,3 +31,4 @@ pub mod OneReply
 pub mod PositionTotals
 pub mod SameBytes
 pub mod SinglePlays
+pub mod Recorded

@@ -2,7 +2,7 @@
 -- each history, and may look at which die was which. Source: the GNU Backgammon manual for what a one-sided
 -- database counts; that a strategy sees the whole history is this project's profile.
 -- `sequences 22` is a list of 36 ^ 22 sequences, which no proof and no program may ever compute: what is built
--- on it is `unfoldable`, so that it is opened only where a proof asks for it, and never together with it.
+-- on it is `unfoldable`, so that it is opened only where a proof asks for it, and never at the number 22.
 use Rattle.std.specs.Prelude.{◌≡◌, ℕ, zero, suc, ◌≤◌, ◌==◌, List, [], ◌∷◌, flat_map, map, sum_by, count_by}
 use Rattle.race_model.specs.Positions.{Board, IsFinished}
 use Rattle.race_model.specs.Dice.{Throw, throws}

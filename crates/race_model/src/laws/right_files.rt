@@ -1,11 +1,12 @@
 ghost use Rattle.std.specs.Prelude.{◌≡◌, ℕ, ◌+◌, ◌*◌, ◌<◌, ◌≤◌, List, slice_index, sum_by};
 ghost use Rattle.std.specs.List.{range_with_len};
-ghost use Rattle.race_model.specs.Positions.{Board, IsPosition, pips};
+ghost use Rattle.race_model.specs.Positions.{Board, IsPosition, IsFinished, pips};
 ghost use Rattle.race_model.specs.Dice.{Throw};
-ghost use Rattle.race_model.specs.Files.{IsFileTo, bound_of, mean, spread};
-ghost use Rattle.race_model.specs.LocalEquations.{whole, IsLocal};
+ghost use Rattle.race_model.specs.Ranks.{rank, count_to};
+ghost use Rattle.race_model.specs.Files.{IsFileTo, bound_of, mean, play, spread};
+ghost use Rattle.race_model.specs.LocalEquations.{whole, recorded, IsPlayed, IsLocal, IsLocalAt};
 ghost use Rattle.race_model.specs.Strategies.{Strategy, Fits, total, count_of};
-ghost use Rattle.race_model.specs.RightFiles.{IsRight};
+ghost use Rattle.race_model.specs.RightFiles.{IsRight, IsRightAt};
 ghost use Rattle.race_model.specs.BuiltFile.{IsBuilt};
 ghost use Rattle.race_model.specs.SameNumbers.{HasSameNumbers};
 ghost use Rattle.race_model.specs.Horizon.{most_rolls};
@@ -13,10 +14,23 @@ ghost use Rattle.race_model.specs.Horizon.{most_rolls};
 /// The local equations, which test each record against records of lower rank alone, hold of a list of bytes
 /// exactly where it is a right file: its means are the least over all strategies, also those that look at the
 /// history, its plays reach them, and its shares are those of its plays. The limit of the bound, 44 in version 1
-/// of the file, may be any number up to 58.
+/// of the file, may be any number up to 58. The same is said of the positions alone, whatever the form of the file.
 pub fn law_right()
     ensures right { (limit : ℕ) (f : List ℕ) → limit ≤ 58 → IsLocal limit f → IsRight limit f }
     ensures local { (limit : ℕ) (f : List ℕ) → limit ≤ 58 → IsRight limit f → IsLocal limit f }
+    ensures right_at { (f : List ℕ) → bound_of f ≤ 58 → ((x : Board) → IsPosition x → pips x ≤ bound_of f → IsLocalAt f x) → (x : Board) → IsPosition x → pips x ≤ bound_of f → IsRightAt f x }
+    ensures local_at { (f : List ℕ) → bound_of f ≤ 58 → ((x : Board) → IsPosition x → pips x ≤ bound_of f → IsRightAt f x) → (x : Board) → IsPosition x → pips x ≤ bound_of f → IsLocalAt f x }
+{}
+
+/// What a recorded play leads to, where the recorded number is the rank of a position to which the throw leads:
+/// a position with no more pips, so one of the records of the file, of lower rank while a checker is left; and the
+/// finished position records its own rank, 0. A number that is no rank of a position is never a recorded play of
+/// a right file.
+pub fn law_recorded()
+    ensures position { (f : List ℕ) (x : Board) (v : Throw) → IsPosition x → IsPlayed f x v → IsPosition (recorded f x v) × (pips (recorded f x v) ≤ pips x) }
+    ensures under { (f : List ℕ) (x : Board) (v : Throw) (bound : ℕ) → IsPosition x → pips x ≤ bound → IsPlayed f x v → play f x v < count_to bound }
+    ensures lower { (f : List ℕ) (x : Board) (v : Throw) → IsPosition x → ¬ IsFinished x → IsPlayed f x v → play f x v < rank x }
+    ensures at_end { (f : List ℕ) (x : Board) (v : Throw) → IsPosition x → IsFinished x → IsPlayed f x v → play f x v ≡ 0 }
 {}
 
 /// Right files agree on the mean of each position of at most the bound of both. Built files of one bound hold the
