@@ -51,7 +51,7 @@ pub fault_refuses : (limit : ℕ) (f : List ℕ) (t : Test) → IsFirstFault (As
 fault_refuses limit f t fault local = fault.fails (answers limit f local t fault.is_asked)
 
 -- two questions that are asked and of which neither is earlier are one
-same_question : (f : List ℕ) (t u : Test) → Asks f t → Asks f u → rank_of t ≡ rank_of u → place_of t ≡ place_of u → t ≡ u
+pub same_question : (f : List ℕ) (t u : Test) → Asks f t → Asks f u → rank_of t ≡ rank_of u → place_of t ≡ place_of u → t ≡ u
 same_question f (play_test r i) (play_test q j) a b e h = ap₂ play_test e (omega arith)
 same_question f (play_test r i) (least_test q j) a b e h = absurd (omega (arith, a.1, b.1))
 same_question f (play_test r i) (mean_test q) a b e h = absurd (omega (arith, a.1))

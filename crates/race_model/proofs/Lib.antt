@@ -32,3 +32,5 @@ pub mod PositionTotals
 pub mod SameBytes
 pub mod SinglePlays
 pub mod Recorded
+pub mod Enumerated
+pub mod Decisions

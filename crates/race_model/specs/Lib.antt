@@ -21,3 +21,4 @@ pub mod Replies
 pub mod Levels
 pub mod SameNumbers
 pub mod Samples
+pub mod Enumerations

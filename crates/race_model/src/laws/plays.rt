@@ -1,7 +1,8 @@
-ghost use Rattle.std.specs.Prelude.{◌≡◌, ℕ, ◌<◌, ◌≤◌, ◌↔◌, List};
+ghost use Rattle.std.specs.Prelude.{◌≡◌, ℕ, ◌<◌, ◌≤◌, ◌↔◌, List, [], ◌∷◌, Contains};
 ghost use Rattle.race_model.specs.Positions.{Board, IsPosition, IsFinished, finished, pips};
-ghost use Rattle.race_model.specs.Dice.{Die, Throw, reversed, IsRoll, roll_at};
+ghost use Rattle.race_model.specs.Dice.{Die, one, four, six, Throw, reversed, IsRoll, roll_at};
 ghost use Rattle.race_model.specs.Plays.{Step, Legal};
+ghost use Rattle.race_model.specs.Enumerations.{all_results};
 ghost use Rattle.race_model.specs.MostDice.{MostDice};
 ghost use Rattle.race_model.specs.LocalEquations.{IsPlayed, IsBest};
 
@@ -36,4 +37,14 @@ pub fn law_results()
 /// until the dice are used or no checker is left (the rules of backgammon).
 pub fn law_most_dice()
     ensures { (x : Board) (v : Throw) (y : Board) → MostDice x v y ↔ Legal x v y }
+{}
+
+/// The plain list of results has the results as its members, so the rules can be tried out by computation: 4-1 from
+/// one checker on point 3 and one on point 4 leaves one on point 2 or one on point 3, the second by the ace first;
+/// 1-1 moves a checker from point 6 to point 2; and 6-6 leaves the finished position as it is.
+pub fn law_enumerated()
+    ensures members { (x : Board) (v : Throw) (y : Board) → Contains (all_results x v) y ↔ Legal x v y }
+    ensures two_ways { all_results (0 ∷ 0 ∷ 1 ∷ 1 ∷ 0 ∷ 0 ∷ []) (record { first = four; second = one }) ≡ (0 ∷ 1 ∷ 0 ∷ 0 ∷ 0 ∷ 0 ∷ []) ∷ (0 ∷ 1 ∷ 0 ∷ 0 ∷ 0 ∷ 0 ∷ []) ∷ (0 ∷ 0 ∷ 1 ∷ 0 ∷ 0 ∷ 0 ∷ []) ∷ [] }
+    ensures double { all_results (0 ∷ 0 ∷ 0 ∷ 0 ∷ 0 ∷ 1 ∷ []) (record { first = one; second = one }) ≡ (0 ∷ 1 ∷ 0 ∷ 0 ∷ 0 ∷ 0 ∷ []) ∷ [] }
+    ensures end { all_results finished (record { first = six; second = six }) ≡ finished ∷ [] }
 {}
