@@ -43,7 +43,7 @@ module _ (f : List ℕ) (local : IsLocal 44 f) (x : Board) (at : IsPosition x) (
   pub accepted-shares : (shares : List ℕ) → length shares ≡ 23 → ((j : ℕ) → j < 23 → get_or shares j 0 ≡ spread f x j) → sum shares ≡ whole
   accepted-shares shares len each =
       let same : shares ≡ map (spread f x) (range_with_len 0 23) = same_number_lists shares (map (spread f x) (range_with_len 0 23)) (len ∙ sym (length-map (range_with_len 0 23) (spread f x)))
-            (λ k lt. each k (omega arith) ∙ sym (get_or-map-range_with_len (spread f x) 0 23 k k 0 (omega arith) (omega arith))) in
+      (λ k lt. each k (omega arith) ∙ sym (get_or-map-range_with_len (spread f x) 0 23 k k 0 (omega arith) (omega arith))) in
       rw same (sum-map (spread f x) (range_with_len 0 23) ∙ shares_add_up 44 f (omega arith) (right_of_local 44 f (omega arith) local) x at low)
 
   -- and are those of the recorded plays

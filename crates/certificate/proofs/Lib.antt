@@ -1,5 +1,5 @@
 pub mod Pulled
-pub mod Tests
+pub mod EquationTests
 pub mod Members
 pub mod PlayTests
 pub mod RecordTests

@@ -12,3 +12,6 @@ mod table;
 pub use check_fault::CheckFault;
 pub use checked::{Checked, QueryFault, check};
 pub use table::Whole;
+
+#[cfg(test)]
+mod tests;

@@ -5,7 +5,7 @@ use Rattle.race_model.specs.Files.{mean, mean_of, mean_at}
 use Rattle.race_model.specs.LocalEquations.{whole}
 use Rattle.certificate.specs.RecordedPlays.{ArePlays, sum_of_means}
 use Rattle.certificate.proofs.Pulled.{mean-of_record, means-of_plays}
-use Rattle.certificate.proofs.Tests.{mean-at_end, mean-expected}
+use Rattle.certificate.proofs.EquationTests.{mean-at_end, mean-expected}
 use Rattle.certificate.proofs.equations.has_mean.Goals as goal
 
 pub returns-then-is_finished : goal.returns-then-is_finished

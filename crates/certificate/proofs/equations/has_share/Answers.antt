@@ -6,7 +6,7 @@ use Rattle.race_model.specs.Files.{share_of, spread_at}
 use Rattle.race_model.specs.LocalEquations.{whole}
 use Rattle.certificate.specs.RecordedPlays.{ArePlays, sum_of_shares}
 use Rattle.certificate.proofs.Pulled.{share-of_record, shares-of_plays, whole-literal}
-use Rattle.certificate.proofs.Tests.{share-at_end, share-at_start, share-later}
+use Rattle.certificate.proofs.EquationTests.{share-at_end, share-at_start, share-later}
 use Rattle.certificate.proofs.equations.has_share.Goals as goal
 use Rattle.certificate.proofs.equations.has_share.Goals.{then-k-eq0, else-k-eq0}
 

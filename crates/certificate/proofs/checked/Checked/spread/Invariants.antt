@@ -6,5 +6,5 @@ use Rattle.certificate.proofs.checked.Checked.spread.Given as goal
 abbrev pub invariant-loop-k : goal.invariant-loop-k
 invariant-loop-k l = record {
   len : length l.shares ≡ 23;
-  read : (j : ℕ) → j < l.k → get_or l.shares j 0 ≡ share_of l.record j
+  read : (j : ℕ) → j < l.k → get_or l.shares j 0 ≡ share_of l.record j;
 }

@@ -1,0 +1,117 @@
+//! Files with known bytes, and what the checker says of them.
+use super::*;
+use db_layout::HeaderFault;
+use home_board::Position;
+
+/// 36 ^ 22 in 16 bytes.
+const WHOLE_BYTES: [u8; 16] = [
+    0x00, 0x03, 0x56, 0x27, 0x10, 0xdf, 0xf0, 0x31, 0x87, 0x27, 0x10, 0, 0, 0, 0, 0,
+];
+
+/// The file of bound 1: the finished position, and one checker on the ace point, whose mean is one roll.
+fn bound_one() -> [u8; 884] {
+    let mut file = [0; 884];
+    file[..12].copy_from_slice(b"EPCTABLE\x00\x01\x00\x01");
+    file[12..20].copy_from_slice(b"\x00\x00\x00\x02\x00\x00\x01\xaa");
+    file[90..106].copy_from_slice(&WHOLE_BYTES);
+    file[458..474].copy_from_slice(&WHOLE_BYTES);
+    file[532..548].copy_from_slice(&WHOLE_BYTES);
+    file
+}
+
+/// The fault of the file of bound 1 with one byte changed.
+fn fault_with(place: usize, byte: u8) -> Option<CheckFault>
+    requires { place < 884 }
+{
+    let mut file = bound_one();
+    file[place] = byte;
+    fault_of(&file)
+}
+
+fn fault_of(file: &[u8]) -> Option<CheckFault> {
+    match check(Whole::new(file)) {
+        Ok(_) => None,
+        Err((_, fault)) => Some(fault),
+    }
+}
+
+#[test]
+fn damaged_files(rt: HostRuntime) {
+    let file = bound_one();
+    assert_eq!(rt; fault_of(&file), None);
+    assert_eq!(rt;
+        fault_of(&file[..883]),
+        Some(CheckFault::Header(HeaderFault::BadLength))
+    );
+    assert_eq!(rt;
+        fault_of(&file[..31]),
+        Some(CheckFault::Header(HeaderFault::TooShort))
+    );
+    assert_eq!(rt;
+        fault_of(&[]),
+        Some(CheckFault::Header(HeaderFault::TooShort))
+    );
+    for (place, byte, fault) in [
+        (0, 0, CheckFault::Header(HeaderFault::BadMagic)),
+        (9, 2, CheckFault::Header(HeaderFault::BadVersion)),
+        (11, 45, CheckFault::Header(HeaderFault::BadBound)),
+        (15, 3, CheckFault::Header(HeaderFault::BadCount)),
+        (19, 0xab, CheckFault::Header(HeaderFault::BadRecordBytes)),
+        (31, 1, CheckFault::Header(HeaderFault::BadReserved)),
+        (473, 1, CheckFault::Mean { rank: 1 }),
+        (475, 1, CheckFault::Play { rank: 1, roll: 0 }),
+        (474, 0xff, CheckFault::Play { rank: 1, roll: 0 }),
+        (515, 1, CheckFault::Play { rank: 1, roll: 20 }),
+        (883, 1, CheckFault::Spread { rank: 1, k: 22 }),
+        (105, 1, CheckFault::Spread { rank: 0, k: 0 }),
+        (47, 1, CheckFault::Mean { rank: 0 }),
+    ] {
+        assert_eq!(rt; fault_with(place, byte), Some(fault), "byte {place}");
+    }
+    let mut filled = file;
+    filled[458..].fill(0xff);
+    assert_eq!(rt;
+        fault_of(&filled),
+        Some(CheckFault::Play { rank: 1, roll: 0 })
+    );
+}
+
+#[test]
+fn answers_of_bound_one(rt: HostRuntime) {
+    let file = bound_one();
+    let Ok(mut checked) = check(Whole::new(&file)) else {
+        panic!(rt; "refused");
+    };
+    assert_eq!(rt; (checked.bound(), checked.positions()), (1, 2));
+    let ace = Position::new([1, 0, 0, 0, 0, 0])
+        .ok()
+        .expect(&rt, "a position");
+    let deuce = Position::new([0, 1, 0, 0, 0, 0])
+        .ok()
+        .expect(&rt, "a position");
+    assert_eq!(rt;
+        checked.scaled(&ace).map(|mean| mean.numerator()),
+        Ok(17324272922341479351919144385642496)
+    );
+    assert_eq!(rt;
+        checked
+            .mean(&ace)
+            .map(|mean| (mean.numerator(), mean.denominator())),
+        Ok((1, 1))
+    );
+    assert_eq!(rt;
+        checked
+            .epc(&ace)
+            .map(|mean| (mean.numerator(), mean.denominator())),
+        Ok((49, 6))
+    );
+    assert_eq!(rt;
+        checked.spread(&ace).map(|spread| spread.at(1)),
+        Ok(17324272922341479351919144385642496)
+    );
+    assert_eq!(rt; checked.scaled(&deuce).err(), Some(QueryFault::OverBound));
+    assert_eq!(rt;
+        checked.into_table().header().map(|header| header.bound),
+        Ok(1)
+    );
+}
