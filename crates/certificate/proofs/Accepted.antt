@@ -1,10 +1,17 @@
 -- What an accepted file records of a position of at most its bound.
-use Rattle.std.proofs.Common.{◌≡◌, ℕ, ◌*◌, ◌<◌, ◌≤◌, List, sym, ap, subst, ◌∙◌, arith}
+use Rattle.std.proofs.Common.{◌≡◌, ℕ, ◌*◌, ◌<◌, ◌≤◌, List, map, length, get_or, sum, sym, ap, subst, ◌∙◌, arith}
+use Rattle.std.specs.List.{range_with_len}
+use Rattle.std.proofs.lemmas.Grind.{same_number_lists}
+use Rattle.std.proofs.lemmas.List.{length-map}
+use Rattle.std.proofs.lemmas.List.FromFn.{get_or-map-range_with_len}
+use Rattle.std.proofs.lemmas.List.Sums.{sum-map}
 use Rattle.race_model.specs.Positions.{Board, IsPosition, pips}
 use Rattle.race_model.specs.Ranks.{rank}
-use Rattle.race_model.specs.Files.{bound_of, mean}
+use Rattle.race_model.specs.Files.{bound_of, mean, spread}
 use Rattle.race_model.specs.LocalEquations.{whole, IsLocal, IsLocalAt}
-use Rattle.race_model.specs.Strategies.{IsLeast}
+use Rattle.race_model.specs.Strategies.{IsLeast, count_of}
+use Rattle.race_model.specs.RightFiles.{follow}
+use Rattle.race_model.proofs.RightFacts.{shares_add_up}
 use Rattle.race_model.proofs.Horizons.{ends_in_22}
 use Rattle.race_model.proofs.Bounded.{mean_at_most}
 use Rattle.race_model.proofs.RankOrder.{rank-bound}
@@ -31,3 +38,14 @@ module _ (f : List ℕ) (local : IsLocal 44 f) (x : Board) (at : IsPosition x) (
   -- and is the least of all strategies
   pub accepted-least : IsLeast x (mean f x)
   accepted-least = ((right_of_local 44 f (omega arith) local).at_each x at low).least
+
+  -- the recorded shares add up to the whole
+  pub accepted-shares : (shares : List ℕ) → length shares ≡ 23 → ((j : ℕ) → j < 23 → get_or shares j 0 ≡ spread f x j) → sum shares ≡ whole
+  accepted-shares shares len each =
+      let same : shares ≡ map (spread f x) (range_with_len 0 23) = same_number_lists shares (map (spread f x) (range_with_len 0 23)) (len ∙ sym (length-map (range_with_len 0 23) (spread f x)))
+            (λ k lt. each k (omega arith) ∙ sym (get_or-map-range_with_len (spread f x) 0 23 k k 0 (omega arith) (omega arith))) in
+      rw same (sum-map (spread f x) (range_with_len 0 23) ∙ shares_add_up 44 f (omega arith) (right_of_local 44 f (omega arith) local) x at low)
+
+  -- and are those of the recorded plays
+  pub accepted-spread : (k : ℕ) → k ≤ 22 → spread f x k ≡ count_of (follow f 22 x) k
+  accepted-spread = ((right_of_local 44 f (omega arith) local).at_each x at low).spread_is

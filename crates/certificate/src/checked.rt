@@ -1,17 +1,18 @@
-ghost use Rattle.std.specs.Prelude.{◌≡◌, ℕ, ◌<◌, ◌≤◌, ◌↔◌, List, IsOk, IfOk, IfErr, OnOk};
+ghost use Rattle.std.specs.Prelude.{◌≡◌, ℕ, ◌<◌, ◌≤◌, ◌↔◌, List, slice_index, IsOk, IfOk, IfErr, OnOk};
 ghost use Rattle.race_model.specs.Positions.{Board, IsPosition, pips};
 ghost use Rattle.race_model.specs.Ranks.{rank as rank_of, at_rank, count_to};
-ghost use Rattle.race_model.specs.Files.{bound_of, mean};
+ghost use Rattle.race_model.specs.Files.{bound_of, mean as mean_at_position};
 ghost use Rattle.race_model.specs.LocalEquations.{IsLocal, IsLocalAt};
-ghost use Rattle.race_model.specs.RightFiles.{IsRight};
-ghost use Rattle.race_model.specs.Strategies.{IsLeast};
+ghost use Rattle.race_model.specs.RightFiles.{IsRight, follow};
+ghost use Rattle.race_model.specs.Fractions.{IsMean, IsEffectivePips};
+ghost use Rattle.race_model.specs.Strategies.{IsLeast, count_of};
 ghost use Rattle.certificate.specs.CheckFaults.{IsFirst};
 
 use crate::check_fault::{CheckFault, fault_at};
 use crate::record_check::check_record;
 use crate::table::Whole;
 use db_layout::Header;
-use fixed_fraction::Scaled;
+use fixed_fraction::{Fraction, Scaled, Spread, epc, mean};
 use home_board::Position;
 use race_model::laws;
 use ranking::Ranks;
@@ -110,7 +111,7 @@ impl<'a> Checked<'a> {
     pub fn scaled(&mut self, position: &Position) -> Result<Scaled, QueryFault>
         ensures over_bound { (result ≡ Err QueryFault.OverBound) ↔ (bound_of self.old < pips position.now) }
         ensures least { IfOk result (IsLeast position.now) }
-        ensures recorded { IfOk result (λ t. t ≡ mean self.old position.now) }
+        ensures recorded { IfOk result (λ t. t ≡ mean_at_position self.old position.now) }
         ensures stays { self.new ≡ self.old }
     {
         if position.pips() > self.header.bound {
@@ -118,6 +119,46 @@ impl<'a> Checked<'a> {
         }
         let rank = self.ranks.rank(position);
         Ok(Scaled::new(self.table.record(rank).mean()).unwrap())
+    }
+
+    /// The least mean number of rolls of a position over all strategies, as a fraction in lowest terms.
+    /// Refused as `OverBound` exactly where the position has more pips than the bound; the database stays as it
+    /// was.
+    pub fn mean(&mut self, position: &Position) -> Result<Fraction, QueryFault>
+        ensures over_bound { (result ≡ Err QueryFault.OverBound) ↔ (bound_of self.old < pips position.now) }
+        ensures least { IfOk result (λ fraction. (t : ℕ) × IsLeast position.now t × IsMean t fraction.numerator fraction.denominator) }
+        ensures stays { self.new ≡ self.old }
+    {
+        let rolls = self.scaled(position)?;
+        Ok(mean(rolls))
+    }
+
+    /// The effective pip count of a position: 49/6 of the least mean number of rolls, in lowest terms (the GNU
+    /// Backgammon manual). Refused as `mean` is.
+    pub fn epc(&mut self, position: &Position) -> Result<Fraction, QueryFault>
+        ensures over_bound { (result ≡ Err QueryFault.OverBound) ↔ (bound_of self.old < pips position.now) }
+        ensures pips { IfOk result (λ fraction. (t : ℕ) × IsLeast position.now t × IsEffectivePips t fraction.numerator fraction.denominator) }
+        ensures stays { self.new ≡ self.old }
+    {
+        let rolls = self.scaled(position)?;
+        Ok(epc(rolls))
+    }
+
+    /// How the number of rolls is spread where each play is the recorded one. Refused as `mean` is.
+    pub fn spread(&mut self, position: &Position) -> Result<Spread, QueryFault>
+        ensures over_bound { (result ≡ Err QueryFault.OverBound) ↔ (bound_of self.old < pips position.now) }
+        ensures shares { IfOk result (λ spread. (k : ℕ) → k ≤ 22 → slice_index spread k ≡ count_of (follow self.old 22 position.now) k) }
+        ensures stays { self.new ≡ self.old }
+    {
+        if position.pips() > self.header.bound {
+            return Err(QueryFault::OverBound);
+        }
+        let record = self.table.record(self.ranks.rank(position));
+        let mut shares = [0; 23];
+        for k in 0..23 {
+            shares[usize::from(k)] = record.spread(k);
+        }
+        Ok(Spread::new(shares).unwrap())
     }
 }
 

@@ -38,8 +38,9 @@ pub fn write_record<W: Write>(
     write_bytes(record_bytes(mean, plays, spread).as_slice(), writer)
 }
 
-/// Writes all of these bytes, however many a `write` takes.
-fn write_bytes<W: Write>(bytes: &[u8], writer: &mut W) -> Result<(), WriteFault>
+/// Writes all of these bytes, however many a `write` takes. Refused only where a `write` fails or takes no byte;
+/// then a prefix of them was written.
+pub fn write_bytes<W: Write>(bytes: &[u8], writer: &mut W) -> Result<(), WriteFault>
     ensures all { OnOk result (Appends (W.contents writer.old) (W.contents writer.new) bytes.now) }
     ensures part { OnErr result (AppendsPart (W.contents writer.old) (W.contents writer.new) bytes.now) }
 {

@@ -111,3 +111,74 @@ fn greatest_common_divisor(first: u128, second: u128) -> u128
     }
     larger
 }
+
+#[cfg(test)]
+mod tests {
+    use super::*;
+    use crate::scaled::MOST;
+    use std::test::Fail;
+
+    fn terms(fraction: Fraction) -> (u128, u128) {
+        (fraction.numerator(), fraction.denominator())
+    }
+
+    #[test]
+    fn means_and_effective_pip_counts(rt: HostRuntime) -> Result<(), Fail> {
+        let denominator = 103945637534048876111514866313854976;
+        for (numerator, in_rolls, in_pips, rounded) in [
+            (0, (0, 1), (0, 1), 0),
+            (WHOLE, (1, 1), (49, 6), 8167),
+            (
+                21655341152926849189898930482053120,
+                (5, 4),
+                (245, 24),
+                10208,
+            ),
+            (WHOLE / 18 * 23, (23, 18), (1127, 108), 10435),
+            (WHOLE / 36 * 97, (97, 36), (4753, 216), 22005),
+            (
+                WHOLE / 279936 * 1953839,
+                (1953839, 279936),
+                (95738111, 1679616),
+                57000,
+            ),
+            (1082767057646342459494946524102656, (1, 16), (49, 96), 510),
+            (MOST, (22, 1), (539, 3), 179667),
+            (1, (1, WHOLE), (49, denominator), 0),
+        ] {
+            let rolls = Scaled::new(numerator).ok_or("over 22 rolls")?;
+            assert_eq!(rt; terms(mean(rolls)), in_rolls);
+            assert_eq!(rt; terms(epc(rolls)), in_pips);
+            assert_eq!(rt; thousandths(&epc(rolls)), rounded);
+        }
+        Ok(())
+    }
+
+    #[test]
+    fn halves_and_large_numerators(rt: HostRuntime) -> Result<(), Fail> {
+        let sixteenth = Scaled::new(WHOLE / 16).ok_or("over 22 rolls")?;
+        assert_eq!(rt; thousandths(&mean(sixteenth)), 63);
+        let below_most = Scaled::new(MOST - 1).ok_or("over 22 rolls")?;
+        assert_eq!(rt; thousandths(&epc(below_most)), 179667);
+        Ok(())
+    }
+
+    #[test]
+    fn shares(rt: HostRuntime) -> Result<(), Fail> {
+        let mut shares = [0; 23];
+        shares[1] = WHOLE / 9;
+        shares[2] = WHOLE / 108 * 91;
+        shares[3] = WHOLE / 108 * 5;
+        let spread = Spread::new(shares).ok_or("not a whole")?;
+        for (k, expected) in [
+            (0, (0, 1)),
+            (1, (1, 9)),
+            (2, (91, 108)),
+            (3, (5, 108)),
+            (23, (0, 1)),
+        ] {
+            assert_eq!(rt; terms(share(&spread, k)), expected, "at {k} rolls");
+        }
+        Ok(())
+    }
+}

@@ -84,3 +84,48 @@ pub fn pull(parts: &[(u8, Scaled); 21]) -> Option<Scaled>
         None
     }
 }
+
+#[cfg(test)]
+mod tests {
+    use super::*;
+    use std::test::Fail;
+
+    // 1 for a double and 2 for each other roll
+    const WEIGHTS: [u8; 21] = [
+        1, 2, 1, 2, 2, 1, 2, 2, 2, 1, 2, 2, 2, 2, 1, 2, 2, 2, 2, 2, 1,
+    ];
+
+    // the parts of 21 rolls: the double aces lead to the one, and all other rolls to the other
+    fn parts(aces: Scaled, others: Scaled) -> [(u8, Scaled); 21]
+        ensures { sum_by (λ part. part.0) result ≡ 36 }
+    {
+        let mut parts = WEIGHTS.map(|weight| (weight, others));
+        parts[0] = (1, aces);
+        parts
+    }
+
+    #[test]
+    fn pulls(rt: HostRuntime) -> Result<(), Fail> {
+        let one = Scaled::new(1).ok_or("over 22 rolls")?;
+        let most = Scaled::new(MOST).ok_or("over 22 rolls")?;
+        let one_less = Scaled::new(21 * WHOLE).ok_or("over 22 rolls")?;
+        let zero = Scaled::ZERO;
+        assert_eq!(rt; pull(&parts(zero, zero)), Scaled::new(WHOLE));
+        assert_eq!(rt; pull(&parts(one_less, one_less)), Some(most));
+        assert_eq!(rt; pull(&parts(most, most)), None);
+        assert_eq!(rt; pull(&parts(one, zero)), None);
+        Ok(())
+    }
+
+    #[test]
+    fn differences(rt: HostRuntime) -> Result<(), Fail> {
+        assert_eq!(rt; WHOLE, 17324272922341479351919144385642496);
+        assert_eq!(rt; Scaled::new(MOST + 1), None);
+        let least = Scaled::new(43).ok_or("over 22 rolls")?;
+        let other = Scaled::new(47).ok_or("over 22 rolls")?;
+        assert_eq!(rt; other.minus(least), Scaled::new(4));
+        assert_eq!(rt; least.minus(least), Some(Scaled::ZERO));
+        assert_eq!(rt; least.minus(other), None);
+        Ok(())
+    }
+}

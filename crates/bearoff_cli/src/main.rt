@@ -1,0 +1,6 @@
+//! The program `bearoff`.
+#![tactic(auto)]
+
+pub mod answer;
+
+fn main(_rt: HostRuntime) {}

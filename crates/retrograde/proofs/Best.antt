@@ -1,0 +1,56 @@
+-- The best play among the results of a throw.
+use Rattle.std.proofs.Common.{◌≡◌, ℕ, suc, ◌<◌, ◌≤◌, ◌↔◌, List, get_or, All, Any, Contains, sym, ap, subst, ◌∙◌, arith, le_of_eq}
+use Rattle.std.proofs.lemmas.List.{get_or_default}
+use Rattle.std.specs.Prelude.{slice_index}
+use Rattle.race_model.specs.Positions.{Board, IsPosition, IsFinished, pips}
+use Rattle.race_model.specs.Dice.{Throw}
+use Rattle.race_model.specs.Plays.{Legal}
+use Rattle.race_model.specs.Ranks.{rank, first_of}
+use Rattle.race_model.proofs.Results.{only_finished, legal_position, legal_fewer_pips, legal_finished, legal_stays}
+use Rattle.race_model.proofs.RankOrder.{rank-within, first_of-rises, first_of-suc}
+use Rattle.race_model.proofs.PositionTotals.{rank-finished}
+use Rattle.retrograde.specs.BestPlays.{IsBestPlay}
+
+-- what holds of each member holds of all
+pub all-of_members : {X : Type 0} (P : X → Type 0) (xs : List X) → ((y : X) → Contains xs y → P y) → All P xs
+all-of_members P xs each = λ k d lt. each (get_or xs k d) (k, lt, get_or_default xs k (get_or xs k d) d lt)
+
+-- what holds of all holds of a member
+pub member-of_all : {X : Type 0} (P : X → Type 0) (xs : List X) (y : X) → All P xs → Contains xs y → P y
+member-of_all P xs y all is = subst P is.2 (all is.0 y is.1)
+
+-- what holds of some holds of a member
+pub some-member : {X : Type 0} (P : X → Type 0) (xs : List X) → Any P xs → (y : X) × Contains xs y × P y
+some-member P xs some = (some.1, (some.0, some.2, some.3), some.4)
+
+-- the best of the results is the best play
+pub best-of_results : (means : List ℕ) (x : Board) (v : Throw) (r : ℕ) (found : List Board) → ((y : List ℕ) → Contains found y ↔ Legal x v y) → Any (λ z. rank z ≡ r) found → All (λ z. slice_index means r ≤ slice_index means (rank z)) found → All (λ z. slice_index means (rank z) ≡ slice_index means r → r ≤ rank z) found → IsBestPlay means x v r
+best-of_results means x v r found members some least lowest =
+    let best = some-member (λ z. rank z ≡ r) found some in
+    record {
+      legal = (best.0, (members best.0).0 best.1, best.2);
+      least = λ z legal. member-of_all (λ z. slice_index means r ≤ slice_index means (rank z)) found z least ((members z).1 legal);
+      lowest = λ z legal. member-of_all (λ z. slice_index means (rank z) ≡ slice_index means r → r ≤ rank z) found z lowest ((members z).1 legal);
+    }
+
+-- the results from an unfinished position have the ranks of fewer pips
+pub legal-below : (x : Board) (v : Throw) (z : Board) → IsPosition x → ¬ IsFinished x → Legal x v z → rank z < first_of (pips x)
+legal-below x v z at unfinished legal =
+    let fewer = legal_fewer_pips x v z unfinished legal in
+    let within = (rank-within z (legal_position x v z at legal)).1 in
+    let rises = first_of-rises (suc (pips z)) (pips x) fewer in
+    omega (arith, within, rises, first_of-suc (pips z))
+
+-- the finished position stays, at rank 0
+pub finished-rank : (x : Board) → IsPosition x → IsFinished x → rank x ≡ 0
+finished-rank x at none = ap rank (only_finished x at none) ∙ rank-finished
+
+pub finished-stays : (x : Board) (v : Throw) (z : Board) → IsPosition x → IsFinished x → Legal x v z → rank z ≡ 0
+finished-stays x v z at none legal = ap rank (legal_finished x v z none legal) ∙ finished-rank x at none
+
+pub best-at_end : (means : List ℕ) (x : Board) (v : Throw) → IsPosition x → IsFinished x → IsBestPlay means x v 0
+best-at_end means x v at none = record {
+  legal = (x, legal_stays x v none, finished-rank x at none);
+  least = λ z legal. le_of_eq (ap (slice_index means) (sym (finished-stays x v z at none legal)));
+  lowest = λ z legal _. omega arith;
+}

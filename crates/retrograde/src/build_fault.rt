@@ -1,0 +1,17 @@
+use thiserror::Error;
+
+/// Why a build is refused.
+#[derive(Clone, Copy, Debug, PartialEq, Eq, Error)]
+pub enum BuildFault {
+    /// The pip bound is over 44.
+    #[error("over the greatest bound")]
+    OverBound,
+
+    /// There was not enough memory.
+    #[error("out of memory")]
+    Memory,
+
+    /// A `write` failed, or took no byte.
+    #[error("the write failed")]
+    Write,
+}
