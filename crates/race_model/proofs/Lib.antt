@@ -34,3 +34,4 @@ pub mod SinglePlays
 pub mod Recorded
 pub mod Enumerated
 pub mod Decisions
+pub mod Compact
