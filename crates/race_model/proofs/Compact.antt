@@ -14,7 +14,7 @@ use Rattle.race_model.proofs.Totals.{count_of_stop, count_of_turn_none}
 use Rattle.race_model.proofs.FromLocal.{follow_finished, follow_unfinished}
 
 -- the finished position has no pips
-no_pips : (x : Board) → IsFinished x → pips x ≡ 0
+pub no_pips : (x : Board) → IsFinished x → pips x ≡ 0
 no_pips x none = ap pips (zeros_of_sum x none) ∙ zeros 1 (length x)
   where
     zeros : (p n : ℕ) → pips_from p (replicate n 0) ≡ 0

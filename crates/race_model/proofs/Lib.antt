@@ -35,3 +35,5 @@ pub mod Recorded
 pub mod Enumerated
 pub mod Decisions
 pub mod Compact
+pub mod LeastExists
+pub mod SampleLeast
