@@ -74,10 +74,11 @@ best_or_not f x v = ⊎_elim
     (λ n. inr (λ b. n (λ z h. b z (results_listed x v z h))))
     (none_under f (mean_at f (play f x v)) (all_results x v))
 
--- the mean equation
+-- that a fact fails, holds or not
 not_or : (P : Type 0) → P ⊎ (¬ P) → (¬ P) ⊎ (¬ (¬ P))
 not_or P p = ⊎_elim (λ a. inr (λ n. n a)) (λ n. inl n) p
 
+-- the mean equation holds or not
 mean_or_not : (f : List ℕ) (x : Board) → HasMean f x ⊎ (¬ HasMean f x)
 mean_or_not f x = ⊎_elim
     (λ h. inl (record { at_end = h.0; before = h.1 }))
@@ -135,6 +136,7 @@ record IsQuestion (f : List ℕ) (n : ℕ) : Type 0 where
   asked : Asks f test
   place : index test ≡ n
 
+-- so it is
 question_at : (f : List ℕ) (n : ℕ) → n < 66 * count_to (bound_of f) → IsQuestion f n
 question_at f n under = by (n / 66) (n % 66) (rank_under (count_to (bound_of f)) under) (omega arith) (omega arith)
   where

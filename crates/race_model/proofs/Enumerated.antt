@@ -25,11 +25,13 @@ in_append y [] ys h = inr h
 in_append y (x ∷ xs) ys (inl e) = inl (inl e)
 in_append y (x ∷ xs) ys (inr h) = ⊎_elim (λ l. inl (inr l)) (λ r. inr r) (in_append y xs ys h)
 
+-- .. from the first list
 in_left : {X : Type 0} (y : X) (xs ys : List X) → IsIn y xs → IsIn y (xs ++ ys)
 in_left y [] ys h = absurd h
 in_left y (x ∷ xs) ys (inl e) = inl e
 in_left y (x ∷ xs) ys (inr h) = inr (in_left y xs ys h)
 
+-- .. from the second
 in_right : {X : Type 0} (y : X) (xs ys : List X) → IsIn y ys → IsIn y (xs ++ ys)
 in_right y [] ys h = h
 in_right y (x ∷ xs) ys h = inr (in_right y xs ys h)
@@ -39,6 +41,7 @@ in_flat_map : {A X : Type 0} (f : A → List X) (y : X) (xs : List A) → IsIn y
 in_flat_map f y [] h = absurd h
 in_flat_map f y (x ∷ xs) h = ⊎_elim (λ l. (x, (inl refl, l))) (λ r. let rest = in_flat_map f y xs r in (rest.0, (inr rest.1.0, rest.1.1))) (in_append y (f x) (flat_map f xs) h)
 
+-- .. from one of them
 from_flat_map : {A X : Type 0} (f : A → List X) (y : X) (xs : List A) (a : A) → IsIn a xs → IsIn y (f a) → IsIn y (flat_map f xs)
 from_flat_map f y [] a h k = absurd h
 from_flat_map f y (x ∷ xs) a (inl e) k = in_left y (f x) (flat_map f xs) (subst (λ b. IsIn y (f b)) e k)
@@ -65,6 +68,7 @@ above_empty x s none (suc j) over = subst (λ i. get_or x i 0 ≡ 0) (there s j 
     there : (s j : ℕ) → s < suc j → s + (j - s) ≡ j
     there s j h = omega arith
 
+-- .. and the other way round
 empty_above : (x : Board) (s : ℕ) → ((q : ℕ) → s < q → count x q ≡ 0) → sum (drop s x) ≡ 0
 empty_above x s empty = sum_of_zeros (drop s x) (λ k. get_or-drop s x k 0 ∙ empty (suc (s + k)) (omega arith))
 
@@ -131,6 +135,7 @@ from_occupied x d s y (from_highest _ top _) = top.occupied
 steps_listed : (x : Board) (d : Die) (y : Board) → IsIn y (all_steps x d) → Step x d y
 steps_listed x d y h = let found = in_flat_map (step_from x (number d)) y (range_with_len 1 (length x)) h in (found.0, step_of_listed x (number d) found.0 y (number_positive d) found.1.1)
 
+-- .. and each step is in it
 listed_steps : (x : Board) (d : Die) (y : Board) → Step x d y → IsIn y (all_steps x d)
 listed_steps x d y (s, goes) =
     let place = occupied_place x s (from_occupied x (number d) s y goes) in
@@ -147,6 +152,7 @@ runs_listed (d ∷ dice) x y h = ⊎_elim
     further : eqb (checkers x) 0 ≡ false → (z : Board) × (IsIn z (all_steps x d) × IsIn y (all_runs dice z)) → ((z y : Board) → IsIn y (all_runs dice z) → Run z dice y) → Run x (d ∷ dice) y
     further e (z, (step, rest)) run = inr (eqb-false (checkers x) 0 e, (z, (steps_listed x d z step, run z y rest)))
 
+-- .. and each run is in it
 listed_runs : (dice : List Die) (x y : Board) → Run x dice y → IsIn y (all_runs dice x)
 listed_runs [] x y run = inl run
 listed_runs (d ∷ dice) x y run = ⊎_elim
@@ -171,6 +177,7 @@ results_listed x v y h = ⊎_elim
 abbrev listed_by : Board → Throw → Bool → List Board
 listed_by x v b = cond b (all_runs (v.first ∷ v.first ∷ v.first ∷ v.first ∷ []) x) (all_runs (v.first ∷ v.second ∷ []) x ++ all_runs (v.second ∷ v.first ∷ []) x)
 
+-- .. and each result is in it
 pub listed_results : (x : Board) (v : Throw) (y : Board) → Legal x v y → IsIn y (all_results x v)
 listed_results x v y (in_order apart run) = subst (λ b. IsIn y (listed_by x v b)) (sym (ne_eqb (number v.first) (number v.second) (numbers_apart v.first v.second apart))) (in_left y (all_runs (v.first ∷ v.second ∷ []) x) (all_runs (v.second ∷ v.first ∷ []) x) (listed_runs (v.first ∷ v.second ∷ []) x y run))
 listed_results x v y (in_reverse apart run) = subst (λ b. IsIn y (listed_by x v b)) (sym (ne_eqb (number v.first) (number v.second) (numbers_apart v.first v.second apart))) (in_right y (all_runs (v.first ∷ v.second ∷ []) x) (all_runs (v.second ∷ v.first ∷ []) x) (listed_runs (v.second ∷ v.first ∷ []) x y run))
@@ -182,6 +189,7 @@ contains_of_in y [] h = absurd h
 contains_of_in y (x ∷ xs) (inl e) = (0, omega arith, sym e)
 contains_of_in y (x ∷ xs) (inr h) = let rest = contains_of_in y xs h in (suc rest.0, omega (arith, rest.1), rest.2)
 
+-- .. and the other way round
 pub in_of_contains : (y : Board) (xs : List Board) → Contains xs y → IsIn y xs
 in_of_contains y [] (k, h, e) = omega arith
 in_of_contains y (x ∷ xs) (zero, h, e) = inl (sym e)

@@ -109,25 +109,32 @@ module _ (f : List ℕ) (right : (x : Board) → IsPosition x → pips x ≤ bou
   module _ (x : Board) (at : IsPosition x) (low : pips x ≤ bound_of f) (unfinished : ¬ IsFinished x) (ends : (v : Throw) (y : Board) → Legal x v y → EndsIn 21 y) where
     -- plays from here, and then what is recorded
     module _ (to : Throw → Board) (legal : (v : Throw) → Legal x v (to v)) where
+      -- where these plays lead is a position
       to_position : (v : Throw) → IsPosition (to v)
       to_position v = legal_position x v (to v) at (legal v)
 
+      -- .. of at most the bound
       to_low : (v : Throw) → pips (to v) ≤ bound_of f
       to_low v = le_trans (legal_pips x v (to v) (legal v)) low
 
+      -- .. that is recorded right
       pub to_right : (v : Throw) → IsRightAt f (to v)
       to_right v = right (to v) (to_position v) (to_low v)
 
+      -- what is recorded from there on has at most 21 turns
       pub next_within : (v : Throw) → IsWithin 21 (follow f 22 (to v))
       next_within v = fits_within 21 (to v) (follow f 22 (to v)) (ends v (to v) (legal v)) (to_right v).fits
 
+      -- the plan: these plays, and then what is recorded
       unfoldable pub plan : Strategy
       plan = turn to (λ v. follow f 22 (to v))
 
+      -- it can be played
       pub plan_fits : Fits plan x
       unfolding plan
       plan_fits = (unfinished, λ v. (legal v, (to_right v).fits))
 
+      -- its total, by the recorded means
       pub plan_total : 36 * total plan ≡ 36 * whole + sum_by (λ v. mean f (to v)) throws
       unfolding plan
       plan_total =
@@ -135,6 +142,7 @@ module _ (f : List ℕ) (right : (x : Board) → IsPosition x → pips x ≤ bou
           let branches = sum_equal (λ v. total (follow f 22 (to v))) (λ v. mean f (to v)) throws (λ v. (to_right v).mean_is) in
           omega (arith, ours, branches)
 
+      -- its counts, by the recorded shares
       pub plan_count : (k : ℕ) → k ≤ 22 → 36 * count_of plan (suc k) ≡ sum_by (λ v. spread f (to v) k) throws
       unfolding plan
       plan_count k le =
@@ -166,6 +174,7 @@ module _ (f : List ℕ) (right : (x : Board) → IsPosition x → pips x ≤ bou
         ∙ plan_count (recorded f x) goes k (le_of_lt le)
         ∙ sum_equal (λ v. spread f (recorded f x v) k) (λ v. spread_at f (play f x v) k) throws (λ v. ap (λ r. spread_at f r k) ((right x at low).played v).ranked)
 
+    -- no share is recorded for no roll
     share_at_start : spread f x 0 ≡ 0
     share_at_start = (right x at low).spread_is 0 (omega arith) ∙ ap (λ s. count_of s 0) (follow_unfinished f 21 x unfinished) ∙ count_of_turn_none (recorded f x) (λ v. follow f 21 (recorded f x v))
 

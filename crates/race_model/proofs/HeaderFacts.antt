@@ -9,28 +9,6 @@ use Rattle.race_model.specs.Files.{header, bytes_at, bound_of, IsFileTo}
 use Rattle.race_model.specs.Headers.{HeaderTest, long_enough, magic, version, bound, count, record_bytes, reserved, exact_length, IsHeader, IsFirstHeaderFault}
 use Rattle.race_model.proofs.PositionTotals.{count_to-most}
 
--- the fields of a header
-header_magic : (b : ℕ) → bytes_at (header b) 0 8 ≡ codes "EPCTABLE"
-header_magic b = refl
-
-header_version : (b : ℕ) → bytes_at (header b) 8 2 ≡ to_be_bytes w16 1
-header_version b = refl
-
-header_bound : (b : ℕ) → bytes_at (header b) 10 2 ≡ to_be_bytes w16 b
-header_bound b = refl
-
-header_count : (b : ℕ) → bytes_at (header b) 12 4 ≡ to_be_bytes w32 (count_to b)
-header_count b = refl
-
-header_record : (b : ℕ) → bytes_at (header b) 16 4 ≡ to_be_bytes w32 426
-header_record b = refl
-
-header_reserved : (b : ℕ) → bytes_at (header b) 20 12 ≡ replicate 12 0
-header_reserved b = refl
-
-header_length : (b : ℕ) → length (header b) ≡ 32
-header_length b = refl
-
 -- bytes of the first 32 are bytes of the file
 front_bytes : (f : List ℕ) (place n rest : ℕ) → place + (n + rest) ≡ 32 → bytes_at (take 32 f) place n ≡ bytes_at f place n
 front_bytes f place n rest e =

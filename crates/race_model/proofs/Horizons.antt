@@ -12,7 +12,7 @@ use Rattle.race_model.proofs.Histories.{fits_within, count_beyond}
 use Rattle.race_model.proofs.Results.{finished_or_not}
 
 -- each checker counts at least 1
-sum_at_most_pips : (p : ℕ) (x : List ℕ) → sum x ≤ pips_from (suc p) x
+pub sum_at_most_pips : (p : ℕ) (x : List ℕ) → sum x ≤ pips_from (suc p) x
 sum_at_most_pips p [] = omega arith
 sum_at_most_pips p (c ∷ cs) = let rest = sum_at_most_pips (suc p) cs in omega (arith, rest, sum_cons c cs)
 

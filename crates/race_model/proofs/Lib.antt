@@ -34,3 +34,6 @@ pub mod SinglePlays
 pub mod Recorded
 pub mod Enumerated
 pub mod Decisions
+pub mod Compact
+pub mod LeastExists
+pub mod SampleLeast

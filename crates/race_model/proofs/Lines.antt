@@ -27,6 +27,7 @@ both_tests false b e = absurd (cc)
 digit_no_space : (c : ℕ) → is_digit c ≡ true → IsNoSpace c
 digit_no_space c e = let low = leb-true 48 c (both_tests (leb 48 c) (leb c 57) e).0 in ne_eqb c 32 (omega (arith, low))
 
+-- .. nor is a digit from 1 on
 leading_no_space : (c : ℕ) → is_leading_digit c ≡ true → IsNoSpace c
 leading_no_space c e = let low = leb-true 49 c (both_tests (leb 49 c) (leb c 57) e).0 in ne_eqb c 32 (omega (arith, low))
 
@@ -78,15 +79,19 @@ roll_text r v is = ⊎_elim (λ e. of v e) (λ e. of (reversed v) e) is.digits
 one_word : (a : List ℕ) → All IsNoSpace a → words a ≡ a ∷ []
 one_word a h = slice_split_none (λ c. eqb c 32) a h
 
+-- .. of a word and more
 more_words : (a rest : List ℕ) → All IsNoSpace a → words (a ++ 32 ∷ rest) ≡ a ∷ words rest
 more_words a rest h = slice_split_at (λ c. eqb c 32) a 32 rest h refl
 
+-- .. of two words
 two_words : (a p : List ℕ) → All IsNoSpace a → All IsNoSpace p → words (a ++ 32 ∷ p) ≡ a ∷ p ∷ []
 two_words a p h k = more_words a p h ∙ ap (λ ws. a ∷ ws) (one_word p k)
 
+-- .. of three
 three_words : (a p r : List ℕ) → All IsNoSpace a → All IsNoSpace p → All IsNoSpace r → words (a ++ 32 ∷ (p ++ 32 ∷ r)) ≡ a ∷ p ∷ r ∷ []
 three_words a p r h k l = more_words a (p ++ 32 ∷ r) h ∙ ap (λ ws. a ∷ ws) (two_words p r k l)
 
+-- .. of four
 four_words : (a p r q : List ℕ) → All IsNoSpace a → All IsNoSpace p → All IsNoSpace r → All IsNoSpace q → words (a ++ 32 ∷ (p ++ 32 ∷ (r ++ 32 ∷ q))) ≡ a ∷ p ∷ r ∷ q ∷ []
 four_words a p r q h k l m = more_words a (p ++ 32 ∷ (r ++ 32 ∷ q)) h ∙ ap (λ ws. a ∷ ws) (three_words p r q k l m)
 
@@ -99,6 +104,7 @@ abbrev has_no_space : List ℕ → Bool
 has_no_space [] = true
 has_no_space (c ∷ cs) = not (eqb c 32) && has_no_space cs
 
+-- .. and then it has none
 no_space_in : (a : List ℕ) → has_no_space a ≡ true → All IsNoSpace a
 no_space_in [] e = All-nil IsNoSpace
 no_space_in (c ∷ cs) e = let t = both_tests (not (eqb c 32)) (has_no_space cs) e in All-cons IsNoSpace c cs (refused (eqb c 32) t.0) (no_space_in cs t.1)
@@ -111,6 +117,7 @@ no_space_in (c ∷ cs) e = let t = both_tests (not (eqb c 32)) (has_no_space cs)
 three_parts : (a p r : List ℕ) → a ++ p ++ (32 ∷ []) ++ r ≡ a ++ (p ++ 32 ∷ r)
 three_parts a p r = append_assoc (a ++ p) (32 ∷ []) r ∙ append_assoc a p (32 ∷ r)
 
+-- .. and of four
 four_parts : (a p r q : List ℕ) → a ++ p ++ (32 ∷ []) ++ r ++ (32 ∷ []) ++ q ≡ a ++ (p ++ 32 ∷ (r ++ 32 ∷ q))
 four_parts a p r q = append_assoc (a ++ p ++ (32 ∷ []) ++ r) (32 ∷ []) q ∙ append_assoc (a ++ p ++ (32 ∷ [])) r (32 ∷ q) ∙ three_parts a p (r ++ 32 ∷ q)
 
@@ -190,9 +197,11 @@ first_letters (w ∷ ws) = 256 * get_or w 0 0 + get_or w 1 0
 second_word : (a b p q : List ℕ) (ws us : List (List ℕ)) → a ∷ p ∷ ws ≡ b ∷ q ∷ us → p ≡ q
 second_word a b p q ws us e = cc
 
+-- .. also the third
 third_word : (a b p q r s : List ℕ) (ws us : List (List ℕ)) → a ∷ p ∷ r ∷ ws ≡ b ∷ q ∷ s ∷ us → r ≡ s
 third_word a b p q r s ws us e = cc
 
+-- .. and the fourth
 fourth_word : (a b p q r s t u : List ℕ) (ws us : List (List ℕ)) → a ∷ p ∷ r ∷ t ∷ ws ≡ b ∷ q ∷ s ∷ u ∷ us → t ≡ u
 fourth_word a b p q r s t u ws us e = cc
 

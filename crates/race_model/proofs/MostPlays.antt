@@ -46,6 +46,7 @@ record Times (n : ℕ) (d : Die) (x y : Board) : Type 0 where
   uses : Uses x (replicate times d) y
   whole : (times ≡ n) ⊎ IsFinished y
 
+-- so many steps it is
 run_times : (n : ℕ) (d : Die) (x y : Board) → Run x (replicate n d) y → Times n d x y
 run_times zero d x y same = record { times = zero; few = omega arith; uses = same; whole = inl refl }
 run_times (suc n) d x y (inl still) = record { times = zero; few = omega arith; uses = still.1; whole = inr (subst IsFinished (sym still.1) still.0) }
@@ -163,6 +164,7 @@ record BearsLast (x : Board) (d : Die) (y : Board) : Type 0 where
   reach : point ≤ number d
   to : y ≡ fewer x point
 
+-- .. and from where
 bears_last : (x : Board) (d : Die) (y : Board) → IsFinished y → Step x d y → BearsLast x d y
 bears_last x d y none (s, bear_off at occupied to) = record { point = s; last = last_is x s occupied (subst IsFinished to none); reach = le_of_eq at; to = to }
 bears_last x d y none (s, move_down below occupied to) =
@@ -221,6 +223,7 @@ record Shows (v : Throw) (a b : Die) : Type 0 where
   both_reversed : IsOffered v (b ∷ a ∷ [])
   only : (dice : List Die) → IsOffered v dice → IsOneOf a b dice
 
+-- the first die and then the second
 shows_in_order : (v : Throw) → v.first ≢ v.second → Shows v v.first v.second
 shows_in_order v apart = record { apart = apart; alone = first_alone apart refl; other_alone = second_alone apart refl; both = both_in_order apart refl; both_reversed = both_in_reverse apart refl; only = only }
   where
@@ -232,6 +235,7 @@ shows_in_order v apart = record { apart = apart; alone = first_alone apart refl;
     only dice (both_in_reverse _ e) = inr (inr (inr (inr e)))
     only dice (of_double n le same e) = absurd (apart same)
 
+-- .. and the other way round
 shows_in_reverse : (v : Throw) → v.first ≢ v.second → Shows v v.second v.first
 shows_in_reverse v apart = record { apart = λ e. apart (sym e); alone = second_alone apart refl; other_alone = first_alone apart refl; both = both_in_reverse apart refl; both_reversed = both_in_order apart refl; only = only }
   where

@@ -15,6 +15,7 @@ given false a n e = absurd (cc)
 is_code : (c : ℕ) → is_digit c ≡ true → (48 ≤ c) × (c ≤ 57)
 is_code c e = let t = both_tests (leb 48 c) (leb c 57) e in (leb-true 48 c t.0, leb-true c 57 t.1)
 
+-- .. and of digits from 1 on
 is_leading_code : (c : ℕ) → is_leading_digit c ≡ true → (49 ≤ c) × (c ≤ 57)
 is_leading_code c e = let t = both_tests (leb 49 c) (leb c 57) e in (leb-true 49 c t.0, leb-true c 57 t.1)
 
@@ -24,6 +25,7 @@ data IsCountText (n : ℕ) : List ℕ → Type 0 where
   two_digits : (a b : ℕ) → 49 ≤ a → a ≤ 57 → 48 ≤ b → b ≤ 57 → n + 528 ≡ 10 * a + b → IsCountText n (a ∷ b ∷ [])
   three_digits : (a b c : ℕ) → 49 ≤ a → a ≤ 57 → 48 ≤ b → b ≤ 57 → 48 ≤ c → c ≤ 57 → n + 5328 ≡ 100 * a + 10 * b + c → IsCountText n (a ∷ b ∷ c ∷ [])
 
+-- a text that states a count is one of these
 read_count : (w : List ℕ) (n : ℕ) → count_value w ≡ Some n → IsCountText n w
 read_count [] n e = absurd (cc)
 read_count (a ∷ []) n e =

@@ -47,6 +47,7 @@ no_share_beyond limit f right x k at low beyond le =
 
 -- a position of at most the bound: its results are so too
 module _ (limit : ℕ) (f : List ℕ) (small : limit ≤ 58) (right : IsRight limit f) (x : Board) (at : IsPosition x) (low : pips x ≤ bound_of f) where
+  -- what is recorded of a result is right
   result_right : (v : Throw) (y : Board) → Legal x v y → IsRightAt f y
   result_right v y leads = right.at_each y (legal_position x v y at leads) (le_trans (legal_pips x v y leads) low)
 
@@ -81,6 +82,7 @@ module _ (limit : ℕ) (f : List ℕ) (small : limit ≤ 58) (right : IsRight li
 
   -- from an unfinished position
   module _ (unfinished : ¬ IsFinished x) where
+    -- after a throw the game is over within 21 rolls
     ends : (v : Throw) (y : Board) → Legal x v y → EndsIn 21 y
     ends = short limit f small right.file x at low unfinished
 

@@ -35,6 +35,7 @@ same_digits x y hx hy (suc n) e i le = ⊎_elim
 two_bytes : (ys : List ℕ) → from_be_bytes w16 ys ≡ horner (λ i. get_or ys i 0) 1
 two_bytes ys = omega arith
 
+-- .. and sixteen
 sixteen_bytes : (ys : List ℕ) → from_be_bytes w128 ys ≡ horner (λ i. get_or ys i 0) 15
 sixteen_bytes ys = omega arith
 
@@ -42,6 +43,7 @@ sixteen_bytes ys = omega arith
 same_two : (xs ys : List ℕ) → ((i : ℕ) → get_or xs i 0 < 256) → ((i : ℕ) → get_or ys i 0 < 256) → from_be_bytes w16 xs ≡ from_be_bytes w16 ys → (i : ℕ) → i < 2 → get_or xs i 0 ≡ get_or ys i 0
 same_two xs ys small_a small_b e i inside = same_digits (λ k. get_or xs k 0) (λ k. get_or ys k 0) small_a small_b 1 (sym (two_bytes xs) ∙ e ∙ two_bytes ys) i (omega arith)
 
+-- .. of sixteen bytes
 same_sixteen : (xs ys : List ℕ) → ((i : ℕ) → get_or xs i 0 < 256) → ((i : ℕ) → get_or ys i 0 < 256) → from_be_bytes w128 xs ≡ from_be_bytes w128 ys → (i : ℕ) → i < 16 → get_or xs i 0 ≡ get_or ys i 0
 same_sixteen xs ys small_a small_b e i inside = same_digits (λ k. get_or xs k 0) (λ k. get_or ys k 0) small_a small_b 15 (sym (sixteen_bytes xs) ∙ e ∙ sixteen_bytes ys) i (omega arith)
 
@@ -51,18 +53,22 @@ part_byte l place n i inside = get_or-take n (drop place l) i 0 inside ∙ get_o
 
 -- records whose bytes are under 256 and whose numbers are the same
 module _ (a b : List ℕ) (small_a : (i : ℕ) → get_or a i 0 < 256) (small_b : (i : ℕ) → get_or b i 0 < 256) (means : mean_of a ≡ mean_of b) (plays : (roll : ℕ) → roll < 21 → play_of a roll ≡ play_of b roll) (shares : (k : ℕ) → k ≤ 22 → share_of a k ≡ share_of b k) where
+  -- the bytes of the mean
   mean_bytes : (i : ℕ) → i < 16 → get_or a i 0 ≡ get_or b i 0
   unfolding mean_of
   mean_bytes i inside = sym (get_or-take 16 a i 0 inside) ∙ same_sixteen (bytes_at a 0 16) (bytes_at b 0 16) (small_bytes a 0 16 small_a) (small_bytes b 0 16 small_b) means i inside ∙ get_or-take 16 b i 0 inside
 
+  -- .. of the plays
   play_bytes : (roll i : ℕ) → roll < 21 → i < 2 → get_or a (16 + 2 * roll + i) 0 ≡ get_or b (16 + 2 * roll + i) 0
   unfolding play_of
   play_bytes roll i inside two = sym (part_byte a (16 + 2 * roll) 2 i two) ∙ same_two (bytes_at a (16 + 2 * roll) 2) (bytes_at b (16 + 2 * roll) 2) (small_bytes a (16 + 2 * roll) 2 small_a) (small_bytes b (16 + 2 * roll) 2 small_b) (plays roll inside) i two ∙ part_byte b (16 + 2 * roll) 2 i two
 
+  -- .. of the shares
   share_bytes : (k i : ℕ) → k ≤ 22 → i < 16 → get_or a (58 + 16 * k + i) 0 ≡ get_or b (58 + 16 * k + i) 0
   unfolding share_of
   share_bytes k i inside sixteen = sym (part_byte a (58 + 16 * k) 16 i sixteen) ∙ same_sixteen (bytes_at a (58 + 16 * k) 16) (bytes_at b (58 + 16 * k) 16) (small_bytes a (58 + 16 * k) 16 small_a) (small_bytes b (58 + 16 * k) 16 small_b) (shares k inside) i sixteen ∙ part_byte b (58 + 16 * k) 16 i sixteen
 
+  -- .. so all bytes of the record
   record_bytes : (o : ℕ) → o < 426 → get_or a o 0 ≡ get_or b o 0
   record_bytes o inside = ⊎_elim
       (λ mean. mean_bytes o mean)
@@ -95,6 +101,7 @@ module _ (a b : List ℕ) (small_a : (i : ℕ) → get_or a i 0 < 256) (small_b 
 
 -- files to a limit whose bytes are under 256 and that hold the same numbers
 module _ (limit : ℕ) (f g : List ℕ) (small_f : (i : ℕ) → get_or f i 0 < 256) (small_g : (i : ℕ) → get_or g i 0 < 256) (file_f : IsFileTo limit f) (file_g : IsFileTo limit g) (same : HasSameNumbers f g) where
+  -- the bytes of each record
   same_record : (r : ℕ) → r < count_to (bound_of f) → (o : ℕ) → o < 426 → get_or (record_at f r) o 0 ≡ get_or (record_at g r) o 0
   unfolding mean_at play_at spread_at
   same_record r under = record_bytes (record_at f r) (record_at g r) (small_bytes f (record_place r) 426 small_f) (small_bytes g (record_place r) 426 small_g)

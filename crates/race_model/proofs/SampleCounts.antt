@@ -34,14 +34,17 @@ one_more k t = let e : 36 ^ suc k * t ≡ 36 ^ k * 36 * t = ap (λ a. a * t) (po
 
 -- a strategy of at most two turns
 module _ (s : Strategy) (within : IsWithin 2 s) where
+  -- it has at most as many turns as there are throws
   still_within : (k : ℕ) → IsWithin (after_two k) s
   still_within zero = within
   still_within (suc k) = within_more (after_two k) s (still_within k)
 
+  -- its total over more throws
   total_after : (k : ℕ) → total_over (after_two k) s ≡ 36 ^ k * total_over 2 s
   total_after zero = omega arith
   total_after (suc k) = total_scale (after_two k) s (still_within k) ∙ ap (λ t. 36 * t) (total_after k) ∙ one_more k (total_over 2 s)
 
+  -- .. and its counts
   count_after : (k n : ℕ) → count_over (after_two k) s n ≡ 36 ^ k * count_over 2 s n
   count_after zero n = omega arith
   count_after (suc k) n = count_scale (after_two k) s n (still_within k) ∙ ap (λ t. 36 * t) (count_after k n) ∙ one_more k (count_over 2 s n)
@@ -65,6 +68,7 @@ pub sample_share_of_one : 4 * count_of from_six_point 1 ≡ 3 * whole
 unfolding count_of whole
 sample_share_of_one = omega (arith, count_after from_six_point sample_within 20 1, sample_one)
 
+-- .. and that of two rolls is 1/4
 pub sample_share_of_two : 4 * count_of from_six_point 2 ≡ whole
 unfolding count_of whole
 sample_share_of_two = omega (arith, count_after from_six_point sample_within 20 2, sample_two)

@@ -11,7 +11,7 @@ use Rattle.race_model.proofs.MostPlays.{zeros_at, empty_at}
 use Rattle.race_model.proofs.Horizons.{numbers_apart}
 
 -- one checker on a point, and none where there is no such point
-abbrev single : ℕ → Board
+abbrev pub single : ℕ → Board
 single p = more finished p
 
 -- the other points are empty
@@ -44,7 +44,7 @@ highest p positive le = record { occupied = occupied p positive le; above = λ q
     apart q over e = omega arith
 
 -- it is there
-unfinished : (p : ℕ) → 0 < p → p ≤ 6 → ¬ IsFinished (single p)
+pub unfinished : (p : ℕ) → 0 < p → p ≤ 6 → ¬ IsFinished (single p)
 unfinished p positive le none = let here = occupied p positive le in let empty = empty_at (single p) p none in absurd (omega (arith, here, empty))
 
 -- a die takes it down, or off
@@ -67,7 +67,7 @@ step_single d p positive le = ⊎_elim
     apart q above over e = omega arith
 
 -- the numbers of some dice
-abbrev sum_of_dice : List Die → ℕ
+abbrev pub sum_of_dice : List Die → ℕ
 sum_of_dice [] = 0
 sum_of_dice (d ∷ dice) = number d + sum_of_dice dice
 

@@ -22,3 +22,4 @@ pub mod Levels
 pub mod SameNumbers
 pub mod Samples
 pub mod Enumerations
+pub mod CompactShares

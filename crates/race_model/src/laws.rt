@@ -10,7 +10,7 @@ pub use plays::{law_enumerated, law_most_dice, law_playable, law_results, law_re
 pub use ranks::{law_at_rank, law_counts, law_rank};
 pub use replies::{law_lines, law_replies};
 pub use right_files::{law_agree, law_recorded, law_right, law_spread};
-pub use strategies::{law_horizon, law_sample, law_scale, law_turn};
+pub use strategies::{law_horizon, law_least, law_sample, law_scale, law_turn};
 
 pub mod bounds;
 pub mod dice;

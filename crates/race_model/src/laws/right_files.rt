@@ -9,6 +9,7 @@ ghost use Rattle.race_model.specs.Strategies.{Strategy, Fits, total, count_of};
 ghost use Rattle.race_model.specs.RightFiles.{IsRight, IsRightAt};
 ghost use Rattle.race_model.specs.BuiltFile.{IsBuilt};
 ghost use Rattle.race_model.specs.SameNumbers.{HasSameNumbers};
+ghost use Rattle.race_model.specs.CompactShares.{told_share};
 ghost use Rattle.race_model.specs.Horizon.{most_rolls};
 
 /// The local equations, which test each record against records of lower rank alone, hold of a list of bytes
@@ -45,10 +46,11 @@ pub fn law_agree()
 
 /// The shares of a position. Those of a strategy from at most 58 pips add up to the whole, and each times its
 /// number of rolls to the total; so do those that a right file records, and it records no share beyond the most
-/// rolls of a pip count: a record that leaves these out loses none.
+/// rolls of a pip count: a record that leaves these out loses none, and tells them all.
 pub fn law_spread()
     ensures strategy { (x : Board) (s : Strategy) → IsPosition x → pips x ≤ 58 → Fits s x → sum_by (count_of s) (range_with_len 0 23) ≡ whole }
     ensures mean { (x : Board) (s : Strategy) → IsPosition x → pips x ≤ 58 → Fits s x → sum_by (λ k. count_of s k * k) (range_with_len 0 23) ≡ total s }
     ensures recorded { (limit : ℕ) (f : List ℕ) → limit ≤ 58 → IsRight limit f → (x : Board) → IsPosition x → pips x ≤ bound_of f → sum_by (spread f x) (range_with_len 0 23) ≡ whole }
     ensures beyond { (limit : ℕ) (f : List ℕ) → IsRight limit f → (x : Board) (k : ℕ) → IsPosition x → pips x ≤ bound_of f → most_rolls (pips x) < k → k ≤ 22 → spread f x k ≡ 0 }
+    ensures told { (f : List ℕ) (x : Board) (k : ℕ) → IsPosition x → IsRightAt f x → k ≤ 22 → spread f x k ≡ told_share (pips x) (spread f x) k }
 {}

@@ -4,7 +4,7 @@ ghost use Rattle.race_model.specs.Dice.{Throw, throws};
 ghost use Rattle.race_model.specs.Horizon.{most_rolls};
 ghost use Rattle.race_model.specs.LocalEquations.{whole};
 ghost use Rattle.race_model.specs.Samples.{from_six_point};
-ghost use Rattle.race_model.specs.Strategies.{Strategy, turn, Fits, total_over, count_over, total, count_of, IsWithin, EndsIn};
+ghost use Rattle.race_model.specs.Strategies.{Strategy, turn, Fits, total_over, count_over, total, count_of, IsLeast, IsWithin, EndsIn};
 
 /// What a turn adds, for every m. Its rolls over all sequences of m + 1 throws are one for each of these
 /// 36 ^ (m + 1) sequences and those of its branches over all sequences of m throws; and it needs k + 1 rolls
@@ -34,15 +34,22 @@ pub fn law_horizon()
     ensures limit { (p : ℕ) → p ≤ 58 → most_rolls p ≤ 22 }
 {}
 
+/// Each position of at most 58 pips has a least total, whether or not a file records it, and it has one.
+pub fn law_least()
+    ensures some { (x : Board) → IsPosition x → pips x ≤ 58 → (t : ℕ) × IsLeast x t }
+    ensures one { (x : Board) (t u : ℕ) → IsLeast x t → IsLeast x u → t ≡ u }
+{}
+
 /// One checker on point 6, counted by hand: 9 of the 36 throws don't bear it off. Over all sequences of two throws
 /// it needs 1,620 rolls in 1,296 sequences; in 972 of them one roll is enough, and in 324 two are needed. So over
-/// all sequences of 22 throws its mean is 5/4, one roll has the share 3/4 and two have 1/4.
+/// all sequences of 22 throws its mean is 5/4, one roll has the share 3/4 and two have 1/4. No strategy has less.
 pub fn law_sample()
     ensures fits { Fits from_six_point (more finished 6) }
     ensures total { total_over 2 from_six_point ≡ 1620 }
     ensures one { count_over 2 from_six_point 1 ≡ 972 }
     ensures two { count_over 2 from_six_point 2 ≡ 324 }
     ensures mean { 4 * total from_six_point ≡ 5 * whole }
+    ensures least { IsLeast (more finished 6) (total from_six_point) }
     ensures share_of_one { 4 * count_of from_six_point 1 ≡ 3 * whole }
     ensures share_of_two { 4 * count_of from_six_point 2 ≡ whole }
 {}

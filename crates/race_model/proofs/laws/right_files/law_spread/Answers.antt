@@ -2,6 +2,7 @@
 use Rattle.race_model.proofs.Horizons.{within_22}
 use Rattle.race_model.proofs.Spreads.{counts_add_up, counts_weigh}
 use Rattle.race_model.proofs.RightFacts.{shares_add_up, no_share_beyond}
+use Rattle.race_model.proofs.Compact.{told}
 use Rattle.race_model.proofs.laws.right_files.law_spread.Goals as goal
 
 pub returns : goal.returns
@@ -10,4 +11,5 @@ returns c = record {
   mean = λ x s at low fits. counts_weigh s (within_22 x s at low fits);
   recorded = shares_add_up;
   beyond = no_share_beyond;
+  told = told;
 }

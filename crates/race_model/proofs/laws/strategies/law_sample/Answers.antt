@@ -1,5 +1,6 @@
 -- Two throws by computation, and the others by scale.
 use Rattle.race_model.proofs.SampleCounts.{sample_total, sample_one, sample_two, sample_mean, sample_share_of_one, sample_share_of_two}
+use Rattle.race_model.proofs.SampleLeast.{sample_least}
 use Rattle.race_model.proofs.SinglePlays.{sample_fits}
 use Rattle.race_model.proofs.laws.strategies.law_sample.Goals as goal
 
@@ -10,6 +11,7 @@ returns c = record {
   one = sample_one;
   two = sample_two;
   mean = sample_mean;
+  least = sample_least;
   share_of_one = sample_share_of_one;
   share_of_two = sample_share_of_two;
 }
