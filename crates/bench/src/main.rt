@@ -1,43 +1,68 @@
-//! The speed of `results`: a program that runs it over all positions of at most a number of pips (the first
-//! word, else 44) and all 21 rolls, and prints how many results there are. It rests on `legal_plays`; nothing
-//! stands on it.
+//! The speed of ranks and of results: a program that turns each rank into its position and back, and then takes
+//! the results of all 21 rolls from every position of at most a number of pips (the first word, else 44), and
+//! the rank of each. It prints how many ranks came back, how many results there are, and how many of these have
+//! a lower rank than the position: all but those of the finished position. It rests on `legal_plays` and
+//! `ranking`; nothing stands on it.
 #![tactic(auto)]
 
-use home_board::{MAX_BOUND, Position};
+use home_board::MAX_BOUND;
 use legal_plays::{Roll, results};
+use ranking::Ranks;
 use std::{env, io};
+
+/// How many results there are, and how many of them have a lower rank than the position.
+#[derive(Drop)]
+struct Tally {
+    results: usize,
+    lower: usize,
+}
 
 fn main(rt: HostRuntime) -> io::Result<()> {
     let mut bound = MAX_BOUND;
     for word in env::args(&rt)?.skip(1) {
         bound = word.as_str().parse().unwrap_or(bound);
     }
-    let count = count_results([0; 6], 6, bound);
-    println!(rt; "pips {bound} results {count}")?;
+    let ranks = Ranks::new();
+    let returned = count_returned(&ranks);
+    println!(rt; "ranks returned {returned}")?;
+    let tally = tally_results(&ranks, bound);
+    println!(rt;
+        "pips {bound} results {} lower {}",
+        tally.results, tally.lower
+    )?;
     Ok(())
 }
 
-/// How many results the rolls have, over the positions that put checkers with at most these pips on the
-/// points up to `point`, beside the ones in `counts`.
-fn count_results(counts: [u8; 6], point: u8, pips: u8) -> u64 {
-    if point == 0 || point > 6 {
-        return Position::new(counts).map_or(0, |position| count_results_of(&position));
-    }
-    let mut total = 0u64;
-    let mut counts = counts;
-    for count in 0..=pips / point {
-        counts[usize::from(point) - 1] = count;
-        total = total.saturating_add(count_results(counts, point - 1, pips - count * point));
-    }
-    total
+/// How many numbers are the rank of the position that they lead to.
+fn count_returned(ranks: &Ranks) -> usize {
+    (0..u16::MAX)
+        .filter(|index| {
+            ranks
+                .unrank(*index)
+                .is_some_and(|position| ranks.rank(&position) == *index)
+        })
+        .count()
 }
 
-fn count_results_of(position: &Position) -> u64 {
-    let mut total = 0u64;
-    for index in 0..21 {
-        if let Some(roll) = Roll::from_index(index) {
-            total = total.saturating_add(results(position, roll).len() as u64);
+/// The results of all rolls from the positions of at most so many pips.
+fn tally_results(ranks: &Ranks, pips: u8) -> Tally {
+    let mut tally = Tally {
+        results: 0,
+        lower: 0,
+    };
+    for index in 0..ranks.count_to(pips) {
+        if let Some(position) = ranks.unrank(index) {
+            for roll in (0..21).filter_map(Roll::from_index) {
+                let found = results(&position, roll);
+                let lower = found
+                    .as_slice()
+                    .iter()
+                    .filter(|reached| ranks.rank(reached) < index)
+                    .count();
+                tally.results = tally.results.saturating_add(found.len());
+                tally.lower = tally.lower.saturating_add(lower);
+            }
         }
     }
-    total
+    tally
 }

@@ -106,3 +106,44 @@ pub fn write_position(position: &Position) -> ArrayString<12>
     }
     text
 }
+
+#[cfg(test)]
+mod tests {
+    use super::*;
+    use std::test::Fail;
+
+    #[test]
+    fn refused_texts(rt: HostRuntime) {
+        let rows: [(&[u8], PositionFault); 10] = [
+            (b"0,0,0,0,0,16", PositionFault::TooMany),
+            (b"999,0,0,0,0,0", PositionFault::TooMany),
+            (b"0,0,0,0,0,1000", PositionFault::BadText),
+            (b"01,0,0,0,0,0", PositionFault::BadText),
+            (b"0,0,0,0,0,", PositionFault::BadText),
+            (b"0,0,0,0,0", PositionFault::BadText),
+            (b"0,0,0,0,0,0,0", PositionFault::BadText),
+            (b"0, 0,0,0,0,0", PositionFault::BadText),
+            (b"-1,0,0,0,0,0", PositionFault::BadText),
+            (b"", PositionFault::BadText),
+        ];
+        for (text, fault) in rows {
+            assert_eq!(rt; parse_position(text), Err(fault));
+        }
+    }
+
+    #[test]
+    fn round_trips(rt: HostRuntime) -> Result<(), Fail> {
+        for (text, counts) in [
+            ("0,0,0,0,0,0", [0, 0, 0, 0, 0, 0]),
+            ("0,0,0,2,0,0", [0, 0, 0, 2, 0, 0]),
+            ("1,2,3,4,5,0", [1, 2, 3, 4, 5, 0]),
+            ("15,0,0,0,0,0", [15, 0, 0, 0, 0, 0]),
+            ("0,0,0,0,0,15", [0, 0, 0, 0, 0, 15]),
+        ] {
+            let position = Position::new(counts)?;
+            assert_eq!(rt; parse_position(text.as_bytes())?, position);
+            assert_eq!(rt; write_position(&position).as_str(), text);
+        }
+        Ok(())
+    }
+}

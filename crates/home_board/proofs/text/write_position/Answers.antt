@@ -16,14 +16,14 @@ push_str-requires c =
 before : (c : goal.After-format) → c.if-written-gt0.text.bytes ≡ before_next c.args.position.now c.loop-written.written
 before c =
     elim c.if-written-gt0.branch [
-      then-written-gt0 w ↦
-        ap (λ t. t.bytes) w.text-is
-        ∙ (w.push_str.ensures.bytes
-        ∙ (ap (λ bytes. bytes ++ 44 ∷ []) c.loop-written.invariant.text
-        ∙ sym (before_next-some c.args.position.now c.loop-written.written w.if-written-gt0.true)))
+      | then-written-gt0 w ↦
+          ap (λ t. t.bytes) w.text-is
+          ∙ (w.push_str.ensures.bytes
+          ∙ (ap (λ bytes. bytes ++ 44 ∷ []) c.loop-written.invariant.text
+          ∙ sym (before_next-some c.args.position.now c.loop-written.written w.if-written-gt0.true)))
       | else-written-gt0 w ↦
-        ap (λ t. t.bytes) w.text-is
-        ∙ (c.loop-written.invariant.text ∙ before_next-none c.args.position.now c.loop-written.written w.if-written-gt0.false)
+          ap (λ t. t.bytes) w.text-is
+          ∙ (c.loop-written.invariant.text ∙ before_next-none c.args.position.now c.loop-written.written w.if-written-gt0.false)
     ]
 
 -- the text of the count

@@ -7,5 +7,5 @@ use Rattle.home_board.proofs.text.write_position.Given as goal
 abbrev pub invariant-loop-written : goal.invariant-loop-written
 invariant-loop-written l = record {
   text : l.text.bytes ≡ joined (take l.written l.position);
-  position : 0 < l.written → IsPosition l.position
+  position : 0 < l.written → IsPosition l.position;
 }
