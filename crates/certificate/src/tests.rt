@@ -1,4 +1,6 @@
 //! Files with known bytes, and what the checker says of them.
+ghost use Rattle.std.specs.Prelude.{◌<◌};
+
 use super::*;
 use db_layout::HeaderFault;
 use home_board::Position;
