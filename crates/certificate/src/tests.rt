@@ -1,9 +1,10 @@
 //! Files with known bytes, and what the checker says of them.
-ghost use Rattle.std.specs.Prelude.{◌<◌};
+ghost use Rattle.std.specs.Prelude.{◌≡◌, length};
 
 use super::*;
 use db_layout::HeaderFault;
 use home_board::Position;
+use std::test::Fail;
 
 /// 36 ^ 22 in 16 bytes.
 const WHOLE_BYTES: [u8; 16] = [
@@ -11,7 +12,9 @@ const WHOLE_BYTES: [u8; 16] = [
 ];
 
 /// The file of bound 1: the finished position, and one checker on the ace point, whose mean is one roll.
-fn bound_one() -> [u8; 884] {
+fn bound_one() -> [u8; 884]
+    ensures { length result ≡ 884 }
+{
     let mut file = [0; 884];
     file[..12].copy_from_slice(b"EPCTABLE\x00\x01\x00\x01");
     file[12..20].copy_from_slice(b"\x00\x00\x00\x02\x00\x00\x01\xaa");
@@ -22,11 +25,9 @@ fn bound_one() -> [u8; 884] {
 }
 
 /// The fault of the file of bound 1 with one byte changed.
-fn fault_with(place: usize, byte: u8) -> Option<CheckFault>
-    requires { place < 884 }
-{
+fn fault_with(place: usize, byte: u8) -> Option<CheckFault> {
     let mut file = bound_one();
-    file[place] = byte;
+    file[place.min(883)] = byte;
     fault_of(&file)
 }
 
@@ -37,22 +38,23 @@ fn fault_of(file: &[u8]) -> Option<CheckFault> {
     }
 }
 
+/// The fault of the file of bound 1 cut down to a number of bytes.
+fn fault_of_front(count: usize) -> Option<CheckFault> {
+    let file = bound_one();
+    fault_of(&file[..count.min(884)])
+}
+
 #[test]
 fn damaged_files(rt: HostRuntime) {
-    let file = bound_one();
-    assert_eq!(rt; fault_of(&file), None);
-    assert_eq!(rt;
-        fault_of(&file[..883]),
-        Some(CheckFault::Header(HeaderFault::BadLength))
-    );
-    assert_eq!(rt;
-        fault_of(&file[..31]),
-        Some(CheckFault::Header(HeaderFault::TooShort))
-    );
-    assert_eq!(rt;
-        fault_of(&[]),
-        Some(CheckFault::Header(HeaderFault::TooShort))
-    );
+    for (count, fault) in [
+        (884, None),
+        (883, Some(CheckFault::Header(HeaderFault::BadLength))),
+        (32, Some(CheckFault::Header(HeaderFault::BadLength))),
+        (31, Some(CheckFault::Header(HeaderFault::TooShort))),
+        (0, Some(CheckFault::Header(HeaderFault::TooShort))),
+    ] {
+        assert_eq!(rt; fault_of_front(count), fault, "{count} bytes");
+    }
     for (place, byte, fault) in [
         (0, 0, CheckFault::Header(HeaderFault::BadMagic)),
         (9, 2, CheckFault::Header(HeaderFault::BadVersion)),
@@ -70,12 +72,17 @@ fn damaged_files(rt: HostRuntime) {
     ] {
         assert_eq!(rt; fault_with(place, byte), Some(fault), "byte {place}");
     }
-    let mut filled = file;
-    filled[458..].fill(0xff);
-    assert_eq!(rt;
-        fault_of(&filled),
-        Some(CheckFault::Play { rank: 1, roll: 0 })
-    );
+}
+
+#[test]
+fn a_record_of_ones(rt: HostRuntime) -> Result<(), Fail> {
+    let file = bound_one();
+    let mut filled = Vec::from_slice(rt.alloc(), &file)?;
+    filled.truncate(458);
+    filled.extend_from_slice(&[0xff; 426])?;
+    let fault = fault_of(&filled);
+    assert_eq!(rt; fault, Some(CheckFault::Play { rank: 1, roll: 0 }));
+    Ok(())
 }
 
 #[test]
