@@ -3,9 +3,9 @@ use Rattle.std.proofs.Common.{◌≡◌, ℕ, zero, suc, ◌+◌, ◌-◌, ◌*�
 use Rattle.std.proofs.lemmas.Grind.{flat_map-append}
 use Rattle.std.proofs.lemmas.List.{length-append, append-nil, take_more}
 use Rattle.std.proofs.Math.Nat.{div-add-mod, div-div-eq-div-mul, pow-succ'}
-use Rattle.std.proofs.Math.Seq.{take-append_seam, drop-append_seam, drop-append-add}
-use Rattle.std.specs.Prelude.{slice_index, flat_map}
-use Rattle.std.specs.Int.{w16, w128, byte_at, byte_worth, bytes_high_first, sum_through, to_be_bytes, from_be_bytes}
+use Rattle.std.proofs.Math.Seq.{take-append_seam, drop-append-add}
+use Rattle.std.specs.Prelude.{flat_map}
+use Rattle.std.specs.Int.{w16, w128, byte_worth, bytes_high_first, sum_through, to_be_bytes, from_be_bytes}
 use Rattle.std.proofs.lemmas.Nat.{from_be_bytes-to_be_bytes_2}
 use Rattle.race_model.specs.Files.{mean_of, play_of, share_of}
 use Rattle.race_model.specs.LocalEquations.{whole}

@@ -5,7 +5,7 @@
 pub use header::{Header, HeaderFault, parse_header};
 pub use record::{HEADER_BYTES, RECORD_BYTES, RecordView};
 pub use write_fault::WriteFault;
-pub use writing::{write_bytes, write_header, write_record};
+pub use writing::{law_record, write_bytes, write_header, write_record};
 
 pub mod header;
 pub mod record;

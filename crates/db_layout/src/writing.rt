@@ -35,7 +35,16 @@ pub fn write_record<W: Write>(
     ensures part { OnErr result (AppendsPart (W.contents writer.old) (W.contents writer.new) (record_of mean plays.now spread.now)) }
     ensures reads { IsRecordOf (record_of mean plays.now spread.now) mean plays.now spread.now }
 {
+    law_record(mean, plays, spread);
     write_bytes(record_bytes(mean, plays, spread).as_slice(), writer)
+}
+
+/// The bytes of a record, read again, give the mean, the ranks and the shares that were written.
+pub fn law_record(mean: Scaled, plays: &[u16; 21], spread: &Spread)
+    ensures { IsRecordOf (record_of mean plays.now spread.now) mean plays.now spread.now }
+{
+    let _mean = mean.numerator();
+    let _none = spread.at(0);
 }
 
 /// Writes all of these bytes, however many a `write` takes. Refused only where a `write` fails or takes no byte;
@@ -70,8 +79,7 @@ fn header_bytes(header: &Header) -> ArrayVec<u8, HEADER_BYTES>
 
 /// The 426 bytes of a record.
 fn record_bytes(mean: Scaled, plays: &[u16; 21], spread: &Spread) -> ArrayVec<u8, RECORD_BYTES>
-    ensures items { result.items ≡ record_of mean plays.now spread.now }
-    ensures reads { IsRecordOf (record_of mean plays.now spread.now) mean plays.now spread.now }
+    ensures { result.items ≡ record_of mean plays.now spread.now }
 {
     let mut bytes = ArrayVec::new();
     add_bytes(&mut bytes, &mean.numerator().to_be_bytes());

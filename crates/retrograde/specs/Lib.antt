@@ -1,1 +1,3 @@
 pub mod BestPlays
+pub mod BuiltBytes
+pub mod BuiltRecords

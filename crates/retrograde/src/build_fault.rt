@@ -1,3 +1,7 @@
+ghost use Rattle.std.specs.Prelude.{◌≡◌};
+ghost use Rattle.retrograde.specs.declared.build_fault.BuildFault.TheVariants.{Write};
+
+use db_layout::WriteFault;
 use thiserror::Error;
 
 /// Why a build is refused.
@@ -14,4 +18,12 @@ pub enum BuildFault {
     /// A `write` failed, or took no byte.
     #[error("the write failed")]
     Write,
+}
+
+impl From<WriteFault> for BuildFault {
+    ghost from_gives = { λ _ fault. fault ≡ Write };
+
+    fn from(_fault: WriteFault) -> Self {
+        BuildFault::Write
+    }
 }

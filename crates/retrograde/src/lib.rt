@@ -6,9 +6,13 @@
 #![tactic(auto)]
 
 pub use build_fault::BuildFault;
+pub use building::build;
 pub use means::Means;
 pub use plays::best_play;
 
 pub mod build_fault;
+pub mod building;
 pub mod means;
 pub mod plays;
+mod pulling;
+mod records;

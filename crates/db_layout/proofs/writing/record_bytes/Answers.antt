@@ -1,9 +1,9 @@
-use Rattle.std.proofs.Common.{◌≡◌, ℕ, ◌+◌, ◌<◌, ◌++◌, [], length, get_or, take, sym, ap, ◌∙◌, arith, append_assoc, sum}
+use Rattle.std.proofs.Common.{◌≡◌, ◌++◌, length, get_or, take, sym, ap, ◌∙◌, arith, append_assoc, sum}
 use Rattle.std.proofs.lemmas.List.{append-nil, take_all}
 use Rattle.std.specs.Prelude.{flat_map}
 use Rattle.race_model.specs.LocalEquations.{whole}
-use Rattle.db_layout.specs.Records.{short_bytes, wide_bytes, record_of}
-use Rattle.db_layout.proofs.Bytes.{part-more, record-reads, record-is, short-is, wide-is, short-length, wide-length, shares-fit, mean-fits}
+use Rattle.db_layout.specs.Records.{short_bytes, wide_bytes}
+use Rattle.db_layout.proofs.Bytes.{part-more, record-is, short-is, wide-is, short-length, wide-length}
 use Rattle.db_layout.proofs.writing.record_bytes.Goals as goal
 
 pub loop-play-init : goal.loop-play-init
@@ -39,11 +39,7 @@ loop-k-preserved c =
 told : (c : goal.After-loop-k) → (length c.args.spread.now ≡ 23) × (sum c.args.spread.now ≡ whole)
 told c = c.loop-k.invariant.told (omega arith)
 
-pub returns-clause-items : goal.returns-clause-items
-returns-clause-items c =
+pub returns : goal.returns
+returns c =
     let all : take c.loop-k.k c.args.spread.now ≡ c.args.spread.now = take_all c.loop-k.k c.args.spread.now (omega (arith, (told c).0)) in
     c.loop-k.invariant.items ∙ (rw all (record-is c.args.mean c.args.plays.now c.args.spread.now))
-
-pub returns-clause-reads : goal.returns-clause-reads
-returns-clause-reads c =
-    record-reads c.args.mean c.args.plays.now c.args.spread.now (mean-fits c.args.mean (rw (← c.numerator.ensures.value) c.numerator.ensures.range)) c.told-plays c.fits-plays (told c).0 (shares-fit c.args.spread.now (told c).1)

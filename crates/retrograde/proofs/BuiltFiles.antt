@@ -1,0 +1,156 @@
+-- The file of the records that were made is the built file.
+use Rattle.std.proofs.Common.{◌≡◌, ℕ, zero, suc, ◌+◌, ◌*◌, ◌<◌, ◌≤◌, List, [], length, take, sym, ap, subst, ◌∙◌, arith, le_trans}
+use Rattle.std.specs.Prelude.{slice_index, slice_index_or}
+use Rattle.race_model.specs.Positions.{Board, IsPosition, pips}
+use Rattle.race_model.specs.Dice.{Throw, IsRoll, all_rolls, roll_at, roll_index, weight}
+use Rattle.race_model.specs.Plays.{Legal}
+use Rattle.race_model.specs.Ranks.{rank, at_rank, count_to}
+use Rattle.race_model.specs.Files.{header, bound_of, record_at, IsFileTo, mean_of, play_of, share_of, mean_at, play_at, spread_at, play}
+use Rattle.race_model.specs.LocalEquations.{whole, weighted, IsPlayed, IsBest, HasMean, HasShare, IsLocalAt}
+use Rattle.race_model.specs.BuiltFile.{IsLowest, IsBuilt}
+use Rattle.race_model.proofs.Results.{legal_position, legal_pips}
+use Rattle.race_model.proofs.RankOrder.{rank-bound, rank-found}
+use Rattle.race_model.proofs.Sums.{sum_equal}
+use Rattle.race_model.proofs.Throws.{index_of_roll}
+use Rattle.retrograde.specs.BestPlays.{IsBestPlay}
+use Rattle.retrograde.specs.BuiltRecords.{shares_of, sum_of_means, sum_of_shares, IsMade, AreMade}
+use Rattle.retrograde.specs.BuiltBytes.{bytes_of, built_file}
+use Rattle.retrograde.proofs.Files.{file-front, file-length, file-record, file-bound}
+use Rattle.retrograde.proofs.Next.{best-legal}
+use Rattle.retrograde.proofs.Rolls.{index-range}
+
+-- the records of a bound
+module _ (bound : ℕ) (low : bound ≤ 44) (means : List ℕ) (plays spreads : List (List ℕ)) (are : AreMade (count_to bound) means plays spreads) where
+  -- the file that holds them
+  abbrev built : List ℕ
+  built = built_file bound means plays spreads
+
+  -- each record has 426 bytes
+  pub each-length : (r : ℕ) → r < count_to bound → length (bytes_of means plays spreads r) ≡ 426
+  each-length r lt = (are.reads r lt).len
+
+  pub built-record : (r : ℕ) → r < count_to bound → record_at built r ≡ bytes_of means plays spreads r
+  unfolding built_file
+  built-record r lt = file-record bound (bytes_of means plays spreads) (count_to bound) each-length r lt
+
+  -- what one reads in the file
+  mean-read : (r : ℕ) → r < count_to bound → mean_at built r ≡ slice_index means r
+  unfolding mean_at
+  mean-read r lt = ap mean_of (built-record r lt) ∙ (are.reads r lt).mean_is
+
+  play-read : (r i : ℕ) → r < count_to bound → i < 21 → play_at built r i ≡ slice_index (slice_index_or plays r []) i
+  unfolding play_at
+  play-read r i lt few = ap (λ (bs : List ℕ). play_of bs i) (built-record r lt) ∙ (are.reads r lt).play_is i few
+
+  share-read : (r k : ℕ) → r < count_to bound → k ≤ 22 → spread_at built r k ≡ slice_index (shares_of spreads r) k
+  unfolding spread_at
+  share-read r k lt few = ap (λ (bs : List ℕ). share_of bs k) (built-record r lt) ∙ (are.reads r lt).share_is k few
+
+  built-bound : bound_of built ≡ bound
+  unfolding built_file
+  built-bound = file-bound bound (bytes_of means plays spreads) (count_to bound) each-length low
+
+  pub built-front : take 32 built ≡ header bound
+  unfolding built_file
+  built-front = file-front bound (bytes_of means plays spreads) (count_to bound) each-length
+
+  pub built-length : length built ≡ 32 + 426 * count_to bound
+  unfolding built_file
+  built-length = file-length bound (bytes_of means plays spreads) (count_to bound) each-length
+
+  built-is_file : IsFileTo 44 built
+  built-is_file = record {
+    bounded = omega (arith, built-bound);
+    headed = built-front ∙ ap header (sym built-bound);
+    whole = built-length ∙ ap (λ b. 32 + 426 * count_to b) (sym built-bound);
+  }
+
+  -- a position of at most the bound
+  module _ (x : Board) (at : IsPosition x) (under : pips x ≤ bound) where
+    ranked : rank x < count_to bound
+    ranked = (rank-bound x bound at).1 under
+
+    result-ranked : (v : Throw) (z : Board) → Legal x v z → rank z < count_to bound
+    result-ranked v z legal = (rank-bound z bound (legal_position x v z at legal)).1 (le_trans (legal_pips x v z legal) under)
+
+    -- what is recorded for a roll
+    number : Throw → ℕ
+    number v = slice_index (slice_index_or plays (rank x) []) (roll_index v)
+
+    here : IsMade means spreads x (slice_index means (rank x)) (slice_index_or plays (rank x) []) (shares_of spreads (rank x))
+    here = subst (λ (y : Board). IsMade means spreads y (slice_index means (rank x)) (slice_index_or plays (rank x) []) (shares_of spreads (rank x))) (rank-found x at) (are.made (rank x) ranked)
+
+    number-is : (v : Throw) → play built x v ≡ number v
+    unfolding number
+    number-is v = play-read (rank x) (roll_index v) ranked (index-range v)
+
+    best-by_index : (v : Throw) → IsBestPlay means x (roll_at (roll_index v)) (number v)
+    unfolding number
+    best-by_index v = here.best (roll_index v) (index-range v)
+
+    number-ranked : (v : Throw) → number v < count_to bound
+    number-ranked v =
+        let best = best-by_index v in
+        let lt = result-ranked (roll_at (roll_index v)) best.legal.0 best.legal.1 in
+        let is = best.legal.2 in
+        omega arith
+
+    best-of_roll : (v : Throw) → IsRoll v → IsBestPlay means x v (number v)
+    best-of_roll v is = subst (λ (u : Throw). IsBestPlay means x u (number v)) (index_of_roll v is).1 (best-by_index v)
+
+    played-mean : (v : Throw) → mean_at built (play built x v) ≡ slice_index means (number v)
+    played-mean v = ap (mean_at built) (number-is v) ∙ mean-read (number v) (number-ranked v)
+
+    played-share : (v : Throw) (k : ℕ) → k ≤ 22 → spread_at built (play built x v) k ≡ slice_index (shares_of spreads (number v)) k
+    played-share v k few = ap (λ r. spread_at built r k) (number-is v) ∙ share-read (number v) k (number-ranked v) few
+
+    is-played : (v : Throw) → IsRoll v → IsPlayed built x v
+    is-played v is =
+        let leads = best-legal means x v (number v) at (best-of_roll v is) in
+        record {
+          ranked = ap (λ r. rank (at_rank r)) (number-is v) ∙ (leads.1 ∙ sym (number-is v));
+          legal = subst (λ (r : ℕ). Legal x v (at_rank r)) (sym (number-is v)) leads.0;
+        }
+
+    is-best : (v : Throw) → IsRoll v → IsBest built x v
+    is-best v is z legal =
+        let least = (best-of_roll v is).least z legal in
+        rw (played-mean v, mean-read (rank z) (result-ranked v z legal)) least
+
+    is-lowest : (v : Throw) → IsRoll v → IsLowest built x v
+    is-lowest v is z legal e =
+        let same = sym (mean-read (rank z) (result-ranked v z legal)) ∙ (e ∙ played-mean v) in
+        let lowest = (best-of_roll v is).lowest z legal same in
+        omega (arith, number-is v, lowest)
+
+    means-same : weighted (λ v. mean_at built (play built x v)) ≡ sum_of_means means (slice_index_or plays (rank x) [])
+    unfolding number
+    means-same = sum_equal (λ v. weight v * mean_at built (play built x v)) (λ v. weight v * slice_index means (number v)) all_rolls (λ v. ap (λ n. weight v * n) (played-mean v))
+
+    shares-same : (k : ℕ) → k ≤ 22 → weighted (λ v. spread_at built (play built x v) k) ≡ sum_of_shares spreads (slice_index_or plays (rank x) []) k
+    unfolding number
+    shares-same k few = sum_equal (λ v. weight v * spread_at built (play built x v) k) (λ v. weight v * slice_index (shares_of spreads (number v)) k) all_rolls (λ v. ap (λ n. weight v * n) (played-share v k few))
+
+    has-mean : HasMean built x
+    has-mean = record {
+      at_end = λ none. mean-read (rank x) ranked ∙ here.mean_at_end none;
+      before = λ unfinished. ap (λ n. 36 * n) (mean-read (rank x) ranked) ∙ (here.mean_before unfinished ∙ ap (λ n. 36 * whole + n) (sym means-same));
+    }
+
+    has-share : (k : ℕ) → k ≤ 22 → HasShare built x k
+    has-share zero few = (λ none. share-read (rank x) 0 ranked few ∙ here.start_at_end none, λ unfinished. share-read (rank x) 0 ranked few ∙ here.start_before unfinished)
+    has-share (suc k) few = (
+      λ none. share-read (rank x) (suc k) ranked few ∙ here.share_at_end none k,
+      λ unfinished. ap (λ n. 36 * n) (share-read (rank x) (suc k) ranked few) ∙ (here.share_before unfinished k few ∙ sym (shares-same k (omega arith))),
+    )
+
+    is-local_at : IsLocalAt built x
+    is-local_at = record { means = record { played = is-played; best = is-best; mean_is = has-mean }; shares = has-share }
+
+  -- the file is the built file of the bound
+  pub is-built : IsBuilt 44 bound built
+  is-built = record {
+    bound_is = built-bound;
+    local = record { file = built-is_file; at_each = λ x at under. is-local_at x at (omega (arith, built-bound)) };
+    lowest = λ x at under v is. is-lowest x at under v is;
+  }

@@ -1,0 +1,89 @@
+-- The record of an unfinished position, from the records of lower rank.
+use Rattle.std.proofs.Common.{◌≡◌, ℕ, suc, ◌+◌, ◌*◌, ◌%◌, ◌<◌, ◌≤◌, List, length, sym, ap, subst, ◌∙◌, arith}
+use Rattle.std.specs.Prelude.{slice_index}
+use Rattle.race_model.specs.Positions.{Board, IsPosition, IsFinished, pips}
+use Rattle.race_model.specs.Dice.{Throw, roll_at, roll_index}
+use Rattle.race_model.specs.Plays.{Legal}
+use Rattle.race_model.specs.Ranks.{rank, at_rank}
+use Rattle.race_model.specs.LocalEquations.{whole}
+use Rattle.race_model.proofs.Results.{legal_position, legal_fewer_pips}
+use Rattle.race_model.proofs.RankOrder.{rank-fewer, rank-found}
+use Rattle.race_model.proofs.Throws.{roll_of_index}
+use Rattle.retrograde.specs.BestPlays.{IsBestPlay}
+use Rattle.retrograde.specs.BuiltRecords.{shares_of, sum_of_means, sum_of_shares, IsMade, IsReached, AreMade}
+use Rattle.retrograde.proofs.Best.{best-at_end}
+use Rattle.retrograde.proofs.Rolls.{index-range}
+use Rattle.retrograde.proofs.Turns.{mean-exact, shares-exact, no-last, pulled-reached}
+
+-- what a throw leads to from an unfinished position has a lower rank
+pub legal-lower : (x : Board) (v : Throw) (z : Board) → IsPosition x → ¬ IsFinished x → Legal x v z → rank z < rank x
+legal-lower x v z at unfinished legal = rank-fewer z x (legal_position x v z at legal) at (legal_fewer_pips x v z unfinished legal)
+
+-- the best play leads to the position of its rank
+pub best-legal : (means : List ℕ) (x : Board) (v : Throw) (r : ℕ) → IsPosition x → IsBestPlay means x v r → (Legal x v (at_rank r)) × (rank (at_rank r) ≡ r)
+best-legal means x v r at best =
+    let z = best.legal.0 in
+    let leads = best.legal.1 in
+    let found : at_rank r ≡ z = ap at_rank (sym best.legal.2) ∙ rank-found z (legal_position x v z at leads) in
+    (subst (λ (y : Board). Legal x v y) (sym found) leads, ap rank found ∙ best.legal.2)
+
+-- an unfinished position, the records of lower rank, and the best plays
+module _ (x : Board) (at : IsPosition x) (unfinished : ¬ IsFinished x) (low : pips x ≤ 44) (means : List ℕ) (played spreads : List (List ℕ)) (made : AreMade (rank x) means played spreads) (plays : List ℕ) (best : (i : ℕ) → i < 21 → IsBestPlay means x (roll_at i) (slice_index plays i)) where
+  goes : (i : ℕ) → i < 21 → Legal x (roll_at i) (at_rank (slice_index plays i))
+  goes i lt = (best-legal means x (roll_at i) (slice_index plays i) at (best i lt)).0
+
+  -- the plays lead to lower ranks
+  pub play-lower : (i : ℕ) → i < 21 → slice_index plays i < rank x
+  play-lower i lt =
+      let lower = legal-lower x (roll_at i) (best i lt).legal.0 at unfinished (best i lt).legal.1 in
+      let is = (best i lt).legal.2 in
+      omega arith
+
+  pub play-held : (i : ℕ) → i < 21 → slice_index plays i < length means
+  play-held i lt = omega (arith, play-lower i lt, made.means_len)
+
+  pub play-has_shares : (i : ℕ) → i < 21 → slice_index plays i < length spreads
+  play-has_shares i lt = omega (arith, play-lower i lt, made.spreads_len)
+
+  -- where strategies go on
+  next-reached : (v : Throw) → IsReached (at_rank (slice_index plays (roll_index v))) (slice_index means (slice_index plays (roll_index v))) (shares_of spreads (slice_index plays (roll_index v)))
+  next-reached v = made.reached (slice_index plays (roll_index v)) (play-lower (roll_index v) (index-range v))
+
+  -- the mean can be pulled
+  pub can-pull_mean : (mean : ℕ) × ((mean ≤ 22 * whole) × (36 * mean ≡ 36 * whole + sum_of_means means plays))
+  can-pull_mean = mean-exact x at (omega arith) unfinished means spreads plays goes next-reached
+
+  -- .. and the shares
+  pub can-pull_shares : (k : ℕ) → k < 22 → sum_of_shares spreads plays k % 36 ≡ 0
+  can-pull_shares = shares-exact x at (omega arith) unfinished means spreads plays goes next-reached
+
+  pub has-room : (i : ℕ) → i < 21 → slice_index (shares_of spreads (slice_index plays i)) 22 ≡ 0
+  has-room i lt = subst (λ (j : ℕ). slice_index (shares_of spreads (slice_index plays j)) 22 ≡ 0) (roll_of_index i lt).1 (no-last x at (omega arith) unfinished means spreads plays goes next-reached (roll_at i))
+
+  -- and a strategy has them
+  pub next-is_reached : (mean : ℕ) (shares : List ℕ) → 36 * mean ≡ 36 * whole + sum_of_means means plays → slice_index shares 0 ≡ 0 → ((k : ℕ) → k < 22 → 36 * slice_index shares (suc k) ≡ sum_of_shares spreads plays k) → IsReached x mean shares
+  next-is_reached = pulled-reached x at (omega arith) unfinished means spreads plays goes next-reached
+
+-- the record of the finished position
+pub made-at_end : (means : List ℕ) (spreads : List (List ℕ)) (x : Board) (mean : ℕ) (plays shares : List ℕ) → IsPosition x → IsFinished x → mean ≡ 0 → ((i : ℕ) → slice_index plays i ≡ 0) → slice_index shares 0 ≡ whole → ((k : ℕ) → slice_index shares (suc k) ≡ 0) → IsMade means spreads x mean plays shares
+made-at_end means spreads x mean plays shares at none mean_is none_played start more = record {
+  best = λ i lt. subst (λ (r : ℕ). IsBestPlay means x (roll_at i) r) (sym (none_played i)) (best-at_end means x (roll_at i) at none);
+  mean_at_end = λ _. mean_is;
+  mean_before = λ unfinished. absurd (unfinished none);
+  start_at_end = λ _. start;
+  start_before = λ unfinished. absurd (unfinished none);
+  share_at_end = λ _. more;
+  share_before = λ unfinished. absurd (unfinished none);
+}
+
+-- .. and that of another one
+pub made-before : (means : List ℕ) (spreads : List (List ℕ)) (x : Board) (mean : ℕ) (plays shares : List ℕ) → ¬ IsFinished x → ((i : ℕ) → i < 21 → IsBestPlay means x (roll_at i) (slice_index plays i)) → 36 * mean ≡ 36 * whole + sum_of_means means plays → slice_index shares 0 ≡ 0 → ((k : ℕ) → k < 22 → 36 * slice_index shares (suc k) ≡ sum_of_shares spreads plays k) → IsMade means spreads x mean plays shares
+made-before means spreads x mean plays shares unfinished best mean_is start moved = record {
+  best = best;
+  mean_at_end = λ none. absurd (unfinished none);
+  mean_before = λ _. mean_is;
+  start_at_end = λ none. absurd (unfinished none);
+  start_before = λ _. start;
+  share_at_end = λ none. absurd (unfinished none);
+  share_before = λ _. moved;
+}
