@@ -21,10 +21,6 @@ pub enum ProgramFault {
     #[error("the database could not be made")]
     Build,
 
-    /// The database that was made was refused. It never is; the program doesn't rest on that.
-    #[error("the database was refused")]
-    Refused,
-
     /// The position was not answered.
     #[error("the position was not answered")]
     Answer(AnswerFault),
@@ -45,8 +41,9 @@ pub fn run<R: Read, W: Write>(
     if build(alloc, BOUND, &mut bytes).is_err() {
         return Err(ProgramFault::Build);
     }
-    let Ok(mut checked) = check(Whole::new(bytes.as_slice())) else {
-        return Err(ProgramFault::Refused);
+    let mut checked = match check(Whole::new(bytes.as_slice())) {
+        Ok(checked) => checked,
+        Err(_) => unreachable!(),
     };
     match answer(&mut checked, input, output) {
         Ok(()) => Ok(()),
