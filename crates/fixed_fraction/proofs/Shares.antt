@@ -22,7 +22,7 @@ pub sum_upto-same : (n : ℕ) (f g : ℕ → ℕ) → ((k : ℕ) → k < n → f
 sum_upto-same zero f g h = refl
 sum_upto-same (suc n) f g h = omega (arith, sum_upto-same n f g (λ k lt. h k (omega arith)), h n (omega arith))
 
--- a sum of blank is zero
+-- a sum of zeros is zero
 pub sum_upto-zero : (n : ℕ) → sum_upto n (λ k. 0) ≡ 0
 sum_upto-zero zero = refl
 sum_upto-zero (suc n) = omega (arith, sum_upto-zero n)
