@@ -1,11 +1,11 @@
 -- Fractions divided by the greatest common divisor, and thousandths.
-use Rattle.std.proofs.Common.{◌≡◌, ℕ, zero, suc, ◌+◌, ◌*◌, ◌<◌, ◌≤◌, ◌/◌, ◌%◌, ap, sym, subst, arith}
+use Rattle.std.proofs.Common.{◌≡◌, ℕ, zero, suc, ◌+◌, ◌*◌, ◌<◌, ◌≤◌, ◌/◌, ◌%◌, ap, subst, arith}
 use Prim.Native.Nat.{◌∣◌}
 use Rattle.std.specs.Int.{IsGcd}
 use Rattle.std.proofs.Math.Nat.{mul-div-le, lt-mul-div-succ, le_of_mul-le-mul_left, mul-div_cancel', eq-zero_of_zero-dvd, one-dvd, mul-dvd-mul_left, dvd_of_mul-dvd-mul_left}
 use Rattle.race_model.specs.LocalEquations.{whole}
 use Rattle.race_model.specs.Fractions.{IsFraction, IsThousandths}
-use Rattle.fixed_fraction.specs.Ratios.{Ratio, IsSmallRatio}
+use Rattle.fixed_fraction.specs.Ratios.{IsSmallRatio}
 
 -- a divisor of a number that is not 0 is not 0
 pub divisor_positive : (a b g : ℕ) → IsGcd a b g → 0 < b → 0 < g

@@ -78,12 +78,12 @@ moved-whole (x ∷ ys) parts len start moved room wholes weights =
     let places = sum-by_places ys 22 (omega arith) in
     let all : sum (take 22 ys) ≡ sum ys = ap sum (take_all 22 ys (omega arith)) in
     let scaled = sum_upto-linear 22 36 (λ k. get_or ys k 0) (λ k. 0) in
-    let zeros = sum_upto-zero 22 in
+    let blank = sum_upto-zero 22 in
     let terms = sum_upto-same 22 (λ k. 36 * get_or ys k 0 + 0) (weighted_share parts) (λ k lt. omega (arith, moved k lt)) in
     let parts_sum = shares-by_parts parts 22 in
     let by_weight = wholes-by_weight parts room wholes in
     let by_36 : sum_by (λ part. part.0) parts * whole ≡ 36 * whole = ap (λ n. n * whole) weights in
-    finish x (sum (x ∷ ys)) (sum ys) (sum_upto 22 (λ k. get_or ys k 0)) _ _ _ start cons (omega (arith, places, all)) scaled zeros terms (parts_sum ∙ (by_weight ∙ by_36))
+    finish x (sum (x ∷ ys)) (sum ys) (sum_upto 22 (λ k. get_or ys k 0)) _ _ _ start cons (omega (arith, places, all)) scaled blank terms (parts_sum ∙ (by_weight ∙ by_36))
   where
-    finish : (x total rest upto scaled zeros shares : ℕ) → x ≡ 0 → total ≡ x + rest → rest ≡ upto → scaled ≡ 36 * upto + zeros → zeros ≡ 0 → scaled ≡ shares → shares ≡ 36 * whole → total ≡ whole
-    finish x total rest upto scaled zeros shares a b c d e f g = omega arith
+    finish : (x total rest upto scaled blank shares : ℕ) → x ≡ 0 → total ≡ x + rest → rest ≡ upto → scaled ≡ 36 * upto + blank → blank ≡ 0 → scaled ≡ shares → shares ≡ 36 * whole → total ≡ whole
+    finish x total rest upto scaled blank shares a b c d e f g = omega arith

@@ -68,8 +68,8 @@ impl Spread {
         Spread { shares }
     }
 
-    /// The weighted mean of the spreads that the 21 rolls lead to, moved on by one roll. None exactly where a
-    /// weighted sum is no multiple of 36 or a part has a share at 22 rolls.
+    /// The weighted mean of the spreads that the 21 rolls lead to, moved on by one roll; the weights add up to
+    /// 36. None exactly where a weighted sum is no multiple of 36 or a part has a share at 22 rolls.
     pub fn pull(parts: &[(u8, Spread); 21]) -> Option<Spread>
         requires { sum_by (λ part. part.0) parts.now ≡ 36 }
         ensures start { IfSome result (λ spread. slice_index spread 0 ≡ 0) }

@@ -1,6 +1,5 @@
 -- How the counts of a position's points hang together.
-use Rattle.std.proofs.Common.{◌≡◌, ℕ, zero, suc, ◌+◌, ◌-◌, ◌<◌, ◌≤◌, List, [], ◌∷◌, length, get_or, arith, refl}
-use Rattle.std.specs.Prelude.{slice_index}
+use Rattle.std.proofs.Common.{◌≡◌, ℕ, zero, suc, ◌+◌, ◌<◌, List, [], ◌∷◌, length, get_or, arith, refl}
 use Rattle.std.proofs.lemmas.List.{get_or_past}
 use Rattle.race_model.specs.Positions.{count, checkers}
 

@@ -1,10 +1,10 @@
-use Rattle.std.proofs.Common.{◌≡◌, ℕ, ◌<◌, ◌==◌, List, ◌∷◌, [], None, length, map, take, get_or, arith, rules, tests, sym, ap, subst, All, ◌∙◌}
+use Rattle.std.proofs.Common.{◌≡◌, ◌<◌, ◌==◌, None, length, map, take, get_or, arith, rules, tests, sym, ap, subst, All, ◌∙◌}
 use Rattle.std.proofs.lemmas.Bool.{eqb-true}
 use Rattle.std.proofs.lemmas.List.{length_push, take_all}
 use Rattle.std.proofs.lemmas.List.Elements.{All-push}
 use Rattle.std.proofs.lemmas.Iterator.Splits.{YieldsList-from_slice_split}
 use Rattle.std.proofs.lemmas.Iterator.Consumers.{YieldsList-turn, YieldsList-end}
-use Rattle.race_model.specs.PositionText.{count_value, IsPositionText}
+use Rattle.race_model.specs.PositionText.{count_value}
 use Rattle.home_board.proofs.Counts.{listed-six}
 use Rattle.home_board.proofs.Texts.{parts, length-values, no-refused, states-more}
 use Rattle.home_board.proofs.text.parse_counts.Goals as goal

@@ -1,4 +1,4 @@
-use Rattle.std.proofs.Common.{◌≡◌, ℕ, ◌<◌, ◌==◌, List, All, Some, map, take, length}
+use Rattle.std.proofs.Common.{◌≡◌, ◌<◌, ◌==◌, All, Some, map, take, length}
 use Rattle.std.specs.List.{slice_split}
 use Rattle.race_model.specs.PositionText.{count_value}
 use Rattle.home_board.proofs.text.parse_counts.Given as goal

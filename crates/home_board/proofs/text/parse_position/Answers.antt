@@ -1,4 +1,4 @@
-use Rattle.std.proofs.Common.{◌≡◌, ℕ, ◌≤◌, List, ap, sym, ◌∙◌, arith, refl}
+use Rattle.std.proofs.Common.{◌≤◌, arith, refl}
 use Rattle.race_model.specs.Positions.{checkers}
 use Rattle.home_board.proofs.Counts.{listed-six}
 use Rattle.home_board.proofs.Texts.{text-apart}

@@ -1,7 +1,6 @@
-use Rattle.std.proofs.Common.{◌≡◌, ℕ, ◌+◌, ◌<◌, ◌≤◌, List, [], ◌∷◌, ◌++◌, get_or, take, length, sym, ap, ◌∙◌, refl, arith, add-one, length-append}
+use Rattle.std.proofs.Common.{◌≡◌, [], ◌∷◌, ◌++◌, get_or, take, length, sym, ap, ◌∙◌, refl, arith, add-one, length-append}
 use Rattle.std.specs.Prelude.{decimal}
 use Rattle.std.proofs.lemmas.List.{take_all}
-use Rattle.race_model.specs.PositionText.{IsPositionText}
 use Rattle.home_board.proofs.Written.{joined, joined-states, before_next, before_next-some, before_next-none, next-written, next-fits}
 use Rattle.home_board.proofs.text.write_position.Goals as goal
 use Rattle.home_board.proofs.text.write_position.Goals.{then-written-gt0, else-written-gt0}

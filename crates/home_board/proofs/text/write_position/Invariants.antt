@@ -1,4 +1,4 @@
-use Rattle.std.proofs.Common.{◌≡◌, ℕ, ◌<◌, take}
+use Rattle.std.proofs.Common.{◌≡◌, ◌<◌, take}
 use Rattle.race_model.specs.Positions.{IsPosition}
 use Rattle.home_board.proofs.Written.{joined}
 use Rattle.home_board.proofs.text.write_position.Given as goal

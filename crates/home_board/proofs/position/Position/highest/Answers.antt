@@ -1,5 +1,4 @@
 use Rattle.std.proofs.Common.{refl}
-use Rattle.race_model.specs.Positions.{IsFinished}
 use Rattle.home_board.proofs.Counts.{checkers-none}
 use Rattle.home_board.proofs.position.Position.highest.Goals as goal
 

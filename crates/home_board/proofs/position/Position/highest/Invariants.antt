@@ -1,5 +1,5 @@
 use Rattle.std.proofs.Common.{◌≡◌, ℕ, ◌<◌}
-use Rattle.race_model.specs.Positions.{IsPosition, count}
+use Rattle.race_model.specs.Positions.{count}
 use Rattle.home_board.proofs.position.Position.highest.Given as goal
 
 -- the points above are empty
