@@ -1,19 +1,34 @@
-//! The speed of `results`: a program that runs it over all positions of at most a number of pips (the first
-//! word, else 44) and all 21 rolls, and prints how many results there are. It rests on `legal_plays`; nothing
-//! stands on it.
+//! The speed of the crates: a program that runs `results` over all positions of at most a number of pips (a
+//! word, else 44) and all 21 rolls, and prints how many results there are; or, after the word `build`, builds
+//! the database of that bound in memory, and prints how many bytes it has. It rests on `legal_plays` and
+//! `retrograde`; nothing stands on it.
 #![tactic(auto)]
 
 use home_board::{MAX_BOUND, Position};
 use legal_plays::{Roll, results};
+use retrograde::build;
 use std::{env, io};
 
 fn main(rt: HostRuntime) -> io::Result<()> {
+    let mut builds = false;
     let mut bound = MAX_BOUND;
     for word in env::args(&rt)?.skip(1) {
-        bound = word.as_str().parse().unwrap_or(bound);
+        if word.as_str() == "build" {
+            builds = true;
+        } else {
+            bound = word.as_str().parse().unwrap_or(bound);
+        }
     }
-    let count = count_results([0; 6], 6, bound);
-    println!(rt; "pips {bound} results {count}")?;
+    if builds {
+        let mut bytes = Vec::new(rt.alloc());
+        match build(rt.alloc(), bound, &mut bytes) {
+            Ok(()) => println!(rt; "pips {bound} bytes {}", bytes.len())?,
+            Err(fault) => println!(rt; "{fault}")?,
+        }
+    } else {
+        let count = count_results([0; 6], 6, bound);
+        println!(rt; "pips {bound} results {count}")?;
+    }
     Ok(())
 }
 
