@@ -1,14 +1,26 @@
-//! The speed of ranks and of results: a program that turns each rank into its position and back, and then takes
-//! the results of all 21 rolls from every position of at most a number of pips (the first word, else 44), and
-//! the rank of each. It prints how many ranks came back, how many results there are, and how many of these have
-//! a lower rank than the position: all but those of the finished position. It rests on `legal_plays` and
-//! `ranking`; nothing stands on it.
+//! The speed of the crates. Without a word of its own, the program turns each rank into its position and back,
+//! and then takes the results of all 21 rolls from every position of at most a number of pips (a number among
+//! the words, else 44), and the rank of each. It prints how many ranks came back, how many results there are,
+//! and how many of these have a lower rank than the position: all but those of the finished position. After the
+//! word `build` it builds the database of that bound in memory and prints how many bytes it has; after the word
+//! `check` it checks that database too. It rests on `certificate` and `retrograde`; nothing stands on it.
 #![tactic(auto)]
 
+use certificate::{Whole, check};
 use home_board::MAX_BOUND;
 use legal_plays::{Roll, results};
 use ranking::Ranks;
+use retrograde::build;
+use std::alloc::Global;
 use std::{env, io};
+
+/// What is measured.
+#[derive(Clone, Copy)]
+enum Work {
+    Results,
+    Build,
+    Check,
+}
 
 /// How many results there are, and how many of them have a lower rank than the position.
 #[derive(Drop)]
@@ -18,10 +30,23 @@ struct Tally {
 }
 
 fn main(rt: HostRuntime) -> io::Result<()> {
+    let mut work = Work::Results;
     let mut bound = MAX_BOUND;
     for word in env::args(&rt)?.skip(1) {
-        bound = word.as_str().parse().unwrap_or(bound);
+        match word.as_str() {
+            "build" => work = Work::Build,
+            "check" => work = Work::Check,
+            number => bound = number.parse().unwrap_or(bound),
+        }
     }
+    match work {
+        Work::Results => report_results(&rt, bound),
+        Work::Build => report_build(&rt, rt.alloc(), bound, false),
+        Work::Check => report_build(&rt, rt.alloc(), bound, true),
+    }
+}
+
+fn report_results(rt: &impl Print, bound: u8) -> io::Result<()> {
     let ranks = Ranks::new();
     let returned = count_returned(&ranks);
     println!(rt; "ranks returned {returned}")?;
@@ -29,8 +54,22 @@ fn main(rt: HostRuntime) -> io::Result<()> {
     println!(rt;
         "pips {bound} results {} lower {}",
         tally.results, tally.lower
-    )?;
-    Ok(())
+    )
+}
+
+fn report_build(rt: &impl Print, alloc: Global, bound: u8, is_checked: bool) -> io::Result<()> {
+    let mut bytes = Vec::new(alloc);
+    if let Err(fault) = build(alloc, bound, &mut bytes) {
+        return println!(rt; "{fault}");
+    }
+    println!(rt; "pips {bound} bytes {}", bytes.len())?;
+    if !is_checked {
+        return Ok(());
+    }
+    match check(Whole::new(bytes.as_slice())) {
+        Ok(checked) => println!(rt; "positions {}", checked.positions()),
+        Err((_, fault)) => println!(rt; "{fault}"),
+    }
 }
 
 /// How many numbers are the rank of the position that they lead to.

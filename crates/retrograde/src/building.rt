@@ -32,7 +32,7 @@ pub fn build<W: Write>(alloc: Global, bound: u8, writer: &mut W) -> Result<(), B
 }
 
 /// The records of the positions of at most a number of pips.
-fn records_to(alloc: Global, bound: u8) -> Result<Records, BuildFault>
+pub(crate) fn records_to(alloc: Global, bound: u8) -> Result<Records, BuildFault>
     requires { bound ≤ 44 }
     ensures made { IfOk result (λ records. AreMade (count_to bound) records.means records.plays.items records.spreads.items) }
     ensures memory { IfErr result (λ fault. fault ≡ Memory) }
@@ -66,4 +66,191 @@ fn write_file<W: Write>(
         write_record(mean, plays, spread, writer)?;
     }
     Ok(())
+}
+
+// The bytes and the means are those of an independent count with exact numbers.
+#[cfg(test)]
+mod tests {
+    use super::*;
+    use fixed_fraction::{Scaled, WHOLE};
+    use std::alloc::AllocError;
+    use std::io;
+    use std::test::Fail;
+
+    /// A writer that takes so many writes, and then fails or takes no byte.
+    #[derive(Drop)]
+    struct Tired {
+        writes: u8,
+        fails: bool,
+        written: usize,
+    }
+
+    impl Write for Tired {
+        fn write(&mut self, buf: &[u8]) -> io::Result<usize> {
+            if self.writes > 0 {
+                self.writes -= 1;
+                self.written = self.written.saturating_add(buf.len());
+                return Ok(buf.len());
+            }
+            if self.fails {
+                return Err(io::Error::from(io::ErrorKind::Other));
+            }
+            Ok(0)
+        }
+
+        fn flush(&mut self) -> io::Result<()> {
+            Ok(())
+        }
+    }
+
+    /// A writer that takes one byte a call.
+    #[derive(Drop)]
+    struct Slow {
+        written: Vec<u8>,
+    }
+
+    impl Write for Slow {
+        fn write(&mut self, buf: &[u8]) -> io::Result<usize> {
+            match buf.first() {
+                Some(byte) => {
+                    self.written.push(*byte)?;
+                    Ok(1)
+                }
+                None => Ok(0),
+            }
+        }
+
+        fn flush(&mut self) -> io::Result<()> {
+            Ok(())
+        }
+    }
+
+    /// Bytes, each followed by so many zeros.
+    fn with_zeros(alloc: Global, parts: &[(&[u8], u16)]) -> Result<Vec<u8>, AllocError> {
+        let mut bytes = Vec::new(alloc);
+        for (part, zeros) in parts {
+            bytes.extend_from_slice(part)?;
+            for _ in 0..*zeros {
+                bytes.push(0)?;
+            }
+        }
+        Ok(bytes)
+    }
+
+    const WHOLE_BYTES: &[u8] = b"\x00\x03\x56\x27\x10\xdf\xf0\x31\x87\x27\x10\x00\x00\x00\x00\x00";
+
+    #[test]
+    fn bytes_of_0_and_1(rt: HostRuntime) -> Result<(), Fail> {
+        let zero = with_zeros(
+            rt.alloc(),
+            &[
+                (
+                    b"EPCTABLE\x00\x01\x00\x00\x00\x00\x00\x01\x00\x00\x01\xaa",
+                    12 + 58,
+                ),
+                (WHOLE_BYTES, 352),
+            ],
+        )?;
+        let mut written = Vec::new(rt.alloc());
+        assert_eq!(rt; build(rt.alloc(), 0, &mut written), Ok(()));
+        assert_eq!(rt; written.as_slice(), zero.as_slice());
+
+        let one = with_zeros(
+            rt.alloc(),
+            &[
+                (
+                    b"EPCTABLE\x00\x01\x00\x01\x00\x00\x00\x02\x00\x00\x01\xaa",
+                    12 + 58,
+                ),
+                (WHOLE_BYTES, 352),
+                (WHOLE_BYTES, 42 + 16),
+                (WHOLE_BYTES, 336),
+            ],
+        )?;
+        let mut slow = Slow {
+            written: Vec::new(rt.alloc()),
+        };
+        assert_eq!(rt; build(rt.alloc(), 1, &mut slow), Ok(()));
+        assert_eq!(rt; slow.written.as_slice(), one.as_slice());
+        Ok(())
+    }
+
+    #[test]
+    fn sizes(rt: HostRuntime) {
+        for (bound, size) in [(0, 458), (1, 884), (8, 27296)] {
+            let mut bytes = Vec::new(rt.alloc());
+            assert_eq!(rt; build(rt.alloc(), bound, &mut bytes), Ok(()));
+            assert_eq!(rt; bytes.len(), size, "of {bound} pips");
+        }
+        let mut bytes = Vec::new(rt.alloc());
+        for bound in [45, 255] {
+            assert_eq!(rt;
+                build(rt.alloc(), bound, &mut bytes),
+                Err(BuildFault::OverBound)
+            );
+            assert_eq!(rt; bytes.len(), 0);
+        }
+    }
+
+    #[test]
+    fn refused_writes(rt: HostRuntime) {
+        for (writes, written) in [(0, 0), (1, 32), (2, 458)] {
+            for fails in [true, false] {
+                let mut tired = Tired {
+                    writes,
+                    fails,
+                    written: 0,
+                };
+                assert_eq!(rt; build(rt.alloc(), 1, &mut tired), Err(BuildFault::Write));
+                assert_eq!(rt; tired.written, written, "after {writes} writes");
+            }
+        }
+    }
+
+    #[test]
+    fn means_to_6_pips(rt: HostRuntime) -> Result<(), Fail> {
+        let means = records_to(rt.alloc(), 6)?.means;
+        assert_eq!(rt; means.len(), 30);
+        for (rank, numerator, denominator) in [
+            (0, 0u8, 1),
+            (1, 1, 1),
+            (2, 1, 1),
+            (3, 1, 1),
+            (4, 1, 1),
+            (5, 1, 1),
+            (6, 11, 6),
+            (7, 19, 18),
+            (8, 23, 18),
+            (9, 19, 18),
+            (10, 11, 6),
+            (11, 11, 6),
+            (12, 41, 36),
+            (13, 47, 36),
+            (14, 43, 36),
+            (15, 67, 36),
+            (16, 67, 36),
+            (17, 67, 36),
+            (18, 97, 36),
+            (19, 5, 4),
+            (20, 55, 36),
+            (21, 49, 36),
+            (22, 67, 36),
+            (23, 49, 36),
+            (24, 67, 36),
+            (25, 67, 36),
+            (26, 67, 36),
+            (27, 209, 108),
+            (28, 97, 36),
+            (29, 97, 36),
+        ] {
+            let mean = means.get(rank).map_or(0, Scaled::numerator);
+            let expected = u128::from(numerator) * WHOLE;
+            assert_eq!(rt;
+                mean.checked_mul(denominator),
+                Some(expected),
+                "rank {rank}"
+            );
+        }
+        Ok(())
+    }
 }

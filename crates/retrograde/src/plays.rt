@@ -56,3 +56,21 @@ fn is_better(mean: u128, rank: u16, least: u128, best: u16) -> bool
 {
     mean < least || (mean == least && rank < best)
 }
+
+#[cfg(test)]
+mod tests {
+    use super::*;
+    use crate::building::records_to;
+    use legal_plays::parse_roll;
+    use std::test::Fail;
+
+    #[test]
+    fn two_checkers_on_point_4(rt: HostRuntime) -> Result<(), Fail> {
+        let means = records_to(rt.alloc(), 7)?.means;
+        let position = Position::new([0, 0, 0, 2, 0, 0])?;
+        let roll = parse_roll(b"21").ok_or("no roll")?;
+        assert!(rt; Ranks::new().first_of(position.pips()) <= means.len());
+        assert_eq!(rt; best_play(&position, roll, &means), 14);
+        Ok(())
+    }
+}
