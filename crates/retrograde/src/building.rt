@@ -73,6 +73,7 @@ fn write_file<W: Write>(
 mod tests {
     use super::*;
     use fixed_fraction::{Scaled, WHOLE};
+    use home_board::Position;
     use std::alloc::AllocError;
     use std::io;
     use std::test::Fail;
@@ -251,6 +252,15 @@ mod tests {
                 "rank {rank}"
             );
         }
+        Ok(())
+    }
+
+    #[test]
+    fn fifteen_checkers_on_point_1(rt: HostRuntime) -> Result<(), Fail> {
+        let means = records_to(rt.alloc(), 15)?.means;
+        let rank = Ranks::new().rank(&Position::new([15, 0, 0, 0, 0, 0])?);
+        let mean = means.get(rank).map(Scaled::numerator);
+        assert_eq!(rt; mean, Some(WHOLE / 279936 * 1953839));
         Ok(())
     }
 }
