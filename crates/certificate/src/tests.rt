@@ -3,7 +3,10 @@ ghost use Rattle.std.specs.Prelude.{◌≡◌, length};
 
 use super::*;
 use db_layout::HeaderFault;
+use fixed_fraction::WHOLE;
 use home_board::Position;
+use retrograde::build;
+use std::alloc::Global;
 use std::test::Fail;
 
 /// 36 ^ 22 in 16 bytes.
@@ -123,4 +126,87 @@ fn answers_of_bound_one(rt: HostRuntime) {
         checked.into_table().header().map(|header| header.bound),
         Ok(1)
     );
+}
+
+/// The database that the builder makes of a bound.
+fn built(alloc: Global, bound: u8) -> Result<Vec<u8>, Fail> {
+    let mut file = Vec::new(alloc);
+    build(alloc, bound, &mut file)?;
+    Ok(file)
+}
+
+/// Writes these bytes into a file, as far as it reaches.
+fn put(file: &mut [u8], place: usize, bytes: &[u8]) {
+    for (byte, new) in file.iter_mut().skip(place).zip(bytes) {
+        *byte = *new;
+    }
+}
+
+/// Where a field of the record of a rank stands.
+fn place_of(rank: u16, offset: u16) -> usize {
+    32 + 426 * usize::from(rank) + usize::from(offset)
+}
+
+#[test]
+fn built_files(rt: HostRuntime) -> Result<(), Fail> {
+    for (bound, positions) in [(0, 1), (1, 2), (8, 64)] {
+        let file = built(rt.alloc(), bound)?;
+        let accepted = check(Whole::new(file.as_slice()))
+            .ok()
+            .map(|checked| (checked.bound(), checked.positions()));
+        assert_eq!(rt; accepted, Some((bound, positions)));
+    }
+    Ok(())
+}
+
+#[test]
+fn tied_plays_are_accepted(rt: HostRuntime) -> Result<(), Fail> {
+    let mut file = built(rt.alloc(), 6)?;
+    put(&mut file, place_of(21, 18), &5u16.to_be_bytes());
+    assert_eq!(rt; fault_of(file.as_slice()), None);
+    Ok(())
+}
+
+#[test]
+fn worse_plays_are_refused(rt: HostRuntime) -> Result<(), Fail> {
+    let file = built(rt.alloc(), 8)?;
+    let Ok(mut checked) = check(Whole::new(file.as_slice())) else {
+        panic!(rt; "refused");
+    };
+    let two_fours = Position::new([0, 0, 0, 2, 0, 0])?;
+    let two_and_three = Position::new([0, 1, 1, 0, 0, 0])?;
+    let one_and_four = Position::new([1, 0, 0, 1, 0, 0])?;
+    let mean = checked.scaled(&two_fours)?.numerator();
+    let spread = checked.spread(&two_fours)?;
+    let worse = checked.spread(&two_and_three)?;
+    let better = checked.spread(&one_and_four)?;
+    assert_eq!(rt;
+        checked.scaled(&Position::new([0, 0, 0, 1, 1, 0])?).err(),
+        Some(QueryFault::OverBound)
+    );
+
+    let worse_play = Some(CheckFault::NotLeast { rank: 44, roll: 1 });
+    let mut file = built(rt.alloc(), 8)?;
+    put(&mut file, place_of(44, 18), &13u16.to_be_bytes());
+    assert_eq!(rt; fault_of(file.as_slice()), worse_play);
+
+    // 21 is two of 36 throws, and its result has 1/9 of a roll more
+    let agreeing = mean.wrapping_add(WHOLE / 162);
+    put(&mut file, place_of(44, 0), &agreeing.to_be_bytes());
+    assert_eq!(rt; fault_of(file.as_slice()), worse_play);
+    for k in 0..22 {
+        let share = spread
+            .at(k + 1)
+            .wrapping_mul(18)
+            .wrapping_add(worse.at(k))
+            .wrapping_sub(better.at(k))
+            / 18;
+        put(
+            &mut file,
+            place_of(44, 74 + 16 * u16::from(k)),
+            &share.to_be_bytes(),
+        );
+    }
+    assert_eq!(rt; fault_of(file.as_slice()), worse_play);
+    Ok(())
 }
