@@ -135,3 +135,63 @@ pub fn parse_header(front: &[u8], length: u64) -> Result<Header, HeaderFault>
         record_bytes: 426,
     })
 }
+
+#[cfg(test)]
+mod tests {
+    use super::*;
+    use crate::record::RecordView;
+    use std::test::Fail;
+
+    /// One byte of a header to be changed, and the fault that this makes.
+    const DAMAGES: [(usize, u8, HeaderFault); 6] = [
+        (0, 0, HeaderFault::BadMagic),
+        (9, 2, HeaderFault::BadVersion),
+        (11, 45, HeaderFault::BadBound),
+        (15, 3, HeaderFault::BadCount),
+        (19, 0xab, HeaderFault::BadRecordBytes),
+        (31, 1, HeaderFault::BadReserved),
+    ];
+
+    /// The fault of the header of bound 1 with some of the damages, and of a file of so many bytes.
+    fn fault_of(first: usize, last: usize, length: u64) -> Option<HeaderFault> {
+        let mut front =
+            *b"EPCTABLE\x00\x01\x00\x01\x00\x00\x00\x02\x00\x00\x01\xaa\0\0\0\0\0\0\0\0\0\0\0\0";
+        for (number, (place, byte, _)) in DAMAGES.into_iter().enumerate() {
+            if first <= number && number <= last {
+                front[place.min(31)] = byte;
+            }
+        }
+        parse_header(&front, length).err()
+    }
+
+    #[test]
+    fn each_fault_alone_and_with_every_later_one(rt: HostRuntime) {
+        for (number, (_, _, fault)) in DAMAGES.into_iter().enumerate() {
+            assert_eq!(rt; fault_of(number, number, 884), Some(fault));
+            assert_eq!(rt; fault_of(number, 5, 883), Some(fault));
+        }
+        assert_eq!(rt; fault_of(6, 6, 884), None);
+        assert_eq!(rt; fault_of(6, 6, 883), Some(HeaderFault::BadLength));
+        assert_eq!(rt; fault_of(6, 6, 885), Some(HeaderFault::BadLength));
+        assert_eq!(rt; fault_of(6, 6, 31), Some(HeaderFault::TooShort));
+        assert_eq!(rt; fault_of(0, 5, 31), Some(HeaderFault::TooShort));
+        assert_eq!(rt;
+            parse_header(b"EPCTABLE", 884).err(),
+            Some(HeaderFault::TooShort)
+        );
+        assert_eq!(rt; parse_header(b"", 0).err(), Some(HeaderFault::TooShort));
+    }
+
+    #[test]
+    fn places(rt: HostRuntime) -> Result<(), Fail> {
+        assert_eq!(rt; Header::new(1, 45), None);
+        assert_eq!(rt; Header::new(2, 44), None);
+        let header = Header::new(1, 44).ok_or("no header")?;
+        assert_eq!(rt; header.count, 26314);
+        assert_eq!(rt; header.place(0), (32, 426));
+        assert_eq!(rt; header.place(26313), (11209370, 426));
+        assert!(rt; RecordView::of(&[0; 425]).is_none());
+        assert!(rt; RecordView::of(&[0; 426]).is_some());
+        Ok(())
+    }
+}
