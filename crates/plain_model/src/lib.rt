@@ -5,5 +5,7 @@
 #![tactic(auto)]
 
 pub use plays::legal_positions;
+pub use ranks::rank_by_counting;
 
 pub mod plays;
+pub mod ranks;
