@@ -6,6 +6,8 @@
 
 pub use plays::legal_positions;
 pub use ranks::rank_by_counting;
+pub use totals::total_over_two;
 
 pub mod plays;
 pub mod ranks;
+pub mod totals;
