@@ -1,0 +1,148 @@
+//! The rank of a position, by counting.
+ghost use Rattle.std.specs.Prelude.{◌≡◌, ◌-◌, ◌^◌, ◌≤◌, take};
+ghost use Rattle.race_model.specs.Positions.{checkers, pips};
+ghost use Rattle.race_model.specs.Ranks.{comes_first, is_before, rank};
+ghost use Rattle.plain_model.specs.Counting.{is_position_before, positions_before};
+
+use home_board::Position;
+
+// How many checkers there are.
+fn checkers_of(counts: [u8; 6]) -> u16
+    ensures { result ≡ checkers counts }
+{
+    let [ones, twos, threes, fours, fives, sixes] = counts;
+    u16::from(ones)
+        + u16::from(twos)
+        + u16::from(threes)
+        + u16::from(fours)
+        + u16::from(fives)
+        + u16::from(sixes)
+}
+
+// How many pips they have.
+fn pips_of(counts: [u8; 6]) -> u16
+    ensures { result ≡ pips counts }
+{
+    let [ones, twos, threes, fours, fives, sixes] = counts.map(u16::from);
+    ones + 2 * twos + 3 * threes + 4 * fours + 5 * fives + 6 * sixes
+}
+
+// Whether the counts are smaller than the others where they first differ.
+fn is_smaller(counts: [u8; 6], others: [u8; 6]) -> bool
+    ensures { result ≡ comes_first counts others }
+{
+    for place in 0..6 {
+        if counts[place] != others[place] {
+            return counts[place] < others[place];
+        }
+    }
+    false
+}
+
+// Whether the counts are those of a position, and it comes before the position with the other counts.
+fn is_earlier_position(counts: [u8; 6], others: [u8; 6]) -> bool
+    ensures { result ≡ is_position_before counts others }
+{
+    if checkers_of(counts) > 15 {
+        return false;
+    }
+    let (pips, others_pips) = (pips_of(counts), pips_of(others));
+    if pips == others_pips {
+        return is_smaller(counts, others);
+    }
+    pips < others_pips
+}
+
+// How many positions come before the one with the other counts, of those whose first counts are given: the
+// last `left` counts are tried from 0 to 15.
+fn count_earlier(counts: [u8; 6], left: usize, others: [u8; 6]) -> u32
+    requires { left ≤ 6 }
+    ensures value { result ≡ positions_before (take (6 - left) counts) left others }
+    ensures range { result ≤ 16 ^ left }
+{
+    if left == 0 {
+        return u32::from(is_earlier_position(counts, others));
+    }
+    let mut found = 0;
+    for checkers in 0..16 {
+        let mut longer = counts;
+        longer[6 - left] = checkers;
+        found += count_earlier(longer, left - 1, others);
+    }
+    found
+}
+
+// The counts of the points 1 to 6.
+fn counts_of(position: &Position) -> [u8; 6]
+    ensures { result ≡ position.now }
+{
+    [1, 2, 3, 4, 5, 6].map(|point| position.count(point))
+}
+
+/// The rank of a position: how many positions are before it, counted among all lists of six counts of 0 to 15.
+/// (This project's profile.) It goes over 16^6 lists.
+pub fn rank_by_counting(position: &Position) -> u32
+    ensures { result ≡ rank position.now }
+{
+    count_earlier([0; 6], 6, counts_of(position))
+}
+
+// The ranks are those of an independent program.
+#[cfg(test)]
+mod tests {
+    use super::*;
+    use ranking::Ranks;
+    use std::test::Fail;
+
+    #[test]
+    fn ranks_from_outside(rt: HostRuntime) -> Result<(), Fail> {
+        for (counts, rank) in [
+            ([0, 0, 0, 0, 0, 0], 0),
+            ([1, 0, 0, 0, 0, 0], 1),
+            ([0, 1, 0, 0, 0, 0], 2),
+            ([2, 0, 0, 0, 0, 0], 3),
+            ([0, 0, 1, 0, 0, 0], 4),
+            ([1, 1, 0, 0, 0, 0], 5),
+            ([3, 0, 0, 0, 0, 0], 6),
+            ([0, 0, 0, 1, 0, 0], 7),
+            ([0, 2, 0, 0, 0, 0], 8),
+            ([1, 0, 1, 0, 0, 0], 9),
+            ([2, 1, 0, 0, 0, 0], 10),
+            ([4, 0, 0, 0, 0, 0], 11),
+            ([0, 0, 0, 0, 1, 0], 12),
+            ([0, 1, 1, 0, 0, 0], 13),
+            ([1, 0, 0, 1, 0, 0], 14),
+            ([1, 2, 0, 0, 0, 0], 15),
+            ([2, 0, 1, 0, 0, 0], 16),
+            ([3, 1, 0, 0, 0, 0], 17),
+            ([5, 0, 0, 0, 0, 0], 18),
+            ([0, 0, 0, 0, 0, 1], 19),
+            ([0, 0, 2, 0, 0, 0], 20),
+            ([0, 1, 0, 1, 0, 0], 21),
+            ([0, 3, 0, 0, 0, 0], 22),
+            ([1, 0, 0, 0, 1, 0], 23),
+            ([1, 1, 1, 0, 0, 0], 24),
+            ([2, 0, 0, 1, 0, 0], 25),
+            ([2, 2, 0, 0, 0, 0], 26),
+            ([3, 0, 1, 0, 0, 0], 27),
+            ([4, 1, 0, 0, 0, 0], 28),
+            ([6, 0, 0, 0, 0, 0], 29),
+            ([0, 0, 0, 0, 4, 4], 24679),
+            ([0, 0, 0, 0, 0, 15], 54263),
+        ] {
+            assert_eq!(rt; rank_by_counting(&Position::new(counts)?), rank);
+        }
+        Ok(())
+    }
+
+    #[test]
+    fn ranks_of_all_positions_to_eight_pips(rt: HostRuntime) -> Result<(), Fail> {
+        let ranks = Ranks::new();
+        for rank in 0..64 {
+            let position = ranks.unrank(rank).ok_or("no position")?;
+            assert!(rt; position.pips() <= 8);
+            assert_eq!(rt; rank_by_counting(&position), u32::from(rank));
+        }
+        Ok(())
+    }
+}
