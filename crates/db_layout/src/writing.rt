@@ -104,6 +104,9 @@ fn add_bytes<const CAP: usize>(bytes: &mut ArrayVec<u8, CAP>, more: &[u8])
 #[cfg(test)]
 mod tests {
     use super::*;
+    use crate::record::RecordView;
+    use fixed_fraction::WHOLE;
+    use legal_plays::Roll;
     use std::test::Fail;
 
     #[test]
@@ -114,6 +117,25 @@ mod tests {
         let expected =
             *b"EPCTABLE\x00\x01\x00\x2c\x00\x00\x66\xca\x00\x00\x01\xaa\0\0\0\0\0\0\0\0\0\0\0\0";
         assert_eq!(rt; bytes.as_slice(), expected.as_slice());
+        Ok(())
+    }
+
+    #[test]
+    fn a_record_read_again(rt: HostRuntime) -> Result<(), Fail> {
+        let mean = Scaled::new(12345678901234567890).ok_or("over 22 rolls")?;
+        let mut plays = [0; 21];
+        plays[1] = 258;
+        plays[20] = 54263;
+        let mut bytes = Vec::new(rt.alloc());
+        assert!(rt; write_record(mean, &plays, &Spread::finished(), &mut bytes).is_ok());
+        let seen = RecordView::of(bytes.as_slice()).ok_or("no record")?;
+        assert_eq!(rt; seen.mean(), 12345678901234567890);
+        for (index, play) in [(0, 0), (1, 258), (19, 0), (20, 54263)] {
+            let roll = Roll::from_index(index).ok_or("no roll")?;
+            assert_eq!(rt; seen.play(roll), play);
+        }
+        assert_eq!(rt; seen.spread(0), WHOLE);
+        assert_eq!(rt; seen.spread(22), 0);
         Ok(())
     }
 }

@@ -15,11 +15,11 @@ use std::alloc::Global;
 use std::io::Write;
 
 /// Writes the database of a pip bound: for each position of at most so many pips the least mean number of
-/// rolls, the plays that reach it, each to the lowest rank of those that do, and how the number of rolls is
-/// spread. `OverBound` where the bound is over 44, and `Memory` for want of memory, before anything was written;
-/// `Write` where a `write` failed or took no byte, and then a prefix of the file was written. (That each
-/// position's least mean comes from those of fewer pips is the method of the GNU Backgammon manual for its
-/// one-sided databases; the file and the tie rule are this project's profile.)
+/// rolls, for each roll the lowest rank of the results that reach it, and how the number of rolls is spread.
+/// `OverBound` where the bound is over 44, and `Memory` for want of memory, both before anything was written;
+/// `Write` where a `write` failed or took no byte, and then a prefix of the database was written. (What is
+/// counted is that of a one-sided database of the GNU Backgammon manual; the exact numbers, the file and the
+/// tie rule are this project's profile.)
 pub fn build<W: Write>(alloc: Global, bound: u8, writer: &mut W) -> Result<(), BuildFault>
     ensures built { OnOk result (WritesBuilt bound (W.contents writer.old) (W.contents writer.new)) }
     ensures refused { IfErr result (IsRefusedBy bound (W.contents writer.old) (W.contents writer.new)) }

@@ -15,4 +15,5 @@ pub mod building;
 pub mod means;
 pub mod plays;
 mod pulling;
+mod record;
 mod records;

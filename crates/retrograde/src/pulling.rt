@@ -11,7 +11,8 @@ ghost use Rattle.retrograde.specs.BuiltRecords.{sum_of_means, sum_of_shares, sha
 
 use crate::means::Means;
 use crate::plays::best_result;
-use crate::records::{Record, Records};
+use crate::record::Record;
+use crate::records::Records;
 use db_layout::law_record;
 use fixed_fraction::{Scaled, Spread, pull};
 use home_board::Position;

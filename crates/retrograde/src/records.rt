@@ -3,16 +3,9 @@ ghost use Rattle.retrograde.specs.declared.build_fault.BuildFault.TheVariants.{M
 
 use crate::build_fault::BuildFault;
 use crate::means::Means;
-use fixed_fraction::{Scaled, Spread};
+use crate::record::Record;
+use fixed_fraction::Spread;
 use std::alloc::Global;
-
-/// What is recorded for one position: its mean, the ranks that the rolls play to, and its shares.
-#[derive(Drop)]
-pub(crate) struct Record {
-    pub mean: Scaled,
-    pub plays: [u16; 21],
-    pub spread: Spread,
-}
 
 /// The records of the positions of the first ranks, from rank 0 on.
 #[derive(Drop)]

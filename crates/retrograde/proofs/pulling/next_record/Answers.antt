@@ -1,7 +1,7 @@
 use Rattle.std.proofs.Common.{sym, subst}
 use Rattle.race_model.specs.Positions.{IsFinished}
 use Rattle.retrograde.specs.BuiltRecords.{IsMade, IsReached}
-use Rattle.retrograde.specs.declared.records.Record.{Record}
+use Rattle.retrograde.specs.declared.record.Record.{Record}
 use Rattle.retrograde.proofs.Next.{made-at_end, made-before}
 use Rattle.retrograde.proofs.Turns.{stop-reached}
 use Rattle.retrograde.proofs.pulling.next_record.Goals as goal

@@ -1,4 +1,4 @@
-use Rattle.std.proofs.Common.{◌≡◌, ℕ, ◌*◌, ◌<◌, get_or, sum_by, ap, ◌∙◌, refl, arith, length-set}
+use Rattle.std.proofs.Common.{◌≡◌, ℕ, ◌*◌, ◌<◌, length, get_or, sum_by, ap, ◌∙◌, refl, arith, length-set}
 use Rattle.std.specs.Prelude.{slice_index}
 use Rattle.race_model.specs.Dice.{roll_at, weight}
 use Rattle.retrograde.specs.BuiltRecords.{sum_of_means}
@@ -9,12 +9,13 @@ pub loop-index-preserved : goal.loop-index-preserved
 loop-index-preserved c =
     let means = c.args.means.now in
     let plays = c.args.plays.now in
+    let fits : c.loop-index.index < length c.loop-index.parts = omega (arith, c.loop-index.invariant.len) in
     let mean = (rw c.unwrap.ensures at c.get.ensures.value) ∙ ap (λ place. slice_index means (get_or plays place 0)) c.from-place.ensures in
     let roll = rw c.unwrap-roll.ensures at c.from_index.ensures.value in
     let part : (c.weight.result, c.unwrap.result) ≡ (weight (roll_at c.loop-index.index), slice_index means (slice_index plays c.loop-index.index)) = rw (c.weight.ensures.value, roll, mean) refl in
     record {
       len = length-set c.loop-index.parts c.from-place.result (c.weight.result, c.unwrap.result) ∙ c.loop-index.invariant.len;
-      parts = λ j d. set-next (λ j part. part ≡ (weight (roll_at j), slice_index means (slice_index plays j))) c.loop-index.parts c.loop-index.index c.from-place.result (c.weight.result, c.unwrap.result) d c.from-place.ensures (omega (arith, c.loop-index.invariant.len)) (λ j. c.loop-index.invariant.parts j d) part j;
+      parts = λ j d. set-next (λ j part. part ≡ (weight (roll_at j), slice_index means (slice_index plays j))) c.loop-index.parts c.loop-index.index c.from-place.result (c.weight.result, c.unwrap.result) d c.from-place.ensures fits (λ j. c.loop-index.invariant.parts j d) part j;
     }
 
 pub unwrap-requires : goal.unwrap-requires
