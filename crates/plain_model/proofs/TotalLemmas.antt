@@ -1,28 +1,34 @@
 -- The rolls over all sequences of two throws, by the places of the first throw.
-use Rattle.std.proofs.Common.{◌≡◌, ℕ, zero, suc, ◌+◌, ◌*◌, ◌<◌, ◌≤◌, Bool, true, false, cond, eqb, List, length, get_or, refl, ap, sym, ◌∙◌, add-one, lit≤, arith}
-use Rattle.std.specs.Prelude.{sum_by}
+use Rattle.std.proofs.Common.{◌≡◌, ℕ, zero, suc, ◌+◌, ◌*◌, ◌^◌, ◌<◌, ◌≤◌, Bool, true, false, cond, eqb, List, length, get_or, refl, ap, sym, ◌∙◌, add-one, lit≤, arith}
+use Rattle.std.specs.Prelude.{◌==◌, if◌then◌else◌, sum_by}
 use Rattle.std.proofs.lemmas.List.{get_or_default}
 use Rattle.race_model.specs.Positions.{Board, checkers, finished}
 use Rattle.race_model.specs.Dice.{Throw, throws}
-use Rattle.race_model.specs.Strategies.{Strategy, stop, turn, total_over}
-use Rattle.race_model.proofs.Sums.{throw_count, sum_equal, sum_of_sum, sum_of_same}
-use Rattle.race_model.proofs.Histories.{over_none, over_stop, total_is, total_turn}
+use Rattle.race_model.specs.Strategies.{Strategy, stop, turn, total_over, count_over}
+use Rattle.race_model.proofs.Sums.{throw_count, sum_equal, sum_of_same}
+use Rattle.race_model.proofs.Histories.{over, over_none, over_stop, over_turn, total_is, count_is, one_at}
 use Rattle.plain_model.specs.TwoTurns.{place_of, begins_with, rolls_of_two}
 
--- the rolls over all sequences whose first throw has one of the first n places
-unfoldable pub rolls_to : Board → List Board → ℕ → ℕ
-rolls_to x plays zero = 0
-rolls_to x plays (suc n) = rolls_to x plays n + 36 * rolls_of_two x (get_or plays n finished)
+-- a number that goes by the rolls, added up over all sequences whose first throw has one of the first n places
+unfoldable pub added_to : (ℕ → ℕ) → Board → List Board → ℕ → ℕ
+added_to h x plays zero = 0
+added_to h x plays (suc n) = added_to h x plays n + 36 * h (rolls_of_two x (get_or plays n finished))
 
 -- none at the start
-pub rolls_to-zero : (x : Board) (plays : List Board) → rolls_to x plays 0 ≡ 0
-unfolding rolls_to
-rolls_to-zero x plays = refl
+pub added_to-zero : (h : ℕ → ℕ) (x : Board) (plays : List Board) → added_to h x plays 0 ≡ 0
+unfolding added_to
+added_to-zero h x plays = refl
 
 -- one place more
-pub rolls_to-next : (x : Board) (plays : List Board) (n : ℕ) (after : Board) → n < length plays → after ≡ get_or plays n after → rolls_to x plays (n + 1) ≡ rolls_to x plays n + 36 * rolls_of_two x after
-unfolding rolls_to
-rolls_to-next x plays n after within is = rw add-one (ap (λ y. rolls_to x plays n + 36 * rolls_of_two x y) (get_or_default plays n finished after within ∙ sym is))
+pub added_to-next : (h : ℕ → ℕ) (x : Board) (plays : List Board) (n : ℕ) (after : Board) → n < length plays → after ≡ get_or plays n after → added_to h x plays (n + 1) ≡ added_to h x plays n + 36 * h (rolls_of_two x after)
+unfolding added_to
+added_to-next h x plays n after within is = rw add-one (ap (λ y. added_to h x plays n + 36 * h (rolls_of_two x y)) (get_or_default plays n finished after within ∙ sym is))
+
+-- there is not too much to add up
+pub added_to-bound : (h : ℕ → ℕ) (most : ℕ) (x : Board) (plays : List Board) (n : ℕ) → ((y : Board) → h (rolls_of_two x y) ≤ most) → added_to h x plays n ≤ 36 * most * n
+unfolding added_to
+added_to-bound h most x plays zero few = omega arith
+added_to-bound h most x plays (suc n) few = omega (arith, added_to-bound h most x plays n few, few (get_or plays n finished))
 
 -- at most two rolls are needed of two
 pub at_most_two : (x y : Board) → rolls_of_two x y ≤ 2
@@ -33,52 +39,63 @@ at_most_two x y = by (eqb (checkers x) 0) (eqb (checkers y) 0)
     by false true = lit≤ tt
     by false false = lit≤ tt
 
--- so there are not too many to add up
-pub rolls_to-bound : (x : Board) (plays : List Board) (n : ℕ) → rolls_to x plays n ≤ 72 * n
-unfolding rolls_to
-rolls_to-bound x plays zero = lit≤ tt
-rolls_to-bound x plays (suc n) = omega (arith, rolls_to-bound x plays n, at_most_two x (get_or plays n finished))
+-- a sequence is counted once at most
+pub at_most_one : (k r : ℕ) → one_at k r ≤ 1
+at_most_one k r = by (eqb r k)
+  where
+    by : (b : Bool) → cond {A = ℕ} b 1 0 ≤ 1
+    by true = lit≤ tt
+    by false = lit≤ tt
 
 -- each throw has one of the 36 places
-by_places : (x : Board) (plays : List Board) → rolls_to x plays 36 ≡ sum_by (λ v. 36 * rolls_of_two x (get_or plays (place_of v) finished)) throws
-unfolding throws rolls_to
-by_places x plays = refl
+by_places : (h : ℕ → ℕ) (x : Board) (plays : List Board) → added_to h x plays 36 ≡ sum_by (λ v. 36 * h (rolls_of_two x (get_or plays (place_of v) finished))) throws
+unfolding throws added_to
+by_places h x plays = refl
 
--- a strategy that stops needs no roll
-over_stopped : (m : ℕ) → total_over m stop ≡ 0
-over_stopped m = total_is m stop ∙ over_stop m (λ k. k) ∙ omega arith
+-- 36 times, once for each second throw
+thirty_six_times : (n : ℕ) → n * 36 ^ 1 ≡ 36 * n
+thirty_six_times n = omega arith
 
--- over one throw a strategy needs a roll in each of the 36 sequences, unless it stops
-over_one : (b : Bool) (to : Throw → Board) (next : Throw → Strategy) → total_over 1 (cond b stop (turn to next)) ≡ cond b 0 36
-over_one true to next = over_stopped 1
-over_one false to next =
-    let none = sum_equal (λ v. total_over 0 (next v)) (λ v. 0) throws (λ v. total_is 0 (next v) ∙ over_none (next v) (λ k. k)) in
-    omega (arith, total_turn 0 to next, none, sum_of_same 0 throws)
+-- over one throw a strategy needs one roll in each of the 36 sequences, unless it stops
+over_one : (b : Bool) (to : Throw → Board) (next : Throw → Strategy) (h : ℕ → ℕ) → over 1 (cond b stop (turn to next)) h ≡ 36 * h (cond b 0 1)
+over_one true to next h = over_stop 1 h ∙ omega arith
+over_one false to next h =
+    over_turn 0 to next h
+    ∙ sum_equal (λ v. over 0 (next v) (λ k. h (suc k))) (λ v. h 1) throws (λ v. over_none (next v) (λ k. h (suc k)))
+    ∙ sum_of_same (h 1) throws
+    ∙ ap (λ n. h 1 * n) throw_count
+    ∙ omega arith
 
--- over two throws, unless it stops, it needs a roll in each of the 1,296 sequences, and those of its branches
-over_two : (b : Bool) (to : Throw → Board) (next : Throw → Strategy) → total_over 2 (cond b stop (turn to next)) ≡ cond b 0 (1296 + sum_by (λ v. total_over 1 (next v)) throws)
-over_two true to next = over_stopped 2
-over_two false to next = total_turn 1 to next
-
--- the rolls by the places, in the same form
-by_rolls : (b : Bool) (c : Throw → Bool) → sum_by (λ v. 36 * cond b 0 (cond (c v) 1 2)) throws ≡ cond b 0 (1296 + sum_by (λ v. cond (c v) 0 36) throws)
-by_rolls true c = sum_of_same 0 throws ∙ omega arith
-by_rolls false c =
-    sum_equal (λ v. 36 * cond (c v) 1 2) (λ v. 36 + cond (c v) 0 36) throws (λ v. each (c v))
-    ∙ sum_of_sum (λ v. 36) (λ v. cond (c v) 0 36) throws
-    ∙ ap (λ n. n + sum_by (λ v. cond (c v) 0 36) throws) (sum_of_same 36 throws ∙ ap (λ n. 36 * n) throw_count)
+-- over two throws, by the first of them
+over_two : (b : Bool) (c : Throw → Bool) (first : Throw → Board) (second : Throw → Throw → Board) (later : Throw → Throw → Strategy) (h : ℕ → ℕ) → over 2 (cond b stop (turn first (λ v. cond (c v) stop (turn (second v) (later v))))) h ≡ sum_by (λ v. 36 * h (cond b 0 (cond (c v) 1 2))) throws
+over_two true c first second later h =
+    over_stop 2 h ∙ omega arith ∙ ap (λ n. 36 * h 0 * n) (sym throw_count) ∙ sym (sum_of_same (36 * h 0) throws)
+over_two false c first second later h =
+    over_turn 1 first (λ v. cond (c v) stop (turn (second v) (later v))) h
+    ∙ sum_equal _ (λ v. 36 * h (cond (c v) 1 2)) throws (λ v. over_one (c v) (second v) (later v) (λ k. h (suc k)) ∙ ap (λ n. 36 * h n) (one_more (c v)))
   where
-    each : (d : Bool) → 36 * cond {A = ℕ} d 1 2 ≡ 36 + cond {A = ℕ} d 0 36
-    each true = refl
-    each false = refl
+    one_more : (d : Bool) → suc (cond d 0 1) ≡ cond d 1 2
+    one_more true = refl
+    one_more false = refl
 
--- the rolls by the places are the total over two throws
-pub rolls_to-total : (x : Board) (plays : List Board) (second : Throw → Throw → Board) (later : Throw → Throw → Strategy) → rolls_to x plays 36 ≡ total_over 2 (begins_with x plays second later)
-rolls_to-total x plays second later =
-    by_places x plays
-    ∙ by_rolls (eqb (checkers x) 0) (λ v. left v)
-    ∙ ap (λ n. cond {A = ℕ} (eqb (checkers x) 0) 0 (1296 + n)) (sum_equal (λ v. cond {A = ℕ} (left v) 0 36) (λ v. total_over 1 (cond (left v) stop (turn (second v) (later v)))) throws (λ v. sym (over_one (left v) (second v) (later v))))
-    ∙ sym (over_two (eqb (checkers x) 0) (λ v. get_or plays (place_of v) finished) (λ v. cond (left v) stop (turn (second v) (later v))))
+-- what was added up by the places is the sum over all sequences of two throws
+added_to-over : (h : ℕ → ℕ) (x : Board) (plays : List Board) (second : Throw → Throw → Board) (later : Throw → Throw → Strategy) → added_to h x plays 36 ≡ over 2 (begins_with x plays second later) h
+added_to-over h x plays second later =
+    by_places h x plays
+    ∙ sym (over_two (eqb (checkers x) 0) (λ v. eqb (checkers (get_or plays (place_of v) finished)) 0) (λ v. get_or plays (place_of v) finished) second later h)
+
+-- the rolls, added up, are the total over two throws
+pub added_to-total : (x : Board) (plays : List Board) (second : Throw → Throw → Board) (later : Throw → Throw → Strategy) → added_to (λ k. k) x plays 36 ≡ total_over 2 (begins_with x plays second later)
+added_to-total x plays second later = added_to-over (λ k. k) x plays second later ∙ sym (total_is 2 (begins_with x plays second later))
+
+-- the sequences with so many rolls are counted
+pub added_to-count : (k : ℕ) (x : Board) (plays : List Board) (second : Throw → Throw → Board) (later : Throw → Throw → Strategy) → added_to (one_at k) x plays 36 ≡ count_over 2 (begins_with x plays second later) k
+added_to-count k x plays second later = added_to-over (one_at k) x plays second later ∙ sym (count_is 2 (begins_with x plays second later) k)
+
+-- all 36 second throws are counted, or none
+pub counted_or_not : (k r : ℕ) → (if r == k then 36 else 0) ≡ 36 * one_at k r
+counted_or_not k r = by (eqb r k)
   where
-    left : Throw → Bool
-    left v = eqb (checkers (get_or plays (place_of v) finished)) 0
+    by : (b : Bool) → cond {A = ℕ} b 36 0 ≡ 36 * cond b 1 0
+    by true = refl
+    by false = refl

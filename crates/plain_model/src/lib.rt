@@ -6,7 +6,7 @@
 
 pub use plays::legal_positions;
 pub use ranks::rank_by_counting;
-pub use totals::total_over_two;
+pub use totals::{sequences_of_two, total_over_two};
 
 pub mod plays;
 pub mod ranks;

@@ -1,8 +1,8 @@
-//! The rolls of a strategy, added up over all sequences of two throws.
-ghost use Rattle.std.specs.Prelude.{◌≡◌, ◌*◌, length};
+//! The rolls of a strategy over all sequences of two throws.
+ghost use Rattle.std.specs.Prelude.{◌≡◌, ◌*◌, ◌==◌, if◌then◌else◌, length};
 ghost use Rattle.race_model.specs.Positions.{Board};
 ghost use Rattle.race_model.specs.Dice.{Throw};
-ghost use Rattle.race_model.specs.Strategies.{Strategy, total_over};
+ghost use Rattle.race_model.specs.Strategies.{Strategy, total_over, count_over};
 ghost use Rattle.plain_model.specs.TwoTurns.{begins_with, rolls_of_two};
 
 use home_board::Position;
@@ -50,7 +50,38 @@ pub fn total_over_two(start: &Position, plays: &[Position]) -> u32
     total
 }
 
-// The totals are those of a count by hand.
+// After how many of the 36 throws that may come second exactly so many rolls were needed.
+fn second_throws_with(start: &Position, after: &Position, rolls: u32) -> u32
+    ensures { result ≡ (if rolls_of_two start.now after.now == rolls then 36 else 0) }
+{
+    let mut count = 0;
+    for _one in 0..6u8 {
+        for _other in 0..6u8 {
+            if rolls_of_two(start, after) == rolls {
+                count += 1;
+            }
+        }
+    }
+    count
+}
+
+/// In how many of all 36 * 36 sequences of two throws a strategy needs exactly so many rolls. It starts and plays
+/// as in `total_over_two`.
+pub fn sequences_of_two(start: &Position, plays: &[Position], rolls: u32) -> u32
+    requires { length plays.now ≡ 36 }
+    ensures { (second : Throw → Throw → Board) (later : Throw → Throw → Strategy) →
+        result ≡ count_over 2 (begins_with start.now plays.now second later) rolls }
+{
+    let mut count = 0;
+    for one in 0..6 {
+        for other in 0..6 {
+            count += second_throws_with(start, &plays[6 * one + other], rolls);
+        }
+    }
+    count
+}
+
+// The numbers are those of a count by hand: 9 of the 36 throws don't bear a checker off from point 6.
 #[cfg(test)]
 mod tests {
     use super::*;
@@ -76,15 +107,18 @@ mod tests {
 
     #[test]
     fn totals_by_hand(rt: HostRuntime) -> Result<(), Fail> {
-        for (counts, total) in [
-            ([0, 0, 0, 0, 0, 0], 0),
-            ([1, 0, 0, 0, 0, 0], 36 * 36),
-            ([0, 0, 0, 0, 0, 1], 36 * 36 + 9 * 36),
+        for (counts, total, sequences) in [
+            ([0, 0, 0, 0, 0, 0], 0, [1296, 0, 0]),
+            ([1, 0, 0, 0, 0, 0], 1296, [0, 1296, 0]),
+            ([0, 0, 0, 0, 0, 1], 1620, [0, 972, 324]),
         ] {
             let start = Position::new(counts)?;
             let plays = plays_to_fewest_pips(rt.alloc(), &start)?;
             assert_eq!(rt; plays.len(), 36);
             assert_eq!(rt; total_over_two(&start, plays.as_slice()), total);
+            for (rolls, count) in (0..3).zip(sequences) {
+                assert_eq!(rt; sequences_of_two(&start, plays.as_slice(), rolls), count);
+            }
         }
         Ok(())
     }
