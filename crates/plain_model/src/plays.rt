@@ -98,7 +98,7 @@ pub fn legal_positions(
     Ok(found)
 }
 
-// The rows and the number of different results are those of an independent program.
+// The number of different results is that of an independent program, and the rows were counted by hand.
 #[cfg(test)]
 mod tests {
     use super::*;
