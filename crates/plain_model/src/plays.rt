@@ -98,7 +98,7 @@ pub fn legal_positions(
     Ok(found)
 }
 
-// The rows and the number of different results are those of an independent program.
+// The number of different results is that of an independent program, and the rows were counted by hand.
 #[cfg(test)]
 mod tests {
     use super::*;
@@ -124,23 +124,19 @@ mod tests {
         let mut count: usize = 0;
         for rank in 0..64 {
             let position = ranks.unrank(rank).ok_or("no position")?;
-            for (first, second) in (1..7).flat_map(|first| (1..7).map(move |second| (
-                first, second,
-            ))) {
-                let one = Die::new(first).ok_or("no die")?;
-                let other = Die::new(second).ok_or("no die")?;
-                let plain = legal_positions(rt.alloc(), &position, one, other)?;
-                let reached = results(&position, Roll::new(one, other));
-                assert!(rt; plain.iter().all(|after| reached.as_slice().contains(after)));
-                assert!(rt;
-                    reached
-                        .as_slice()
-                        .iter()
-                        .all(|after| plain.as_slice().contains(after))
-                );
-                assert_eq!(rt; different(plain.as_slice()), reached.len());
-                if second <= first {
-                    count = count.saturating_add(different(plain.as_slice()));
+            for first in 1..7 {
+                for second in 1..7 {
+                    let one = Die::new(first).ok_or("no die")?;
+                    let other = Die::new(second).ok_or("no die")?;
+                    let plain = legal_positions(rt.alloc(), &position, one, other)?;
+                    let plain = plain.as_slice();
+                    let reached = results(&position, Roll::new(one, other));
+                    assert!(rt; plain.iter().all(|after| reached.as_slice().contains(after)));
+                    assert!(rt; reached.as_slice().iter().all(|after| plain.contains(after)));
+                    assert_eq!(rt; different(plain), reached.len());
+                    if second <= first {
+                        count = count.saturating_add(different(plain));
+                    }
                 }
             }
         }
