@@ -107,7 +107,74 @@ mod tests {
     use crate::record::RecordView;
     use fixed_fraction::WHOLE;
     use legal_plays::Roll;
+    use std::io;
     use std::test::Fail;
+
+    /// A writer that takes so many bytes, one a call, and then fails or takes no byte.
+    #[derive(Drop)]
+    struct Tired {
+        left: usize,
+        fails: bool,
+        written: Vec<u8>,
+    }
+
+    impl Write for Tired {
+        fn write(&mut self, buf: &[u8]) -> io::Result<usize> {
+            match buf.first() {
+                Some(byte) if self.left > 0 => {
+                    self.left -= 1;
+                    self.written.push(*byte)?;
+                    Ok(1)
+                }
+                Some(_) if self.fails => Err(io::Error::from(io::ErrorKind::Other)),
+                _ => Ok(0),
+            }
+        }
+
+        fn flush(&mut self) -> io::Result<()> {
+            Ok(())
+        }
+    }
+
+    #[test]
+    fn headers_to_writers_that_stop(rt: HostRuntime) -> Result<(), Fail> {
+        let header = Header::new(1, 44).ok_or("no header")?;
+        let mut whole = Vec::new(rt.alloc());
+        assert!(rt; write_header(&header, &mut whole).is_ok());
+        assert_eq!(rt; whole.len(), 32);
+        for left in 0..33 {
+            for fails in [true, false] {
+                let written = Vec::new(rt.alloc());
+                let mut tired = Tired { left, fails, written };
+                let told = write_header(&header, &mut tired);
+                assert_eq!(rt; told.is_ok(), left == 32, "after {left} bytes");
+                assert_eq!(rt; tired.written.len(), left);
+                assert!(rt; whole.as_slice().starts_with(tired.written.as_slice()));
+            }
+        }
+        Ok(())
+    }
+
+    #[test]
+    fn records_to_writers_that_stop(rt: HostRuntime) -> Result<(), Fail> {
+        let mean = Scaled::new(12345678901234567890).ok_or("over 22 rolls")?;
+        let plays = [258; 21];
+        let spread = Spread::finished();
+        let mut whole = Vec::new(rt.alloc());
+        assert!(rt; write_record(mean, &plays, &spread, &mut whole).is_ok());
+        assert_eq!(rt; whole.len(), 426);
+        for left in 0..427 {
+            for fails in [true, false] {
+                let written = Vec::new(rt.alloc());
+                let mut tired = Tired { left, fails, written };
+                let told = write_record(mean, &plays, &spread, &mut tired);
+                assert_eq!(rt; told.is_ok(), left == 426, "after {left} bytes");
+                assert_eq!(rt; tired.written.len(), left);
+                assert!(rt; whole.as_slice().starts_with(tired.written.as_slice()));
+            }
+        }
+        Ok(())
+    }
 
     #[test]
     fn header_of_44_pips(rt: HostRuntime) -> Result<(), Fail> {
