@@ -1,6 +1,5 @@
 pub mod Pulled
 pub mod EquationTests
-pub mod Members
 pub mod PlayTests
 pub mod RecordTests
 pub mod Fronts

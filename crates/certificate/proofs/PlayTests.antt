@@ -9,7 +9,7 @@ use Rattle.race_model.specs.LocalEquations.{IsPlayed, IsBest}
 use Rattle.race_model.proofs.Results.{legal_position, legal_pips}
 use Rattle.race_model.proofs.RankOrder.{rank-found, rank-bound}
 use Rattle.certificate.specs.RecordedPlays.{HasRecord}
-use Rattle.certificate.proofs.Members.{all-of_members, member-of_all, some-member}
+use Rattle.race_model.proofs.Members.{all-of_members, member-of_all, some-member}
 
 -- a position of at most the bound has a record
 pub record-of_position : (f : List ℕ) (x : Board) → ((r : ℕ) → r < count_to (bound_of f) → HasRecord f r) → IsPosition x → pips x ≤ bound_of f → HasRecord f (rank x)

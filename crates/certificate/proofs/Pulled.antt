@@ -1,46 +1,15 @@
 -- Sums over the 21 rolls, as a loop over their indices makes them.
-use Rattle.std.proofs.Common.{◌≡◌, ⊎_elim, ℕ, ◌+◌, ◌*◌, ◌^◌, ◌<◌, ◌≤◌, List, map, take, length, get_or, sum_by, refl, sym, ap, ◌∙◌, arith}
+use Rattle.std.proofs.Common.{◌≡◌, ℕ, ◌+◌, ◌*◌, ◌^◌, ◌<◌, ◌≤◌, List, take, sum_by, refl, ap, arith}
 use Rattle.std.specs.Prelude.{slice_index}
-use Rattle.std.proofs.lemmas.List.{ext_get_or, length-map}
-use Rattle.std.proofs.Math.ListN.{get_or-map}
 use Rattle.std.proofs.lemmas.List.Sums.{sum_by_more, sum_by_more_le, sum_by-take-le}
-use Rattle.race_model.specs.Dice.{Throw, one, reversed, all_rolls, roll_at, roll_index, weight}
+use Rattle.race_model.specs.Dice.{one, all_rolls, roll_at, roll_index, weight}
 use Rattle.race_model.specs.Files.{record_at, mean_of, play_of, share_of, mean_at, play_at, spread_at}
 use Rattle.race_model.specs.LocalEquations.{weighted, whole}
+use Rattle.race_model.proofs.RollParts.{roll_count, weights-sum, index-range}
+use Rattle.race_model.proofs.Sums.{sum_equal}
+use Rattle.race_model.proofs.Throws.{roll_of_index}
 use Rattle.fixed_fraction.proofs.Pulls.{part-small, sum-fits}
-use Rattle.race_model.proofs.Sums.{sum_of_map, sum_equal}
-use Rattle.race_model.proofs.Throws.{roll_of_index, index_of_roll, index_reversed, roll_or_reversed}
 use Rattle.certificate.specs.RecordedPlays.{ArePlays, sum_of_means, sum_of_shares}
-
--- there are 21 rolls
-pub roll_count : length all_rolls ≡ 21
-unfolding all_rolls
-roll_count = refl
-
--- their weights add up to 36
-pub weights-sum : sum_by weight all_rolls ≡ 36
-unfolding all_rolls
-weights-sum = refl
-
--- a list that holds something of each roll, in the order of the index, holds it of all rolls
-pub parts-are : (h : Throw → ℕ × ℕ) (parts : List (ℕ × ℕ)) → length parts ≡ 21 → ((j : ℕ) (d : ℕ × ℕ) → j < 21 → get_or parts j d ≡ h (roll_at j)) → parts ≡ map h all_rolls
-unfolding roll_at
-parts-are h parts len each =
-    let d : Throw = record { first = one; second = one } in
-    ext_get_or (h d) parts (map h all_rolls) (len ∙ sym (length-map all_rolls h ∙ roll_count)) (λ i lt.
-    each i (h d) (omega arith) ∙ sym (get_or-map h all_rolls i d))
-
--- what is pulled from such a list is the weighted sum
-pub parts-sum : (g : Throw → ℕ) (parts : List (ℕ × ℕ)) → length parts ≡ 21 → ((j : ℕ) (d : ℕ × ℕ) → j < 21 → get_or parts j d ≡ (weight (roll_at j), g (roll_at j))) → sum_by (λ part. part.0 * part.1) parts ≡ weighted g
-parts-sum g parts len each =
-    let h : Throw → ℕ × ℕ = λ v. (weight v, g v) in
-    rw (parts-are h parts len each) (sum_of_map (λ part. part.0 * part.1) h all_rolls)
-
--- and its weights add up to 36
-pub parts-weights : (g : Throw → ℕ) (parts : List (ℕ × ℕ)) → length parts ≡ 21 → ((j : ℕ) (d : ℕ × ℕ) → j < 21 → get_or parts j d ≡ (weight (roll_at j), g (roll_at j))) → sum_by (λ part. part.0) parts ≡ 36
-parts-weights g parts len each =
-    let h : Throw → ℕ × ℕ = λ v. (weight v, g v) in
-    rw (parts-are h parts len each) (sum_of_map (λ part. part.0) h all_rolls ∙ weights-sum)
 
 -- a sum that goes by the roll, by the roll of an index
 pub by-index : (g : ℕ → ℕ) (i : ℕ) → i < 21 → g (roll_index (roll_at i)) ≡ g i
@@ -90,13 +59,6 @@ share-step g i total weighed share lt w s le sum small =
       small = omega (arith, bounded);
       fits = sum-fits (total + weighed * share) (sum_by weight (take (i + 1) all_rolls)) (weights-within i lt) (omega (arith, bounded));
     }
-
--- each throw has an index below 21
-pub index-range : (v : Throw) → roll_index v < 21
-index-range v = ⊎_elim
-    (λ is. (index_of_roll v is).0)
-    (λ is. omega (arith, (index_of_roll (reversed v) is).0, index_reversed v))
-    (roll_or_reversed v)
 
 -- the sums over the plays of a record are those of the equations
 pub means-of_plays : (f : List ℕ) (r : ℕ) (plays : List ℕ) → ArePlays f r plays → sum_of_means f plays ≡ weighted (λ v. mean_at f (play_at f r (roll_index v)))

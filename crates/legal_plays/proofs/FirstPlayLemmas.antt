@@ -1,9 +1,9 @@
 -- The first play of this crate is the first play of `race_model`, which a reply is told by, move for move.
 use Rattle.std.proofs.Common.{◌≡◌, inl, inr, ℕ, zero, suc, ◌<◌, ◌≤◌, List, [], ◌∷◌, ◌++◌, length, map, flat_map, codes, decimal, refl, ap, ap₂, sym, subst, ◌∙◌, arith, append-nil}
-use Rattle.race_model.specs.Positions.{Board, IsPosition, count}
+use Rattle.race_model.specs.Positions.{Board, IsPosition}
 use Rattle.race_model.specs.Dice.{Die, number, Throw}
-use Rattle.race_model.specs.Plays.{StepFrom, bear_off, move_down, from_highest}
 use Rattle.race_model.specs.FirstPlays as race
+use Rattle.race_model.proofs.Enumerated.{from_occupied}
 use Rattle.race_model.proofs.Steps.{occupied_place, to_position, number_positive}
 use Rattle.legal_plays.specs.declared.moves.Move.{Move}
 use Rattle.legal_plays.specs.FirstPlay.{Plays, IsSooner, IsFirst, IsFirstPlay, greater_first, smaller_first, double}
@@ -20,12 +20,6 @@ same_moves [] x y (m ∷ ms) p = absurd p
 same_moves (d ∷ dice) x y [] p = p
 same_moves (d ∷ dice) x y (m ∷ ms) p = (p.0, (p.1.1.0.distance, (p.1.0, (p.1.1.0.step, same_moves dice p.1.0 y ms p.1.1.1))))
 
--- a step leaves a point of the board
-from_point : (x : Board) (d s : ℕ) (z : Board) → StepFrom x d s z → 0 < count x s
-from_point x d s z (bear_off _ occupied _) = occupied
-from_point x d s z (move_down _ occupied _) = occupied
-from_point x d s z (from_highest _ top _) = top.occupied
-
 -- moves of `race_model` are moves of this crate
 record Comes (x : Board) (dice : List Die) (y : Board) (ns : List race.Move) : Type 0 where
   moves : List Move
@@ -39,7 +33,7 @@ comes (d ∷ dice) x y [] at p = record { moves = []; plays = p; same = refl }
 comes (d ∷ dice) x y (n ∷ ns) at p = by (comes dice p.1.1.0 y ns (to_position x d p.1.1.0 at (n.0, p.1.1.1.0)) p.1.1.1.1)
   where
     inside : (0 < n.0) × (n.0 ≤ length x)
-    inside = occupied_place x n.0 (from_point x (number d) n.0 p.1.1.0 p.1.1.1.0)
+    inside = occupied_place x n.0 (from_occupied x (number d) n.0 p.1.1.0 p.1.1.1.0)
 
     move : Move
     move = record { from = n.0; to = n.1; on_board = omega (arith, inside.1, at.six); down = omega (arith, inside.0, p.1.0, number_positive d) }

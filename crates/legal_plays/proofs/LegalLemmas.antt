@@ -4,8 +4,8 @@ use Rattle.std.proofs.lemmas.List.Elements.{Contains-get_or}
 use Rattle.race_model.specs.Positions.{Board, fewer, more}
 use Rattle.race_model.specs.Dice.{Die, Throw, number}
 use Rattle.race_model.specs.Plays.{StepFrom, Run, Legal, bear_off, move_down, from_highest, in_order, in_reverse, double}
+use Rattle.race_model.proofs.FromRight.{same_number}
 use Rattle.legal_plays.specs.RankOrder.{IsInRankOrder, IsAscending}
-use Rattle.legal_plays.proofs.RollLemmas.{number_apart}
 use Rattle.legal_plays.proofs.RankLemmas.{before-less}
 
 -- a double is played four times
@@ -33,7 +33,7 @@ pub results_double : (x : Board) (v : Throw) (a b : Die) (y : Board) (Now : Type
 results_double x v a b y Now first second same now = (λ got. legal.0 (there (now.0 got)), λ play. now.1 (back (legal.1 play)))
   where
     legal : Run x (v.first ∷ v.first ∷ v.first ∷ v.first ∷ []) y ↔ Legal x v y
-    legal = legal_double x v y (sym first ∙ number_apart a b same ∙ second)
+    legal = legal_double x v y (sym first ∙ same_number a b same ∙ second)
 
     there : Run x (a ∷ a ∷ a ∷ a ∷ []) y → Run x (v.first ∷ v.first ∷ v.first ∷ v.first ∷ []) y
     there = subst (λ d. Run x (a ∷ a ∷ a ∷ a ∷ []) y → Run x (d ∷ d ∷ d ∷ d ∷ []) y) first (λ run. run)

@@ -1,6 +1,5 @@
 pub mod LegalLemmas
 pub mod OrderLemmas
-pub mod PlayableLemmas
 pub mod PlayLemmas
 pub mod PlayToLemmas
 pub mod RankLemmas

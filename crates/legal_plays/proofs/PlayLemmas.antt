@@ -5,9 +5,9 @@ use Rattle.std.proofs.lemmas.Bool.{cases_lt}
 use Rattle.race_model.specs.Positions.{Board, IsFinished}
 use Rattle.race_model.specs.Dice.{Die, number}
 use Rattle.race_model.specs.Plays.{StepFrom, Run}
+use Rattle.race_model.proofs.PlayOrder.{one_step}
 use Rattle.legal_plays.specs.declared.moves.Move.{Move}
 use Rattle.legal_plays.specs.FirstPlay.{IsMove, Plays, IsSooner, IsFirst}
-use Rattle.legal_plays.proofs.StepLemmas.{same_step}
 use Rattle.legal_plays.proofs.ReachLemmas.{run_finished}
 
 -- a play is a run
@@ -45,7 +45,7 @@ first_move x d dice y m z moves left move first above = record { plays = (left, 
     none (n ∷ others) (left', (w, (move', plays))) sooner = elim sooner [
       | inl higher ↦ above n.from w higher move'.step (plays_run w dice others y plays)
       | inr later ↦
-          let same : w ≡ z = same_step x (number d) m.from w z (subst (λ s. StepFrom x (number d) s w) later.0 move'.step) move.step in
+          let same : w ≡ z = one_step x (number d) m.from w z (subst (λ s. StepFrom x (number d) s w) later.0 move'.step) move.step in
           first.none_sooner others (subst (λ v. Plays v dice others y) same plays) later.1
     ]
 

@@ -1,6 +1,5 @@
 -- The 21 rolls and their indexes.
 use Rattle.std.proofs.Common.{◌≡◌, ℕ, ◌≤◌, arith, refl, sym, ap, ◌∙◌}
-use Rattle.legal_plays.specs.Faces.{face}
 use Rattle.race_model.specs.Dice.{Die, one, two, three, four, five, six, number, Throw, IsRoll, all_rolls, roll_at, roll_index}
 
 -- the rolls stand in the order of their index
@@ -46,16 +45,3 @@ in_order six six h = refl
 -- the roll of an index
 pub roll_at_is : (v : Throw) (i : ℕ) → roll_index v ≡ i → IsRoll v → v ≡ roll_at i
 roll_at_is v i e h = sym (in_order v.first v.second h) ∙ ap roll_at e
-
--- the number of a die tells which die it is
-face-number : (d : Die) → face (number d) ≡ d
-face-number one = refl
-face-number two = refl
-face-number three = refl
-face-number four = refl
-face-number five = refl
-face-number six = refl
-
--- dice that show the same number are the same
-pub number_apart : (a b : Die) → number a ≡ number b → a ≡ b
-number_apart a b same = sym (face-number a) ∙ ap face same ∙ face-number b

@@ -1,12 +1,14 @@
 -- The steps of a die.
-use Rattle.std.proofs.Common.{◌≡◌, ℕ, zero, suc, ◌+◌, ◌<◌, ◌≤◌, List, length, get_or, ◌⊎◌, inl, inr, ◌↔◌, refl, sym, ◌∙◌, subst, arith}
+use Rattle.std.proofs.Common.{◌≡◌, ℕ, zero, suc, ◌+◌, ◌<◌, ◌≤◌, List, length, get_or, ◌⊎◌, inl, inr, ◌↔◌, refl, sym, subst, arith}
 use Rattle.std.specs.Prelude.{sum}
 use Rattle.std.proofs.lemmas.Bool.{cases_lt}
 use Rattle.std.proofs.lemmas.List.{get_or_past}
 use Rattle.std.proofs.lemmas.List.Sums.{get_or-le-sum_by}
 use Rattle.race_model.specs.Positions.{Board, count, IsFinished, IsHighest}
 use Rattle.race_model.specs.Dice.{Die, number}
-use Rattle.race_model.specs.Plays.{StepFrom, Step, bear_off, move_down, from_highest}
+use Rattle.race_model.specs.Plays.{StepFrom, Step}
+use Rattle.race_model.proofs.Enumerated.{from_occupied}
+use Rattle.race_model.proofs.PlayOrder.{one_step}
 
 -- a step from one of the points below a limit
 abbrev pub StepBelow : Board → Die → ℕ → Board → Type 0
@@ -25,30 +27,12 @@ pub count-finished : (x : Board) (p : ℕ) → IsFinished x → count x p ≡ 0
 count-finished x zero done = refl
 count-finished x (suc i) done = omega (arith, get_or-sum x i)
 
--- a step starts where a checker stands
-pub occupied : (x : Board) (d s : ℕ) (y : Board) → StepFrom x d s y → 0 < count x s
-occupied x d s y (bear_off at there is) = there
-occupied x d s y (move_down below there is) = there
-occupied x d s y (from_highest empty top is) = top.occupied
-
--- two steps of a die from one point are the same
-pub same_step : (x : Board) (d s : ℕ) (y z : Board) → StepFrom x d s y → StepFrom x d s z → y ≡ z
-same_step x d s y z (bear_off at there is) (bear_off at' there' is') = is ∙ sym is'
-same_step x d s y z (bear_off at there is) (move_down below there' is') = absurd (omega arith)
-same_step x d s y z (bear_off at there is) (from_highest empty top is') = is ∙ sym is'
-same_step x d s y z (move_down below there is) (bear_off at there' is') = absurd (omega arith)
-same_step x d s y z (move_down below there is) (move_down below' there' is') = is ∙ sym is'
-same_step x d s y z (move_down below there is) (from_highest empty top is') = absurd (omega (arith, empty s (omega arith)))
-same_step x d s y z (from_highest empty top is) (bear_off at there' is') = is ∙ sym is'
-same_step x d s y z (from_highest empty top is) (move_down below there' is') = absurd (omega (arith, empty s (omega arith)))
-same_step x d s y z (from_highest empty top is) (from_highest empty' top' is') = is ∙ sym is'
-
 -- no step starts above the highest point
 pub step_source : (x : Board) (h d s : ℕ) (y : Board) → (h ≡ 0 → IsFinished x) → (0 < h → IsHighest x h) → StepFrom x d s y → s ≤ h
-step_source x zero d s y none top step = absurd (omega (arith, occupied x d s y step, count-finished x s (none refl)))
+step_source x zero d s y none top step = absurd (omega (arith, from_occupied x d s y step, count-finished x s (none refl)))
 step_source x (suc h) d s y none top step =
     elim (cases_lt (suc h) s) [
-      | inl past ↦ absurd (omega (arith, occupied x d s y step, (top (omega arith)).above s past))
+      | inl past ↦ absurd (omega (arith, from_occupied x d s y step, (top (omega arith)).above s past))
       | inr within ↦ within
     ]
 
@@ -59,7 +43,7 @@ all_steps x h d limit y none top past =
 
 -- no step starts below point 1
 pub no_steps : (x : Board) (d : Die) (y : Board) → ¬ StepBelow x d 1 y
-no_steps x d y (s, low, step) = lowest s low (occupied x (number d) s y step)
+no_steps x d y (s, low, step) = lowest s low (from_occupied x (number d) s y step)
   where
     lowest : (p : ℕ) → p < 1 → ¬ (0 < count x p)
     lowest zero h there = omega arith
@@ -83,7 +67,7 @@ one_more_step x d s z y Old Before Now step now before = (there, back)
         | inl low ↦ now.1 (inl (before.1 (inr (below.0, low, below.2))))
         | inr high ↦
             let same : below.0 ≡ s = omega (arith, below.1) in
-            now.1 (inr (same_step x (number d) s y z (subst (λ p. StepFrom x (number d) p y) same below.2) step))
+            now.1 (inr (one_step x (number d) s y z (subst (λ p. StepFrom x (number d) p y) same below.2) step))
       ]
     ]
 

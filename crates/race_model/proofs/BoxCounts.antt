@@ -1,28 +1,15 @@
 -- Counts over the box of all boards, split by the first count: one recurrence for every test.
 use Rattle.std.proofs.Common.{◌≡◌, ℕ, zero, suc, ◌+◌, ◌<◌, ◌≤◌, Bool, true, false, cond, ◌&&◌, not, List, [], ◌∷◌, length, map, refl, sym, ◌∙◌, ap, zero-add, inl, inr, arith}
-use Rattle.std.specs.Prelude.{nat_le, ◌==◌, ◌⊎◌, flat_map, sum, sum_by, count_by, find, Some, None}
-use Rattle.std.proofs.lemmas.List.Sums.{sum_by-cons, sum_by-append}
+use Rattle.std.specs.Prelude.{nat_le, ◌==◌, ◌⊎◌, sum, sum_by, count_by, find, Some, None}
+use Rattle.std.proofs.lemmas.List.Sums.{sum_by-cons}
 use Rattle.std.proofs.lemmas.Bool.{leb-true, eqb-true, eq-eqb, le-leb, lt-leb, and_left, and_right}
 use Rattle.race_model.specs.Ranks.{boards, numbers_from}
-
--- a sum over mapped elements
-pub sum_by-map : {X Y : Type 0} (g : Y → ℕ) (f : X → Y) (xs : List X) → sum_by g (map f xs) ≡ sum_by (λ x. g (f x)) xs
-sum_by-map g f [] = refl
-sum_by-map g f (x ∷ xs) = sum_by-cons g (f x) (map f xs) ∙ ap (λ n. g (f x) + n) (sum_by-map g f xs) ∙ sym (sum_by-cons (λ x. g (f x)) x xs)
-
--- a sum over joined lists is the sum of their sums
-pub sum_by-flat_map : {X Y : Type 0} (g : Y → ℕ) (f : X → List Y) (xs : List X) → sum_by g (flat_map f xs) ≡ sum_by (λ x. sum_by g (f x)) xs
-sum_by-flat_map g f [] = refl
-sum_by-flat_map g f (x ∷ xs) =
-    sum_by-append g (f x) (flat_map f xs)
-    ∙ ap (λ n. sum_by g (f x) + n) (sum_by-flat_map g f xs)
-    ∙ sym (sum_by-cons (λ x. sum_by g (f x)) x xs)
+use Rattle.race_model.proofs.Points.{sum_cons}
+use Rattle.race_model.proofs.Sums.{sum_of_map, sum_of_flat_map, sum_equal, sum_of_nothing}
 
 -- equal terms, equal sums
 pub sum_by-same : {X : Type 0} (f g : X → ℕ) (xs : List X) → ((x : X) → f x ≡ g x) → sum_by f xs ≡ sum_by g xs
-sum_by-same f g [] e = refl
-sum_by-same f g (x ∷ xs) e =
-    sum_by-cons f x xs ∙ ap (λ n. n + sum_by f xs) (e x) ∙ ap (λ n. g x + n) (sum_by-same f g xs e) ∙ sym (sum_by-cons g x xs)
+sum_by-same f g xs e = sum_equal f g xs e
 
 -- a sum of sums
 pub sum_by-add : {X : Type 0} (f g h : X → ℕ) (xs : List X) → ((x : X) → f x ≡ g x + h x) → sum_by f xs ≡ sum_by g xs + sum_by h xs
@@ -30,18 +17,13 @@ sum_by-add f g h [] e = refl
 sum_by-add f g h (x ∷ xs) e =
     omega (arith, sum_by-cons f x xs, sum_by-cons g x xs, sum_by-cons h x xs, e x, sum_by-add f g h xs e)
 
--- a sum of zeros
-pub sum_by-none : {X : Type 0} (f : X → ℕ) (xs : List X) → ((x : X) → f x ≡ 0) → sum_by f xs ≡ 0
-sum_by-none f [] e = refl
-sum_by-none f (x ∷ xs) e = omega (arith, sum_by-cons f x xs, e x, sum_by-none f xs e)
-
 -- a count by the first of the counts
 pub count-by_first : (n : ℕ) (p : List ℕ → Bool) →
     count_by p (boards (suc n)) ≡ sum_by (λ c. count_by (λ cs. p (c ∷ cs)) (boards n)) (numbers_from 0 16)
 unfolding boards
 count-by_first n p =
-    sum_by-flat_map (λ y. cond {A = ℕ} (p y) 1 0) (λ c. map (λ cs. c ∷ cs) (boards n)) (numbers_from 0 16)
-    ∙ sum_by-same _ _ (numbers_from 0 16) (λ c. sum_by-map (λ y. cond {A = ℕ} (p y) 1 0) (λ cs. c ∷ cs) (boards n))
+    sum_of_flat_map (λ y. cond {A = ℕ} (p y) 1 0) (λ c. map (λ cs. c ∷ cs) (boards n)) (numbers_from 0 16)
+    ∙ sum_equal _ _ (numbers_from 0 16) (λ c. sum_of_map (λ y. cond {A = ℕ} (p y) 1 0) (λ cs. c ∷ cs) (boards n))
 
 -- a sum over numbers that begin one later
 pub sum_by-later : (f : ℕ → ℕ) (a n : ℕ) → sum_by f (numbers_from (suc a) n) ≡ sum_by (λ c. f (suc c)) (numbers_from a n)
@@ -70,10 +52,6 @@ pub sum_by-sixteen : (f : ℕ → ℕ) → f 16 ≡ 0 → sum_by f (numbers_from
 sum_by-sixteen f none =
     omega (arith, sum_by-last f 0 16, none, sum_by-opened f 0 16, sum_by-later f 0 16)
 
--- the sum of a list with one more in front
-pub sum-cons : (c : ℕ) (cs : List ℕ) → sum (c ∷ cs) ≡ c + sum cs
-sum-cons c cs = sum_by-cons (λ x. x) c cs
-
 -- how many lists of n counts have at most k checkers and pass a test
 unfoldable pub within : ℕ → ℕ → (List ℕ → Bool) → ℕ
 within n k test = count_by (λ y. nat_le (sum y) k && test y) (boards n)
@@ -93,12 +71,12 @@ length-one_more (c ∷ cs) = refl
 pub sum-one_more : (y : List ℕ) → sum (one_more y) ≤ suc (sum y)
 unfolding one_more
 sum-one_more [] = omega arith
-sum-one_more (c ∷ cs) = omega (arith, sum-cons (suc c) cs, sum-cons c cs)
+sum-one_more (c ∷ cs) = omega (arith, sum_cons (suc c) cs, sum_cons c cs)
 
 -- tests that agree, counts that agree
 pub within-same : (n k : ℕ) (p q : List ℕ → Bool) → ((y : List ℕ) → p y ≡ q y) → within n k p ≡ within n k q
 unfolding within
-within-same n k p q e = sum_by-same _ _ (boards n) (λ y. ap (λ b. cond {A = ℕ} (nat_le (sum y) k && b) 1 0) (e y))
+within-same n k p q e = sum_equal _ _ (boards n) (λ y. ap (λ b. cond {A = ℕ} (nat_le (sum y) k && b) 1 0) (e y))
 
 -- of lists of no counts there is one
 pub within-nil : (k : ℕ) (test : List ℕ → Bool) → within 0 k test ≡ cond (test []) 1 0
@@ -113,8 +91,8 @@ starting n k test c = count_by (λ cs. nat_le (sum (c ∷ cs)) k && test (c ∷ 
 starting-none : (n k : ℕ) (test : List ℕ → Bool) (c : ℕ) → k < c → starting n k test c ≡ 0
 unfolding starting
 starting-none n k test c h =
-    sum_by-none _ (boards n)
-    (λ cs. ap (λ b. cond {A = ℕ} b 1 0) (and_left (nat_le (sum (c ∷ cs)) k) (test (c ∷ cs)) (lt-leb (sum (c ∷ cs)) k (omega (arith, sum-cons c cs)))))
+    sum_of_nothing _ (boards n)
+    (λ cs. ap (λ b. cond {A = ℕ} b 1 0) (and_left (nat_le (sum (c ∷ cs)) k) (test (c ∷ cs)) (lt-leb (sum (c ∷ cs)) k (omega (arith, sum_cons c cs)))))
 
 -- an empty first point may be left out
 starting-zero : (n k : ℕ) (test : List ℕ → Bool) → starting n k test 0 ≡ within n k (λ cs. test (0 ∷ cs))
@@ -135,17 +113,17 @@ le-suc a b = same-bool _ _ (λ h. le-leb _ _ (omega (arith, leb-true (suc a) (su
 starting-suc : (n k : ℕ) (test : List ℕ → Bool) (c : ℕ) → starting n (suc k) test (suc c) ≡ starting n k (λ y. test (one_more y)) c
 unfolding starting one_more
 starting-suc n k test c =
-    sum_by-same _ _ (boards n) (λ cs. ap (λ b. cond {A = ℕ} (b && test (suc c ∷ cs)) 1 0) (room cs)) where
+    sum_equal _ _ (boards n) (λ cs. ap (λ b. cond {A = ℕ} (b && test (suc c ∷ cs)) 1 0) (room cs)) where
       room : (cs : List ℕ) → nat_le (sum (suc c ∷ cs)) (suc k) ≡ nat_le (sum (c ∷ cs)) k
       room cs =
-          let e : sum (suc c ∷ cs) ≡ suc (c + sum cs) = omega (arith, sum-cons (suc c) cs) in
-          ap (λ m. nat_le m (suc k)) e ∙ le-suc (c + sum cs) k ∙ ap (λ m. nat_le m k) (sym (sum-cons c cs))
+          let e : sum (suc c ∷ cs) ≡ suc (c + sum cs) = omega (arith, sum_cons (suc c) cs) in
+          ap (λ m. nat_le m (suc k)) e ∙ le-suc (c + sum cs) k ∙ ap (λ m. nat_le m k) (sym (sum_cons c cs))
 
 -- tests that agree on the lists with first count c
 starting-same : (n k : ℕ) (p q : List ℕ → Bool) (c : ℕ) → ((cs : List ℕ) → p (c ∷ cs) ≡ q (c ∷ cs)) → starting n k p c ≡ starting n k q c
 unfolding starting
 starting-same n k p q c e =
-    sum_by-same _ _ (boards n) (λ cs. ap (λ b. cond {A = ℕ} (nat_le (sum (c ∷ cs)) k && b) 1 0) (e cs))
+    sum_equal _ _ (boards n) (λ cs. ap (λ b. cond {A = ℕ} (nat_le (sum (c ∷ cs)) k && b) 1 0) (e cs))
 
 -- one more on both sides of an equation
 pub eq-suc : (a b : ℕ) → (suc a == suc b) ≡ (a == b)
@@ -164,7 +142,7 @@ within-zero n test =
     ∙ rest
     ∙ starting-zero n 0 test where
       rest : starting n 0 test 0 + sum_by (λ c. starting n 0 test (suc c)) (numbers_from 0 16) ≡ starting n 0 test 0
-      rest = omega (arith, sum_by-none (λ c. starting n 0 test (suc c)) (numbers_from 0 16) (λ c. starting-none n 0 test (suc c) (omega arith)))
+      rest = omega (arith, sum_of_nothing (λ c. starting n 0 test (suc c)) (numbers_from 0 16) (λ c. starting-none n 0 test (suc c) (omega arith)))
 
 -- else the first point is empty, or it has one checker more than on a list with one checker fewer
 pub within-suc : (n k : ℕ) (test : List ℕ → Bool) → k < 15 →
@@ -173,26 +151,26 @@ within-suc n k test h =
     within-by_first n (suc k) test
     ∙ sum_by-sixteen (starting n (suc k) test) (starting-none n (suc k) test 16 (omega arith))
     ∙ ap (λ m. m + sum_by (λ c. starting n (suc k) test (suc c)) (numbers_from 0 16)) (starting-zero n (suc k) test)
-    ∙ ap (λ m. within n (suc k) (λ cs. test (0 ∷ cs)) + m) (sum_by-same _ _ (numbers_from 0 16) (starting-suc n k test) ∙ sym (within-by_first n k (λ y. test (one_more y))))
+    ∙ ap (λ m. within n (suc k) (λ cs. test (0 ∷ cs)) + m) (sum_equal _ _ (numbers_from 0 16) (starting-suc n k test) ∙ sym (within-by_first n k (λ y. test (one_more y))))
 
 -- tests that agree on each list with a first count, counts that agree
 pub within-same_cons : (n k : ℕ) (p q : List ℕ → Bool) → ((c : ℕ) (cs : List ℕ) → p (c ∷ cs) ≡ q (c ∷ cs)) →
     within (suc n) k p ≡ within (suc n) k q
 within-same_cons n k p q e =
     within-by_first n k p
-    ∙ sum_by-same _ _ (numbers_from 0 16) (λ c. starting-same n k p q c (e c))
+    ∙ sum_equal _ _ (numbers_from 0 16) (λ c. starting-same n k p q c (e c))
     ∙ sym (within-by_first n k q)
 
 -- a test that fails on the lists with first count c
 starting-false : (n k : ℕ) (test : List ℕ → Bool) (c : ℕ) → ((cs : List ℕ) → test (c ∷ cs) ≡ false) → starting n k test c ≡ 0
 unfolding starting
 starting-false n k test c e =
-    sum_by-none _ (boards n) (λ cs. ap (λ b. cond {A = ℕ} b 1 0) (and_right (nat_le (sum (c ∷ cs)) k) (test (c ∷ cs)) (e cs)))
+    sum_of_nothing _ (boards n) (λ cs. ap (λ b. cond {A = ℕ} b 1 0) (and_right (nat_le (sum (c ∷ cs)) k) (test (c ∷ cs)) (e cs)))
 
 -- a test that fails on each list with a first count
 pub within-none_cons : (n k : ℕ) (test : List ℕ → Bool) → ((c : ℕ) (cs : List ℕ) → test (c ∷ cs) ≡ false) → within (suc n) k test ≡ 0
 within-none_cons n k test e =
-    within-by_first n k test ∙ sum_by-none _ (numbers_from 0 16) (λ c. starting-false n k test c (e c))
+    within-by_first n k test ∙ sum_of_nothing _ (numbers_from 0 16) (λ c. starting-false n k test c (e c))
 
 -- what one test lets pass is what two others do
 pub within-add : (n k : ℕ) (p q r : List ℕ → Bool) →
@@ -208,7 +186,7 @@ within-add n k p q r e =
 pub within-none : (n k : ℕ) (test : List ℕ → Bool) → ((y : List ℕ) → test y ≡ false) → within n k test ≡ 0
 unfolding within
 within-none n k test e =
-    sum_by-none _ (boards n) (λ y. ap (λ b. cond {A = ℕ} b 1 0) (and_right (nat_le (sum y) k) (test y) (e y)))
+    sum_of_nothing _ (boards n) (λ y. ap (λ b. cond {A = ℕ} b 1 0) (and_right (nat_le (sum y) k) (test y) (e y)))
 
 -- a test that fails on each list of n counts with at most k checkers
 pub within-none_on : (n k : ℕ) (test : List ℕ → Bool) → k ≤ 15 →
@@ -216,9 +194,9 @@ pub within-none_on : (n k : ℕ) (test : List ℕ → Bool) → k ≤ 15 →
 within-none_on zero k test h e = within-nil k test ∙ ap (λ b. cond {A = ℕ} b 1 0) (e [] refl (omega arith))
 within-none_on (suc n) zero test h e =
     within-zero n test
-    ∙ within-none_on n zero _ h (λ cs l few. e (0 ∷ cs) (omega arith) (omega (arith, sum-cons 0 cs)))
+    ∙ within-none_on n zero _ h (λ cs l few. e (0 ∷ cs) (omega arith) (omega (arith, sum_cons 0 cs)))
 within-none_on (suc n) (suc k) test h e =
-    let empty : within n (suc k) (λ cs. test (0 ∷ cs)) ≡ 0 = within-none_on n (suc k) _ h (λ cs l few. e (0 ∷ cs) (omega arith) (omega (arith, sum-cons 0 cs))) in
+    let empty : within n (suc k) (λ cs. test (0 ∷ cs)) ≡ 0 = within-none_on n (suc k) _ h (λ cs l few. e (0 ∷ cs) (omega arith) (omega (arith, sum_cons 0 cs))) in
     let some : within (suc n) k (λ y. test (one_more y)) ≡ 0 = within-none_on (suc n) k _ (omega arith) (λ y l few. e (one_more y) (length-one_more y ∙ l) (omega (arith, sum-one_more y))) in
     omega (arith, within-suc n k test (omega arith), empty, some)
 
@@ -236,7 +214,7 @@ within-some_first cs rest (suc c) (suc k) test h few e =
 -- a test that passes on some list of at most k checkers
 pub within-some : (x : List ℕ) (k : ℕ) (test : List ℕ → Bool) → k ≤ 15 → sum x ≤ k → test x ≡ true → 0 < within (length x) k test
 within-some [] k test h few e = rw (within-nil k test, e) (omega arith)
-within-some (c ∷ cs) k test h few e = within-some_first cs (within-some cs) c k test h (omega (arith, sum-cons c cs)) e
+within-some (c ∷ cs) k test h few e = within-some_first cs (within-some cs) c k test h (omega (arith, sum_cons c cs)) e
 
 -- every list in the box of n counts has n counts
 pub boards-length : (n : ℕ) → count_by (λ y. not (length y == n)) (boards n) ≡ 0
@@ -244,7 +222,7 @@ unfolding boards
 boards-length zero = refl
 boards-length (suc n) =
     count-by_first n (λ y. not (length y == suc n))
-    ∙ sum_by-none _ (numbers_from 0 16) (λ c. sum_by-same _ _ (boards n) (λ cs. ap (λ b. cond {A = ℕ} (not b) 1 0) (eq-suc (length cs) n)) ∙ boards-length n)
+    ∙ sum_of_nothing _ (numbers_from 0 16) (λ c. sum_equal _ _ (boards n) (λ cs. ap (λ b. cond {A = ℕ} (not b) 1 0) (eq-suc (length cs) n)) ∙ boards-length n)
 
 -- the first list that passes a test, where there is one, and fails another test that no list passes
 pub record IsFound (p bad : List ℕ → Bool) (xs : List (List ℕ)) (y : List ℕ) : Type 0 where

@@ -126,7 +126,7 @@ listed_step x d s y (from_highest empty top to) = subst (IsIn y) (sym tests) (in
     tests = λ i. chosen (ne_eqb (count x s) 0 here i) (le-ltb d s (under x s d empty top.occupied) i) (ne_eqb s d apart i) (eq-eqb (sum (drop s x)) 0 (empty_above x s top.above) i) (more (fewer x s) (s - d) ∷ []) (fewer x s ∷ [])
 
 -- a step leaves an occupied point
-from_occupied : (x : Board) (d s : ℕ) (y : Board) → StepFrom x d s y → 0 < count x s
+pub from_occupied : (x : Board) (d s : ℕ) (y : Board) → StepFrom x d s y → 0 < count x s
 from_occupied x d s y (bear_off _ occupied _) = occupied
 from_occupied x d s y (move_down _ occupied _) = occupied
 from_occupied x d s y (from_highest _ top _) = top.occupied

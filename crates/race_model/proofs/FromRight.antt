@@ -21,6 +21,11 @@ use Rattle.race_model.proofs.FromLocal.{follow_finished, follow_unfinished, mean
 abbrev pub is_throw : Throw → Throw → Bool
 is_throw v u = eqb (number v.first) (number u.first) && eqb (number v.second) (number u.second)
 
+-- both of two tests
+pub both_tests : (a b : Bool) → (a && b) ≡ true → (a ≡ true) × (b ≡ true)
+both_tests true b e = (refl, e)
+both_tests false b e = absurd (cc)
+
 -- dice that show the same number are the same
 pub same_number : (a b : Die) → number a ≡ number b → a ≡ b
 same_number a b e = ⊎_elim (λ same. same) (λ apart. absurd (numbers_apart a b apart e)) (same_die a b)
@@ -28,14 +33,10 @@ same_number a b e = ⊎_elim (λ same. same) (λ apart. absurd (numbers_apart a 
 -- .. and then they are the same throw
 pub same_throw : (v u : Throw) → is_throw v u ≡ true → v ≡ u
 same_throw v u e =
-    let parts = both (eqb (number v.first) (number u.first)) (eqb (number v.second) (number u.second)) e in
+    let parts = both_tests (eqb (number v.first) (number u.first)) (eqb (number v.second) (number u.second)) e in
     let first = same_number v.first u.first (eqb-true _ _ parts.0) in
     let second = same_number v.second u.second (eqb-true _ _ parts.1) in
     λ i. record { first = first i; second = second i }
-  where
-    both : (a b : Bool) → (a && b) ≡ true → (a ≡ true) × (b ≡ true)
-    both true b e = (refl, e)
-    both false b e = absurd (cc)
 
 -- the plays of a strategy, but for one throw
 abbrev pub otherwise_at : Throw → Board → (Throw → Board) → Throw → Board

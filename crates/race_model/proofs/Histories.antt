@@ -7,7 +7,7 @@ use mathlib.Core.Path.{fun_ext}
 use Rattle.race_model.specs.Positions.{Board}
 use Rattle.race_model.specs.Dice.{Throw, throws}
 use Rattle.race_model.specs.Strategies.{Strategy, stop, turn, Fits, rolls, sequences, total_over, count_over, IsWithin, EndsIn}
-use Rattle.race_model.proofs.Sums.{sum_of_map, sum_of_flat_map, sum_equal, sum_of_sum, sum_of_multiple, sum_of_same, throw_count}
+use Rattle.race_model.proofs.Sums.{sum_of_map, sum_of_flat_map, sum_equal, sum_of_sum, sum_of_multiple, sum_of_same, sum_of_nothing, throw_count}
 
 -- the sum, over all sequences of m throws, of a number that goes by the rolls of a strategy
 unfoldable pub over : ℕ → Strategy → (ℕ → ℕ) → ℕ
@@ -53,14 +53,10 @@ over_stop m h = sum_of_same (h 0) (sequences m) ∙ ap (λ n. h 0 * n) count
     count : length (sequences m) ≡ 36 ^ m
     count = omega (arith, sequence_count m, sum_of_same 1 (sequences m))
 
--- a sum of zeros
-sum_of_zeros : {X : Type 0} (xs : List X) → sum_by (λ x. 0) xs ≡ 0
-sum_of_zeros xs = omega (arith, sum_of_same 0 xs)
-
 -- a number that is 0 at each number of rolls of the strategy
 pub over_zeros : (m : ℕ) (s : Strategy) (h : ℕ → ℕ) → ((w : List Throw) → h (rolls s w) ≡ 0) → over m s h ≡ 0
 unfolding over
-over_zeros m s h none = sum_equal (λ w. h (rolls s w)) (λ w. 0) (sequences m) none ∙ sum_of_zeros (sequences m)
+over_zeros m s h none = sum_of_nothing (λ w. h (rolls s w)) (sequences m) none
 
 -- a turn: the first throw, and then the strategy that goes on
 pub over_turn : (m : ℕ) (to : Throw → Board) (next : Throw → Strategy) (h : ℕ → ℕ) → over (suc m) (turn to next) h ≡ sum_by (λ v. over m (next v) (λ k. h (suc k))) throws
@@ -120,8 +116,7 @@ pub count_turn_none : (m : ℕ) (to : Throw → Board) (next : Throw → Strateg
 count_turn_none m to next =
     count_is (suc m) (turn to next) 0
     ∙ over_turn m to next (one_at 0)
-    ∙ sum_equal (λ v. over m (next v) (λ r. one_at 0 (suc r))) (λ v. 0) throws (λ v. over_zeros m (next v) (λ r. one_at 0 (suc r)) (λ w. ap (λ b. cond b 1 0) (eqb-suc-zero (rolls (next v) w))))
-    ∙ sum_of_zeros throws
+    ∙ sum_of_nothing (λ v. over m (next v) (λ r. one_at 0 (suc r))) throws (λ v. over_zeros m (next v) (λ r. one_at 0 (suc r)) (λ w. ap (λ b. cond b 1 0) (eqb-suc-zero (rolls (next v) w))))
 
 -- a throw more makes 36 times as many rolls, where the game is over by then
 pub total_scale : (m : ℕ) (s : Strategy) → IsWithin m s → total_over (suc m) s ≡ 36 * total_over m s

@@ -37,3 +37,5 @@ pub mod Decisions
 pub mod Compact
 pub mod LeastExists
 pub mod SampleLeast
+pub mod Members
+pub mod RollParts

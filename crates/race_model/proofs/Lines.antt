@@ -5,7 +5,7 @@ use Rattle.std.proofs.lemmas.List.Elements.{All-append, All-cons, All-nil}
 use Rattle.std.proofs.lemmas.List.Splits.{join_with_byte-slice_split, slice_split_at, slice_split_none}
 use Rattle.race_model.specs.Positions.{Board}
 use Rattle.race_model.specs.Dice.{Die, number, Throw, reversed, IsRoll}
-use Rattle.race_model.proofs.FromRight.{same_number}
+use Rattle.race_model.proofs.FromRight.{same_number, both_tests}
 use Rattle.race_model.specs.PositionText.{is_digit, is_leading_digit, count_value, IsPositionText}
 use Rattle.race_model.specs.Queries.{Query, mean_query, dist_query, play_query, loss_query, moves_query, rank_query, dice_text, IsRollText, IsQuery, words, HasWords}
 
@@ -17,11 +17,6 @@ IsNoSpace c = eqb c 32 ≡ false
 pub tested : (b : Bool) (a : Option ℕ) (n : ℕ) → cond b a None ≡ Some n → b ≡ true
 tested true a n e = refl
 tested false a n e = absurd (cc)
-
--- both of two tests
-pub both_tests : (a b : Bool) → (a && b) ≡ true → (a ≡ true) × (b ≡ true)
-both_tests true b e = (refl, e)
-both_tests false b e = absurd (cc)
 
 -- a digit is no space
 digit_no_space : (c : ℕ) → is_digit c ≡ true → IsNoSpace c

@@ -4,7 +4,8 @@ use Rattle.std.specs.List.{slice_split, join_with_byte}
 use Rattle.std.proofs.lemmas.List.Splits.{join_with_byte-slice_split}
 use Rattle.race_model.specs.Positions.{Board}
 use Rattle.race_model.specs.PositionText.{is_digit, is_leading_digit, count_value, IsPositionText}
-use Rattle.race_model.proofs.Lines.{tested, both_tests}
+use Rattle.race_model.proofs.FromRight.{both_tests}
+use Rattle.race_model.proofs.Lines.{tested}
 
 -- a value that is given under a test
 given : (b : Bool) (a n : ℕ) → cond b (Some a) None ≡ Some n → a ≡ n

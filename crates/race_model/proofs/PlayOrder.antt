@@ -10,7 +10,7 @@ no_checker : (x : Board) (s d : ℕ) → ((p : ℕ) → d ≤ p → count x p �
 no_checker x s d empty le occupied = let none = empty s le in omega (arith, none)
 
 -- a die has one step from a point
-one_step : (x : Board) (d s : ℕ) (y z : Board) → StepFrom x d s y → StepFrom x d s z → y ≡ z
+pub one_step : (x : Board) (d s : ℕ) (y z : Board) → StepFrom x d s y → StepFrom x d s z → y ≡ z
 one_step x d s y z (bear_off at occupied to) (bear_off _ _ to₁) = to ∙ sym to₁
 one_step x d s y z (bear_off at occupied to) (move_down below _ to₁) = absurd (omega arith)
 one_step x d s y z (bear_off at occupied to) (from_highest empty top to₁) = to ∙ sym to₁

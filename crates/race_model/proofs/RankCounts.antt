@@ -4,7 +4,8 @@ use Rattle.std.specs.Prelude.{nat_lt, ◌==◌, sum}
 use Rattle.std.proofs.lemmas.Bool.{eqb-true, eq-eqb, ne_eqb, ltb-true, lt-ltb, le-ltb, and_left, and_right, or_from, or_left, cases_lt}
 use Rattle.race_model.specs.Positions.{pips_from}
 use Rattle.race_model.specs.Ranks.{comes_first}
-use Rattle.race_model.proofs.BoxCounts.{within, one_more, within-same, within-same_cons, within-none, within-none_cons, within-nil, within-zero, within-suc, same-bool, eq-suc, sum-cons}
+use Rattle.race_model.proofs.Points.{sum_cons}
+use Rattle.race_model.proofs.BoxCounts.{within, one_more, within-same, within-same_cons, within-none, within-none_cons, within-nil, within-zero, within-suc, same-bool, eq-suc}
 
 -- how many lists of n counts, of the points from p on, have at most k checkers and m pips
 unfoldable pub ways : ℕ → ℕ → ℕ → ℕ → ℕ
@@ -212,4 +213,4 @@ split-first p cs rest (suc c) (suc k) few h =
 -- that holds of each list of at most k checkers
 pub split-all : (x : List ℕ) (p k : ℕ) → sum x ≤ k → k ≤ 15 → IsSplit p k x
 split-all [] p k few h = omega (arith, earlier-nil p k, ways-nil p k 0)
-split-all (c ∷ cs) p k few h = split-first p cs (split-all cs (suc p)) c k (omega (arith, sum-cons c cs)) h
+split-all (c ∷ cs) p k few h = split-first p cs (split-all cs (suc p)) c k (omega (arith, sum_cons c cs)) h

@@ -4,7 +4,8 @@ use Rattle.std.specs.Prelude.{nat_lt, nat_le, ◌==◌, sum, count_by, find, Non
 use Rattle.std.proofs.lemmas.Bool.{eqb-true, eq-eqb, ne_eqb, leb-true, le-leb, lt-leb, ltb-true, lt-ltb, le-ltb, and_parts, not-false, cases_lt, cases_order, cases_eq}
 use Rattle.race_model.specs.Positions.{Board, IsPosition, pips_from, pips, checkers, finished}
 use Rattle.race_model.specs.Ranks.{comes_first, is_before, boards, count_positions, rank, first_of, count_to, at_rank}
-use Rattle.race_model.proofs.BoxCounts.{within, one_more, within-same, within-add, within-none_on, within-some, same-bool, sum-cons, IsFound, find-cases, boards-length}
+use Rattle.race_model.proofs.Points.{sum_cons}
+use Rattle.race_model.proofs.BoxCounts.{within, one_more, within-same, within-add, within-none_on, within-some, same-bool, IsFound, find-cases, boards-length}
 use Rattle.race_model.proofs.RankCounts.{ways, ways-nil, ways-zero, ways-low, ways-more, earlier, earlier-nil, earlier-empty, earlier-more, later, split-all, is_earlier}
 
 -- a rank: the positions of fewer pips, and those of as many that are before
@@ -117,7 +118,7 @@ earlier-apart [] (d ∷ ds) p k l f g h e t = absurd (omega arith)
 earlier-apart (c ∷ cs) [] p k l f g h e t = absurd (omega arith)
 earlier-apart (c ∷ cs) (d ∷ ds) p k l f g h e t =
     apart-first p cs ds (omega arith) (λ j u v w. earlier-apart cs ds (suc p) j (omega arith) u v w)
-    c d k (omega (arith, sum-cons c cs)) (omega (arith, sum-cons d ds)) h e t
+    c d k (omega (arith, sum_cons c cs)) (omega (arith, sum_cons d ds)) h e t
 
 -- positions of one rank are one
 pub rank-apart : (x y : Board) → IsPosition x → IsPosition y → rank x ≡ rank y → x ≡ y
@@ -134,7 +135,7 @@ pips-most : (p q : ℕ) (y : List ℕ) → p + length y ≡ suc q → pips_from 
 pips-most p q [] e = omega arith
 pips-most p q (c ∷ cs) e =
     let low : p ≤ q = omega arith in
-    omega (arith, ap (λ t. q * t) (sum-cons c cs), pips-most (suc p) q cs (omega arith), mul-le-mul_right c low)
+    omega (arith, ap (λ t. q * t) (sum_cons c cs), pips-most (suc p) q cs (omega arith), mul-le-mul_right c low)
 
 -- there is no position of more than 90 pips
 pub pips-range : (y : Board) → IsPosition y → pips y ≤ 90
@@ -193,7 +194,7 @@ pub record IsAt (n p k m r : ℕ) (x : List ℕ) : Type 0 where
 -- an empty point in front
 with_none : (n p k m r : ℕ) → k ≤ 15 → (x : List ℕ) × IsAt n (suc p) k m r x → (x : List ℕ) × IsAt (suc n) p k m r x
 with_none n p k m r h (x, a) =
-    (0 ∷ x, record { long = ap suc a.long; few = omega (arith, a.few, sum-cons 0 x); weighs = omega (arith, a.weighs); place = earlier-empty n p k x h ∙ a.place })
+    (0 ∷ x, record { long = ap suc a.long; few = omega (arith, a.few, sum_cons 0 x); weighs = omega (arith, a.weighs); place = earlier-empty n p k x h ∙ a.place })
 
 -- a checker more on the first point
 with_more : (n p k m r : ℕ) → k < 15 → p ≤ m → ways n (suc p) (suc k) m ≤ r →
@@ -204,7 +205,7 @@ with_more n p k m r h room more (c ∷ cs, a) =
       suc c ∷ cs,
       record {
         long = a.long;
-        few = omega (arith, a.few, sum-cons c cs, sum-cons (suc c) cs);
+        few = omega (arith, a.few, sum_cons c cs, sum_cons (suc c) cs);
         weighs = e;
         place = omega (arith, earlier-more n p k c cs h, a.place, ap (ways n (suc p) (suc k)) e);
       },

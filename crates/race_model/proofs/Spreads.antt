@@ -5,15 +5,12 @@ use Rattle.std.proofs.lemmas.List.Sums.{sum_by-cons}
 use Rattle.race_model.specs.Dice.{Throw}
 use Rattle.race_model.specs.LocalEquations.{whole}
 use Rattle.race_model.specs.Strategies.{Strategy, rolls, sequences, total_over, count_over, total, count_of, IsWithin}
-use Rattle.race_model.proofs.Sums.{sum_equal, sum_of_sum, sum_of_same, sum_of_multiple}
+use Rattle.race_model.proofs.Sums.{sum_equal, sum_of_sum, sum_of_nothing, sum_of_multiple}
 use Rattle.race_model.proofs.Histories.{sequence_count, one_at, within_rolls}
 
 -- sums over two lists change places
 swapped : {X Y : Type 0} (g : X → Y → ℕ) (xs : List X) (ys : List Y) → sum_by (λ y. sum_by (λ x. g x y) xs) ys ≡ sum_by (λ x. sum_by (g x) ys) xs
-swapped g xs [] = sym (zeros xs)
-  where
-    zeros : {X : Type 0} (xs : List X) → sum_by (λ x. 0) xs ≡ 0
-    zeros xs = omega (arith, sum_of_same 0 xs)
+swapped g xs [] = sym (sum_of_nothing (λ x. 0) xs (λ x. refl))
 swapped g xs (y ∷ ys) =
     sum_by-cons (λ z. sum_by (λ x. g x z) xs) y ys
     ∙ ap (λ n. sum_by (λ x. g x y) xs + n) (swapped g xs ys)

@@ -40,6 +40,11 @@ pub sum_of_same : {X : Type 0} (c : ℕ) (xs : List X) → sum_by (λ x. c) xs �
 sum_of_same c [] = omega arith
 sum_of_same c (x ∷ xs) = omega (arith, sum_by-cons (λ y. c) x xs, sum_of_same c xs)
 
+-- a sum of zeros
+pub sum_of_nothing : {X : Type 0} (f : X → ℕ) (xs : List X) → ((x : X) → f x ≡ 0) → sum_by f xs ≡ 0
+sum_of_nothing f [] e = refl
+sum_of_nothing f (x ∷ xs) e = omega (arith, sum_by-cons f x xs, e x, sum_of_nothing f xs e)
+
 -- there are 36 throws
 pub throw_count : length throws ≡ 36
 unfolding throws

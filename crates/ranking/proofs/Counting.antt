@@ -7,7 +7,7 @@ use Rattle.std.proofs.lemmas.List.{drop_more, length-drop, get_or_default, lengt
 use Rattle.std.proofs.lemmas.Grind.{same_number_lists}
 use Rattle.race_model.specs.Positions.{Board, IsPosition, pips_from, pips, count}
 use Rattle.race_model.specs.Ranks.{rank, at_rank, first_of, count_to}
-use Rattle.race_model.proofs.BoxCounts.{sum-cons}
+use Rattle.race_model.proofs.Points.{sum_cons}
 use Rattle.race_model.proofs.RankCounts.{later, split-all}
 use Rattle.race_model.proofs.RankCounts as counts
 use Rattle.race_model.proofs.RankOrder as order
@@ -54,7 +54,7 @@ fewer-later p k d j cs low few h long =
       used-is (length cs) p (suc l) (pips_from p (d ∷ cs) - p * j) long,
       counts.used-more (length cs) p l (pips_from p (d ∷ cs) - p * j) (omega arith) room,
       ap (λ q. counts.ways (suc (length cs)) p l q) m_is,
-      split-all (e ∷ cs) p l (omega (arith, sum-cons e cs)) (omega arith),
+      split-all (e ∷ cs) p l (omega (arith, sum_cons e cs)) (omega arith),
       ap (λ q. counts.used (length cs) p q (pips_from (suc p) cs)) same,
       ap (λ q. later (suc p) q cs) same,
     )
@@ -83,7 +83,7 @@ count-found x (suc i) k m s t c q low high r left w enough =
     let few : sum (slice_index x i ∷ drop (suc i) x) ≤ k = subst (λ ys. sum ys ≤ k) d r.few in
     let weighs : pips_from (suc i) (slice_index x i ∷ drop (suc i) x) ≡ m = subst (λ ys. pips_from (suc i) ys ≡ m) d r.weighs in
     let added : s + later (suc i) k (slice_index x i ∷ drop (suc i) x) ≡ later 1 15 x = subst (λ ys. s + later (suc i) k ys ≡ later 1 15 x) d r.added in
-    found-list (suc i) k m t c (slice_index x i) (drop (suc i) x) high r.room (omega (arith, length-drop (suc i) x, q.six)) (omega (arith, few, sum-cons (slice_index x i) (drop (suc i) x))) weighs (omega arith) w enough
+    found-list (suc i) k m t c (slice_index x i) (drop (suc i) x) high r.room (omega (arith, length-drop (suc i) x, q.six)) (omega (arith, few, sum_cons (slice_index x i) (drop (suc i) x))) weighs (omega arith) w enough
 
 -- the pip count of a rank, from where the counts of fewer pips pass it
 pub record IsPipsOf (index above : ℕ) : Type 0 where

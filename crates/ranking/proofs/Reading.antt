@@ -4,7 +4,7 @@ use Rattle.std.specs.Prelude.{sum}
 use Rattle.std.proofs.lemmas.List.{drop_more, drop_all, length-drop}
 use Rattle.race_model.specs.Positions.{IsPosition, pips_from, pips, count}
 use Rattle.race_model.specs.Ranks.{rank, first_of}
-use Rattle.race_model.proofs.BoxCounts.{sum-cons}
+use Rattle.race_model.proofs.Points.{sum_cons}
 use Rattle.race_model.proofs.RankCounts.{later}
 use Rattle.race_model.proofs.RankOrder.{rank-later, first_of-suc}
 use Rattle.race_model.proofs.PositionTotals.{rank-range, count_to-most}
@@ -39,10 +39,10 @@ read-list x cs p k m s c h l d e r =
     let m_is : pips_from (suc p) cs ≡ m - p * c = omega arith in
     let p_is : p + 1 ≡ suc p = add-one p in
     record {
-      fits = omega (arith, sum-cons c cs);
+      fits = omega (arith, sum_cons c cs);
       weight = omega arith;
       next = record {
-        few = subst (λ ys. sum ys ≤ k - c) (sym rest) (omega (arith, sum-cons c cs));
+        few = subst (λ ys. sum ys ≤ k - c) (sym rest) (omega (arith, sum_cons c cs));
         room = omega (arith, r.room);
         weighs = subst (λ ys. pips_from (p + 1) ys ≡ m - p * c) (sym rest) (ap (λ q. pips_from q cs) p_is ∙ m_is);
         low = omega (arith, r.low);

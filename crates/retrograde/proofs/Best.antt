@@ -1,27 +1,15 @@
 -- The best play among the results of a throw.
-use Rattle.std.proofs.Common.{◌≡◌, ℕ, suc, ◌<◌, ◌≤◌, ◌↔◌, List, get_or, All, Any, Contains, sym, ap, subst, ◌∙◌, arith, le_of_eq}
-use Rattle.std.proofs.lemmas.List.{get_or_default}
+use Rattle.std.proofs.Common.{◌≡◌, ℕ, suc, ◌<◌, ◌≤◌, ◌↔◌, List, All, Any, Contains, sym, ap, ◌∙◌, arith, le_of_eq}
 use Rattle.std.specs.Prelude.{slice_index}
 use Rattle.race_model.specs.Positions.{Board, IsPosition, IsFinished, pips}
 use Rattle.race_model.specs.Dice.{Throw}
 use Rattle.race_model.specs.Plays.{Legal}
 use Rattle.race_model.specs.Ranks.{rank, first_of}
+use Rattle.race_model.proofs.Members.{member-of_all, some-member}
 use Rattle.race_model.proofs.Results.{only_finished, legal_position, legal_fewer_pips, legal_finished, legal_stays}
 use Rattle.race_model.proofs.RankOrder.{rank-within, first_of-rises, first_of-suc}
 use Rattle.race_model.proofs.PositionTotals.{rank-finished}
 use Rattle.retrograde.specs.BestPlays.{IsBestPlay}
-
--- what holds of each member holds of all
-pub all-of_members : {X : Type 0} (P : X → Type 0) (xs : List X) → ((y : X) → Contains xs y → P y) → All P xs
-all-of_members P xs each = λ k d lt. each (get_or xs k d) (k, lt, get_or_default xs k (get_or xs k d) d lt)
-
--- what holds of all holds of a member
-pub member-of_all : {X : Type 0} (P : X → Type 0) (xs : List X) (y : X) → All P xs → Contains xs y → P y
-member-of_all P xs y all is = subst P is.2 (all is.0 y is.1)
-
--- what holds of some holds of a member
-pub some-member : {X : Type 0} (P : X → Type 0) (xs : List X) → Any P xs → (y : X) × Contains xs y × P y
-some-member P xs some = (some.1, (some.0, some.2, some.3), some.4)
 
 -- the best of the results is the best play
 pub best-of_results : (means : List ℕ) (x : Board) (v : Throw) (r : ℕ) (found : List Board) → ((y : List ℕ) → Contains found y ↔ Legal x v y) → Any (λ z. rank z ≡ r) found → All (λ z. slice_index means r ≤ slice_index means (rank z)) found → All (λ z. slice_index means (rank z) ≡ slice_index means r → r ≤ rank z) found → IsBestPlay means x v r

@@ -12,12 +12,12 @@ use Rattle.race_model.proofs.Results.{legal_position, legal_pips}
 use Rattle.race_model.proofs.RankOrder.{rank-bound, rank-found}
 use Rattle.race_model.proofs.Sums.{sum_equal}
 use Rattle.race_model.proofs.Throws.{index_of_roll}
+use Rattle.race_model.proofs.RollParts.{index-range}
 use Rattle.retrograde.specs.BestPlays.{IsBestPlay}
 use Rattle.retrograde.specs.BuiltRecords.{shares_of, sum_of_means, sum_of_shares, IsMade, AreMade}
 use Rattle.retrograde.specs.BuiltBytes.{bytes_of, built_file}
 use Rattle.retrograde.proofs.Files.{file-front, file-length, file-record, file-bound}
 use Rattle.retrograde.proofs.Next.{best-legal}
-use Rattle.retrograde.proofs.Rolls.{index-range}
 
 -- the records of a bound
 module _ (bound : ℕ) (low : bound ≤ 44) (means : List ℕ) (plays spreads : List (List ℕ)) (are : AreMade (count_to bound) means plays spreads) where

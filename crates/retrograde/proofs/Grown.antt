@@ -13,11 +13,11 @@ use Rattle.race_model.proofs.RankOrder.{at_rank-position}
 use Rattle.race_model.proofs.PositionTotals.{rank-at_rank}
 use Rattle.race_model.proofs.Sums.{sum_equal}
 use Rattle.db_layout.specs.Records.{record_of, IsRecordOf}
+use Rattle.race_model.proofs.RollParts.{index-range}
 use Rattle.retrograde.specs.BestPlays.{IsBestPlay}
 use Rattle.retrograde.specs.BuiltRecords.{shares_of, sum_of_means, sum_of_shares, IsMade, IsReached, AreMade}
 use Rattle.retrograde.proofs.Best.{best-at_end, finished-stays}
 use Rattle.retrograde.proofs.Next.{legal-lower}
-use Rattle.retrograde.proofs.Rolls.{index-range}
 
 -- no throw leads to a higher rank
 legal-no_higher : (x : Board) (v : Throw) (z : Board) → IsPosition x → Legal x v z → rank z ≤ rank x

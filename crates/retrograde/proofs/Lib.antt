@@ -4,5 +4,4 @@ pub mod Files
 pub mod Grown
 pub mod Next
 pub mod Prefixes
-pub mod Rolls
 pub mod Turns

@@ -9,10 +9,10 @@ use Rattle.race_model.specs.LocalEquations.{whole}
 use Rattle.race_model.proofs.Results.{legal_position, legal_fewer_pips}
 use Rattle.race_model.proofs.RankOrder.{rank-fewer, rank-found}
 use Rattle.race_model.proofs.Throws.{roll_of_index}
+use Rattle.race_model.proofs.RollParts.{index-range}
 use Rattle.retrograde.specs.BestPlays.{IsBestPlay}
 use Rattle.retrograde.specs.BuiltRecords.{shares_of, sum_of_means, sum_of_shares, IsMade, IsReached, AreMade}
 use Rattle.retrograde.proofs.Best.{best-at_end}
-use Rattle.retrograde.proofs.Rolls.{index-range}
 use Rattle.retrograde.proofs.Turns.{mean-exact, shares-exact, no-last, pulled-reached}
 
 -- what a throw leads to from an unfinished position has a lower rank

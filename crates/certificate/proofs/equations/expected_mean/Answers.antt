@@ -1,9 +1,11 @@
-use Rattle.std.proofs.Common.{◌≡◌, ℕ, ◌*◌, ◌<◌, ◌≢◌, length, get_or, set, sum_by, sym, ap, ◌∙◌, refl, arith, get_or-set_other, get_or-set_same, length-set, below_more}
+use Rattle.std.proofs.Common.{◌≡◌, ℕ, ◌*◌, ◌<◌, length, get_or, sum_by, ap, ◌∙◌, refl, arith, length-set}
 use Rattle.std.specs.Prelude.{slice_index}
-use Rattle.race_model.specs.Dice.{Throw, roll_at, roll_index, weight}
+use Rattle.race_model.specs.Dice.{roll_at, weight}
 use Rattle.race_model.specs.Files.{mean_of, mean_at}
+use Rattle.race_model.proofs.Members.{set-next}
+use Rattle.race_model.proofs.RollParts.{parts-sum, parts-weights}
 use Rattle.certificate.specs.RecordedPlays.{sum_of_means}
-use Rattle.certificate.proofs.Pulled.{mean-of_record, parts-sum, parts-weights, by-index}
+use Rattle.certificate.proofs.Pulled.{mean-of_record}
 use Rattle.certificate.proofs.equations.expected_mean.Goals as goal
 
 pub unwrap-mean-requires : goal.unwrap-mean-requires
@@ -14,26 +16,20 @@ loop-index-preserved c =
     let mean = (rw c.unwrap-mean.ensures at c.new.ensures.value) ∙ (c.mean.ensures ∙ (ap mean_of c.record.ensures ∙ (mean-of_record _ _ ∙ ap (λ place. mean_at c.args.table.now (get_or c.args.plays.now place 0)) c.from-place.ensures))) in
     let roll = rw c.unwrap-roll.ensures at c.from_index.ensures.value in
     let part : (c.weight.result, c.unwrap-mean.result) ≡ (weight (roll_at c.loop-index.index), mean_at c.args.table.now (slice_index c.args.plays.now c.loop-index.index)) = rw (c.weight.ensures.value, roll, mean) refl in
+    let fits : c.loop-index.index < length c.loop-index.parts = omega (arith, c.loop-index.invariant.len) in
     record {
       len = length-set c.loop-index.parts c.from-place.result (c.weight.result, c.unwrap-mean.result) ∙ c.loop-index.invariant.len;
-      parts = λ j d. below_more
-          (λ j. get_or (set c.loop-index.parts c.from-place.result (c.weight.result, c.unwrap-mean.result)) j d ≡ (weight (roll_at j), mean_at c.args.table.now (slice_index c.args.plays.now j)))
-          c.loop-index.index
-          (λ j lt. let other : j ≢ c.from-place.result = omega (arith, c.from-place.ensures) in rw get_or-set_other (c.loop-index.invariant.parts j d lt))
-          (let lt : c.from-place.result < length c.loop-index.parts = omega (arith, c.from-place.ensures, c.loop-index.invariant.len) in rw (← c.from-place.ensures) (rw get_or-set_same (rw c.from-place.ensures part)))
-          j;
+      parts = λ j d. set-next (λ j part. part ≡ (weight (roll_at j), mean_at c.args.table.now (slice_index c.args.plays.now j))) c.loop-index.parts c.loop-index.index c.from-place.result (c.weight.result, c.unwrap-mean.result) d c.from-place.ensures fits (λ j. c.loop-index.invariant.parts j d) part j;
     }
 
--- the number of a roll
-number : (c : goal.After-parts-1) → Throw → ℕ
-number c v = mean_at c.args.table.now (slice_index c.args.plays.now (roll_index v))
+-- the mean that a roll plays to
+number : (c : goal.After-parts-1) → ℕ → ℕ
+number c i = mean_at c.args.table.now (slice_index c.args.plays.now i)
 
 -- the parts are those of all rolls
-each : (c : goal.After-parts-1) (j : ℕ) (d : ℕ × ℕ) → j < 21 → get_or c.loop-index.parts j d ≡ (weight (roll_at j), number c (roll_at j))
+each : (c : goal.After-parts-1) (j : ℕ) (d : ℕ × ℕ) → j < 21 → get_or c.loop-index.parts j d ≡ (weight (roll_at j), number c j)
 unfolding number
-each c j d lt =
-    c.loop-index.invariant.parts j d (omega arith)
-    ∙ ap (λ n. (weight (roll_at j), n)) (sym (by-index (λ i. mean_at c.args.table.now (slice_index c.args.plays.now i)) j lt))
+each c j d lt = c.loop-index.invariant.parts j d (omega arith)
 
 pub pull-requires : goal.pull-requires
 pull-requires c = parts-weights (number c) c.loop-index.parts c.loop-index.invariant.len (each c)
@@ -41,7 +37,7 @@ pull-requires c = parts-weights (number c) c.loop-index.parts c.loop-index.invar
 -- what is pulled is the weighted sum of the means
 total : (c : goal.After-parts-1) → sum_by (λ part. part.0 * part.1) c.loop-index.parts ≡ sum_of_means c.args.table.now c.args.plays.now
 unfolding number
-total c = parts-sum (number c) c.loop-index.parts c.loop-index.invariant.len (each c)
+total c = parts-sum (number c) c.loop-index.parts c.loop-index.invariant.len (each c) (λ part. part.0 * part.1)
 
 pub returns-clause-value : goal.returns-clause-value
 returns-clause-value c = rw (total c.before) at c.pull.ensures.value

@@ -3,7 +3,8 @@ use Rattle.std.specs.Prelude.{slice_index}
 use Rattle.std.proofs.lemmas.List.{take_all}
 use Rattle.race_model.specs.Dice.{all_rolls, weight}
 use Rattle.race_model.specs.Files.{share_of, spread_at}
-use Rattle.certificate.proofs.Pulled.{share-of_record, share-step, roll_count}
+use Rattle.race_model.proofs.RollParts.{roll_count}
+use Rattle.certificate.proofs.Pulled.{share-of_record, share-step}
 use Rattle.certificate.proofs.equations.weighted_share.Goals as goal
 
 pub overflow_mul-total : goal.overflow_mul-total

@@ -4,7 +4,7 @@ use Rattle.race_model.specs.Dice.{roll_index}
 use Rattle.race_model.specs.Ranks.{rank}
 use Rattle.race_model.specs.Files.{mean, mean_of, mean_at, play_of, play_at}
 use Rattle.certificate.specs.RecordedPlays.{HasRecord}
-use Rattle.certificate.proofs.Members.{some-member, member-of_all}
+use Rattle.race_model.proofs.Members.{some-member, member-of_all}
 use Rattle.certificate.proofs.Pulled.{mean-of_record, play-of_record}
 use Rattle.certificate.proofs.PlayTests.{record-of_position, records-of_results, not_played, is_played, not_best, is_best}
 use Rattle.certificate.proofs.plays.best_recorded.Goals as goal

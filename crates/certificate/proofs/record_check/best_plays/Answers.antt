@@ -1,8 +1,9 @@
-use Rattle.std.proofs.Common.{◌≡◌, ◌≢◌, ◌<◌, length, get_or, set, ap, subst, ◌∙◌, arith, get_or-set_other, get_or-set_same, length-set, below_more}
+use Rattle.std.proofs.Common.{◌≡◌, ap, subst, ◌∙◌, arith, length-set, below_more}
 use Rattle.race_model.specs.Dice.{Throw, roll_at, roll_index}
 use Rattle.race_model.specs.Ranks.{rank}
 use Rattle.race_model.specs.Files.{play_at}
 use Rattle.race_model.specs.LocalEquations.{IsPlayed, IsBest}
+use Rattle.race_model.proofs.Members.{set-next}
 use Rattle.race_model.proofs.Throws.{roll_of_index}
 use Rattle.certificate.specs.PlayFaults.{Applies}
 use Rattle.certificate.proofs.record_check.best_plays.Goals as goal
@@ -27,9 +28,7 @@ loop-index-preserved c =
     let recorded = fine.recorded ∙ (ap (λ (v : Throw). play_at f (rank x) (roll_index v)) roll ∙ ap (play_at f (rank x)) (roll_of_index i c.loop-index-test.true).1) in
     record {
       len = length-set plays c.from.result c.in-Ok.recorded ∙ c.loop-index.invariant.len;
-      plays = below_more (λ j. get_or (set plays c.from.result c.in-Ok.recorded) j 0 ≡ play_at f (rank x) j) i
-          (λ j lt. let other : j ≢ c.from.result = omega (arith, c.from.ensures) in rw get_or-set_other (c.loop-index.invariant.plays j lt))
-          (let lt : c.from.result < length plays = omega (arith, c.from.ensures, c.loop-index.invariant.len) in rw (← c.from.ensures) (rw get_or-set_same (rw c.from.ensures recorded)));
+      plays = set-next (λ j play. play ≡ play_at f (rank x) j) plays i c.from.result c.in-Ok.recorded 0 c.from.ensures (omega (arith, c.loop-index.invariant.len)) c.loop-index.invariant.plays recorded;
       held = below_more (λ j. IsPlayed f x (roll_at j) × IsBest f x (roll_at j)) i
           c.loop-index.invariant.held
           (subst (λ (v : Throw). IsPlayed f x v) roll fine.played, subst (λ (v : Throw). IsBest f x v) roll fine.best);

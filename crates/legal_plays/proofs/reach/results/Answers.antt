@@ -1,7 +1,7 @@
 use Rattle.std.proofs.Common.{eqb-true, sym, length, [], ◌∷◌, inl, arith}
 use Rattle.std.proofs.lemmas.Bool.{eqb-false}
+use Rattle.race_model.proofs.Results.{run_somewhere}
 use Rattle.legal_plays.proofs.LegalLemmas.{results_double, results_apart, length-legal, in_rank_order}
-use Rattle.legal_plays.proofs.PlayableLemmas.{run_exists}
 use Rattle.legal_plays.proofs.reach.results.Goals as goal
 
 pub returns-then-eq-clause-members : goal.returns-then-eq-clause-members
@@ -24,12 +24,12 @@ returns-clause-ordered c =
 pub returns-then-eq-clause-some : goal.returns-then-eq-clause-some
 returns-then-eq-clause-some c =
     let d = c.high-high.result in
-    let played = run_exists c.args.position.now (d ∷ d ∷ d ∷ d ∷ []) in
+    let played = run_somewhere (d ∷ d ∷ d ∷ d ∷ []) c.args.position.now in
     let held = (c.after_four.ensures.members played.0).1 played.1 in
     omega (arith, held.1)
 
 pub returns-clause-some : goal.returns-clause-some
 returns-clause-some c =
-    let played = run_exists c.args.position.now (c.high-high.result ∷ c.low-low.result ∷ []) in
+    let played = run_somewhere (c.high-high.result ∷ c.low-low.result ∷ []) c.args.position.now in
     let held = (c.include_all.ensures.members played.0).1 (inl ((c.after_two-found.ensures.members played.0).1 played.1)) in
     omega (arith, held.1)

@@ -2,7 +2,8 @@ use Rattle.std.proofs.Common.{◌≡◌, ◌<◌, ◌≤◌, List, length, All, 
 use Rattle.std.specs.Prelude.{slice_index}
 use Rattle.race_model.specs.Positions.{Board}
 use Rattle.race_model.specs.Ranks.{rank}
-use Rattle.retrograde.proofs.Best.{all-of_members, best-of_results}
+use Rattle.race_model.proofs.Members.{all-of_members}
+use Rattle.retrograde.proofs.Best.{best-of_results}
 use Rattle.retrograde.proofs.plays.best_result.Goals as goal
 
 pub best_of-requires-clause-held : goal.best_of-requires-clause-held

@@ -1,7 +1,7 @@
 use Rattle.std.proofs.Common.{length-set, subst, ◌∙◌, arith}
 use Rattle.race_model.specs.Dice.{Throw, roll_at}
 use Rattle.retrograde.specs.BestPlays.{IsBestPlay}
-use Rattle.retrograde.proofs.Rolls.{set-next}
+use Rattle.race_model.proofs.Members.{set-next}
 use Rattle.retrograde.proofs.pulling.best_plays.Goals as goal
 
 pub loop-index-preserved : goal.loop-index-preserved

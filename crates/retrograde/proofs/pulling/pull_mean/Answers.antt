@@ -1,8 +1,9 @@
 use Rattle.std.proofs.Common.{◌≡◌, ℕ, ◌*◌, ◌<◌, length, get_or, sum_by, ap, ◌∙◌, refl, arith, length-set}
 use Rattle.std.specs.Prelude.{slice_index}
 use Rattle.race_model.specs.Dice.{roll_at, weight}
+use Rattle.race_model.proofs.Members.{set-next}
+use Rattle.race_model.proofs.RollParts.{parts-sum, parts-weights}
 use Rattle.retrograde.specs.BuiltRecords.{sum_of_means}
-use Rattle.retrograde.proofs.Rolls.{set-next, parts-sum, parts-weights}
 use Rattle.retrograde.proofs.pulling.pull_mean.Goals as goal
 
 pub loop-index-preserved : goal.loop-index-preserved

@@ -3,7 +3,7 @@ use Rattle.std.specs.Prelude.{slice_index}
 use Rattle.race_model.specs.Dice.{roll_at, weight}
 use Rattle.fixed_fraction.specs.Shares.{weighted_share}
 use Rattle.retrograde.specs.BuiltRecords.{shares_of, sum_of_shares}
-use Rattle.retrograde.proofs.Rolls.{parts-sum, parts-weights}
+use Rattle.race_model.proofs.RollParts.{parts-sum, parts-weights}
 use Rattle.retrograde.proofs.pulling.pull_spread.Goals as goal
 
 -- the shares that a roll plays to

@@ -1,6 +1,5 @@
-use Rattle.std.proofs.Common.{◌≡◌, ℕ, ◌≤◌, sym, ap, subst, ◌∙◌, arith}
+use Rattle.std.proofs.Common.{◌≤◌, sym, ap, subst, ◌∙◌, arith}
 use Rattle.race_model.specs.Positions.{pips}
-use Rattle.race_model.specs.Ranks.{rank}
 use Rattle.race_model.specs.Files.{bound_of, mean, mean_of, mean_at}
 use Rattle.race_model.specs.Strategies.{IsLeast}
 use Rattle.certificate.proofs.Accepted.{accepted-record, accepted-mean, accepted-least}

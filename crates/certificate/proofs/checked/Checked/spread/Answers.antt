@@ -1,7 +1,5 @@
-use Rattle.std.proofs.Common.{◌≡◌, ◌≢◌, ℕ, ◌<◌, ◌≤◌, List, length, get_or, set, sym, ap, subst, ◌∙◌, arith, get_or-set_other, get_or-set_same, length-set, below_more}
-use Rattle.std.specs.Prelude.{slice_index}
+use Rattle.std.proofs.Common.{◌≡◌, ◌≢◌, ℕ, ◌<◌, ◌≤◌, length, get_or, set, ap, ◌∙◌, arith, get_or-set_other, get_or-set_same, length-set, below_more}
 use Rattle.race_model.specs.Positions.{pips}
-use Rattle.race_model.specs.Ranks.{rank}
 use Rattle.race_model.specs.Files.{bound_of, spread, share_of, spread_at}
 use Rattle.race_model.specs.Strategies.{count_of}
 use Rattle.race_model.specs.RightFiles.{follow}

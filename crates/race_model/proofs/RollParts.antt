@@ -1,5 +1,5 @@
--- Sums over the 21 rolls, as a list of parts by the rolls' indices makes them.
-use Rattle.std.proofs.Common.{◌≡◌, ◌≢◌, ⊎_elim, ℕ, ◌+◌, ◌<◌, List, map, length, get_or, set, sum_by, refl, sym, ap, ◌∙◌, arith, get_or-set_other, get_or-set_same, below_more}
+-- Sums over the 21 rolls, as a list of parts in the order of their indices makes them.
+use Rattle.std.proofs.Common.{◌≡◌, ⊎_elim, ℕ, ◌<◌, List, map, length, get_or, sum_by, refl, sym, ap, ◌∙◌, arith}
 use Rattle.std.proofs.lemmas.List.{ext_get_or, length-map}
 use Rattle.std.proofs.Math.ListN.{get_or-map}
 use Rattle.race_model.specs.Dice.{Throw, one, reversed, all_rolls, roll_at, roll_index, weight}
@@ -46,11 +46,3 @@ module _ {T : Type 0} (g : ℕ → T) (parts : List (ℕ × T)) (len : length pa
   -- and their weights add up to 36
   pub parts-weights : sum_by (λ part. part.0) parts ≡ 36
   parts-weights = parts-sum (λ part. part.0) ∙ weights-sum
-
--- one element more of a list that is filled in order
-pub set-next : {X : Type 0} (P : ℕ → X → Type 0) (xs : List X) (i n : ℕ) (y d : X) → n ≡ i → i < length xs → ((j : ℕ) → j < i → P j (get_or xs j d)) → P i y → (j : ℕ) → j < i + 1 → P j (get_or (set xs n y) j d)
-set-next P xs i n y d same lt before here j below =
-    below_more (λ j. P j (get_or (set xs n y) j d)) i
-    (λ k less. let other : k ≢ n = omega arith in rw get_or-set_other (before k less))
-    (rw (← same) (let fits : n < length xs = omega arith in rw get_or-set_same (rw same here)))
-    j below
