@@ -1,5 +1,5 @@
 -- What was built is accepted.
-use Rattle.std.proofs.Common.{◌≡◌, ℕ, Bool, false, List, [], ◌++◌, Result, Ok, Err, OnOk, IsOk, Some, sym, ap, subst, ◌∙◌, arith}
+use Rattle.std.proofs.Common.{◌≡◌, ℕ, false, List, [], ◌++◌, Result, Ok, Err, OnOk, Some, sym, ap, subst, ◌∙◌, arith}
 use Rattle.std.specs.Result.{is_err}
 use Rattle.race_model.specs.RightFiles.{IsRight}
 use Rattle.race_model.proofs.Right.{right_of_local}

@@ -1,5 +1,5 @@
 -- What the program answers.
-use Rattle.std.specs.Prelude.{◌≡◌, ℕ, ◌*◌, ◌<◌, ◌≤◌, Option, List, [], ◌∷◌, ◌++◌, length, decimal, if◌then◌else◌, ◌-◌, ◌==◌, slice_index, take}
+use Rattle.std.specs.Prelude.{ℕ, ◌<◌, ◌≤◌, Option, List, [], ◌∷◌, ◌++◌, length, decimal, if◌then◌else◌, ◌-◌, ◌==◌, slice_index, take}
 use Rattle.std.specs.Io.KnownBytes.{Appends, Consumes, IsAtEnd}
 use Rattle.race_model.specs.Positions.{Board, checkers, pips}
 use Rattle.race_model.specs.PositionText.{IsPositionText}

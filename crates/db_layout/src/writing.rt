@@ -145,7 +145,11 @@ mod tests {
         for left in 0..33 {
             for fails in [true, false] {
                 let written = Vec::new(rt.alloc());
-                let mut tired = Tired { left, fails, written };
+                let mut tired = Tired {
+                    left,
+                    fails,
+                    written,
+                };
                 let told = write_header(&header, &mut tired);
                 assert_eq!(rt; told.is_ok(), left == 32, "after {left} bytes");
                 assert_eq!(rt; tired.written.len(), left);
@@ -166,7 +170,11 @@ mod tests {
         for left in 0..427 {
             for fails in [true, false] {
                 let written = Vec::new(rt.alloc());
-                let mut tired = Tired { left, fails, written };
+                let mut tired = Tired {
+                    left,
+                    fails,
+                    written,
+                };
                 let told = write_record(mean, &plays, &spread, &mut tired);
                 assert_eq!(rt; told.is_ok(), left == 426, "after {left} bytes");
                 assert_eq!(rt; tired.written.len(), left);

@@ -1,9 +1,9 @@
-use Rattle.std.proofs.Common.{◌≡◌, ℕ, ◌<◌, ◌↔◌, List, Result, Ok, Err, sym, ap, subst, ◌∙◌, OnOk}
-use Rattle.race_model.specs.Positions.{Board, checkers}
+use Rattle.std.proofs.Common.{◌≡◌, ℕ, ◌<◌, ◌↔◌, List, Err, ap, subst, ◌∙◌}
+use Rattle.race_model.specs.Positions.{checkers}
 use Rattle.race_model.specs.PositionText.{IsPositionText}
 use Rattle.race_model.specs.Files.{bound_of}
 use Rattle.home_board.specs.declared.text.PositionFault.TheVariants.{BadText, TooMany}
-use Rattle.bearoff_cli.specs.Answers.{without_line_feed, ReadsLine, Answers}
+use Rattle.bearoff_cli.specs.Answers.{without_line_feed}
 use Rattle.bearoff_cli.proofs.Refusals.{refused-position, refused-query, answered}
 use Rattle.bearoff_cli.proofs.answer.answer.Goals as goal
 

@@ -1,4 +1,4 @@
-use Rattle.std.proofs.Common.{◌≡◌, ℕ, List, false, sym, subst, ◌∙◌}
+use Rattle.std.proofs.Common.{ℕ, List, sym, subst, ◌∙◌}
 use Rattle.race_model.specs.RightFiles.{IsRight}
 use Rattle.bearoff_cli.proofs.Builds.{built-right}
 use Rattle.bearoff_cli.proofs.program.run.Goals as goal
