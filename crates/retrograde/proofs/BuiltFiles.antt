@@ -5,7 +5,7 @@ use Rattle.race_model.specs.Positions.{Board, IsPosition, pips}
 use Rattle.race_model.specs.Dice.{Throw, IsRoll, all_rolls, roll_at, roll_index, weight}
 use Rattle.race_model.specs.Plays.{Legal}
 use Rattle.race_model.specs.Ranks.{rank, at_rank, count_to}
-use Rattle.race_model.specs.Files.{header, bound_of, record_at, IsFileTo, mean_of, play_of, share_of, mean_at, play_at, spread_at, play}
+use Rattle.race_model.specs.Files.{IsBytes, header, bound_of, record_at, IsFileTo, mean_of, play_of, share_of, mean_at, play_at, spread_at, play}
 use Rattle.race_model.specs.LocalEquations.{whole, weighted, IsPlayed, IsBest, HasMean, HasShare, IsLocalAt}
 use Rattle.race_model.specs.BuiltFile.{IsLowest, IsBuilt}
 use Rattle.race_model.proofs.Results.{legal_position, legal_pips}
@@ -16,7 +16,8 @@ use Rattle.race_model.proofs.RollParts.{index-range}
 use Rattle.retrograde.specs.BestPlays.{IsBestPlay}
 use Rattle.retrograde.specs.BuiltRecords.{shares_of, sum_of_means, sum_of_shares, IsMade, AreMade}
 use Rattle.retrograde.specs.BuiltBytes.{bytes_of, built_file}
-use Rattle.retrograde.proofs.Files.{file-front, file-length, file-record, file-bound}
+use Rattle.retrograde.proofs.Files.{file-front, file-length, file-record, file-bound, file-bytes}
+use Rattle.db_layout.proofs.Bytes.{small-record}
 use Rattle.retrograde.proofs.Next.{best-legal}
 
 -- the records of a bound
@@ -57,6 +58,12 @@ module _ (bound : ℕ) (low : bound ≤ 44) (means : List ℕ) (plays spreads : 
   pub built-length : length built ≡ 32 + 426 * count_to bound
   unfolding built_file
   built-length = file-length bound (bytes_of means plays spreads) (count_to bound) each-length
+
+  built-bytes : IsBytes built
+  unfolding built_file
+  built-bytes =
+      file-bytes bound (bytes_of means plays spreads) (count_to bound) each-length
+      (λ r. small-record (slice_index means r) (slice_index_or plays r []) (slice_index_or spreads r []))
 
   built-is_file : IsFileTo 44 built
   built-is_file = record {
@@ -150,6 +157,7 @@ module _ (bound : ℕ) (low : bound ≤ 44) (means : List ℕ) (plays spreads : 
   -- the file is the built file of the bound
   pub is-built : IsBuilt 44 bound built
   is-built = record {
+    bytes = built-bytes;
     bound_is = built-bound;
     local = record { file = built-is_file; at_each = λ x at under. is-local_at x at (omega (arith, built-bound)) };
     lowest = λ x at under v is. is-lowest x at under v is;

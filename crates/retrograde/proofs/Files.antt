@@ -3,7 +3,8 @@ use Rattle.std.proofs.Common.{◌≡◌, ℕ, zero, suc, ◌+◌, ◌*◌, ◌<�
 use Rattle.std.proofs.lemmas.Bool.{cases_lt}
 use Rattle.std.proofs.lemmas.List.{append-nil}
 use Rattle.std.proofs.Math.Seq.{take-append_seam, drop-append_seam, drop-append-add}
-use Rattle.race_model.specs.Files.{header, bound_of, record_at}
+use Rattle.race_model.specs.Files.{IsBytes, header, bound_of, record_at}
+use Rattle.db_layout.proofs.Bytes.{small-append, small-header}
 use Rattle.retrograde.specs.BuiltBytes.{records_of, file_of}
 
 -- a header has 32 bytes
@@ -38,6 +39,12 @@ module _ (bytes : ℕ → List ℕ) where
       last : r ≡ n → take 426 (drop (426 * r) ((records_of bytes n ++ bytes n) ++ rest)) ≡ bytes r
       last e = subst (λ (m : ℕ). take 426 (drop (426 * m) ((records_of bytes n ++ bytes n) ++ rest)) ≡ bytes m) (sym e) (take-middle (records_of bytes n) (bytes n) rest (426 * n) 426 (records-length n (λ r lt. each r (omega arith))) (each n (omega arith)))
 
+  -- all are bytes where each is
+  pub records-bytes : ((r : ℕ) → IsBytes (bytes r)) → (n : ℕ) → IsBytes (records_of bytes n)
+  unfolding records_of
+  records-bytes each zero i = omega arith
+  records-bytes each (suc n) i = small-append (records_of bytes n) (bytes n) (records-bytes each n) (each n) i
+
 -- the file of such records
 module _ (bound : ℕ) (bytes : ℕ → List ℕ) (n : ℕ) (each : (r : ℕ) → r < n → length (bytes r) ≡ 426) where
   pub file-front : take 32 (file_of bound bytes n) ≡ header bound
@@ -55,3 +62,7 @@ module _ (bound : ℕ) (bytes : ℕ → List ℕ) (n : ℕ) (each : (r : ℕ) �
   pub file-bound : bound ≤ 44 → bound_of (file_of bound bytes n) ≡ bound
   unfolding bound_of
   file-bound low = omega arith
+
+  pub file-bytes : ((r : ℕ) → IsBytes (bytes r)) → IsBytes (file_of bound bytes n)
+  file-bytes small =
+      small-append (header bound) (records_of bytes n) (small-header bound) (records-bytes bytes small n)
