@@ -1,5 +1,6 @@
 pub mod Points
 pub mod Steps
+pub mod Spent
 pub mod Throws
 pub mod Results
 pub mod Sums
