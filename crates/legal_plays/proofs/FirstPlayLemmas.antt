@@ -3,8 +3,9 @@ use Rattle.std.proofs.Common.{◌≡◌, inl, inr, ℕ, zero, suc, ◌<◌, ◌�
 use Rattle.race_model.specs.Positions.{Board, IsPosition}
 use Rattle.race_model.specs.Dice.{Die, number, Throw}
 use Rattle.race_model.specs.FirstPlays as race
-use Rattle.race_model.proofs.Enumerated.{from_occupied}
-use Rattle.race_model.proofs.Steps.{occupied_place, to_position, number_positive}
+use Rattle.race_model.proofs.Plays.Enumerated.{from_occupied}
+use Rattle.race_model.proofs.Plays.Steps.{occupied_place, to_position}
+use Rattle.race_model.proofs.Dice.Faces.{number_positive}
 use Rattle.legal_plays.specs.declared.moves.Move.{Move}
 use Rattle.legal_plays.specs.FirstPlay.{Plays, IsSooner, IsFirst, IsFirstPlay, greater_first, smaller_first, double}
 use Rattle.legal_plays.specs.Texts.{point_text, move_text, play_text}

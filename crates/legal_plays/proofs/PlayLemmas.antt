@@ -5,7 +5,7 @@ use Rattle.std.proofs.lemmas.Bool.{cases_lt}
 use Rattle.race_model.specs.Positions.{Board, IsFinished}
 use Rattle.race_model.specs.Dice.{Die, number}
 use Rattle.race_model.specs.Plays.{StepFrom, Run}
-use Rattle.race_model.proofs.PlayOrder.{one_step}
+use Rattle.race_model.proofs.Plays.PlayOrder.{one_step}
 use Rattle.legal_plays.specs.declared.moves.Move.{Move}
 use Rattle.legal_plays.specs.FirstPlay.{IsMove, Plays, IsSooner, IsFirst}
 use Rattle.legal_plays.proofs.ReachLemmas.{run_finished}

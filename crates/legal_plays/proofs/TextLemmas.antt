@@ -12,22 +12,22 @@ pub one_digit : (n : ℕ) → n ≤ 6 → length (decimal n) ≤ 1
 one_digit n low = length-decimal-le 1 n (omega arith) (omega arith) (omega arith)
 
 -- one more piece comes after the byte between
-join_more : (c : ℕ) (xs : List (List ℕ)) (y : List ℕ) → 0 < length xs → join_with_byte c (xs ++ y ∷ []) ≡ join_with_byte c xs ++ (c ∷ y)
-join_more c [] y some = absurd (omega arith)
-join_more c (x ∷ []) y some = refl
-join_more c (x ∷ z ∷ xs) y some =
-    ap (λ t. x ++ (c ∷ t)) (join_more c (z ∷ xs) y (omega arith)) ∙ sym (append_assoc x (c ∷ join_with_byte c (z ∷ xs)) (c ∷ y))
+join_with_byte-more : (c : ℕ) (xs : List (List ℕ)) (y : List ℕ) → 0 < length xs → join_with_byte c (xs ++ y ∷ []) ≡ join_with_byte c xs ++ (c ∷ y)
+join_with_byte-more c [] y some = absurd (omega arith)
+join_with_byte-more c (x ∷ []) y some = refl
+join_with_byte-more c (x ∷ z ∷ xs) y some =
+    ap (λ t. x ++ (c ∷ t)) (join_with_byte-more c (z ∷ xs) y (omega arith)) ∙ sym (append_assoc x (c ∷ join_with_byte c (z ∷ xs)) (c ∷ y))
 
 -- the text of the first move
-pub first_move_text : (moves : List Move) (i : ℕ) (m : Move) → i ≡ 0 → i < length moves → m ≡ get_or moves i m → play_text (take (i + 1) moves) ≡ move_text m
-first_move_text moves i m none low at =
+pub play_text-first : (moves : List Move) (i : ℕ) (m : Move) → i ≡ 0 → i < length moves → m ≡ get_or moves i m → play_text (take (i + 1) moves) ≡ move_text m
+play_text-first moves i m none low at =
     let only : take i moves ≡ [] = ap (λ n. take n moves) none in
     ap play_text (take_more moves i m low ∙ ap (λ n. take i moves ++ n ∷ []) (sym at) ∙ ap (λ xs. xs ++ m ∷ []) only)
 
 -- one more move comes after a space
-pub next_move_text : (moves : List Move) (i : ℕ) (m : Move) → 0 < i → i < length moves → m ≡ get_or moves i m
+pub play_text-next : (moves : List Move) (i : ℕ) (m : Move) → 0 < i → i < length moves → m ≡ get_or moves i m
     → play_text (take (i + 1) moves) ≡ play_text (take i moves) ++ (32 ∷ move_text m)
-next_move_text moves i m some low at =
+play_text-next moves i m some low at =
     ap play_text (take_more moves i m low ∙ ap (λ n. take i moves ++ n ∷ []) (sym at))
     ∙ ap (join_with_byte 32) (map-append move_text (take i moves) (m ∷ []))
-    ∙ join_more 32 (map move_text (take i moves)) (move_text m) (omega (arith, length-map (take i moves) move_text, length-take-le i moves (omega arith)))
+    ∙ join_with_byte-more 32 (map move_text (take i moves)) (move_text m) (omega (arith, length-map (take i moves) move_text, length-take-le i moves (omega arith)))
