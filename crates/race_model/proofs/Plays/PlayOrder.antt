@@ -51,7 +51,7 @@ one_first_of : (x : Board) (dice : List Die) (y : Board) (ms ns : List Move) →
 one_first_of x dice y ms ns a b = one_of_two dice x y ms ns a.leads b.leads (b.first ms a.leads) (a.first ns b.leads)
 
 -- a play is a run
-moves_run : (dice : List Die) (x y : Board) (ms : List Move) → Moves x dice ms y → Run x dice y
+pub moves_run : (dice : List Die) (x y : Board) (ms : List Move) → Moves x dice ms y → Run x dice y
 moves_run [] x y [] p = p
 moves_run [] x y (m ∷ ms) p = absurd p
 moves_run (d ∷ dice) x y [] p = inl p
