@@ -3,11 +3,6 @@ use Rattle.std.proofs.Common.{◌≡◌, ℕ, zero, suc, ◌+◌, ◌<◌, List,
 use Rattle.std.proofs.lemmas.List.{get_or_past}
 use Rattle.race_model.specs.Positions.{count, checkers}
 
--- there is no checker above point 6
-pub count-past : (x : List ℕ) (q : ℕ) → length x ≡ 6 → 6 < q → count x q ≡ 0
-count-past x zero e h = refl
-count-past x (suc i) e h = get_or_past x i 0 (omega arith)
-
 -- the checkers are those of the six points
 pub checkers-by_point : (x : List ℕ) → length x ≡ 6 → checkers x ≡ count x 1 + count x 2 + count x 3 + count x 4 + count x 5 + count x 6
 checkers-by_point [] h = absurd (omega arith)

@@ -41,14 +41,6 @@ pub all_steps : (x : Board) (h : ℕ) (d : Die) (limit : ℕ) (y : Board) → (h
 all_steps x h d limit y none top past =
     (λ below. (below.0, below.2), λ step. (step.0, omega (arith, step_source x h (number d) step.0 y none top step.1), step.1))
 
--- no step starts below point 1
-pub no_steps : (x : Board) (d : Die) (y : Board) → ¬ StepBelow x d 1 y
-no_steps x d y (s, low, step) = lowest s low (from_occupied x (number d) s y step)
-  where
-    lowest : (p : ℕ) → p < 1 → ¬ (0 < count x p)
-    lowest zero h there = omega arith
-    lowest (suc i) h there = omega arith
-
 -- the steps below the next limit, where the die makes a step from this point
 pub one_more_step : (x : Board) (d : Die) (s : ℕ) (z y : Board) (Old Before Now : Type 0) → StepFrom x (number d) s z
     → (Now ↔ (Before ⊎ (y ≡ z))) → (Before ↔ (Old ⊎ StepBelow x d s y)) → Now ↔ (Old ⊎ StepBelow x d (s + 1) y)

@@ -6,7 +6,8 @@ use Rattle.std.proofs.lemmas.List.{take_more_set}
 use Rattle.std.proofs.lemmas.List.Sums.{sum_by-cons}
 use Rattle.race_model.specs.Positions.{Board}
 use Rattle.race_model.specs.Ranks.{boards, numbers_from, count_positions, rank}
-use Rattle.race_model.proofs.Ranks.BoxCounts.{count_by-boards, sum_by-same, sum_by-last}
+use Rattle.race_model.proofs.Numbers.Sums.{sum_by-equal}
+use Rattle.race_model.proofs.Ranks.BoxCounts.{count_by-boards, sum_by-last}
 use Rattle.plain_model.specs.Counting.{is_position_before, positions_before}
 use Rattle.plain_model.proofs.RunLemmas.{append-nil}
 
@@ -23,7 +24,7 @@ pub positions_before-one_left : (first : List ℕ) (n : ℕ) (x : Board) → pos
 unfolding positions_before
 positions_before-one_left first n x =
     count_by-boards n (λ cs. is_position_before (first ++ cs) x)
-    ∙ sum_by-same _ _ (numbers_from 0 16) (λ c. sum_by-same _ _ (boards n) (λ cs. ap (λ y. cond {A = ℕ} (is_position_before y x) 1 0) (sym (append_assoc first (c ∷ []) cs))))
+    ∙ sum_by-equal _ _ (numbers_from 0 16) (λ c. sum_by-equal _ _ (boards n) (λ cs. ap (λ y. cond {A = ℕ} (is_position_before y x) 1 0) (sym (append_assoc first (c ∷ []) cs))))
 
 -- a rank counts all
 pub positions_before-rank : (x : Board) → positions_before [] 6 x ≡ rank x

@@ -53,10 +53,6 @@ added_to-by_places : (h : ℕ → ℕ) (x : Board) (plays : List Board) → adde
 unfolding throws added_to
 added_to-by_places h x plays = refl
 
--- 36 times, once for each second throw
-thirty_six_times : (n : ℕ) → n * 36 ^ 1 ≡ 36 * n
-thirty_six_times n = omega arith
-
 -- over one throw a strategy needs one roll in each of the 36 sequences, unless it stops
 over-one : (b : Bool) (to : Throw → Board) (next : Throw → Strategy) (h : ℕ → ℕ) → over 1 (cond b stop (turn to next)) h ≡ 36 * h (cond b 0 1)
 over-one true to next h = over-stop 1 h ∙ omega arith

@@ -7,10 +7,6 @@ use Rattle.race_model.specs.Ranks.{boards, numbers_from}
 use Rattle.race_model.proofs.Numbers.Sums.{sum-cons, sum_by-map, sum_by-flat_map, sum_by-equal, sum_by-zero, sum_by-add}
 use Rattle.race_model.proofs.Numbers.Tests.{nat_le-suc, eq-suc}
 
--- equal terms, equal sums
-pub sum_by-same : {X : Type 0} (f g : X → ℕ) (xs : List X) → ((x : X) → f x ≡ g x) → sum_by f xs ≡ sum_by g xs
-sum_by-same f g xs e = sum_by-equal f g xs e
-
 -- a count by the first of the counts
 pub count_by-boards : (n : ℕ) (p : List ℕ → Bool) →
     count_by p (boards (suc n)) ≡ sum_by (λ c. count_by (λ cs. p (c ∷ cs)) (boards n)) (numbers_from 0 16)

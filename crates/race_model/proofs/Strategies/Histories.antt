@@ -163,8 +163,3 @@ count_over-beyond m n k s h beyond = count_over-over m s k ∙ over-zeros m s (o
   where
     apart : (r : ℕ) → r ≤ n → r ≢ k
     apart r le = omega arith
-
--- where each game is over within n rolls, it is over within n + 1
-pub ends_more : (n : ℕ) (x : Board) → EndsIn n x → EndsIn (suc n) x
-ends_more zero x ends = λ unfinished v y goes. absurd (unfinished ends)
-ends_more (suc n) x ends = λ unfinished v y goes. ends_more n y (ends unfinished v y goes)
