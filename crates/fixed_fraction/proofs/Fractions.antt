@@ -59,10 +59,3 @@ reduced_small a b g positive short within gcd =
       where
         scaled : (g n d : ℕ) → g * n ≡ a → g * d ≡ b → g * n ≤ g * (180 * d)
         scaled g n d over under = omega (arith, over, under, within)
-
--- the units and the rest, rounded by themselves
-pub rounded : (n d : ℕ) → 0 < d → IsThousandths n d (1000 * (n / d) + (2000 * (n % d) + d) / (2 * d))
-rounded n d positive = by_rest n d (n / d) (n % d) ((2000 * (n % d) + d) / (2 * d)) (omega arith) (mul-div-le (2000 * (n % d) + d) (2 * d)) (lt-mul-div-succ (2000 * (n % d) + d) (omega arith))
-  where
-    by_rest : (n d units rest q : ℕ) → n ≡ d * units + rest → 2 * d * q ≤ 2000 * rest + d → 2000 * rest + d < 2 * d * (q + 1) → IsThousandths n d (1000 * units + q)
-    by_rest n d units rest q parts low high = record { not_over = omega (arith, parts, low); not_under = omega (arith, parts, high) }

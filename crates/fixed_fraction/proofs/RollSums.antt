@@ -4,25 +4,25 @@ use Rattle.std.proofs.lemmas.List.{take_all}
 use Rattle.std.proofs.lemmas.List.Sums.{sum_by-cons, sum_by_more, sum_by-take-le}
 use Rattle.race_model.specs.Dice.{Throw, one, all_rolls, roll_at, weight}
 use Rattle.race_model.specs.LocalEquations.{whole, weighted}
-use Rattle.race_model.proofs.RollParts.{roll_count, weights-sum}
+use Rattle.race_model.proofs.Dice.RollSums.{length-all_rolls, sum_by-weight}
 use Rattle.fixed_fraction.specs.Totals.{Totals, IsAdded, AreTotals}
-use Rattle.fixed_fraction.proofs.Shares.{sum_upto, sum_upto-same, sum_upto-zero, sum_upto-linear, sum-by_places, without-last}
+use Rattle.fixed_fraction.proofs.Shares.{sum_upto, sum_upto-same, sum_upto-zero, sum_upto-linear, sum-by_places, sum_upto-without_last}
 
 -- the sum over one roll more
 pub roll-more : (g : Throw → ℕ) (i : ℕ) → i < 21
     → sum_by g (take (i + 1) all_rolls) ≡ sum_by g (take i all_rolls) + g (roll_at i)
 unfolding roll_at
 roll-more g i lt =
-    sum_by_more g all_rolls i (record { first = one; second = one }) (omega (arith, roll_count))
+    sum_by_more g all_rolls i (record { first = one; second = one }) (omega (arith, length-all_rolls))
 
 -- the weights of the first rolls are within 36
 pub weights-within : (i : ℕ) → i < 21 → sum_by weight (take i all_rolls) + weight (roll_at i) ≤ 36
 weights-within i lt =
-    omega (arith, roll-more weight i lt, sum_by-take-le weight all_rolls (i + 1), weights-sum)
+    omega (arith, roll-more weight i lt, sum_by-take-le weight all_rolls (i + 1), sum_by-weight)
 
 -- a sum over 21 rolls is one over all
 pub all-rolls : (g : Throw → ℕ) → sum_by g (take 21 all_rolls) ≡ sum_by g all_rolls
-all-rolls g = ap (sum_by g) (take_all 21 all_rolls (omega (arith, roll_count)))
+all-rolls g = ap (sum_by g) (take_all 21 all_rolls (omega (arith, length-all_rolls)))
 
 -- one roll more
 pub totals-next : (mean : Throw → ℕ) (share : Throw → ℕ → ℕ) (i : ℕ) (sums more : Totals)
@@ -42,7 +42,7 @@ totals-next mean share i sums more shares lt are same added = record {
 -- .. and all 21
 pub totals-weight : (mean : Throw → ℕ) (share : Throw → ℕ → ℕ) (sums : Totals)
     → AreTotals mean share 21 sums → sums.weight ≡ 36
-totals-weight mean share sums are = are.weights ∙ all-rolls weight ∙ weights-sum
+totals-weight mean share sums are = are.weights ∙ all-rolls weight ∙ sum_by-weight
 
 pub totals-mean : (mean : Throw → ℕ) (share : Throw → ℕ → ℕ) (sums : Totals)
     → AreTotals mean share 21 sums → sums.mean ≡ weighted mean
@@ -83,7 +83,7 @@ shares-moved (x ∷ ys) totals len len_t start moved none all =
     let terms = sum_upto-same 22 (λ k. 36 * get_or ys k 0 + 0) (λ k. get_or totals k 0)
     (λ k lt. omega (arith, moved k lt)) in
     finish x (sum (x ∷ ys)) (sum ys) (sum_upto 22 (λ k. get_or ys k 0)) _ _ _ start cons
-    (omega (arith, places, rest)) scaled blank terms (without-last totals 22 len_t none ∙ all)
+    (omega (arith, places, rest)) scaled blank terms (sum_upto-without_last totals 22 len_t none ∙ all)
   where
     finish : (x total rest upto scaled blank shares : ℕ) → x ≡ 0 → total ≡ x + rest
         → rest ≡ upto → scaled ≡ 36 * upto + blank → blank ≡ 0 → scaled ≡ shares

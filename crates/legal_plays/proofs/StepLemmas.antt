@@ -7,8 +7,8 @@ use Rattle.std.proofs.lemmas.List.Sums.{get_or-le-sum_by}
 use Rattle.race_model.specs.Positions.{Board, count, IsFinished, IsHighest}
 use Rattle.race_model.specs.Dice.{Die, number}
 use Rattle.race_model.specs.Plays.{StepFrom, Step}
-use Rattle.race_model.proofs.Enumerated.{from_occupied}
-use Rattle.race_model.proofs.PlayOrder.{one_step}
+use Rattle.race_model.proofs.Plays.Enumerated.{from_occupied}
+use Rattle.race_model.proofs.Plays.PlayOrder.{one_step}
 
 -- a step from one of the points below a limit
 abbrev pub StepBelow : Board → Die → ℕ → Board → Type 0
@@ -40,14 +40,6 @@ step_source x (suc h) d s y none top step =
 pub all_steps : (x : Board) (h : ℕ) (d : Die) (limit : ℕ) (y : Board) → (h ≡ 0 → IsFinished x) → (0 < h → IsHighest x h) → h < limit → StepBelow x d limit y ↔ Step x d y
 all_steps x h d limit y none top past =
     (λ below. (below.0, below.2), λ step. (step.0, omega (arith, step_source x h (number d) step.0 y none top step.1), step.1))
-
--- no step starts below point 1
-pub no_steps : (x : Board) (d : Die) (y : Board) → ¬ StepBelow x d 1 y
-no_steps x d y (s, low, step) = lowest s low (from_occupied x (number d) s y step)
-  where
-    lowest : (p : ℕ) → p < 1 → ¬ (0 < count x p)
-    lowest zero h there = omega arith
-    lowest (suc i) h there = omega arith
 
 -- the steps below the next limit, where the die makes a step from this point
 pub one_more_step : (x : Board) (d : Die) (s : ℕ) (z y : Board) (Old Before Now : Type 0) → StepFrom x (number d) s z

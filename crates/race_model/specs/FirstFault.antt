@@ -39,13 +39,6 @@ Holds f (least_test rank roll) = IsBest f (at_rank rank) (roll_at roll)
 Holds f (mean_test rank) = HasMean f (at_rank rank)
 Holds f (spread_test rank k) = HasShare f (at_rank rank) k
 
--- the questions about means: those about plays, whether they are least, and the means themselves
-abbrev pub AsksOfMeans : List ℕ → Test → Type 0
-AsksOfMeans f (play_test rank roll) = (rank < count_to (bound_of f)) × (roll < 21)
-AsksOfMeans f (least_test rank roll) = (rank < count_to (bound_of f)) × (roll < 21)
-AsksOfMeans f (mean_test rank) = rank < count_to (bound_of f)
-AsksOfMeans f (spread_test rank k) = ⊥
-
 -- all questions about a file
 abbrev pub Asks : List ℕ → Test → Type 0
 Asks f (play_test rank roll) = (rank < count_to (bound_of f)) × (roll < 21)

@@ -15,14 +15,14 @@ use Rattle.race_model.specs.Ranks.{rank, at_rank, count_to}
 use Rattle.race_model.specs.Enumerations.{all_results}
 use Rattle.race_model.specs.LocalEquations.{whole}
 use Rattle.race_model.specs.Strategies.{count_of}
-use Rattle.race_model.proofs.Enumerated.{IsIn, results_listed, listed_results}
-use Rattle.race_model.proofs.Results.{finished_or_not, legal_somewhere, legal_position}
-use Rattle.race_model.proofs.RankOrder.{at_rank-position}
-use Rattle.race_model.proofs.PositionTotals.{rank-at_rank, rank-range, at_rank-under, count_to-44}
-use Rattle.race_model.proofs.Horizons.{within_22}
-use Rattle.race_model.proofs.Spreads.{counts_add_up}
+use Rattle.race_model.proofs.Plays.Enumerated.{IsIn, results_listed, listed_results}
+use Rattle.race_model.proofs.Plays.Results.{finished_or_not, legal_somewhere, legal_position}
+use Rattle.race_model.proofs.Ranks.RankOrder.{at_rank_position}
+use Rattle.race_model.proofs.Ranks.PositionTotals.{rank-at_rank, rank-range, at_rank_under, count_to-44}
+use Rattle.race_model.proofs.Strategies.Horizons.{within_22}
+use Rattle.race_model.proofs.Strategies.Spreads.{counts_add_up}
 use Rattle.db_layout.specs.Records.{record_of, IsRecordOf}
-use Rattle.db_layout.proofs.Bytes.{record-reads, mean-fits}
+use Rattle.db_layout.proofs.Bytes.{record_reads, mean_fits}
 use Rattle.retrograde.specs.BestPlays.{IsBestPlay}
 use Rattle.retrograde.specs.BuiltRecords.{shares_of, sum_of_means, sum_of_shares, IsMade, IsReached, AreMade, HasRecords}
 use Rattle.retrograde.specs.AllRecords.{AllRecords}
@@ -172,7 +172,7 @@ next-of n means spreads mean played shares low small plays_len shares_len made r
   shares = shares;
   made = made;
   reached = reached;
-  reads = record-reads mean played shares (mean-fits mean small) plays_len short shares_len wide;
+  reads = record_reads mean played shares (mean_fits mean small) plays_len short shares_len wide;
   plays_len = plays_len;
   shares_len = shares_len;
 } where
@@ -183,14 +183,14 @@ next-of n means spreads mean played shares low small plays_len shares_len made r
   short i = ⊎_elim
       (λ inside.
           let best = made.best i inside in
-          let at = legal_position (at_rank n) (roll_at i) best.legal.0 (at_rank-position n) best.legal.1 in
+          let at = legal_position (at_rank n) (roll_at i) best.legal.0 (at_rank_position n) best.legal.1 in
           omega (arith, rank-range best.legal.0 at, best.legal.2))
       (λ past. omega (arith, get_or_past played i 0 (omega arith)))
       (split i)
 
   wide : (k : ℕ) → get_or shares k 0 < 2 ^ 128
   wide k = share-fits (get_or shares k 0)
-      (shares-whole (at_rank n) mean shares (at_rank-position n) low shares_len reached k)
+      (shares-whole (at_rank n) mean shares (at_rank_position n) low shares_len reached k)
 
 -- that of the finished position
 zeros : (m i : ℕ) → slice_index (replicate m 0) i ≡ 0
@@ -202,7 +202,7 @@ next-at_end : (n : ℕ) (means : List ℕ) (spreads : List (List ℕ)) → pips 
     → HasNext n means spreads
 next-at_end n means spreads low none =
     next-of n means spreads 0 (replicate 21 0) (whole ∷ replicate 22 0) low (omega arith) refl refl
-    (made-at_end means spreads (at_rank n) 0 (replicate 21 0) (whole ∷ replicate 22 0) (at_rank-position n) none refl
+    (made-at_end means spreads (at_rank n) 0 (replicate 21 0) (whole ∷ replicate 22 0) (at_rank_position n) none refl
         (zeros 21) refl (zeros 22))
     (stop-reached (at_rank n) 0 (whole ∷ replicate 22 0) none refl refl (zeros 22))
 
@@ -227,7 +227,7 @@ module _ (n : ℕ) (means : List ℕ) (spreads : List (List ℕ)) (low : pips (a
       (best-exists means (at_rank n) (roll_at i)).1
 
   mean : (mean : ℕ) × ((mean ≤ 22 * whole) × (36 * mean ≡ 36 * whole + sum_of_means means played))
-  mean = can-pull_mean (at_rank n) (at_rank-position n) unfinished low means spreads reached played best
+  mean = can-pull_mean (at_rank n) (at_rank_position n) unfinished low means spreads reached played best
 
   share : ℕ → ℕ
   share k = sum_of_shares spreads played k / 36
@@ -247,7 +247,7 @@ module _ (n : ℕ) (means : List ℕ) (spreads : List (List ℕ)) (low : pips (a
   unfolding share shares
   moved k lt =
       let here = get_or-map-range_with_len share 0 22 k k 0 lt (omega arith) in
-      let exact = can-pull_shares (at_rank n) (at_rank-position n) unfinished low means spreads reached played best k lt in
+      let exact = can-pull_shares (at_rank n) (at_rank_position n) unfinished low means spreads reached played best k lt in
       whole-part (sum_of_shares spreads played k) (slice_index shares (suc k)) here exact
     where
       whole-part : (m q : ℕ) → q ≡ m / 36 → m % 36 ≡ 0 → 36 * q ≡ m
@@ -257,14 +257,14 @@ module _ (n : ℕ) (means : List ℕ) (spreads : List (List ℕ)) (low : pips (a
   next-before =
       next-of n means spreads mean.0 played shares low mean.1.0 played-len shares-len
       (made-before means spreads (at_rank n) mean.0 played shares unfinished best mean.1.1 start moved)
-      (next-is_reached (at_rank n) (at_rank-position n) unfinished low means spreads reached played best mean.0 shares
+      (next-is_reached (at_rank n) (at_rank_position n) unfinished low means spreads reached played best mean.0 shares
           mean.1.1 start moved)
 
 -- so each rank has one
 next-exists : (n : ℕ) (means : List ℕ) (plays spreads : List (List ℕ)) → n < count_to 44
     → AreMade n means plays spreads → HasNext n means spreads
 next-exists n means plays spreads under are =
-    let place = at_rank-under 44 n under in
+    let place = at_rank_under 44 n under in
     ⊎_elim
     (next-at_end n means spreads place.1)
     (λ unfinished. next-before n means spreads place.1 unfinished

@@ -2,19 +2,19 @@
 use Rattle.std.proofs.Common.{◌≡◌, ⊎_elim, ◌⊎◌, ℕ, suc, ◌<◌, ◌≤◌, arith}
 use Rattle.race_model.specs.Positions.{pips}
 use Rattle.race_model.specs.Ranks.{rank, at_rank, first_of, count_to}
-use Rattle.race_model.proofs.RankOrder.{at_rank-position, rank-within, first_of-rises, first_of-suc}
-use Rattle.race_model.proofs.PositionTotals.{at_rank-under}
+use Rattle.race_model.proofs.Ranks.RankOrder.{at_rank_position, rank_within, first_of-rises, first_of-suc}
+use Rattle.race_model.proofs.Ranks.PositionTotals.{at_rank_under}
 
 -- the position of a rank between the first of a pip count and that of the next has that pip count
 pub pips-at_rank : (p r : ℕ) → first_of p ≤ r → r < count_to p → pips (at_rank r) ≡ p
 pips-at_rank p r from under = ⊎_elim
     (λ less.
-        let place = at_rank-under p r under in
-        let within = rank-within (at_rank r) (at_rank-position r) in
+        let place = at_rank_under p r under in
+        let within = rank_within (at_rank r) (at_rank_position r) in
         let next = first_of-suc (pips (at_rank r)) in
         let rises = first_of-rises (suc (pips (at_rank r))) p less in
         absurd (omega (arith, place.0, within.1)))
-    (λ more. let place = at_rank-under p r under in omega (arith, place.1))
+    (λ more. let place = at_rank_under p r under in omega (arith, place.1))
     (split (pips (at_rank r)) p)
   where
     split : (a b : ℕ) → (a < b) ⊎ (b ≤ a)

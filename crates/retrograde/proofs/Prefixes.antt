@@ -31,9 +31,9 @@ take-behind k (x ∷ xs) ys =
     (suc rest.0, ap (λ zs. x ∷ zs) rest.1)
 
 -- bytes that grow by a front and then by a prefix of what comes next have grown by a prefix of all
-pub part-more : (old mid new : Option (List ℕ)) (front next rest : List ℕ) → Appends old mid front
+pub flat_map-take_more : (old mid new : Option (List ℕ)) (front next rest : List ℕ) → Appends old mid front
     → AppendsPart mid new next → AppendsPart old new (front ++ (next ++ rest))
-part-more old mid new front next rest before part =
+flat_map-take_more old mid new front next rest before part =
     let first = take-front part.0 next rest in
     let all = take-behind first.0 front (next ++ rest) in
     let both = appends_twice old mid new front (take part.0 next) before part.1 in
@@ -130,7 +130,7 @@ module _ (full : AllRecords) (bound : ℕ) (low : bound ≤ 44) where
   more-written old mid new n m le before part =
       part-refused old new
       (subst (λ (bs : List ℕ). AppendsPart old new bs) (sym (built-split n m le))
-      (part-more old mid new (built_to full bound n) (records_from (bytes_of_rank full) n m)
+      (flat_map-take_more old mid new (built_to full bound n) (records_from (bytes_of_rank full) n m)
           (records_from (bytes_of_rank full) (n + m) (count_to bound - (n + m))) before part))
 
   -- .. and all of them

@@ -6,13 +6,13 @@ use Rattle.race_model.specs.Dice.{Throw, all_rolls, roll_at, roll_index, weight}
 use Rattle.race_model.specs.Plays.{Legal}
 use Rattle.race_model.specs.Ranks.{rank, at_rank, first_of, count_to}
 use Rattle.race_model.specs.LocalEquations.{whole}
-use Rattle.race_model.proofs.Results.{legal_position}
-use Rattle.race_model.proofs.Spent.{legal_takes}
-use Rattle.race_model.proofs.RankOrder.{rank-bound, rank-found, rank-within, first_of-rises}
-use Rattle.race_model.proofs.Horizons.{within_22}
-use Rattle.race_model.proofs.Sums.{sum_equal}
-use Rattle.race_model.proofs.Throws.{roll_of_index}
-use Rattle.race_model.proofs.RollParts.{index-range}
+use Rattle.race_model.proofs.Plays.Results.{legal_position}
+use Rattle.race_model.proofs.Plays.Spent.{legal_takes}
+use Rattle.race_model.proofs.Ranks.RankOrder.{rank_bound, at_rank-rank, rank_within, first_of-rises}
+use Rattle.race_model.proofs.Strategies.Horizons.{within_22}
+use Rattle.race_model.proofs.Numbers.Sums.{sum_by-equal}
+use Rattle.race_model.proofs.Dice.Throws.{roll_of_index}
+use Rattle.race_model.proofs.Dice.RollSums.{roll_index-range}
 use Rattle.retrograde.specs.BestPlays.{IsBestPlay}
 use Rattle.retrograde.specs.BuiltRecords.{shares_of, sum_of_means, sum_of_shares, IsMade, IsReached}
 use Rattle.retrograde.specs.AllRecords.{AllRecords, mean_of_rank, plays_of_rank, shares_of_rank}
@@ -58,17 +58,17 @@ none-sum = refl
 -- a position of at most 44 pips
 module _ (full : AllRecords) (x : Board) (at : IsPosition x) (low : pips x ≤ 44) where
   under : rank x < count_to 44
-  under = (rank-bound x 44 at).1 low
+  under = (rank_bound x 44 at).1 low
 
   -- what is said of its record
   made : IsMade full.means full.spreads x (mean_of_rank full (rank x)) (plays_of_rank full (rank x))
       (shares_of_rank full (rank x))
   made = subst (λ (y : Board). IsMade full.means full.spreads y (mean_of_rank full (rank x)) (plays_of_rank full (rank x))
-      (shares_of_rank full (rank x))) (rank-found x at) (full.made.made (rank x) under)
+      (shares_of_rank full (rank x))) (at_rank-rank x at) (full.made.made (rank x) under)
 
   reached : IsReached x (mean_of_rank full (rank x)) (shares_of_rank full (rank x))
   reached = subst (λ (y : Board). IsReached y (mean_of_rank full (rank x)) (shares_of_rank full (rank x)))
-      (rank-found x at) (full.made.reached (rank x) under)
+      (at_rank-rank x at) (full.made.reached (rank x) under)
 
   reached-below : ReachedBelow (rank x) full.means full.spreads
   reached-below r lt = let all = under in full.made.reached r (omega arith)
@@ -142,7 +142,7 @@ module _ (full : AllRecords) (x : Board) (at : IsPosition x) (low : pips x ≤ 4
         let leads = (best i lt).legal in
         let z = leads.0 in
         let takes = legal_takes x (roll_at i) z leads.1 in
-        let within = (rank-within z (legal_position x (roll_at i) z at leads.1)).0 in
+        let within = (rank_within z (legal_position x (roll_at i) z at leads.1)).0 in
         let rises = first_of-rises (pips x - 24) (pips z) (omega arith) in
         let is = leads.2 in
         omega arith
@@ -164,10 +164,10 @@ module _ (full : AllRecords) (x : Board) (at : IsPosition x) (low : pips x ≤ 4
 
     pub no-last : sum_of_shares full.spreads plays 22 ≡ 0
     no-last =
-        sum_equal (λ v. weight v * slice_index (shares_of full.spreads (slice_index plays (roll_index v))) 22) (λ v. 0) all_rolls
+        sum_by-equal (λ v. weight v * slice_index (shares_of full.spreads (slice_index plays (roll_index v))) 22) (λ v. 0) all_rolls
         (λ v.
             let room = has-room x at unfinished low full.means full.spreads reached-below plays best-all (roll_index v)
-                (index-range v) in
+                (roll_index-range v) in
             ap (λ n. weight v * n) room ∙ times-none (weight v))
         ∙ none-sum
       where

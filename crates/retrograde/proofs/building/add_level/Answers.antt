@@ -1,8 +1,8 @@
 use Rattle.std.proofs.Common.{◌≡◌, ◌-◌, ◌<◌, ◌≤◌, sym, ap, ◌∙◌, arith}
 use Rattle.race_model.specs.Positions.{pips}
 use Rattle.race_model.specs.Ranks.{first_of, count_to}
-use Rattle.race_model.proofs.RankOrder.{first_of-rises}
-use Rattle.race_model.proofs.PositionTotals.{count_to-most}
+use Rattle.race_model.proofs.Ranks.RankOrder.{first_of-rises}
+use Rattle.race_model.proofs.Ranks.PositionTotals.{count_to-most}
 use Rattle.retrograde.proofs.Levels.{pips-at_rank, level-end}
 use Rattle.retrograde.proofs.building.add_level.Goals as goal
 

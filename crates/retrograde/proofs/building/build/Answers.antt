@@ -2,9 +2,9 @@ use Rattle.std.proofs.Common.{◌≡◌, ℕ, suc, ◌+◌, ◌-◌, ◌<◌, �
 use Rattle.std.specs.Io.KnownBytes.{Appends}
 use Rattle.race_model.specs.Ranks.{first_of, count_to}
 use Rattle.race_model.specs.Files.{header}
-use Rattle.race_model.proofs.RankOrder.{first_of-zero, first_of-suc, first_of-rises, count_to-rises}
+use Rattle.race_model.proofs.Ranks.RankOrder.{first_of-zero, first_of-suc, first_of-rises, count_to-rises}
 use Rattle.db_layout.specs.Writes.{AppendsPart}
-use Rattle.db_layout.proofs.Known.{appends_none}
+use Rattle.std.proofs.KnownBytes.{Appends-nil}
 use Rattle.retrograde.specs.AllRecords.{bytes_of_rank}
 use Rattle.retrograde.specs.BuiltBytes.{records_from, built_to, WritesPart, IsRefusedBy}
 use Rattle.retrograde.specs.declared.build_fault.BuildFault.TheVariants.{Memory, Write}
@@ -27,7 +27,7 @@ returns-in_err-add_level-clause-refused g c =
     let writer = g.W.Write.contents c.args.writer.now in
     let low : c.args.bound ≤ 44 = omega (arith, c.in-Some.header.bounded, c.in-Some.ensures.bound) in
     let refused : IsRefusedBy c.args.bound writer writer Memory =
-        (low, nothing-written all-records c.args.bound low writer writer (appends_none writer)) in
+        (low, nothing-written all-records c.args.bound low writer writer (Appends-nil writer)) in
     one-error c.from_residual.result c.in_err-add_level.field-0.0 (IsRefusedBy c.args.bound writer writer)
     c.from_residual.ensures.1
     (subst (IsRefusedBy c.args.bound writer writer) (sym c.in_err-add_level.ensures.memory) refused)

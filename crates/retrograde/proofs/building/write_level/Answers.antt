@@ -3,11 +3,12 @@ use Rattle.std.specs.Prelude.{Result, Ok, Err}
 use Rattle.std.specs.Result.{OnErr}
 use Rattle.std.specs.Io.KnownBytes.{Appends}
 use Rattle.db_layout.specs.Writes.{AppendsPart}
-use Rattle.db_layout.proofs.Known.{appends_none, appends_twice}
+use Rattle.db_layout.proofs.Known.{appends_twice}
+use Rattle.std.proofs.KnownBytes.{Appends-nil}
 use Rattle.retrograde.specs.AllRecords.{bytes_of_rank}
 use Rattle.retrograde.specs.BuiltBytes.{records_from}
 use Rattle.retrograde.proofs.Kept.{kept-bytes}
-use Rattle.retrograde.proofs.Prefixes.{records-apart, records-next, part-more}
+use Rattle.retrograde.proofs.Prefixes.{records-apart, records-next, flat_map-take_more}
 use Rattle.retrograde.proofs.building.write_level.Goals as goal
 
 -- what holds at an error holds on an error
@@ -17,7 +18,7 @@ on-error (Err e) p = p
 
 pub loop-index-init : goal.loop-index-init
 unfolding records_from
-loop-index-init g c = appends_none (g.W.Write.contents c.args.writer.now)
+loop-index-init g c = Appends-nil (g.W.Write.contents c.args.writer.now)
 
 pub returns-in_err-write_record-clause-part : goal.returns-in_err-write_record-clause-part
 returns-in_err-write_record-clause-part g c =
@@ -39,7 +40,7 @@ returns-in_err-write_record-clause-part g c =
     let rest : List ℕ = records_from (bytes_of_rank g.full) (first + index + 1) (count - index - 1) in
     on-error c.from_residual.result
     (subst (λ (bs : List ℕ). AppendsPart old new bs) (sym (records-apart g.full first index count lt))
-    (part-more old mid new (records_from (bytes_of_rank g.full) first index) (bytes_of_rank g.full (first + index)) rest
+    (flat_map-take_more old mid new (records_from (bytes_of_rank g.full) first index) (bytes_of_rank g.full (first + index)) rest
         c.loop-index.invariant part))
 
 pub loop-index-preserved : goal.loop-index-preserved

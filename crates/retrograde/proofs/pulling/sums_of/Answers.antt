@@ -1,7 +1,7 @@
 use Rattle.std.proofs.Common.{◌≡◌, ℕ, ◌+◌, ◌<◌, ◌≤◌, List, length, get_or, sym, ap, subst, ◌∙◌, arith}
 use Rattle.std.specs.Prelude.{slice_index}
 use Rattle.race_model.specs.Dice.{Throw, roll_at, roll_index, weight}
-use Rattle.race_model.proofs.Throws.{roll_of_index}
+use Rattle.race_model.proofs.Dice.Throws.{roll_of_index}
 use Rattle.fixed_fraction.specs.Totals.{IsAdded}
 use Rattle.retrograde.specs.AllRecords.{AllRecords, mean_of_rank, shares_of_rank}
 use Rattle.retrograde.proofs.pulling.sums_of.Goals as goal

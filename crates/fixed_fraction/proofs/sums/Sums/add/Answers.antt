@@ -1,6 +1,6 @@
 use Rattle.std.proofs.Common.{◌≡◌, ℕ, ◌+◌, ◌*◌, ◌≤◌, length, sum, sym, ap, ◌∙◌, arith}
 use Rattle.race_model.specs.LocalEquations.{whole}
-use Rattle.fixed_fraction.proofs.Pulls.{part-small}
+use Rattle.fixed_fraction.proofs.Pulls.{part_small}
 use Rattle.fixed_fraction.proofs.RollSums.{shares-added}
 use Rattle.fixed_fraction.proofs.sums.Sums.add.Goals as goal
 
@@ -19,7 +19,7 @@ invariant_of-self c =
     let part : sum c.shares.result.now ≡ whole =
     ap sum c.shares.ensures.value ∙ c.shares.ensures.total in
     let weighed = ap (λ n. c.args.weight * n) part in
-    let means = part-small c.self.inside.mean c.args.weight c.numerator.result
+    let means = part_small c.self.inside.mean c.args.weight c.numerator.result
     c.self.inside.weight (c.self.inside.weight + c.args.weight) (22 * whole) 0
     c.numerator.ensures.range (omega arith) (omega (arith, before.mean)) in
     record {

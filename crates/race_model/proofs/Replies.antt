@@ -1,0 +1,4 @@
+-- Lines of queries and their replies.
+pub mod Lines
+pub mod OneReply
+pub mod EqualReplies
