@@ -1,5 +1,6 @@
 -- What a table answers.
 use Rattle.std.specs.Prelude.{◌≡◌, ℕ, ◌<◌, List, length, take, Option, Some, None, Result, Ok, Err}
+use Rattle.std.specs.Option.{IsSomeAnd}
 use Rattle.race_model.specs.Files.{IsFileTo, bound_of}
 use Rattle.race_model.specs.Headers.{IsFirstHeaderFault}
 use Rattle.db_layout.specs.HeaderFaults.{test_of}
@@ -7,8 +8,8 @@ use Rattle.db_layout.specs.declared.header.Header.{Header}
 use Rattle.db_reader.specs.declared.table.TableFault.{TableFault}
 use Rattle.db_reader.specs.declared.table.TableFault.TheVariants.{Bad, Read}
 
--- the answer about the header of these bytes: with a header they are a database of at most 44 pips by their length and
--- places, and the bound is theirs; else the first fault of the header
+-- the answer about the header of these bytes: with a header they are a database of at most 44 pips
+-- by their length and places, and the bound is theirs; else the first fault of the header
 abbrev pub IsHeaderOf : List ℕ → Result Header TableFault → Type 0
 IsHeaderOf file (Ok header) = IsFileTo 44 file × (header.bound ≡ bound_of file)
 IsHeaderOf file (Err (Bad fault)) = IsFirstHeaderFault 44 (take 32 file) (length file) (test_of fault)
@@ -24,3 +25,7 @@ abbrev pub HeaderCounted : ℕ → ℕ → Result Header TableFault → Type 0
 HeaderCounted before now (Ok header) = now ≡ before
 HeaderCounted before now (Err (Bad fault)) = now ≡ before
 HeaderCounted before now (Err Read) = before < now
+
+-- a rank under the count of the accepted header
+abbrev pub HasRecord : Option Header → ℕ → Type 0
+HasRecord accepted rank = IsSomeAnd accepted (λ header. rank < header.count)

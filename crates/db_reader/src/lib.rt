@@ -11,4 +11,5 @@ pub use whole::Whole;
 
 pub mod record;
 pub mod table;
+pub mod trial;
 pub mod whole;

@@ -1,9 +1,8 @@
 ghost use Rattle.std.specs.Prelude.{◌≡◌, ℕ, ◌<◌, List, Option, OnOk};
-ghost use Rattle.std.specs.Option.{IsSomeAnd};
 ghost use Rattle.race_model.specs.Files.{record_at};
 ghost use Rattle.db_layout.specs.declared.header.Header.{Header as HeaderValue};
 ghost use Rattle.db_reader.specs.Telling.{WhereTold, Counted};
-ghost use Rattle.db_reader.specs.Reads.{IsHeaderOf, accepted_by, HeaderCounted};
+ghost use Rattle.db_reader.specs.Reads.{IsHeaderOf, accepted_by, HeaderCounted, HasRecord};
 
 use crate::record::Record;
 use db_layout::{Header, HeaderFault, RecordView};
@@ -55,7 +54,7 @@ pub trait Table {
     /// Makes the record of a rank under the count of the accepted header ready to be lent with this room. What
     /// was ready with another room stays so. At a fault the table is as it was, but for the count of failures.
     fn load(&mut self, rank: u16, room: &mut Record) -> Result<(), ReadFault>
-        requires { IsSomeAnd (accepted self.old) (λ header. rank < header.count) }
+        requires { HasRecord (accepted self.old) rank }
         ensures stays { tells self.new ≡ tells self.old }
         ensures accepted { accepted self.new ≡ accepted self.old }
         ensures ready { OnOk result (ready self.new room.new rank) }

@@ -1,9 +1,9 @@
 ghost use Rattle.std.specs.Prelude.{◌≡◌, ℕ, ◌+◌, ◌*◌, ◌<◌, ◌≤◌, Some, None, List, length, take, IfOk, IfErr, OnOk};
-ghost use Rattle.std.specs.Option.{IsSomeAnd};
 ghost use Rattle.db_layout.specs.declared.header.Header.{Header as HeaderValue};
 ghost use Rattle.race_model.specs.Files.{IsFileTo, bound_of};
 ghost use Rattle.race_model.specs.Headers.{IsFirstHeaderFault};
 ghost use Rattle.db_layout.specs.HeaderFaults.{test_of};
+ghost use Rattle.db_reader.specs.Reads.{HasRecord};
 
 use crate::record::Record;
 use crate::table::{ReadFault, Table, TableFault};
@@ -39,7 +39,7 @@ impl<'a> Table for Whole<'a> {
 
     ghost accepted = { λ table. table.header };
 
-    ghost ready = { λ table bytes rank. IsSomeAnd table.header (λ header. rank < header.count) };
+    ghost ready = { λ table bytes rank. HasRecord table.header rank };
 
     fn header(&mut self) -> Result<Header, TableFault> {
         self.header = None;
