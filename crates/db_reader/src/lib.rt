@@ -5,11 +5,20 @@
 //! more.
 #![tactic(auto)]
 
+pub use file_source::FileSource;
+pub use paged::{Paged, PagedFault};
 pub use record::Record;
+pub use slice_source::SliceSource;
+pub use source::{Source, SourceFault};
 pub use table::{ReadFault, Table, TableFault};
 pub use whole::Whole;
 
+pub mod file_source;
+mod front;
+pub mod paged;
 pub mod record;
+pub mod slice_source;
+pub mod source;
 pub mod table;
 pub mod trial;
 pub mod whole;

@@ -5,9 +5,10 @@ ghost use Rattle.race_model.specs.Headers.{IsFirstHeaderFault};
 ghost use Rattle.db_layout.specs.HeaderFaults.{test_of};
 ghost use Rattle.db_reader.specs.Reads.{HasRecord};
 
+use crate::front::header_of;
 use crate::record::Record;
 use crate::table::{ReadFault, Table, TableFault};
-use db_layout::{HEADER_BYTES, Header, HeaderFault, RECORD_BYTES, RecordView, parse_header};
+use db_layout::{HEADER_BYTES, Header, RECORD_BYTES, RecordView};
 
 /// The table over the bytes of a whole database, in memory that it borrows. It tells these bytes, lends each
 /// record from them and copies none, and never fails.
@@ -43,12 +44,13 @@ impl<'a> Table for Whole<'a> {
 
     fn header(&mut self) -> Result<Header, TableFault> {
         self.header = None;
-        match header_of(self.bytes) {
+        let front = &self.bytes[..self.bytes.len().min(HEADER_BYTES)];
+        match header_of(front, self.bytes.len() as u64) {
             Ok(header) => {
                 self.header = Some(header);
                 Ok(header)
             }
-            Err(fault) => Err(TableFault::Bad(fault)),
+            Err(fault) => Err(fault),
         }
     }
 
@@ -60,15 +62,4 @@ impl<'a> Table for Whole<'a> {
         let place = HEADER_BYTES + RECORD_BYTES * usize::from(rank);
         RecordView::of(&self.bytes[place..place + RECORD_BYTES]).unwrap()
     }
-}
-
-/// The header of these bytes, or its first fault.
-fn header_of(bytes: &[u8]) -> Result<Header, HeaderFault>
-    ensures file { OnOk result (IsFileTo 44 bytes.now) }
-    ensures bound { IfOk result (λ header. header.bound ≡ bound_of bytes.now) }
-    ensures fault { IfErr result (λ fault.
-        IsFirstHeaderFault 44 (take 32 bytes.now) (length bytes.now) (test_of fault)) }
-{
-    let front = &bytes[..bytes.len().min(HEADER_BYTES)];
-    parse_header(front, bytes.len() as u64)
 }
