@@ -6,3 +6,4 @@ pub mod Lower
 pub mod PlayNumbers
 pub mod NumberTests
 pub mod RecordTests
+pub mod FileTests

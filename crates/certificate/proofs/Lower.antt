@@ -66,8 +66,8 @@ none_beyond f (suc n) x ends at meets (suc k) beyond few = ⊎_elim
         → spread f x (suc k) ≡ 0
     further unfinished each =
         let none = sum_of_nothing (λ v. weight v * spread_at f (play f x v) k) all_rolls (λ v.
-            ap (λ n. weight v * n) (ap (λ r. spread_at f r k) (sym (played f x at meets unfinished v).ranked) ∙ each v)
-            ∙ omega arith) in
+        ap (λ n. weight v * n) (ap (λ r. spread_at f r k) (sym (played f x at meets unfinished v).ranked) ∙ each v)
+        ∙ omega arith) in
         omega (arith, ((meets x at (omega arith)).shares (suc k) few).1 unfinished, none)
 
 -- the shares of the finished position: the whole at 0 rolls

@@ -44,10 +44,9 @@ module _ (f : List ℕ) (x : Board) (at : IsPosition x) (short : pips x ≤ 44)
   pub play-lent : (bytes : List ℕ) (p : ℕ) → bytes ≡ record_at f p → p ≡ play f x v
       → (mean_of bytes ≤ 22 * whole) × (sum (shares_of bytes) ≡ whole)
   play-lent bytes p lent is =
-      let same : bytes ≡ record_at f (play f x v) = lent ∙ ap (record_at f) is in
-      (
+      let same : bytes ≡ record_at f (play f x v) = lent ∙ ap (record_at f) is in (
         subst (λ b. mean_of b ≤ 22 * whole) (sym same)
-        (subst (λ m. m ≤ 22 * whole) (sym (mean-of_record f (play f x v))) play-mean),
+            (subst (λ m. m ≤ 22 * whole) (sym (mean-of_record f (play f x v))) play-mean),
         ap (λ b. sum (shares_of b)) same ∙ play-total,
       )
 

@@ -39,7 +39,7 @@ module _ (x : Board) (v : Throw) (xs : List Board)
       let legal = (members found.0).0 found.1 in
       let ranked : rank found.0 ≡ play f x v = found.2 ∙ read in
       let there : at_rank (play f x v) ≡ found.0 =
-          ap at_rank (sym ranked) ∙ rank-found found.0 (legal_position x v found.0 is legal) in
+      ap at_rank (sym ranked) ∙ rank-found found.0 (legal_position x v found.0 is legal) in
       record {
         ranked = ap rank there ∙ ranked;
         legal = subst (λ y. Legal x v y) (sym there) legal;

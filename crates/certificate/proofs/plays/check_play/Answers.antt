@@ -18,7 +18,7 @@ look_over-requires g c =
     let x = c.args.position.now in
     let found = c.as_slice.result.now in
     let are = members c.results-found.result.items found (Legal x c.args.roll)
-        c.as_slice.ensures.value c.results-found.ensures.members in
+    c.as_slice.ensures.value c.results-found.ensures.members in
     ranks-of_results x c.args.roll found are (HasRecord (g.T.Table.accepted c.args.table.now)) c.requires.records
 
 pub returns-then-not-seen-clause-fault : goal.returns-then-not-seen-clause-fault
@@ -26,7 +26,7 @@ returns-then-not-seen-clause-fault g c file told read =
     let x = c.args.position.now in
     let found = c.as_slice.result.now in
     let are = members c.results-found.result.items found (Legal x c.args.roll)
-        c.as_slice.ensures.value c.results-found.ensures.members in
+    c.as_slice.ensures.value c.results-found.ensures.members in
     let none : c.in-Ok.seen.is_legal ≡ false = search rules in
     not_played x c.args.roll found are file c.args.recorded read ((c.in-Ok.ensures {u = tt}).not_legal none)
 
@@ -35,7 +35,7 @@ mean_at-requires g c =
     let x = c.args.position.now in
     let found = c.as_slice.result.now in
     let are = members c.results-found.result.items found (Legal x c.args.roll)
-        c.as_slice.ensures.value c.results-found.ensures.members in
+    c.as_slice.ensures.value c.results-found.ensures.members in
     let some : c.in-Ok.seen.is_legal ≡ true = search rules in
     let seen = c.in-Ok.ensures {u = tt} in
     rank-of_result x c.args.roll found are (HasRecord (g.T.Table.accepted c.look_over.new.table))
@@ -46,14 +46,13 @@ returns-in-Ok-mean_at-clause-fault g c file told read =
     let x = c.args.position.now in
     let found = c.as_slice.result.now in
     let are = members c.results-found.result.items found (Legal x c.args.roll)
-        c.as_slice.ensures.value c.results-found.ensures.members in
+    c.as_slice.ensures.value c.results-found.ensures.members in
     let some : c.in-Ok.seen.is_legal ≡ true = search rules in
     let seen = c.in-Ok.ensures {u = tt} in
-    let mean = (c.in-Ok-mean_at.ensures {u = tt}).told file (seen.stays ∙ told) in
-    (
+    let mean = (c.in-Ok-mean_at.ensures {u = tt}).told file (seen.stays ∙ told) in (
       is_played x c.args.roll found are file c.args.recorded read c.requires.position (seen.is_legal some),
       not_best x c.args.roll found are file c.args.recorded c.in-Ok.seen.least read
-      (omega (arith, mean, c.if-seen-mean.true)) (seen.least file told (omega (arith, c.if-seen-mean.true))),
+          (omega (arith, mean, c.if-seen-mean.true)) (seen.least file told (omega (arith, c.if-seen-mean.true))),
     )
 
 pub returns-in-Ok-2-clause-right : goal.returns-in-Ok-2-clause-right
@@ -61,12 +60,11 @@ returns-in-Ok-2-clause-right g c file told read =
     let x = c.args.position.now in
     let found = c.as_slice.result.now in
     let are = members c.results-found.result.items found (Legal x c.args.roll)
-        c.as_slice.ensures.value c.results-found.ensures.members in
+    c.as_slice.ensures.value c.results-found.ensures.members in
     let some : c.in-Ok.seen.is_legal ≡ true = search rules in
     let seen = c.in-Ok.ensures {u = tt} in
-    let mean = (c.in-Ok-mean_at.ensures {u = tt}).told file (seen.stays ∙ told) in
-    (
+    let mean = (c.in-Ok-mean_at.ensures {u = tt}).told file (seen.stays ∙ told) in (
       is_played x c.args.roll found are file c.args.recorded read c.requires.position (seen.is_legal some),
       is_best x c.args.roll found are file c.args.recorded c.in-Ok.seen.least read
-      (omega (arith, mean, c.if-seen-mean.false)) (seen.no_less file told),
+          (omega (arith, mean, c.if-seen-mean.false)) (seen.no_less file told),
     )

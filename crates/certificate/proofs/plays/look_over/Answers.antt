@@ -14,9 +14,9 @@ loop-position-preserved g c =
     let before = c.loop-position.invariant in
     let more = c.in_ok-mean_at.ensures {u = tt} in
     let same : (d : List ℕ) → get_or found i d ≡ get_or found i c.position-item.result =
-        λ d. get_or_default found i d c.position-item.result c.loop-position-test.true in
+    λ d. get_or_default found i d c.position-item.result c.loop-position-test.true in
     let ranked : (d : List ℕ) → rank (get_or found i d) ≡ c.rank-rank.result =
-        λ d. ap rank (same d ∙ sym c.position-item.is) ∙ sym c.rank-rank.ensures.value in
+    λ d. ap rank (same d ∙ sym c.position-item.is) ∙ sym c.rank-rank.ensures.value in
     record {
       stays = more.stays ∙ before.stays;
       accepted = more.accepted ∙ before.accepted;
@@ -32,7 +32,7 @@ loop-position-preserved g c =
         | else-is_legal w ↦ λ t k d. below_more (λ k. rank (get_or found k d) ≢ c.args.recorded) i
             (λ k lt. before.not_legal w.if-is_legal.false k d lt)
             (λ e. let is = eq-eqb c.rank-rank.result c.args.recorded (sym (ranked d) ∙ e) in
-                let made = w.is_legal-is in cc) k
+            let made = w.is_legal-is in cc) k
       ];
       no_less = λ file told k d.
           let read = more.told file (before.stays ∙ told) in
@@ -44,7 +44,7 @@ loop-position-preserved g c =
           let read = more.told file (before.stays ∙ told) in
           ⊎_elim
           (λ lt. let k = before.least file told (omega arith) in
-              (k.0, omega (arith, k.1), λ d. let is = k.2 d in omega arith))
+          (k.0, omega (arith, k.1), λ d. let is = k.2 d in omega arith))
           (λ ge. (i, omega arith, λ d. let here = ap (mean_at file) (ranked d) in omega arith))
           (cases_lt c.loop-position.least c.in_ok-mean_at.field-0);
     }

@@ -28,7 +28,7 @@ returns-in-Err-sum_plays-clause-first g c file told =
     let same = rw c.unwrap-position.ensures at c.unrank.ensures.value in
     let whole = c.requires.file file told in
     let lt : c.args.rank < count_to (bound_of file) =
-        let count = ap count_to whole.1 in omega (arith, c.requires.rank, c.args.header.counted, count) in
+    let count = ap count_to whole.1 in omega (arith, c.requires.rank, c.args.header.counted, count) in
     let refused = c.in-Err-sum_plays.refused in
     let first = (c.in-Err-sum_plays.ensures {u = tt}).fault file ((c.in_default.ensures {u = tt}).stays ∙ told) in
     subst (IsFirstFaultAt file c.args.rank) (sym c.of_record.ensures)
@@ -52,12 +52,12 @@ returns-then-not-has_mean-clause-first g c file told =
     let now = (c.in_default.ensures {u = tt}).stays ∙ told in
     let whole = c.requires.file file told in
     let lt : c.args.rank < count_to (bound_of file) =
-        let count = ap count_to whole.1 in omega (arith, c.requires.rank, c.args.header.counted, count) in
+    let count = ap count_to whole.1 in omega (arith, c.requires.rank, c.args.header.counted, count) in
     let fine = c.in-Ok.ensures {u = tt} in
     let known : IsSummed file x c.in-Ok.sums = record { held = fine.right file now; are = fine.totals file now } in
     let refused : c.has_mean.result ≡ false = search (rules, tests) in
     let fails : ¬ IsMeanOf x (mean_of c.lend-view.result) c.in-Ok.sums = λ is.
-        false≢true (sym refused ∙ c.has_mean.ensures.1 is) in
+    false≢true (sym refused ∙ c.has_mean.ensures.1 is) in
     wrong-mean file c.lend-view.result c.args.rank c.in-Ok.sums lt whole.0.bounded (c.requires.lower file told)
     (c.lend-view.ensures file (fine.stays ∙ now)) (subst (λ (x : Board). IsSummed file x c.in-Ok.sums) same known)
     (subst (λ (x : Board). ¬ IsMeanOf x (mean_of c.lend-view.result) c.in-Ok.sums) same fails)
@@ -69,7 +69,7 @@ returns-in-Some-clause-first g c file told =
     let now = (c.in_default.ensures {u = tt}).stays ∙ told in
     let whole = c.requires.file file told in
     let lt : c.args.rank < count_to (bound_of file) =
-        let count = ap count_to whole.1 in omega (arith, c.requires.rank, c.args.header.counted, count) in
+    let count = ap count_to whole.1 in omega (arith, c.requires.rank, c.args.header.counted, count) in
     let fine = c.in-Ok.ensures {u = tt} in
     let known : IsSummed file x c.in-Ok.sums = record { held = fine.right file now; are = fine.totals file now } in
     let accepted : c.has_mean.result ≡ true = search (rules, tests) in
@@ -90,7 +90,7 @@ returns-in-None-clause-local g c file told =
     let now = (c.in_default.ensures {u = tt}).stays ∙ told in
     let whole = c.requires.file file told in
     let lt : c.args.rank < count_to (bound_of file) =
-        let count = ap count_to whole.1 in omega (arith, c.requires.rank, c.args.header.counted, count) in
+    let count = ap count_to whole.1 in omega (arith, c.requires.rank, c.args.header.counted, count) in
     let fine = c.in-Ok.ensures {u = tt} in
     let known : IsSummed file x c.in-Ok.sums = record { held = fine.right file now; are = fine.totals file now } in
     let accepted : c.has_mean.result ≡ true = search (rules, tests) in

@@ -28,7 +28,7 @@ returns-in-Err-clause-fault g c file told =
     let now = c.loop-index.invariant.stays ∙ told in
     let roll = rw c.unwrap-roll.ensures at c.from_index.ensures.value in
     let read = c.play-recorded.ensures
-        ∙ play-of_lent file c.lend.result x c.args.rank (c.lend.ensures file now) c.requires.rank c.unwrap-roll.result in
+    ∙ play-of_lent file c.lend.result x c.args.rank (c.lend.ensures file now) c.requires.rank c.unwrap-roll.result in
     record {
       is_roll = c.loop-index-test.true;
       applies = subst (λ v. Applies file x v c.in-Err.fault) roll ((c.in-Err.ensures {u = tt}).fault file now read);
@@ -51,7 +51,7 @@ loop-index-preserved-then-is_finished g c =
       held = λ file told.
           let now = before.stays ∙ told in
           let read = c.play-recorded.ensures
-              ∙ play-of_lent file c.lend.result x c.args.rank (c.lend.ensures file now) c.requires.rank c.unwrap-roll.result in
+          ∙ play-of_lent file c.lend.result x c.args.rank (c.lend.ensures file now) c.requires.rank c.unwrap-roll.result in
           below_more (λ j. IsPlayed file x (roll_at j) × IsBest file x (roll_at j)) i (before.held file told)
           (subst (λ v. IsPlayed file x v × IsBest file x v) roll (fine.right file now read));
       light = omega (arith, within.1);
@@ -67,12 +67,12 @@ returns-in-Err-add_numbers-clause-cause g c file told =
     let fine = c.in_default.ensures {u = tt} in
     let now = before.stays ∙ told in
     let read = c.play-recorded.ensures
-        ∙ play-of_lent file c.lend.result x c.args.rank (c.lend.ensures file now) c.requires.rank v in
+    ∙ play-of_lent file c.lend.result x c.args.rank (c.lend.ensures file now) c.requires.rank v in
     let unfinished : ¬ IsFinished x = λ end.
-        let is = (c.if-is_finished.ensures {u = tt}).value.1 end in cc in
+    let is = (c.if-is_finished.ensures {u = tt}).value.1 end in cc in
     let lent = c.lend-in-loop-index.ensures file (fine.stays ∙ now) in
     let lower = subst (λ r. (z : Board) → IsPosition z → rank z < r → IsLocalAt file z) c.requires.rank
-        (c.requires.lower file told) in
+    (c.requires.lower file told) in
     absurd ((c.in-Err-add_numbers.ensures {u = tt}).refused
     (play-lent file x c.requires.position c.requires.short lower unfinished v (fine.right file now read).0
     c.lend-in-loop-index.result c.play-recorded.result lent read))
@@ -96,7 +96,7 @@ loop-index-preserved g c =
       held = λ file told.
           let now = before.stays ∙ told in
           let read = c.play-recorded.ensures
-              ∙ play-of_lent file c.lend.result x c.args.rank (c.lend.ensures file now) c.requires.rank v in
+          ∙ play-of_lent file c.lend.result x c.args.rank (c.lend.ensures file now) c.requires.rank v in
           below_more (λ j. IsPlayed file x (roll_at j) × IsBest file x (roll_at j)) i (before.held file told)
           (subst (λ v. IsPlayed file x v × IsBest file x v) roll (fine.right file now read));
       light =
@@ -105,13 +105,13 @@ loop-index-preserved g c =
       totals = λ file told unfinished.
           let now = before.stays ∙ told in
           let read = c.play-recorded.ensures
-              ∙ play-of_lent file c.lend.result x c.args.rank (c.lend.ensures file now) c.requires.rank v in
+          ∙ play-of_lent file c.lend.result x c.args.rank (c.lend.ensures file now) c.requires.rank v in
           let lent = c.lend-in-loop-index.ensures file (fine.stays ∙ now) in
           let mean = lent-mean file bytes x v c.play-recorded.result lent read in
           let numbers = subst (λ m. IsAdded c.loop-index.sums (weight v) m (shares_of bytes) c.add_numbers.new.sums)
-              mean added in
+          mean added in
           let here = subst (λ v. IsAdded c.loop-index.sums (weight v) (recorded_mean file x v) (shares_of bytes) c.add_numbers.new.sums)
-              roll numbers in
+          roll numbers in
           c.law_sums.ensures.next (recorded_mean file x) (recorded_share file x) i c.loop-index.sums
           c.add_numbers.new.sums (shares_of bytes) c.loop-index-test.true (before.totals file told unfinished)
           (λ k few. lent-share file bytes x v c.play-recorded.result k few lent read
@@ -124,7 +124,7 @@ returns-clause-totals g c file told unfinished =
     let x = c.args.position.now in
     let all : c.loop-index.index ≡ 21 = omega (arith, c.loop-index-test.false, c.loop-index.auto.index-end) in
     let are = subst (λ i. AreTotals (recorded_mean file x) (recorded_share file x) i c.loop-index.sums) all
-        (c.loop-index.invariant.totals file told unfinished) in
+    (c.loop-index.invariant.totals file told unfinished) in
     record {
       means = c.law_sums.ensures.mean (recorded_mean file x) (recorded_share file x) c.loop-index.sums are;
       each = λ k few. c.law_sums.ensures.shares (recorded_mean file x) (recorded_share file x) c.loop-index.sums k few are;

@@ -15,7 +15,7 @@ returns-then-recorded-self-clause-cause g c file told =
     let still = ap g.T.Table.tells c.self-2.view_is ∙ (ok.stays ∙ told) in
     let lent = c.lend.ensures file still in
     let read = c.play-recorded.ensures
-        ∙ play-of_lent file c.lend.result x c.in_ok-rank.rank lent ok.rank c.args.roll in
+    ∙ play-of_lent file c.lend.result x c.in_ok-rank.rank lent ok.rank c.args.roll in
     let under = accepted-under file accepted.0 x ok.position accepted.1 c.args.roll in
     let count = ap count_to (c.self-2.invariant.bound_is file still) in
     absurd (omega (arith, read, under, count, c.self-2.inside.header.counted, c.if-recorded-self.true))
@@ -33,7 +33,7 @@ returns-in_default-clause-cause g c file told =
     let still = ap g.T.Table.tells c.self-2.view_is ∙ (ok.stays ∙ told) in
     let lent = c.lend.ensures file still in
     let read = c.play-recorded.ensures
-        ∙ play-of_lent file c.lend.result x c.in_ok-rank.rank lent ok.rank c.args.roll in
+    ∙ play-of_lent file c.lend.result x c.in_ok-rank.rank lent ok.rank c.args.roll in
     let to = (rw c.unwrap-to.ensures at c.unrank.ensures.value) ∙ ap at_rank read in
     let legal = (accepted-play file accepted.0 x ok.position accepted.1 c.args.roll).legal in
     absurd (false≢true ((c.in_default.ensures {u = tt}).legal.1
@@ -46,7 +46,7 @@ returns-clause-recorded g c file told =
     let still = ap g.T.Table.tells c.self-2.view_is ∙ (ok.stays ∙ told) in
     let lent = c.lend.ensures file still in
     let read = c.play-recorded.ensures
-        ∙ play-of_lent file c.lend.result x c.in_ok-rank.rank lent ok.rank c.args.roll in
+    ∙ play-of_lent file c.lend.result x c.in_ok-rank.rank lent ok.rank c.args.roll in
     (rw c.unwrap-to.ensures at c.unrank.ensures.value) ∙ ap at_rank read
 
 pub returns-clause-legal : goal.returns-clause-legal

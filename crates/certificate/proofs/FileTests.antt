@@ -1,0 +1,108 @@
+-- What the tests of the records of a file tell, one after another.
+use Rattle.std.proofs.Common.{◌≡◌, ⊎_elim, ℕ, ◌+◌, ◌<◌, ◌≤◌, List, sym, ap, subst, ◌∙◌, arith}
+use Rattle.std.proofs.lemmas.Bool.{cases_lt}
+use Rattle.race_model.specs.Positions.{Board, IsPosition}
+use Rattle.race_model.specs.Ranks.{rank, at_rank, count_to}
+use Rattle.race_model.specs.Files.{IsFileTo, bound_of}
+use Rattle.race_model.specs.LocalEquations.{IsLocalAt, IsLocal}
+use Rattle.race_model.specs.FirstFault.{Test, play_test, least_test, mean_test, spread_test, rank_of, Holds, Asks, IsFirstFault}
+use Rattle.race_model.specs.RightFiles.{IsRight}
+use Rattle.race_model.proofs.Throws.{roll_of_index}
+use Rattle.race_model.proofs.RankOrder.{rank-bound, rank-found, at_rank-position}
+use Rattle.race_model.proofs.PositionTotals.{rank-at_rank, count_to-most}
+use Rattle.race_model.proofs.HeaderFacts.{header_fault_refuses}
+use Rattle.race_model.proofs.Faults.{fault_refuses}
+use Rattle.race_model.proofs.Right.{local_of_right}
+use Rattle.db_layout.specs.HeaderFaults.{test_of}
+use Rattle.certificate.specs.RecordFaults.{IsFirstInRecord, IsFirstFaultAt, RecordCauses}
+use Rattle.certificate.specs.CheckFaults.{IsFirst, CheckCauses, of_record_at}
+use Rattle.certificate.specs.declared.check_fault.CheckFault.{CheckFault}
+use Rattle.certificate.specs.declared.check_fault.CheckFault.TheVariants.{Header, Play as PlayAt, NotLeast as NotLeastAt, Mean as MeanAt, Spread as SpreadAt, Read as ReadAt}
+use Rattle.certificate.specs.declared.record_check.RecordFault.{RecordFault}
+use Rattle.certificate.specs.declared.record_check.RecordFault.TheVariants.{Play, NotLeast, Mean, Spread, Read}
+
+-- where the equations of a position hold, the questions about its record are answered yes
+local-answers : (f : List ℕ) (u : Test) → IsLocalAt f (at_rank (rank_of u)) → Asks f u → Holds f u
+local-answers f (play_test r roll) local asks = local.means.played _ (roll_of_index roll asks.1).0
+local-answers f (least_test r roll) local asks = local.means.best _ (roll_of_index roll asks.1).0
+local-answers f (mean_test r) local asks = local.means.mean_is
+local-answers f (spread_test r k) local asks = local.shares k asks.1
+
+-- what is asked is asked of a rank that has a record
+asked-rank : (f : List ℕ) (u : Test) → Asks f u → rank_of u < count_to (bound_of f)
+asked-rank f (play_test r roll) asks = asks.0
+asked-rank f (least_test r roll) asks = asks.0
+asked-rank f (mean_test r) asks = asks
+asked-rank f (spread_test r k) asks = asks.0
+
+-- the first fault of a record is the first of the file where the records of lower rank are accepted
+first-of_file : (f : List ℕ) (r : ℕ) (t : Test)
+    → ((z : Board) → IsPosition z → rank z < r → IsLocalAt f z) → IsFirstInRecord f r t
+    → IsFirstFault (Asks f) f t
+first-of_file f r t accepted first = record {
+  is_asked = first.is_asked;
+  fails = first.fails;
+  earlier = λ u asks before. ⊎_elim
+      (λ lower.
+      let there = rank-at_rank (rank_of u) (omega (arith, asked-rank f u asks, count_to-most (bound_of f))) in
+      let low : rank (at_rank (rank_of u)) < r = omega (arith, first.of_rank) in
+      local-answers f u (accepted (at_rank (rank_of u)) (at_rank-position (rank_of u)) low) asks)
+      (λ here. first.earlier u (here.0 ∙ first.of_rank) here.1 asks)
+      before;
+}
+
+-- the same in the checker's words
+pub fault-of_file : (f : List ℕ) (r : ℕ) (fault : RecordFault) → IsFileTo 44 f
+    → ((z : Board) → IsPosition z → rank z < r → IsLocalAt f z) → IsFirstFaultAt f r fault
+    → IsFirst f (of_record_at r fault)
+fault-of_file f r (Play roll) file accepted first =
+    (file, first-of_file f r (play_test r roll) accepted first)
+fault-of_file f r (NotLeast roll) file accepted first =
+    (file, first-of_file f r (least_test r roll) accepted first)
+fault-of_file f r Mean file accepted first = (file, first-of_file f r (mean_test r) accepted first)
+fault-of_file f r (Spread k) file accepted first =
+    (file, first-of_file f r (spread_test r k) accepted first)
+fault-of_file f r Read file accepted first = tt
+
+-- a fault of a record has its cause as one of the file
+pub fault-cause : (r : ℕ) (fault : RecordFault) (before now : ℕ) → RecordCauses before now fault
+    → CheckCauses before now (of_record_at r fault)
+fault-cause r (Play roll) before now cause = cause
+fault-cause r (NotLeast roll) before now cause = cause
+fault-cause r Mean before now cause = cause
+fault-cause r (Spread k) before now cause = cause
+fault-cause r Read before now cause = cause
+
+-- one record more is accepted
+pub accepted-more : (f : List ℕ) (r : ℕ) → ((z : Board) → IsPosition z → rank z < r → IsLocalAt f z)
+    → IsLocalAt f (at_rank r) → (z : Board) → IsPosition z → rank z < r + 1 → IsLocalAt f z
+accepted-more f r accepted here z at low = ⊎_elim
+    (λ less. accepted z at less)
+    (λ more.
+    let is : rank z ≡ r = omega arith in
+    let same : at_rank r ≡ z = ap at_rank (sym is) ∙ rank-found z at in
+    subst (IsLocalAt f) same here)
+    (cases_lt (rank z) r)
+
+-- where all are accepted the file is locally right
+pub accepted-all : (f : List ℕ) (r : ℕ) → IsFileTo 44 f → count_to (bound_of f) ≤ r
+    → ((z : Board) → IsPosition z → rank z < r → IsLocalAt f z) → IsLocal 44 f
+accepted-all f r file all accepted = record {
+  file = file;
+  at_each = λ x at low. let lt = (rank-bound x (bound_of f) at).1 low in accepted x at (omega arith);
+}
+
+-- a right file is refused by no fault but one of reading, and by that only where the count of failures rose
+pub none-of_right : (f : List ℕ) (before now : ℕ) (fault : CheckFault) → IsFirst f fault
+    → CheckCauses before now fault → now ≡ before → ¬ IsRight 44 f
+none-of_right f before now (Header fault) first cause same = λ right.
+    header_fault_refuses 44 f (test_of fault) first right.file
+none-of_right f before now (PlayAt rank roll) first cause same = λ right.
+    fault_refuses 44 f (play_test rank roll) first.1 (local_of_right 44 f (omega arith) right)
+none-of_right f before now (NotLeastAt rank roll) first cause same = λ right.
+    fault_refuses 44 f (least_test rank roll) first.1 (local_of_right 44 f (omega arith) right)
+none-of_right f before now (MeanAt rank) first cause same = λ right.
+    fault_refuses 44 f (mean_test rank) first.1 (local_of_right 44 f (omega arith) right)
+none-of_right f before now (SpreadAt rank k) first cause same = λ right.
+    fault_refuses 44 f (spread_test rank k) first.1 (local_of_right 44 f (omega arith) right)
+none-of_right f before now ReadAt first cause same = absurd (omega arith)
