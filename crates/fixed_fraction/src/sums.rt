@@ -1,6 +1,6 @@
 //! Weighted sums over the 21 rolls.
-ghost use Rattle.std.specs.Prelude.{◌≡◌, ℕ, suc, ◌+◌, ◌*◌, ◌%◌, ◌<◌, ◌≤◌, ◌↔◌, List, replicate, slice_index, IsTrue, IsSome, IfSome};
-ghost use Rattle.race_model.specs.Dice.{Throw, roll_at, weight};
+ghost use Rattle.std.specs.Prelude.{◌≡◌, ℕ, suc, ◌+◌, ◌*◌, ◌%◌, ◌<◌, ◌≤◌, ◌↔◌, List, replicate, slice_index, sum_by, take, IsTrue, IsSome, IfSome};
+ghost use Rattle.race_model.specs.Dice.{Throw, all_rolls, roll_at, weight};
 ghost use Rattle.race_model.specs.LocalEquations.{whole, weighted};
 ghost use Rattle.fixed_fraction.specs.Totals.{Totals, IsAdded, AreTotals};
 
@@ -142,6 +142,9 @@ pub fn law_sums()
         AreTotals mean share 0 (record { weight = 0; mean = 0; shares = replicate 23 0 }) }
     ensures room { (mean : Throw → ℕ) (share : Throw → ℕ → ℕ) (i : ℕ) (sums : Totals) →
         i < 21 → AreTotals mean share i sums → sums.weight + weight (roll_at i) ≤ 36 }
+    ensures within { (i w : ℕ) → i < 21 → w ≤ sum_by weight (take i all_rolls) →
+        (w + weight (roll_at i) ≤ 36)
+        × (w + weight (roll_at i) ≤ sum_by weight (take (i + 1) all_rolls)) }
     ensures next { (mean : Throw → ℕ) (share : Throw → ℕ → ℕ) (i : ℕ) (sums more : Totals)
         (shares : List ℕ) → i < 21 → AreTotals mean share i sums →
         ((k : ℕ) → k < 23 → slice_index shares k ≡ share (roll_at i) k) →

@@ -1,9 +1,16 @@
 use Rattle.std.proofs.Common.{◌+◌, ◌≤◌, arith}
-use Rattle.fixed_fraction.proofs.RollSums.{weights-within, totals-next, totals-weight, totals-mean, totals-share}
+use Rattle.race_model.specs.Dice.{weight}
+use Rattle.fixed_fraction.proofs.RollSums.{roll-more, weights-within, totals-next, totals-weight, totals-mean, totals-share}
 use Rattle.fixed_fraction.proofs.sums.law_sums.Goals as goal
 
 pub returns-clause-room : goal.returns-clause-room
 returns-clause-room c mean share i sums lt are = omega (arith, are.weights, weights-within i lt)
+
+pub returns-clause-within : goal.returns-clause-within
+returns-clause-within c i w lt small = (
+  omega (arith, weights-within i lt),
+  rw (roll-more weight i lt) (omega arith),
+)
 
 pub returns-clause-next : goal.returns-clause-next
 returns-clause-next c = totals-next
