@@ -19,3 +19,6 @@ pub use check_fault::CheckFault;
 pub use checked::{Checked, check};
 pub use lines::fault_line;
 pub use query_fault::QueryFault;
+
+#[cfg(test)]
+mod tests;

@@ -1,0 +1,216 @@
+//! Files with known bytes, and what the checker says of them.
+ghost use Rattle.std.specs.Prelude.{◌≡◌, length};
+
+use super::*;
+use db_layout::HeaderFault;
+use db_reader::trial::FailOnce;
+use db_reader::{Table, Whole};
+use home_board::Position;
+use legal_plays::{Roll, write_play};
+use std::test::Fail;
+
+/// 36 ^ 22 in 16 bytes.
+const WHOLE_BYTES: [u8; 16] = [
+    0x00, 0x03, 0x56, 0x27, 0x10, 0xdf, 0xf0, 0x31, 0x87, 0x27, 0x10, 0, 0, 0, 0, 0,
+];
+
+/// The file of bound 1: the finished position, and one checker on the ace point, whose mean is one roll.
+fn bound_one() -> [u8; 884]
+    ensures { length result ≡ 884 }
+{
+    let mut file = [0; 884];
+    file[..12].copy_from_slice(b"EPCTABLE\x00\x01\x00\x01");
+    file[12..20].copy_from_slice(b"\x00\x00\x00\x02\x00\x00\x01\xaa");
+    file[90..106].copy_from_slice(&WHOLE_BYTES);
+    file[458..474].copy_from_slice(&WHOLE_BYTES);
+    file[532..548].copy_from_slice(&WHOLE_BYTES);
+    file
+}
+
+/// The fault of a table, and none where it is accepted.
+fn fault_of(file: &[u8]) -> Option<CheckFault> {
+    match check(Whole::new(file)) {
+        Ok(_) => None,
+        Err((_, fault)) => Some(fault),
+    }
+}
+
+/// The fault of the file of bound 1 with one byte changed.
+fn fault_with(place: usize, byte: u8) -> Option<CheckFault> {
+    let mut file = bound_one();
+    file[place.min(883)] = byte;
+    fault_of(&file)
+}
+
+/// The fault of the file of bound 1 cut down to a number of bytes.
+fn fault_of_front(count: usize) -> Option<CheckFault> {
+    let file = bound_one();
+    fault_of(&file[..count.min(884)])
+}
+
+/// The ace point, with so many checkers there.
+fn aces(count: u8) -> Result<Position, Fail> {
+    Ok(Position::new([count, 0, 0, 0, 0, 0])?)
+}
+
+#[test]
+fn damaged_files(rt: HostRuntime) {
+    for (count, fault) in [
+        (884, None),
+        (883, Some(CheckFault::Header(HeaderFault::BadLength))),
+        (32, Some(CheckFault::Header(HeaderFault::BadLength))),
+        (31, Some(CheckFault::Header(HeaderFault::TooShort))),
+        (0, Some(CheckFault::Header(HeaderFault::TooShort))),
+    ] {
+        assert_eq!(rt; fault_of_front(count), fault, "{count} bytes");
+    }
+    for (place, byte, fault, line) in [
+        (
+            0,
+            0,
+            CheckFault::Header(HeaderFault::BadMagic),
+            "header bad-magic",
+        ),
+        (
+            9,
+            2,
+            CheckFault::Header(HeaderFault::BadVersion),
+            "header bad-version",
+        ),
+        (
+            11,
+            45,
+            CheckFault::Header(HeaderFault::BadBound),
+            "header bad-bound",
+        ),
+        (
+            15,
+            3,
+            CheckFault::Header(HeaderFault::BadCount),
+            "header bad-count",
+        ),
+        (
+            19,
+            0xab,
+            CheckFault::Header(HeaderFault::BadRecordBytes),
+            "header bad-record-bytes",
+        ),
+        (
+            31,
+            1,
+            CheckFault::Header(HeaderFault::BadReserved),
+            "header bad-reserved",
+        ),
+        (473, 1, CheckFault::Mean { rank: 1 }, "mean rank 1"),
+        (
+            475,
+            1,
+            CheckFault::Play { rank: 1, roll: 0 },
+            "play rank 1 roll 0",
+        ),
+        (
+            474,
+            0xff,
+            CheckFault::Play { rank: 1, roll: 0 },
+            "play rank 1 roll 0",
+        ),
+        (
+            515,
+            1,
+            CheckFault::Play { rank: 1, roll: 20 },
+            "play rank 1 roll 20",
+        ),
+        (
+            883,
+            1,
+            CheckFault::Spread { rank: 1, k: 22 },
+            "spread rank 1 k 22",
+        ),
+        (
+            105,
+            1,
+            CheckFault::Spread { rank: 0, k: 0 },
+            "spread rank 0 k 0",
+        ),
+        (47, 1, CheckFault::Mean { rank: 0 }, "mean rank 0"),
+    ] {
+        assert_eq!(rt; fault_with(place, byte), Some(fault), "byte {place}");
+        assert_eq!(rt; fault_line(&fault).as_str(), line);
+    }
+    assert_eq!(rt; fault_line(&CheckFault::Read).as_str(), "read");
+    assert_eq!(rt;
+        fault_line(&CheckFault::NotLeast {
+            rank: 65535,
+            roll: 255
+        })
+        .as_str(),
+        "not-least rank 65535 roll 255"
+    );
+}
+
+#[test]
+fn a_record_of_ones(rt: HostRuntime) {
+    let mut file = bound_one();
+    file[458..].copy_from_slice(&[0xff; 426]);
+    assert_eq!(rt;
+        fault_of(&file),
+        Some(CheckFault::Play { rank: 1, roll: 0 })
+    );
+}
+
+#[test]
+fn answers_of_bound_one(rt: HostRuntime) -> Result<(), Fail> {
+    let file = bound_one();
+    let mut checked = check(Whole::new(&file)).ok().ok_or("refused")?;
+    assert_eq!(rt; (checked.bound(), checked.positions()), (1, 2));
+    let (end, ace, two) = (aces(0)?, aces(1)?, aces(2)?);
+    let roll = Roll::from_index(4).ok_or("no roll")?;
+    assert_eq!(rt; checked.scaled(&ace)?.numerator(), fixed_fraction::WHOLE);
+    let mean = checked.mean(&ace)?;
+    assert_eq!(rt; (mean.numerator(), mean.denominator()), (1, 1));
+    let pips = checked.epc(&ace)?;
+    assert_eq!(rt; (pips.numerator(), pips.denominator()), (49, 6));
+    assert_eq!(rt; checked.spread(&ace)?.at(1), fixed_fraction::WHOLE);
+    let (play, to) = checked.play(&ace, roll)?;
+    assert_eq!(rt; (write_play(&play).as_str(), to), ("1/off", end));
+    assert_eq!(rt; checked.play(&end, roll).err(), Some(QueryFault::Finished));
+    assert_eq!(rt; checked.play(&two, roll).err(), Some(QueryFault::OverBound));
+    assert_eq!(rt; checked.scaled(&two).err(), Some(QueryFault::OverBound));
+    let mut table = checked.into_table();
+    assert_eq!(rt; table.header().map(|header| header.bound), Ok(1));
+    Ok(())
+}
+
+#[test]
+fn each_read_failing_once(rt: HostRuntime) -> Result<(), Fail> {
+    let file = bound_one();
+    let mut reads = 0;
+    for call in 1..200 {
+        let Err((table, fault)) = check(FailOnce::new(Whole::new(&file), call)) else {
+            break;
+        };
+        assert_eq!(rt; fault, CheckFault::Read, "call {call}");
+        assert!(rt; check(table).is_ok(), "call {call}");
+        reads = call;
+    }
+    // the header, and for each of two records itself, and for each roll its one result and the recorded one
+    assert_eq!(rt; reads, 1 + 2 * (1 + 21 * 2));
+
+    let (ace, roll) = (aces(1)?, Roll::from_index(0).ok_or("no roll")?);
+    for query in 1..=4 {
+        let trial = FailOnce::new(Whole::new(&file), reads + query);
+        let mut checked = check(trial).ok().ok_or("refused")?;
+        let faults = [
+            checked.scaled(&ace).err(),
+            checked.spread(&ace).err(),
+            checked.play(&ace, roll).err(),
+            checked.mean(&ace).err(),
+            checked.scaled(&ace).err(),
+        ];
+        for (index, fault) in faults.into_iter().enumerate() {
+            let expected = (index as u64 + 1 == query).then_some(QueryFault::Read);
+            assert_eq!(rt; fault, expected, "query {query}");
+        }
+    }
+    Ok(())
+}
