@@ -104,9 +104,9 @@ fn after_four(position: &Position, die: Die) -> ArrayVec<Position, 1296>
 }
 
 /// The positions that the roll can reach, each once and by rising rank: by its two dice in either
-/// order, or by a double four times (the bearing-off rules of backgammon). There is at least one, and
-/// at most 1,296, since each of four dice has at most six steps. From the finished position it is the
-/// finished position alone.
+/// order, or by a double four times (the bearing-off rules of backgammon). There is at least one,
+/// and at most 1,296, since each of four dice has at most six steps. From the finished position it
+/// is the finished position alone.
 pub fn results(position: &Position, roll: Roll) -> ArrayVec<Position, 1296>
     ensures members { (y : List ℕ) → Contains result.items y ↔ Legal position.now roll y }
     ensures ordered { IsInRankOrder result.items }

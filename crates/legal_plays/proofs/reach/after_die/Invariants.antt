@@ -8,5 +8,7 @@ abbrev pub invariant-loop-position : goal.invariant-loop-position
 invariant-loop-position g l = record {
   ordered : IsAscending l.found.items;
   few : length l.found.items ≤ 6 * l.position-index;
-  members : (y : List ℕ) → Contains l.found.items y ↔ ((x : List ℕ) × (Contains (take l.position-index l.positions) x × Turns x l.die y));
+  members : (y : List ℕ) →
+      Contains l.found.items y
+      ↔ ((x : List ℕ) × (Contains (take l.position-index l.positions) x × Turns x l.die y));
 }
