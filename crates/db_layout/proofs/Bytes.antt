@@ -2,7 +2,7 @@
 use Rattle.std.proofs.Common.{◌≡◌, ℕ, zero, suc, ◌+◌, ◌-◌, ◌*◌, ◌/◌, ◌%◌, ◌^◌, ◌<◌, ◌≤◌, List, [], ◌∷◌, ◌++◌, length, sum, take, drop, get_or, refl, sym, ap, ap₂, subst, ◌∙◌, arith, append_assoc}
 use Rattle.std.proofs.lemmas.Grind.{flat_map-append}
 use Rattle.std.proofs.lemmas.List.{length-append, append-nil, take_more}
-use Rattle.std.proofs.Math.Nat.{div-add-mod, div-div-eq-div-mul, pow-succ'}
+use Rattle.std.proofs.Math.Nat.{div-add-mod, div-div-eq-div-mul, pow-suc}
 use Rattle.std.proofs.Math.Seq.{take-append_seam, drop-append-add}
 use Rattle.std.specs.Prelude.{flat_map}
 use Rattle.std.specs.Int.{w16, w128, byte_worth, bytes_high_first, sum_through, to_be_bytes, from_be_bytes}
@@ -59,10 +59,6 @@ mod-byte n m =
     (div-add-mod n (m * 256)) (div-add-mod n m)
     (rw (← div-div-eq-div-mul n m 256) (div-add-mod (n / m) 256))
 
--- a power, its last factor on the right
-pow-suc_right : (n m : ℕ) → n ^ suc m ≡ n ^ m * n
-pow-suc_right n m = omega (arith, pow-succ' n m)
-
 -- k + 1 bytes of a number give its remainder
 value-bytes : (k n : ℕ) → value k (bytes_high_first (suc k) n) ≡ n % 256 ^ suc k
 unfolding value
@@ -70,7 +66,7 @@ value-bytes zero n = omega arith
 value-bytes (suc k) n =
     value-cons k (n / 256 ^ suc k % 256) (bytes_high_first (suc k) n)
     ∙ (ap (λ m. n / 256 ^ suc k % 256 * 256 ^ suc k + m) (value-bytes k n)
-    ∙ (sym (mod-byte n (256 ^ suc k)) ∙ ap (λ m. n % m) (sym (pow-suc_right 256 (suc k)))))
+    ∙ (sym (mod-byte n (256 ^ suc k)) ∙ ap (λ m. n % m) (sym (pow-suc 256 (suc k)))))
 
 -- a number of 128 bits is read back
 pub from_be_bytes-to_be_bytes_16 : (n : ℕ) → n < 2 ^ 128 →

@@ -2,14 +2,13 @@
 use Rattle.std.proofs.Common.{◌≡◌, ℕ, zero, suc, ◌+◌, ◌-◌, ◌*◌, ◌^◌, ◌<◌, ◌≤◌, cond, List, [], ◌∷◌, ◌++◌, length, take, take_all, refl, ap, sym, ◌∙◌, append_assoc, add-one, lit≤, arith}
 use Rattle.std.specs.Prelude.{sum_by, slice_set}
 use Rattle.std.proofs.Math.Nat.{pow-suc, mul-le-mul_right}
-use Rattle.std.proofs.lemmas.List.{take_more_set}
+use Rattle.std.proofs.lemmas.List.{take_more_set, append-nil}
 use Rattle.std.proofs.lemmas.List.Sums.{sum_by-cons}
 use Rattle.race_model.specs.Positions.{Board}
 use Rattle.race_model.specs.Ranks.{boards, numbers_from, count_positions, rank}
 use Rattle.race_model.proofs.Numbers.Sums.{sum_by-equal}
 use Rattle.race_model.proofs.Ranks.BoxCounts.{count_by-boards, sum_by-last}
 use Rattle.plain_model.specs.Counting.{is_position_before, positions_before}
-use Rattle.plain_model.proofs.RunLemmas.{append-nil}
 
 -- all counts are given
 pub positions_before-none_left : (first : List ℕ) (x : Board) →

@@ -1,5 +1,6 @@
 -- The list of all runs, point by point.
 use Rattle.std.proofs.Common.{◌≡◌, ℕ, zero, suc, ◌+◌, ◌-◌, ◌<◌, ◌≤◌, List, [], ◌∷◌, ◌++◌, length, take, take_all, drop, get_or, flat_map, cond, refl, ap, sym, ◌∙◌, append_assoc, add-one, eq-eqb, ne_eqb, arith}
+use Rattle.std.proofs.lemmas.List.{append-nil}
 use Rattle.std.specs.Prelude.{sum}
 use Rattle.std.specs.List.{range_with_len}
 use Rattle.std.proofs.lemmas.List.Sums.{sum_by-cons}
@@ -38,11 +39,6 @@ range_with_len-last a (suc n) =
   where
     regroup : (a n : ℕ) → a + 1 + n ≡ a + suc n
     regroup a n = omega arith
-
--- nothing after a list
-pub append-nil : {X : Type 0} (xs : List X) → xs ++ [] ≡ xs
-append-nil [] = refl
-append-nil (x ∷ xs) = ap (λ l. x ∷ l) (append-nil xs)
 
 -- no points
 pub from_points-none : (rest : List Die) (x : Board) (d : ℕ) → from_points rest x d 1 0 ≡ []
