@@ -1,5 +1,6 @@
 -- The list of all runs, point by point.
 use Rattle.std.proofs.Common.{◌≡◌, ℕ, zero, suc, ◌+◌, ◌-◌, ◌<◌, ◌≤◌, List, [], ◌∷◌, ◌++◌, length, take, take_all, drop, get_or, flat_map, cond, refl, ap, sym, ◌∙◌, append_assoc, add-one, eq-eqb, ne_eqb, arith}
+use Rattle.std.proofs.lemmas.Grind.{flat_map-append}
 use Rattle.std.proofs.lemmas.List.{append-nil}
 use Rattle.std.specs.Prelude.{sum}
 use Rattle.std.specs.List.{range_with_len}
@@ -17,14 +18,6 @@ sum-drop (suc n) (c ∷ cs) = omega (arith, sum_by-cons (λ k. k) c cs, sum-drop
 -- what the rest of the dice make of the steps from n points, from point a on
 unfoldable pub from_points : List Die → Board → ℕ → ℕ → ℕ → List Board
 from_points rest x d a n = flat_map (all_runs rest) (flat_map (step_from x d) (range_with_len a n))
-
--- lists joined end to end, mapped
-flat_map-append : {X Y : Type 0} (f : X → List Y) (xs ys : List X) →
-    flat_map f (xs ++ ys) ≡ flat_map f xs ++ flat_map f ys
-flat_map-append f [] ys = refl
-flat_map-append f (x ∷ xs) ys =
-    ap (λ l. f x ++ l) (flat_map-append f xs ys)
-    ∙ sym (append_assoc (f x) (flat_map f xs) (flat_map f ys))
 
 -- a range by its last number
 range_with_len-last : (a n : ℕ) → range_with_len a (suc n) ≡ range_with_len a n ++ (a + n) ∷ []
