@@ -1,5 +1,5 @@
 use Rattle.std.proofs.Common.{◌≡◌, ℕ, ◌↔◌, List, Contains, take, take_all, subst, arith}
-use Rattle.legal_plays.specs.Reach.{Turns}
+use Rattle.legal_plays.specs.Reach.{PlaysDie}
 use Rattle.legal_plays.proofs.ReachLemmas.{one_more_position, stays, steps_on}
 use Rattle.legal_plays.proofs.reach.after_die.Goals as goal
 use Rattle.legal_plays.proofs.reach.after_die.Goals.{then-is_finished, else-is_finished}
@@ -41,5 +41,5 @@ returns-clause-members g c y =
     subst
     (λ xs.
     Contains c.loop-position.found.items y
-    ↔ ((x : List ℕ) × (Contains xs x × Turns x c.args.die y))) all
+    ↔ ((x : List ℕ) × (Contains xs x × PlaysDie x c.args.die y))) all
     (c.loop-position.invariant.members y)

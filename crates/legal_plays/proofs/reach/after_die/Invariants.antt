@@ -1,6 +1,6 @@
 use Rattle.std.proofs.Common.{ℕ, ◌*◌, ◌≤◌, ◌↔◌, List, Contains, length, take}
 use Rattle.legal_plays.specs.RankOrder.{IsAscending}
-use Rattle.legal_plays.specs.Reach.{Turns}
+use Rattle.legal_plays.specs.Reach.{PlaysDie}
 use Rattle.legal_plays.proofs.reach.after_die.Given as goal
 
 -- the positions after the ones passed have been added
@@ -10,5 +10,5 @@ invariant-loop-position g l = record {
   few : length l.found.items ≤ 6 * l.position-index;
   members : (y : List ℕ) →
       Contains l.found.items y
-      ↔ ((x : List ℕ) × (Contains (take l.position-index l.positions) x × Turns x l.die y));
+      ↔ ((x : List ℕ) × (Contains (take l.position-index l.positions) x × PlaysDie x l.die y));
 }
