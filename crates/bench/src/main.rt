@@ -1,9 +1,10 @@
-//! The speed of the crates. Without a word of its own, the program turns each rank into its position and back,
-//! and then takes the results of all 21 rolls from every position of at most a number of pips (a number among
-//! the words, else 44), and the rank of each. It prints how many ranks came back, how many results there are,
-//! and how many of these have a lower rank than the position: all but those of the finished position. After the
-//! word `build` it builds the database of that bound in memory and prints how many bytes it has; after the word
-//! `check` it checks that database too. It rests on `certificate` and `retrograde`; nothing stands on it.
+//! The speed of the crates. Without a word of its own, the program turns each rank into its
+//! position and back, and then takes the results of all 21 rolls from every position of at most a
+//! number of pips (a number among the words, else 44), and the rank of each. It prints how many
+//! ranks came back, how many results there are, and how many of these have a lower rank than the
+//! position: all but those of the finished position. After the word `build` it builds the database
+//! of that bound in memory and prints how many bytes it has; after the word `check` it checks that
+//! database too. It rests on `certificate` and `retrograde`; nothing stands on it.
 #![tactic(auto)]
 
 use certificate::{Whole, check};

@@ -1,17 +1,20 @@
 -- Known bytes that grow in several steps.
-use Rattle.std.proofs.Common.{ℕ, ◌+◌, List, [], ◌++◌, take, drop, Option, Some, None, sym, subst, ◌∙◌, append_assoc}
-use Rattle.std.proofs.lemmas.List.{append-nil}
+use Rattle.std.proofs.Common.{ℕ, ◌+◌, List, ◌++◌, take, drop, Option, Some, None, sym, subst, append_assoc}
 use Rattle.std.proofs.Math.Seq.{take-add}
-use Rattle.std.specs.Io.KnownBytes.{Appends, Keeps}
+use Rattle.std.specs.Io.KnownBytes.{Appends}
 
 -- bytes that grow twice grow by both
-pub appends_twice : (old mid new : Option (List ℕ)) (bs cs : List ℕ) → Appends old mid bs → Appends mid new cs → Appends old new (bs ++ cs)
+pub appends_twice : (old mid new : Option (List ℕ)) (bs cs : List ℕ) → Appends old mid bs →
+    Appends mid new cs → Appends old new (bs ++ cs)
 appends_twice None mid new bs cs h g = tt
 appends_twice (Some xs) None new bs cs h g = absurd h
 appends_twice (Some xs) (Some ys) None bs cs h g = g
 appends_twice (Some xs) (Some ys) (Some zs) bs cs h g = rw (g, h) (append_assoc xs bs cs)
 
 -- a prefix that grows by the next bytes is a longer prefix
-pub appends_more : (old mid new : Option (List ℕ)) (bytes : List ℕ) (n count : ℕ) → Appends old mid (take n bytes) → Appends mid new (take count (drop n bytes)) → Appends old new (take (n + count) bytes)
+pub appends_more : (old mid new : Option (List ℕ)) (bytes : List ℕ) (n count : ℕ) →
+    Appends old mid (take n bytes) → Appends mid new (take count (drop n bytes)) →
+    Appends old new (take (n + count) bytes)
 appends_more old mid new bytes n count h g =
-    subst (λ (bs : List ℕ). Appends old new bs) (sym (take-add n count bytes)) (appends_twice old mid new (take n bytes) (take count (drop n bytes)) h g)
+    subst (λ (bs : List ℕ). Appends old new bs) (sym (take-add n count bytes))
+    (appends_twice old mid new (take n bytes) (take count (drop n bytes)) h g)

@@ -13,9 +13,11 @@ wide_bytes n = to_be_bytes w128 n
 
 -- the mean, the ranks that are played to with the rolls, and the shares, one after another
 unfoldable pub record_of : ℕ → List ℕ → List ℕ → List ℕ
-record_of mean plays shares = wide_bytes mean ++ (flat_map short_bytes plays ++ flat_map wide_bytes shares)
+record_of mean plays shares =
+    wide_bytes mean ++ (flat_map short_bytes plays ++ flat_map wide_bytes shares)
 
--- 426 bytes in which one reads this mean, these ranks for the rolls 0 to 20, and these shares of 0 to 22 rolls
+-- 426 bytes in which one reads this mean, these ranks for
+-- the rolls 0 to 20, and these shares of 0 to 22 rolls
 pub record IsRecordOf (bytes : List ℕ) (mean : ℕ) (plays shares : List ℕ) : Type 0 where
   pub len : length bytes ≡ 426
   pub mean_is : mean_of bytes ≡ mean

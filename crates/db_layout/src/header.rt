@@ -51,8 +51,9 @@ pub enum HeaderFault {
     BadLength,
 }
 
-/// The header of a database: its version, its pip bound, how many records follow and how many bytes each
-/// has. It is always that of a database of version 1 and a bound of at most 44 pips (this project's profile).
+/// The header of a database: its version, its pip bound, how many records follow and how many
+/// bytes each has. It is always that of a database of version 1 and a bound of at most 44 pips
+/// (this project's profile).
 #[derive(Clone, Copy, Debug, PartialEq, Eq)]
 pub struct Header {
     pub version: u16,
@@ -66,8 +67,8 @@ pub struct Header {
 }
 
 impl Header {
-    /// The header of this version and pip bound; none exactly where the version is not 1 or the bound is over
-    /// 44.
+    /// The header of this version and pip bound; none exactly
+    /// where the version is not 1 or the bound is over 44.
     pub fn new(version: u16, bound: u8) -> Option<Self>
         ensures some { IsSome result ↔ ((version ≡ 1) × (bound ≤ 44)) }
         ensures version { IfSome result (λ header. header.version ≡ version) }
@@ -94,12 +95,14 @@ impl Header {
     }
 }
 
-/// The header that stands in the first bytes of a file of this length, or the first fault in the order of
-/// `HeaderFault`.
+/// The header that stands in the first bytes of a file of this
+/// length, or the first fault in the order of `HeaderFault`.
 #[tactic(auto, unfolding(race_model::specs::Files::bound_of))]
 pub fn parse_header(front: &[u8], length: u64) -> Result<Header, HeaderFault>
-    ensures header { IfOk result (λ header. IsHeader 44 front.now length × (header.bound ≡ bound_of front.now)) }
-    ensures fault { IfErr result (λ fault. IsFirstHeaderFault 44 front.now length (test_of fault)) }
+    ensures header { IfOk result
+        (λ header. IsHeader 44 front.now length × (header.bound ≡ bound_of front.now)) }
+    ensures fault { IfErr result
+        (λ fault. IsFirstHeaderFault 44 front.now length (test_of fault)) }
 {
     if front.len() < HEADER_BYTES || length < 32 {
         return Err(HeaderFault::TooShort);
@@ -152,7 +155,8 @@ mod tests {
         (31, 1, HeaderFault::BadReserved),
     ];
 
-    /// The fault of the header of bound 1 with some of the damages, and of a file of so many bytes.
+    /// The fault of the header of bound 1 with some of the
+    /// damages, and of a file of so many bytes.
     fn fault_of(first: usize, last: usize, length: u64) -> Option<HeaderFault> {
         let mut front =
             *b"EPCTABLE\x00\x01\x00\x01\x00\x00\x00\x02\x00\x00\x01\xaa\0\0\0\0\0\0\0\0\0\0\0\0";

@@ -1,5 +1,6 @@
-//! The database file as bytes: its header and its records. It rests on `race_model` for the grammar of the
-//! file; the crates above may use that bytes are read exactly where the grammar has them.
+//! The database file as bytes: its header and its records. It rests on `race_model` for the
+//! grammar of the file; the crates above may use that bytes are read exactly where the grammar has
+//! them.
 #![tactic(auto)]
 
 pub use header::{Header, HeaderFault, parse_header};

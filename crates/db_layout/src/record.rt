@@ -40,7 +40,8 @@ impl<'a> RecordView<'a> {
         }
     }
 
-    /// The numerator over 36 ^ 22 of the mean number of rolls. Any number of 128 bits may stand there.
+    /// The numerator over 36 ^ 22 of the mean number of
+    /// rolls. Any number of 128 bits may stand there.
     #[tactic(auto, unfolding(race_model::specs::Files::mean_of))]
     pub fn mean(&self) -> u128
         ensures { result ≡ mean_of self.now }
@@ -56,8 +57,8 @@ impl<'a> RecordView<'a> {
         read_short(self.bytes, 16 + 2 * usize::from(roll.index()))
     }
 
-    /// The numerator over 36 ^ 22 of the share of exactly `k` rolls, and 0 from 23 rolls on. Any number of
-    /// 128 bits may stand there.
+    /// The numerator over 36 ^ 22 of the share of exactly `k` rolls,
+    /// and 0 from 23 rolls on. Any number of 128 bits may stand there.
     #[tactic(auto, unfolding(race_model::specs::Files::share_of))]
     pub fn spread(&self, k: u8) -> u128
         ensures share { k ≤ 22 → result ≡ share_of self.now k }

@@ -13,26 +13,33 @@ use arrayvec::ArrayVec;
 use fixed_fraction::{Scaled, Spread};
 use std::io::Write;
 
-/// Writes a header: 32 bytes. Refused only where a `write` fails or takes no byte; then a prefix of the header
-/// was written.
+/// Writes a header: 32 bytes. Refused only where a `write` fails
+/// or takes no byte; then a prefix of the header was written.
 pub fn write_header<W: Write>(header: &Header, writer: &mut W) -> Result<(), WriteFault>
-    ensures all { OnOk result (Appends (W.contents writer.old) (W.contents writer.new) (header_of header.now.bound)) }
-    ensures part { OnErr result (AppendsPart (W.contents writer.old) (W.contents writer.new) (header_of header.now.bound)) }
+    ensures all { OnOk result
+        (Appends (W.contents writer.old) (W.contents writer.new) (header_of header.now.bound)) }
+    ensures part { OnErr result
+        (AppendsPart (W.contents writer.old) (W.contents writer.new)
+        (header_of header.now.bound)) }
 {
     write_bytes(header_bytes(header).as_slice(), writer)
 }
 
-/// Writes a record: 426 bytes with the mean, the ranks that are played to with the rolls 0 to 20, and the
-/// shares of 0 to 22 rolls. Refused only where a `write` fails or takes no byte; then a prefix of the record was
-/// written.
+/// Writes a record: 426 bytes with the mean, the ranks that are played to with the rolls 0 to 20,
+/// and the shares of 0 to 22 rolls. Refused only where a `write` fails or takes no byte; then a
+/// prefix of the record was written.
 pub fn write_record<W: Write>(
     mean: Scaled,
     plays: &[u16; 21],
     spread: &Spread,
     writer: &mut W,
 ) -> Result<(), WriteFault>
-    ensures all { OnOk result (Appends (W.contents writer.old) (W.contents writer.new) (record_of mean plays.now spread.now)) }
-    ensures part { OnErr result (AppendsPart (W.contents writer.old) (W.contents writer.new) (record_of mean plays.now spread.now)) }
+    ensures all { OnOk result
+        (Appends (W.contents writer.old) (W.contents writer.new)
+        (record_of mean plays.now spread.now)) }
+    ensures part { OnErr result
+        (AppendsPart (W.contents writer.old) (W.contents writer.new)
+        (record_of mean plays.now spread.now)) }
     ensures reads { IsRecordOf (record_of mean plays.now spread.now) mean plays.now spread.now }
 {
     law_record(mean, plays, spread);
@@ -47,11 +54,12 @@ pub fn law_record(mean: Scaled, plays: &[u16; 21], spread: &Spread)
     let _none = spread.at(0);
 }
 
-/// Writes all of these bytes, however many a `write` takes. Refused only where a `write` fails or takes no byte;
-/// then a prefix of them was written.
+/// Writes all of these bytes, however many a `write` takes. Refused only
+/// where a `write` fails or takes no byte; then a prefix of them was written.
 pub fn write_bytes<W: Write>(bytes: &[u8], writer: &mut W) -> Result<(), WriteFault>
     ensures all { OnOk result (Appends (W.contents writer.old) (W.contents writer.new) bytes.now) }
-    ensures part { OnErr result (AppendsPart (W.contents writer.old) (W.contents writer.new) bytes.now) }
+    ensures part { OnErr result
+        (AppendsPart (W.contents writer.old) (W.contents writer.new) bytes.now) }
 {
     let mut written = 0;
     while written < bytes.len() {

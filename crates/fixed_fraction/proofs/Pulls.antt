@@ -4,11 +4,14 @@ use Rattle.std.proofs.Math.Nat.{mul-le-mul_left}
 use Rattle.race_model.specs.LocalEquations.{whole}
 
 -- one more part keeps the bound by the weights
-pub part_small : (total weight part sum next most base : ℕ) → part ≤ most → next ≡ sum + weight → total ≤ base + sum * most → total + weight * part ≤ base + next * most
-part_small total weight part sum next most base h e t = rw e (omega (arith, mul-le-mul_left weight h))
+pub part_small : (total weight part sum next most base : ℕ) → part ≤ most → next ≡ sum + weight →
+    total ≤ base + sum * most → total + weight * part ≤ base + next * most
+part_small total weight part sum next most base h e t =
+    rw e (omega (arith, mul-le-mul_left weight h))
 
 -- weights that add up to at most 36 keep the sum within 128 bits
-pub sum_fits : (total sum : ℕ) → sum ≤ 36 → total ≤ 36 * whole + sum * (22 * whole) → total < 2 ^ 128
+pub sum_fits : (total sum : ℕ) → sum ≤ 36 → total ≤ 36 * whole + sum * (22 * whole) →
+    total < 2 ^ 128
 unfolding whole
 sum_fits total sum h t = omega arith
 

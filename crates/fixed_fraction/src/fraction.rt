@@ -8,8 +8,8 @@ use crate::scaled::{Scaled, WHOLE};
 use crate::spread::Spread;
 use std::marker::Model;
 
-/// A fraction in lowest terms, as replies print it: its denominator is 1 to 6 * 36 ^ 22, and its value at most
-/// 180 (this project's profile).
+/// A fraction in lowest terms, as replies print it: its denominator is 1
+/// to 6 * 36 ^ 22, and its value at most 180 (this project's profile).
 #[derive(Clone, Copy, Debug, PartialEq, Eq)]
 pub struct Fraction {
     numerator: u128,
@@ -20,11 +20,19 @@ pub struct Fraction {
 impl Model for Fraction {
     ghost Value = { Ratio };
 
-    ghost view = { λ fraction. record { numerator = fraction.numerator; denominator = fraction.denominator } };
+    ghost view = { λ fraction. record {
+      numerator = fraction.numerator;
+      denominator = fraction.denominator;
+    } };
 
-    ghost invariant = { λ fraction. IsSmallRatio (record { numerator = fraction.numerator; denominator = fraction.denominator }) };
+    ghost invariant = { λ fraction.
+        IsSmallRatio
+        (record { numerator = fraction.numerator; denominator = fraction.denominator }) };
 
-    ghost inverse = { λ ratio. record { numerator = ratio.numerator; denominator = ratio.denominator } };
+    ghost inverse = { λ ratio. record {
+      numerator = ratio.numerator;
+      denominator = ratio.denominator;
+    } };
 }
 
 impl Fraction {
@@ -54,8 +62,8 @@ pub fn mean(rolls: Scaled) -> Fraction
     reduced(rolls.numerator(), WHOLE)
 }
 
-/// The effective pip count of a mean number of rolls: 49/6 of it, since an average roll is worth 49/6 pips with
-/// doubles counted fourfold (the GNU Backgammon manual).
+/// The effective pip count of a mean number of rolls: 49/6 of it, since an average
+/// roll is worth 49/6 pips with doubles counted fourfold (the GNU Backgammon manual).
 #[tactic(auto, unfolding(race_model::specs::LocalEquations::whole))]
 pub fn epc(rolls: Scaled) -> Fraction
     ensures value { IsEffectivePips rolls result.numerator result.denominator }
@@ -67,13 +75,15 @@ pub fn epc(rolls: Scaled) -> Fraction
 /// The share of exactly `k` rolls as a fraction; 0 from 23 rolls on.
 #[tactic(auto, unfolding(race_model::specs::LocalEquations::whole))]
 pub fn share(spread: &Spread, k: u8) -> Fraction
-    ensures value { IsFraction (slice_index spread.now k) whole result.numerator result.denominator }
+    ensures value { IsFraction (slice_index spread.now k) whole result.numerator
+        result.denominator }
     ensures ratio { IsSmallRatio result }
 {
     reduced(spread.at(k), WHOLE)
 }
 
-/// The fraction in thousandths, rounded to the nearest, and a half upward (this project's profile).
+/// The fraction in thousandths, rounded to the nearest, and
+/// a half upward (this project's profile).
 #[tactic(auto, unfolding(race_model::specs::LocalEquations::whole))]
 pub fn thousandths(fraction: &Fraction) -> u128
     ensures { IsThousandths fraction.now.numerator fraction.now.denominator result }

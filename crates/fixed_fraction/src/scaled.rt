@@ -3,14 +3,15 @@ ghost use Rattle.race_model.specs.LocalEquations.{whole};
 
 use std::marker::Model;
 
-/// The denominator of every number in a database, 36 ^ 22: 36 throws, and at most 22 rolls (this project's
-/// profile).
+/// The denominator of every number in a database, 36 ^ 22:
+/// 36 throws, and at most 22 rolls (this project's profile).
 pub const WHOLE: u128 = 17324272922341479351919144385642496;
 
 /// The greatest numerator of a mean, 22 rolls (this project's profile).
 pub const MOST: u128 = 22 * WHOLE;
 
-/// A number of rolls from 0 to 22, as a numerator over 36 ^ 22. By its order fewer rolls come first.
+/// A number of rolls from 0 to 22, as a numerator over
+/// 36 ^ 22. By its order fewer rolls come first.
 #[derive(Clone, Copy, Debug, PartialEq, Eq, PartialOrd, Ord)]
 pub struct Scaled {
     numerator: u128,
@@ -67,13 +68,17 @@ impl Scaled {
     }
 }
 
-/// One roll and the mean of what the 21 rolls lead to, each counted with its weight; the weights add up to 36.
-/// None exactly where the weighted sum is no multiple of 36 or the result is over 22 rolls. (A mean is one roll
-/// more than the mean over the 36 throws, which count equally: the rules of backgammon.)
+/// One roll and the mean of what the 21 rolls lead to, each counted with its weight; the weights
+/// add up to 36. None exactly where the weighted sum is no multiple of 36 or the result is over 22
+/// rolls. (A mean is one roll more than the mean over the 36 throws, which count equally: the
+/// rules of backgammon.)
 pub fn pull(parts: &[(u8, Scaled); 21]) -> Option<Scaled>
     requires { sum_by (λ part. part.0) parts.now ≡ 36 }
-    ensures value { IfSome result (λ mean. 36 * mean ≡ 36 * whole + sum_by (λ part. part.0 * part.1) parts.now) }
-    ensures some { IsSome result ↔ ((mean : ℕ) × (mean ≤ 22 * whole) × (36 * mean ≡ 36 * whole + sum_by (λ part. part.0 * part.1) parts.now)) }
+    ensures value { IfSome result
+        (λ mean. 36 * mean ≡ 36 * whole + sum_by (λ part. part.0 * part.1) parts.now) }
+    ensures some { IsSome result
+        ↔ ((mean : ℕ) × (mean ≤ 22 * whole)
+        × (36 * mean ≡ 36 * whole + sum_by (λ part. part.0 * part.1) parts.now)) }
 {
     let mut total = 36 * WHOLE;
     for (weight, mean) in parts {

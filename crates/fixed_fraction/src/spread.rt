@@ -5,8 +5,8 @@ ghost use Rattle.fixed_fraction.specs.Shares.{weighted_share};
 use crate::scaled::WHOLE;
 use std::marker::Model;
 
-/// How the number of rolls is spread: for each of 0 to 22 rolls the share of exactly that many, as a
-/// numerator over 36 ^ 22. The shares add up to the whole. (The GNU Backgammon manual has such a
+/// How the number of rolls is spread: for each of 0 to 22 rolls the share of exactly that many, as
+/// a numerator over 36 ^ 22. The shares add up to the whole. (The GNU Backgammon manual has such a
 /// distribution for each position; that it is exact, and over 36 ^ 22, is this project's profile.)
 #[derive(Clone, Copy, Debug, PartialEq, Eq)]
 pub struct Spread {
@@ -25,7 +25,8 @@ impl Model for Spread {
 }
 
 impl Spread {
-    /// The spread with these shares of 0 to 22 rolls; none exactly where they don't add up to 36 ^ 22.
+    /// The spread with these shares of 0 to 22 rolls; none
+    /// exactly where they don't add up to 36 ^ 22.
     #[tactic(auto, unfolding(race_model::specs::LocalEquations::whole))]
     pub fn new(shares: [u128; 23]) -> Option<Self>
         ensures some { IsSome result ↔ (sum shares ≡ whole) }
@@ -77,13 +78,18 @@ impl Spread {
         Spread { shares }
     }
 
-    /// The weighted mean of the spreads that the 21 rolls lead to, moved on by one roll; the weights add up to
-    /// 36. None exactly where a weighted sum is no multiple of 36 or a part has a share at 22 rolls.
+    /// The weighted mean of the spreads that the 21 rolls lead to, moved on by one roll; the
+    /// weights add up to 36. None exactly where a weighted sum is no multiple of 36 or a part has
+    /// a share at 22 rolls.
     pub fn pull(parts: &[(u8, Spread); 21]) -> Option<Spread>
         requires { sum_by (λ part. part.0) parts.now ≡ 36 }
         ensures start { IfSome result (λ spread. slice_index spread 0 ≡ 0) }
-        ensures moved { IfSome result (λ spread. (k : ℕ) → k < 22 → 36 * slice_index spread (suc k) ≡ weighted_share parts.now k) }
-        ensures some { IsSome result ↔ (All (λ part. slice_index part.1 22 ≡ 0) parts.now × ((k : ℕ) → k < 22 → weighted_share parts.now k % 36 ≡ 0)) }
+        ensures moved { IfSome result
+            (λ spread.
+            (k : ℕ) → k < 22 → 36 * slice_index spread (suc k) ≡ weighted_share parts.now k) }
+        ensures some { IsSome result
+            ↔ (All (λ part. slice_index part.1 22 ≡ 0) parts.now
+            × ((k : ℕ) → k < 22 → weighted_share parts.now k % 36 ≡ 0)) }
     {
         if !leaves_room(parts) {
             return None;
@@ -103,7 +109,8 @@ impl Spread {
 /// Whether no part has a share at 22 rolls, which one roll more would move past the last share.
 fn leaves_room(parts: &[(u8, Spread); 21]) -> bool
     ensures room { IsTrue result ↔ All (λ part. slice_index part.1 22 ≡ 0) parts.now }
-    ensures wholes { IsTrue result → All (λ part. (sum part.1 ≡ whole) × (length part.1 ≡ 23)) parts.now }
+    ensures wholes { IsTrue result →
+        All (λ part. (sum part.1 ≡ whole) × (length part.1 ≡ 23)) parts.now }
 {
     for (_, spread) in parts {
         if spread.at(22) != 0 {

@@ -8,7 +8,8 @@ abbrev pub parts : List ℕ → List (List ℕ)
 parts text = slice_split (λ c. c == 44) text
 
 -- a list whose values are those of counts is as long
-pub length-values : (pieces : List (List ℕ)) (counts : List ℕ) → map count_value pieces ≡ map (λ c. Some c) counts → length pieces ≡ length counts
+pub length-values : (pieces : List (List ℕ)) (counts : List ℕ) →
+    map count_value pieces ≡ map (λ c. Some c) counts → length pieces ≡ length counts
 length-values [] [] e = refl
 length-values [] (c ∷ cs) e = cc
 length-values (p ∷ ps) [] e = cc
@@ -17,7 +18,9 @@ length-values (p ∷ ps) (c ∷ cs) e =
     ap suc (length-values ps cs rest)
 
 -- each part of such a list states a count
-pub no_refused : (pieces : List (List ℕ)) (counts : List ℕ) (n : ℕ) (d : List ℕ) → map count_value pieces ≡ map (λ c. Some c) counts → n < length pieces → count_value (get_or pieces n d) ≡ None → ⊥
+pub no_refused : (pieces : List (List ℕ)) (counts : List ℕ) (n : ℕ) (d : List ℕ) →
+    map count_value pieces ≡ map (λ c. Some c) counts → n < length pieces →
+    count_value (get_or pieces n d) ≡ None → ⊥
 no_refused [] counts n d e h none = absurd (omega arith)
 no_refused (p ∷ ps) [] n d e h none = cc
 no_refused (p ∷ ps) (c ∷ cs) zero d e h none = cc
@@ -26,11 +29,17 @@ no_refused (p ∷ ps) (c ∷ cs) (suc n) d e h none =
     no_refused ps cs n d rest (omega arith) none
 
 -- one more part, and the count that it states
-pub states_more : (pieces : List (List ℕ)) (counts : List ℕ) (n c : ℕ) (d : List ℕ) → map count_value (take n pieces) ≡ map (λ c. Some c) counts → n < length pieces → count_value (get_or pieces n d) ≡ Some c → map count_value (take (n + 1) pieces) ≡ map (λ c. Some c) (counts ++ c ∷ [])
+pub states_more : (pieces : List (List ℕ)) (counts : List ℕ) (n c : ℕ) (d : List ℕ) →
+    map count_value (take n pieces) ≡ map (λ c. Some c) counts → n < length pieces →
+    count_value (get_or pieces n d) ≡ Some c →
+    map count_value (take (n + 1) pieces) ≡ map (λ c. Some c) (counts ++ c ∷ [])
 states_more pieces counts n c d e h is =
     rw (add-one) (more pieces counts n e h is)
   where
-    more : (pieces : List (List ℕ)) (counts : List ℕ) (n : ℕ) → map count_value (take n pieces) ≡ map (λ c. Some c) counts → n < length pieces → count_value (get_or pieces n d) ≡ Some c → map count_value (take (suc n) pieces) ≡ map (λ c. Some c) (counts ++ c ∷ [])
+    more : (pieces : List (List ℕ)) (counts : List ℕ) (n : ℕ) →
+        map count_value (take n pieces) ≡ map (λ c. Some c) counts → n < length pieces →
+        count_value (get_or pieces n d) ≡ Some c →
+        map count_value (take (suc n) pieces) ≡ map (λ c. Some c) (counts ++ c ∷ [])
     more [] cs n e h is = absurd (omega arith)
     more (p ∷ ps) [] zero e h is = cc
     more (p ∷ ps) (x ∷ xs) zero e h is = cc

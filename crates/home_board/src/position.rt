@@ -18,8 +18,8 @@ pub const MAX_BOUND: u8 = 44;
 #[error("more than 15 checkers")]
 pub struct TooMany;
 
-/// Where one player's checkers stand: how many on each of the six points of the home board, at most 15 in
-/// all. The others are borne off. (The rules of backgammon.)
+/// Where one player's checkers stand: how many on each of the six points of the home
+/// board, at most 15 in all. The others are borne off. (The rules of backgammon.)
 #[derive(Clone, Copy, Debug, PartialEq, Eq)]
 pub struct Position {
     counts: [u8; 6],
@@ -40,8 +40,8 @@ impl Position {
     /// The finished position: all checkers are borne off.
     pub const EMPTY: Position = Position { counts: [0; 6] };
 
-    /// The position with these counts of the points 1 to 6. Refused exactly where they add up to more
-    /// than 15.
+    /// The position with these counts of the points 1 to 6.
+    /// Refused exactly where they add up to more than 15.
     pub fn new(counts: [u8; 6]) -> Result<Self, TooMany>
         ensures accepted { IsOk result ↔ (checkers counts ≤ 15) }
         ensures value { IfOk result (λ position. position ≡ counts) }
@@ -138,7 +138,8 @@ impl Ord for Position {
 impl PartialOrd for Position {
     ghost partial_cmp = { as_partial_cmp rank_cmp };
 
-    ghost laws = { partial_order_from_own_ties (Prim.search (comparing, rules)) (Prim.search (comparing, rules)) };
+    ghost laws = { partial_order_from_own_ties (Prim.search (comparing, rules))
+        (Prim.search (comparing, rules)) };
 
     fn partial_cmp(&self, other: &Self) -> Option<Ordering> {
         Some(self.cmp(other))

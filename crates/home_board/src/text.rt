@@ -44,7 +44,8 @@ fn parse_count(text: &[u8]) -> Option<u16>
 
 /// The six counts that a text states.
 fn parse_counts(text: &[u8]) -> Option<[u16; 6]>
-    ensures read { IfSome result (λ counts. IsPositionText text.now counts × All (λ count. count < 1000) counts) }
+    ensures read { IfSome result
+        (λ counts. IsPositionText text.now counts × All (λ count. count < 1000) counts) }
     ensures none { IsNone result → (counts : List ℕ) → ¬ IsPositionText text.now counts }
 {
     let mut counts: ArrayVec<u16, 6> = ArrayVec::new();
@@ -63,13 +64,15 @@ fn parse_counts(text: &[u8]) -> Option<[u16; 6]>
     }
 }
 
-/// The position that a text states: six counts of one to three digits with commas between, that of point 1
-/// first (this project's profile). Refused as `BadText` where the bytes are no such text, and as `TooMany`
-/// where the counts add up to more than 15.
+/// The position that a text states: six counts of one to three digits with commas between, that of
+/// point 1 first (this project's profile). Refused as `BadText` where the bytes are no such text,
+/// and as `TooMany` where the counts add up to more than 15.
 pub fn parse_position(text: &[u8]) -> Result<Position, PositionFault>
     ensures read { IfOk result (λ position. IsPositionText text.now position) }
-    ensures bad_text { (result ≡ Err PositionFault.BadText) ↔ ((counts : List ℕ) → ¬ IsPositionText text.now counts) }
-    ensures too_many { (result ≡ Err PositionFault.TooMany) ↔ ((counts : List ℕ) × (IsPositionText text.now counts × (15 < checkers counts))) }
+    ensures bad_text { (result ≡ Err PositionFault.BadText)
+        ↔ ((counts : List ℕ) → ¬ IsPositionText text.now counts) }
+    ensures too_many { (result ≡ Err PositionFault.TooMany)
+        ↔ ((counts : List ℕ) × (IsPositionText text.now counts × (15 < checkers counts))) }
 {
     let [ones, twos, threes, fours, fives, sixes] = parse_counts(text).ok_or(
         PositionFault::BadText,

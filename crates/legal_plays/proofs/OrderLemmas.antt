@@ -12,14 +12,19 @@ use Rattle.std.proofs.lemmas.List.Elements.{Contains-append_left, Contains-push,
 use Rattle.std.proofs.lemmas.List.Sorted.{IsPermutation-insert, IsPermutation-to_front, IsPermutation-trans, IsPermutation-sym, Contains-permutation}
 
 -- what is inserted is the one new element
-pub Contains-insert : {X : Type 0} (xs : List X) (i : ℕ) (y z : X) → Contains (insert xs i y) z ↔ (Contains xs z ⊎ (z ≡ y))
+pub Contains-insert : {X : Type 0} (xs : List X) (i : ℕ) (y z : X) →
+    Contains (insert xs i y) z ↔ (Contains xs z ⊎ (z ≡ y))
 Contains-insert {X} xs i y z = (there, back)
   where
     moved : IsPermutation (xs ++ y ∷ []) (insert xs i y)
     moved = IsPermutation-trans _ _ _ (IsPermutation-to_front xs y) (IsPermutation-insert xs i y)
 
     there : Contains (insert xs i y) z → Contains xs z ⊎ (z ≡ y)
-    there h = elim (Contains-push_cases xs y z (Contains-permutation _ _ z (IsPermutation-sym _ _ moved) h)) [ inl old ↦ inl old | inr new ↦ inr (sym new) ]
+    there h =
+        elim
+        (Contains-push_cases xs y z
+        (Contains-permutation _ _ z (IsPermutation-sym _ _ moved) h))
+        [ inl old ↦ inl old | inr new ↦ inr (sym new) ]
 
     back : Contains xs z ⊎ (z ≡ y) → Contains (insert xs i y) z
     back h = Contains-permutation _ _ z moved (elim h [
@@ -28,19 +33,43 @@ Contains-insert {X} xs i y z = (there, back)
     ])
 
 -- an element put between the smaller and the greater ones leaves the list ascending
-pub AllPairs-insert : {X : Type 0} {R : X → X → Ordering} → IsTotalOrder R → (xs : List X) (p : ℕ) (y : X) → p ≤ length xs
-    → AllPairs (λ a b. R a b ≡ Less) xs → AllWithin (λ z. R z y ≡ Less) xs 0 p → AllWithin (λ z. R z y ≡ Greater) xs p (length xs)
+pub AllPairs-insert : {X : Type 0} {R : X → X → Ordering} → IsTotalOrder R →
+    (xs : List X) (p : ℕ) (y : X) → p ≤ length xs
+    → AllPairs (λ a b. R a b ≡ Less) xs → AllWithin (λ z. R z y ≡ Less) xs 0 p →
+    AllWithin (λ z. R z y ≡ Greater) xs p (length xs)
     → AllPairs (λ a b. R a b ≡ Less) (insert xs p y)
 AllPairs-insert {X} {R} o xs p y fits ascending less greater i j d before inside =
     elim (cases_lt j p) [
       | inl low ↦ cc (below i (omega arith), below j low, ascending i j d before (omega arith))
       | inr high ↦ elim (eq-or-lt_of_le high) [
-        | inl same ↦ cc (below i (omega arith), subst (λ k. get_or (insert xs p y) k d ≡ y) same here, less i d (omega arith) (omega arith))
+        | inl same ↦
+            cc (
+              below i (omega arith),
+              subst (λ k. get_or (insert xs p y) k d ≡ y) same here,
+              less i d (omega arith) (omega arith),
+            )
         | inr past ↦ elim (cases_lt i p) [
-          | inl low ↦ cc (below i low, above j past, ascending i (j - 1) d (omega arith) (omega (arith, longer)))
+          | inl low ↦
+              cc (
+                below i low,
+                above j past,
+                ascending i (j - 1) d (omega arith) (omega (arith, longer)),
+              )
           | inr upper ↦ elim (eq-or-lt_of_le upper) [
-            | inl same ↦ cc (subst (λ k. get_or (insert xs p y) k d ≡ y) same here, above j past, o.antisymm y (get_or xs (j - 1) d) ∙ ap ordering_reverse (greater (j - 1) d (omega arith) (omega (arith, longer))))
-            | inr later ↦ cc (above i later, above j past, ascending (i - 1) (j - 1) d (omega arith) (omega (arith, longer)))
+            | inl same ↦
+                cc (
+                  subst (λ k. get_or (insert xs p y) k d ≡ y) same here,
+                  above j past,
+                  o.antisymm y (get_or xs (j - 1) d)
+                      ∙ ap ordering_reverse
+                      (greater (j - 1) d (omega arith) (omega (arith, longer))),
+                )
+            | inr later ↦
+                cc (
+                  above i later,
+                  above j past,
+                  ascending (i - 1) (j - 1) d (omega arith) (omega (arith, longer)),
+                )
           ]
         ]
       ]
@@ -58,22 +87,30 @@ AllPairs-insert {X} {R} o xs p y fits ascending less greater i j d before inside
     above : (k : ℕ) → p < k → get_or (insert xs p y) k d ≡ get_or xs (k - 1) d
     above k h =
         let e : k - 1 + 1 ≡ k = omega arith in
-        subst (λ m. get_or (insert xs p y) m d ≡ get_or xs (k - 1) d) e (get_or-insert_above xs p y d (k - 1) (omega arith) fits)
+        subst (λ m. get_or (insert xs p y) m d ≡ get_or xs (k - 1) d) e
+        (get_or-insert_above xs p y d (k - 1) (omega arith) fits)
 
 -- along an ascending list, the comparisons with an element rise
-pub rising : {X : Type 0} {R : X → X → Ordering} → IsTotalOrder R → (xs : List X) (y : X) → AllPairs (λ a b. R a b ≡ Less) xs
+pub rising : {X : Type 0} {R : X → X → Ordering} → IsTotalOrder R → (xs : List X) (y : X) →
+    AllPairs (λ a b. R a b ≡ Less) xs
     → IsNonDecreasingBy (λ z. ordering_index (R z y)) xs
 rising {X} {R} o xs y ascending i j d le inside =
     elim (eq-or-lt_of_le le) [
-      | inl same ↦ subst (λ k. ordering_index (R (get_or xs i d) y) ≤ ordering_index (R (get_or xs k d) y)) same (omega arith)
-      | inr lt ↦ step (get_or xs i d) (get_or xs j d) (R (get_or xs i d) y) (R (get_or xs j d) y) refl refl (ascending i j d lt inside)
+      | inl same ↦
+          subst (λ k. ordering_index (R (get_or xs i d) y) ≤ ordering_index (R (get_or xs k d) y))
+          same (omega arith)
+      | inr lt ↦
+          step (get_or xs i d) (get_or xs j d) (R (get_or xs i d) y) (R (get_or xs j d) y) refl
+          refl (ascending i j d lt inside)
     ]
   where
-    step : (a b : X) (r s : Ordering) → R a y ≡ r → R b y ≡ s → R a b ≡ Less → ordering_index r ≤ ordering_index s
+    step : (a b : X) (r s : Ordering) → R a y ≡ r → R b y ≡ s → R a b ≡ Less →
+        ordering_index r ≤ ordering_index s
     step a b Less s p q h = omega arith
     step a b Equal Less p q h = absurd (let e = o.trans a b y h q in cc)
     step a b Equal Equal p q h = omega arith
     step a b Equal Greater p q h = omega arith
     step a b Greater Less p q h = absurd (let e = o.trans a b y h q in cc)
-    step a b Greater Equal p q h = absurd (let e = o.congr b y a q in let f = o.antisymm y a in let g = o.antisymm b a in cc)
+    step a b Greater Equal p q h =
+        absurd (let e = o.congr b y a q in let f = o.antisymm y a in let g = o.antisymm b a in cc)
     step a b Greater Greater p q h = omega arith

@@ -27,12 +27,15 @@ first_at_end x (d ∷ dice) y end same = record {
 }
 
 -- and no run leads anywhere else
-pub run_at_end : (x : Board) (dice : List Die) (y : Board) → (length dice ≡ 0) ⊎ IsFinished x → Run x dice y → y ≡ x
+pub run_at_end : (x : Board) (dice : List Die) (y : Board) → (length dice ≡ 0) ⊎ IsFinished x →
+    Run x dice y → y ≡ x
 run_at_end x [] y end run = run
-run_at_end x (d ∷ dice) y end run = elim end [ inl none ↦ absurd (omega arith) | inr done ↦ (run_finished x y (d ∷ dice) done).0 run ]
+run_at_end x (d ∷ dice) y end run =
+    elim end
+    [ inl none ↦ absurd (omega arith) | inr done ↦ (run_finished x y (d ∷ dice) done).0 run ]
 
--- the first play begins with the highest move from which the other dice lead on, and goes on with the
--- first play of these
+-- the first play begins with the highest move from which the
+-- other dice lead on, and goes on with the first play of these
 pub first_move : (x : Board) (d : Die) (dice : List Die) (y : Board) (m : ℕ × ℕ) (z : Board)
     (moves : List (ℕ × ℕ)) → (¬ IsFinished x) → m.1 ≡ m.0 - number d →
     StepFrom x (number d) m.0 z → IsFirstOf z dice y moves →
@@ -54,7 +57,8 @@ first_move x d dice y m z moves left distance step first above =
     ]
 
 -- dice are the first one and the others
-pub dice_cons : (dice : List Die) (d : Die) → 0 < length dice → d ≡ get_or dice 0 d → dice ≡ d ∷ take (length dice - 1) (drop 1 dice)
+pub dice_cons : (dice : List Die) (d : Die) → 0 < length dice → d ≡ get_or dice 0 d →
+    dice ≡ d ∷ take (length dice - 1) (drop 1 dice)
 dice_cons [] d some at = absurd (omega arith)
 dice_cons (e ∷ dice) d some at =
     let others : take (length (e ∷ dice) - 1) dice ≡ dice = take_all _ dice (omega arith) in cc
@@ -82,5 +86,7 @@ pub none_below : (x : Board) (d : Die) (rest : List Die) (y : Board) (source : �
 none_below x d rest y source some above here s z past step =
     elim (cases_lt source s) [
       | inl higher ↦ above s z higher step
-      | inr low ↦ let same : s ≡ source = omega arith in here z (subst (λ p. StepFrom x (number d) p z) same step)
+      | inr low ↦
+          let same : s ≡ source = omega arith in
+          here z (subst (λ p. StepFrom x (number d) p z) same step)
     ]

@@ -38,7 +38,8 @@ slice_cmp_apart (c ∷ cs) (d ∷ ds) h =
 
 -- equal positions alone tie
 pub rank_cmp_apart : (x y : List ℕ) → rank_cmp x y ≡ Equal → x ≡ y
-rank_cmp_apart x y h = slice_cmp_apart x y (both_tie (nat_cmp (pips x) (pips y)) (slice_cmp nat_cmp x y) h).1
+rank_cmp_apart x y h =
+    slice_cmp_apart x y (both_tie (nat_cmp (pips x) (pips y)) (slice_cmp nat_cmp x y) h).1
 
 -- one of two comparisons, the second where the first ties, says which is less
 less_by : (r s : Ordering) → ordering_then r s ≡ Less → (r ≡ Less) ⊎ ((r ≡ Equal) × (s ≡ Less))
@@ -47,7 +48,8 @@ less_by Equal s h = inr (refl, h)
 less_by Greater s h = absurd (cc)
 
 -- of two lists of one length, the smaller comes first
-comes_first-less : (x y : List ℕ) → length x ≡ length y → slice_cmp nat_cmp x y ≡ Less → comes_first x y ≡ true
+comes_first-less : (x y : List ℕ) → length x ≡ length y → slice_cmp nat_cmp x y ≡ Less →
+    comes_first x y ≡ true
 comes_first-less [] [] e h = absurd (cc)
 comes_first-less [] (d ∷ ds) e h = absurd (omega arith)
 comes_first-less (c ∷ cs) [] e h = absurd (cc)
@@ -58,7 +60,8 @@ comes_first-less (c ∷ cs) (d ∷ ds) e h =
     ]
 
 -- of two positions, the smaller one by the comparison is before the other
-pub before_less : (x y : List ℕ) → length x ≡ length y → rank_cmp x y ≡ Less → IsTrue (is_before x y)
+pub before_less : (x y : List ℕ) → length x ≡ length y → rank_cmp x y ≡ Less →
+    IsTrue (is_before x y)
 before_less x y e h =
     elim (less_by (nat_cmp (pips x) (pips y)) (slice_cmp nat_cmp x y) h) [
       | inl less ↦ grind (arith, nat_tests)

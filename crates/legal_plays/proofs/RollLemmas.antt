@@ -3,7 +3,8 @@ use Rattle.std.proofs.Common.{◌≡◌, ℕ, ◌≤◌, arith, refl, sym, ap, �
 use Rattle.race_model.specs.Dice.{Die, one, two, three, four, five, six, number, Throw, IsRoll, all_rolls, roll_at, roll_index}
 
 -- the rolls stand in the order of their index
-in_order : (a b : Die) → number b ≤ number a → roll_at (roll_index (record { first = a; second = b })) ≡ record { first = a; second = b }
+in_order : (a b : Die) → number b ≤ number a →
+    roll_at (roll_index (record { first = a; second = b })) ≡ record { first = a; second = b }
 unfolding roll_at all_rolls
 in_order one one h = refl
 in_order one two h = absurd (omega arith)

@@ -28,27 +28,38 @@ count-finished x zero done = refl
 count-finished x (suc i) done = omega (arith, get_or-sum x i)
 
 -- no step starts above the highest point
-pub step_source : (x : Board) (h d s : ℕ) (y : Board) → (h ≡ 0 → IsFinished x) → (0 < h → IsHighest x h) → StepFrom x d s y → s ≤ h
-step_source x zero d s y none top step = absurd (omega (arith, from_occupied x d s y step, count-finished x s (none refl)))
+pub step_source : (x : Board) (h d s : ℕ) (y : Board) → (h ≡ 0 → IsFinished x) →
+    (0 < h → IsHighest x h) → StepFrom x d s y → s ≤ h
+step_source x zero d s y none top step =
+    absurd (omega (arith, from_occupied x d s y step, count-finished x s (none refl)))
 step_source x (suc h) d s y none top step =
     elim (cases_lt (suc h) s) [
-      | inl past ↦ absurd (omega (arith, from_occupied x d s y step, (top (omega arith)).above s past))
+      | inl past ↦
+          absurd (omega (arith, from_occupied x d s y step, (top (omega arith)).above s past))
       | inr within ↦ within
     ]
 
 -- all steps start below a limit above the highest point
-pub all_steps : (x : Board) (h : ℕ) (d : Die) (limit : ℕ) (y : Board) → (h ≡ 0 → IsFinished x) → (0 < h → IsHighest x h) → h < limit → StepBelow x d limit y ↔ Step x d y
-all_steps x h d limit y none top past =
-    (λ below. (below.0, below.2), λ step. (step.0, omega (arith, step_source x h (number d) step.0 y none top step.1), step.1))
+pub all_steps : (x : Board) (h : ℕ) (d : Die) (limit : ℕ) (y : Board) → (h ≡ 0 → IsFinished x) →
+    (0 < h → IsHighest x h) → h < limit → StepBelow x d limit y ↔ Step x d y
+all_steps x h d limit y none top past = (
+  λ below. (below.0, below.2),
+  λ step.
+      (step.0, omega (arith, step_source x h (number d) step.0 y none top step.1), step.1),
+)
 
 -- the steps below the next limit, where the die makes a step from this point
-pub one_more_step : (x : Board) (d : Die) (s : ℕ) (z y : Board) (Old Before Now : Type 0) → StepFrom x (number d) s z
-    → (Now ↔ (Before ⊎ (y ≡ z))) → (Before ↔ (Old ⊎ StepBelow x d s y)) → Now ↔ (Old ⊎ StepBelow x d (s + 1) y)
+pub one_more_step : (x : Board) (d : Die) (s : ℕ) (z y : Board) (Old Before Now : Type 0) →
+    StepFrom x (number d) s z
+    → (Now ↔ (Before ⊎ (y ≡ z))) → (Before ↔ (Old ⊎ StepBelow x d s y)) →
+    Now ↔ (Old ⊎ StepBelow x d (s + 1) y)
 one_more_step x d s z y Old Before Now step now before = (there, back)
   where
     there : Now → Old ⊎ StepBelow x d (s + 1) y
     there h = elim (now.0 h) [
-      | inl was ↦ elim (before.0 was) [ inl old ↦ inl old | inr below ↦ inr (below.0, omega (arith, below.1), below.2) ]
+      | inl was ↦
+          elim (before.0 was)
+          [ inl old ↦ inl old | inr below ↦ inr (below.0, omega (arith, below.1), below.2) ]
       | inr new ↦ inr (s, omega arith, subst (StepFrom x (number d) s) (sym new) step)
     ]
 
@@ -59,17 +70,21 @@ one_more_step x d s z y Old Before Now step now before = (there, back)
         | inl low ↦ now.1 (inl (before.1 (inr (below.0, low, below.2))))
         | inr high ↦
             let same : below.0 ≡ s = omega (arith, below.1) in
-            now.1 (inr (one_step x (number d) s y z (subst (λ p. StepFrom x (number d) p y) same below.2) step))
+            now.1 (inr (one_step x (number d) s y z
+            (subst (λ p. StepFrom x (number d) p y) same below.2) step))
       ]
     ]
 
 -- the steps below the next limit, where the die makes no step from this point
-pub no_more_step : (x : Board) (d : Die) (s : ℕ) (y : Board) (Old Now : Type 0) → ((z : Board) → ¬ StepFrom x (number d) s z)
+pub no_more_step : (x : Board) (d : Die) (s : ℕ) (y : Board) (Old Now : Type 0) →
+    ((z : Board) → ¬ StepFrom x (number d) s z)
     → (Now ↔ (Old ⊎ StepBelow x d s y)) → Now ↔ (Old ⊎ StepBelow x d (s + 1) y)
 no_more_step x d s y Old Now none now = (there, back)
   where
     there : Now → Old ⊎ StepBelow x d (s + 1) y
-    there h = elim (now.0 h) [ inl old ↦ inl old | inr below ↦ inr (below.0, omega (arith, below.1), below.2) ]
+    there h =
+        elim (now.0 h)
+        [ inl old ↦ inl old | inr below ↦ inr (below.0, omega (arith, below.1), below.2) ]
 
     back : Old ⊎ StepBelow x d (s + 1) y → Now
     back h = elim h [
@@ -83,7 +98,8 @@ no_more_step x d s y Old Now none now = (there, back)
     ]
 
 -- what was added by all steps
-pub only_steps : (x : Board) (h : ℕ) (d : Die) (limit : ℕ) (y : Board) (Old Now : Type 0) → (h ≡ 0 → IsFinished x) → (0 < h → IsHighest x h) → h < limit
+pub only_steps : (x : Board) (h : ℕ) (d : Die) (limit : ℕ) (y : Board) (Old Now : Type 0) →
+    (h ≡ 0 → IsFinished x) → (0 < h → IsHighest x h) → h < limit
     → (Now ↔ (Old ⊎ StepBelow x d limit y)) → Now ↔ (Old ⊎ Step x d y)
 only_steps x h d limit y Old Now none top past now = (there, back)
   where

@@ -14,11 +14,13 @@ pub one_digit : (n : ℕ) → n ≤ 6 → length (decimal n) ≤ 1
 one_digit n low = length-decimal-le 1 n (omega arith) (omega arith) (omega arith)
 
 -- one more piece comes after the byte between
-join_with_byte-more : (c : ℕ) (xs : List (List ℕ)) (y : List ℕ) → 0 < length xs → join_with_byte c (xs ++ y ∷ []) ≡ join_with_byte c xs ++ (c ∷ y)
+join_with_byte-more : (c : ℕ) (xs : List (List ℕ)) (y : List ℕ) → 0 < length xs →
+    join_with_byte c (xs ++ y ∷ []) ≡ join_with_byte c xs ++ (c ∷ y)
 join_with_byte-more c [] y some = absurd (omega arith)
 join_with_byte-more c (x ∷ []) y some = refl
 join_with_byte-more c (x ∷ z ∷ xs) y some =
-    ap (λ t. x ++ (c ∷ t)) (join_with_byte-more c (z ∷ xs) y (omega arith)) ∙ sym (append_assoc x (c ∷ join_with_byte c (z ∷ xs)) (c ∷ y))
+    ap (λ t. x ++ (c ∷ t)) (join_with_byte-more c (z ∷ xs) y (omega arith))
+    ∙ sym (append_assoc x (c ∷ join_with_byte c (z ∷ xs)) (c ∷ y))
 
 -- the text of the first move
 pub play_text-first : (moves : List Move) (i : ℕ) (m : Move) → i ≡ 0 → i < length moves →

@@ -27,4 +27,6 @@ number-face (suc (suc (suc (suc (suc (suc (suc n))))))) low high = absurd (omega
 -- the roll of two dice, in either order
 abbrev pub roll_of : Die → Die → Throw
 roll_of a b =
-    if nat_lt (number a) (number b) then record { first = b; second = a } else record { first = a; second = b }
+    if nat_lt (number a) (number b)
+    then record { first = b; second = a }
+    else record { first = a; second = b }

@@ -1,4 +1,5 @@
--- The code's moves as the moves of `race_model`, whose words say which play is the first and what its text is.
+-- The code's moves as the moves of `race_model`, whose
+-- words say which play is the first and what its text is.
 use Rattle.std.specs.Prelude.{ℕ, List, map}
 use Rattle.legal_plays.specs.declared.moves.Move.{Move}
 

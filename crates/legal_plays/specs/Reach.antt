@@ -6,5 +6,5 @@ use Rattle.race_model.specs.Dice.{Die}
 use Rattle.race_model.specs.Plays.{Step}
 
 -- a finished position stays, and any other makes a step
-abbrev pub Turns : Board → Die → Board → Type 0
-Turns x d y = (IsFinished x × (y ≡ x)) ⊎ ((¬ IsFinished x) × Step x d y)
+abbrev pub PlaysDie : Board → Die → Board → Type 0
+PlaysDie x d y = (IsFinished x × (y ≡ x)) ⊎ ((¬ IsFinished x) × Step x d y)

@@ -24,7 +24,8 @@ impl Model for Die {
 
     ghost inverse = { λ v. record { shown = number v } };
 
-    ghost inverse_ok = { λ die valid. ap (λ n. record { shown = n }) (number-face die.shown valid.0 valid.1) };
+    ghost inverse_ok = { λ die valid.
+        ap (λ n. record { shown = n }) (number-face die.shown valid.0 valid.1) };
 }
 
 impl Die {

@@ -9,8 +9,8 @@ use crate::{Die, Move, Roll, step};
 use arrayvec::ArrayVec;
 use home_board::Position;
 
-/// The moves of one roll, in the order in which they are made: one for each die until no checker is
-/// left.
+/// The moves of one roll, in the order in which they are
+/// made: one for each die until no checker is left.
 pub type Play = ArrayVec<Move, 4>;
 
 // The first play of the dice, in this order, that leads to the target: depth first, and from the
@@ -43,10 +43,10 @@ fn search(position: &Position, dice: &[Die], target: &Position) -> Option<Play>
     None
 }
 
-/// The first play of the roll that leads from the position to the target (the order of search is this
-/// project's profile). The greater die is played first, and the smaller one first only where that
-/// doesn't lead to the target; for each die the points are tried from 6 down to 1, depth first. None
-/// exactly where the target isn't one of the roll's results.
+/// The first play of the roll that leads from the position to the target (the order of search is
+/// this project's profile). The greater die is played first, and the smaller one first only where
+/// that doesn't lead to the target; for each die the points are tried from 6 down to 1, depth
+/// first. None exactly where the target isn't one of the roll's results.
 pub fn play_to(position: &Position, roll: Roll, target: &Position) -> Option<Play>
     ensures first { IfSome result (λ play.
         IsFirstPlay position.now roll target.now (moves_of play.items)) }

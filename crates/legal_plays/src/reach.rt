@@ -4,7 +4,7 @@ ghost use Rattle.arrayvec.specs.ArrayVec.{array_vec_len};
 ghost use Rattle.race_model.specs.Positions.{IsFinished};
 ghost use Rattle.race_model.specs.Plays.{Step, Run, Legal};
 ghost use Rattle.legal_plays.specs.RankOrder.{IsInRankOrder, IsAscending};
-ghost use Rattle.legal_plays.specs.Reach.{Turns};
+ghost use Rattle.legal_plays.specs.Reach.{PlaysDie};
 
 use crate::{Die, Roll, step};
 use arrayvec::ArrayVec;
@@ -61,7 +61,7 @@ fn include_steps<const CAP: usize>(
 fn after_die<const CAP: usize>(positions: &[Position], die: Die) -> ArrayVec<Position, CAP>
     requires { 6 * length positions.now ≤ CAP }
     ensures members { (y : List ℕ) →
-        Contains result.items y ↔ ((x : List ℕ) × (Contains positions.now x × Turns x die y)) }
+        Contains result.items y ↔ ((x : List ℕ) × (Contains positions.now x × PlaysDie x die y)) }
     ensures ordered { IsAscending result.items }
     ensures len { array_vec_len result ≤ 6 * length positions.now }
 {
@@ -104,9 +104,9 @@ fn after_four(position: &Position, die: Die) -> ArrayVec<Position, 1296>
 }
 
 /// The positions that the roll can reach, each once and by rising rank: by its two dice in either
-/// order, or by a double four times (the bearing-off rules of backgammon). There is at least one, and
-/// at most 1,296, since each of four dice has at most six steps. From the finished position it is the
-/// finished position alone.
+/// order, or by a double four times (the bearing-off rules of backgammon). There is at least one,
+/// and at most 1,296, since each of four dice has at most six steps. From the finished position it
+/// is the finished position alone.
 pub fn results(position: &Position, roll: Roll) -> ArrayVec<Position, 1296>
     ensures members { (y : List ℕ) → Contains result.items y ↔ Legal position.now roll y }
     ensures ordered { IsInRankOrder result.items }

@@ -5,8 +5,8 @@ ghost use Rattle.legal_plays.specs.Faces.{roll_of};
 use crate::Die;
 use std::marker::Model;
 
-/// What two dice show, the greater first: one of 21 rolls. (The rules of backgammon; the index of a
-/// roll is this project's profile.)
+/// What two dice show, the greater first: one of 21 rolls. (The rules
+/// of backgammon; the index of a roll is this project's profile.)
 #[derive(Clone, Copy, Debug, PartialEq, Eq)]
 pub struct Roll {
     high: Die,

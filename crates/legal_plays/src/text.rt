@@ -33,8 +33,8 @@ fn parse_die(digit: u8) -> Option<Die>
     Die::new(digit.checked_sub(b'0')?)
 }
 
-/// The moves with a space between each two, each from a point to a point, as `6/5`, or off the board,
-/// as `3/off` (this project's profile). The play without moves has the empty text.
+/// The moves with a space between each two, each from a point to a point, as `6/5`, or off
+/// the board, as `3/off` (this project's profile). The play without moves has the empty text.
 pub fn write_play(play: &Play) -> ArrayString<23>
     ensures { result.bytes ≡ play_text (moves_of play.now.items) }
 {

@@ -57,7 +57,8 @@ fn step(position: &Position, die: Die, source: u8) -> Option<Position>
     None
 }
 
-// Adds what the dice, played one after another, make of the position, as often as there are ways to it.
+// Adds what the dice, played one after another, make of the
+// position, as often as there are ways to it.
 fn add_runs(found: &mut Vec<Position>, position: &Position, dice: &[Die]) -> Result<(), AllocError>
     ensures { OnOk result (found.new.items ≡ found.old.items ++ all_runs dice.now position.now) }
 {
@@ -74,9 +75,9 @@ fn add_runs(found: &mut Vec<Position>, position: &Position, dice: &[Die]) -> Res
     Ok(())
 }
 
-/// The positions to which a throw of these two dice leads: by trying each die at each point, in either order
-/// of the dice, or a double four times (the bearing-off rules of backgammon). A position stands there as often
-/// as there are ways to it. Refused only for want of memory.
+/// The positions to which a throw of these two dice leads: by trying each die at each point, in
+/// either order of the dice, or a double four times (the bearing-off rules of backgammon). A
+/// position stands there as often as there are ways to it. Refused only for want of memory.
 pub fn legal_positions(
     alloc: Global,
     position: &Position,
@@ -85,7 +86,9 @@ pub fn legal_positions(
 ) -> Result<Vec<Position>, AllocError>
     ensures members { IfOk result (λ found. (y : Board) →
         Contains found.items y ↔ Legal position.now (record { first = one; second = other }) y) }
-    ensures ways { IfOk result (λ found. found.items ≡ all_results position.now (record { first = one; second = other })) }
+    ensures ways { IfOk result
+        (λ found.
+        found.items ≡ all_results position.now (record { first = one; second = other })) }
 {
     let mut found = Vec::new(alloc);
     if one.number() == other.number() {
@@ -98,7 +101,8 @@ pub fn legal_positions(
     Ok(found)
 }
 
-// The number of different results is that of an independent program, and the rows were counted by hand.
+// The number of different results is that of an independent
+// program, and the rows were counted by hand.
 #[cfg(test)]
 mod tests {
     use super::*;

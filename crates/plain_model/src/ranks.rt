@@ -39,7 +39,8 @@ fn is_smaller(counts: [u8; 6], others: [u8; 6]) -> bool
     false
 }
 
-// Whether the counts are those of a position, and it comes before the position with the other counts.
+// Whether the counts are those of a position, and it comes
+// before the position with the other counts.
 fn is_earlier_position(counts: [u8; 6], others: [u8; 6]) -> bool
     ensures { result ≡ is_position_before counts others }
 {
@@ -53,8 +54,8 @@ fn is_earlier_position(counts: [u8; 6], others: [u8; 6]) -> bool
     pips < others_pips
 }
 
-// How many positions come before the one with the other counts, of those whose first counts are given: the
-// last `left` counts are tried from 0 to 15.
+// How many positions come before the one with the other counts, of those whose
+// first counts are given: the last `left` counts are tried from 0 to 15.
 fn count_earlier(counts: [u8; 6], left: usize, others: [u8; 6]) -> u32
     requires { left ≤ 6 }
     ensures value { result ≡ positions_before (take (6 - left) counts) left others }
@@ -79,8 +80,8 @@ fn counts_of(position: &Position) -> [u8; 6]
     [1, 2, 3, 4, 5, 6].map(|point| position.count(point))
 }
 
-/// The rank of a position: how many positions are before it, counted among all lists of six counts of 0 to 15.
-/// (This project's profile.) It goes over 16^6 lists.
+/// The rank of a position: how many positions are before it, counted among all lists
+/// of six counts of 0 to 15. (This project's profile.) It goes over 16^6 lists.
 pub fn rank_by_counting(position: &Position) -> u32
     ensures { result ≡ rank position.now }
 {

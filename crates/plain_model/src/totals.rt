@@ -33,9 +33,10 @@ fn over_second_throws(start: &Position, after: &Position) -> u32
     total
 }
 
-/// The rolls that a strategy needs, added up over all 36 * 36 sequences of two throws. It starts from a position
-/// and plays the first throw as the list says: the 36 positions after it, by the number of the first die and then
-/// by that of the second. How it plays the second throw makes no difference to the rolls of two throws.
+/// The rolls that a strategy needs, added up over all 36 * 36 sequences of two throws. It starts
+/// from a position and plays the first throw as the list says: the 36 positions after it, by the
+/// number of the first die and then by that of the second. How it plays the second throw makes no
+/// difference to the rolls of two throws.
 pub fn total_over_two(start: &Position, plays: &[Position]) -> u32
     requires { length plays.now ≡ 36 }
     ensures { (second : Throw → Throw → Board) (later : Throw → Throw → Strategy) →
@@ -65,8 +66,8 @@ fn second_throws_with(start: &Position, after: &Position, rolls: u32) -> u32
     count
 }
 
-/// In how many of all 36 * 36 sequences of two throws a strategy needs exactly so many rolls. It starts and plays
-/// as in `total_over_two`.
+/// In how many of all 36 * 36 sequences of two throws a strategy needs
+/// exactly so many rolls. It starts and plays as in `total_over_two`.
 pub fn sequences_of_two(start: &Position, plays: &[Position], rolls: u32) -> u32
     requires { length plays.now ≡ 36 }
     ensures { (second : Throw → Throw → Board) (later : Throw → Throw → Strategy) →
@@ -81,7 +82,8 @@ pub fn sequences_of_two(start: &Position, plays: &[Position], rolls: u32) -> u32
     count
 }
 
-// The numbers are those of a count by hand: 9 of the 36 throws don't bear a checker off from point 6.
+// The numbers are those of a count by hand: 9 of the 36
+// throws don't bear a checker off from point 6.
 #[cfg(test)]
 mod tests {
     use super::*;
@@ -90,7 +92,8 @@ mod tests {
     use std::alloc::Global;
     use std::test::Fail;
 
-    // The positions after each first throw, where the play is always one that leaves the fewest pips.
+    // The positions after each first throw, where the play
+    // is always one that leaves the fewest pips.
     fn plays_to_fewest_pips(alloc: Global, start: &Position) -> Result<Vec<Position>, Fail> {
         let mut plays = Vec::new(alloc);
         for first in 1..7 {

@@ -1,4 +1,5 @@
--- The file that the builder writes: of the plays to a least mean it records the one to the lowest rank.
+-- The file that the builder writes: of the plays to a least
+-- mean it records the one to the lowest rank.
 -- Source: this project's profile.
 use Rattle.std.specs.Prelude.{◌≡◌, ℕ, ◌≤◌, List}
 use Rattle.race_model.specs.Positions.{Board, IsPosition, pips}
@@ -10,11 +11,13 @@ use Rattle.race_model.specs.LocalEquations.{IsLocal}
 
 -- no result of the throw with the recorded mean has a lower rank than the recorded one
 abbrev pub IsLowest : List ℕ → Board → Throw → Type 0
-IsLowest f x v = (z : Board) → Legal x v z → mean f z ≡ mean_at f (play f x v) → play f x v ≤ rank z
+IsLowest f x v =
+    (z : Board) → Legal x v z → mean f z ≡ mean_at f (play f x v) → play f x v ≤ rank z
 
 -- the built file of a bound. That it is one of bytes leaves one list alone: its numbers fix its bytes
 pub record IsBuilt (limit bound : ℕ) (f : List ℕ) : Type 0 where
   pub bytes : IsBytes f
   pub bound_is : bound_of f ≡ bound
   pub local : IsLocal limit f
-  pub lowest : (x : Board) → IsPosition x → pips x ≤ bound → (v : Throw) → IsRoll v → IsLowest f x v
+  pub lowest : (x : Board) → IsPosition x → pips x ≤ bound → (v : Throw) → IsRoll v →
+      IsLowest f x v

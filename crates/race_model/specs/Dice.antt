@@ -1,4 +1,5 @@
--- Dice, throws and rolls. Source: the rules of backgammon; the index of a roll is this project's profile.
+-- Dice, throws and rolls. Source: the rules of backgammon;
+-- the index of a roll is this project's profile.
 use Rattle.std.specs.Prelude.{ℕ, ◌+◌, ◌-◌, ◌*◌, ◌/◌, ◌≤◌, min, max, ◌==◌, if◌then◌else◌, List, [], ◌∷◌, flat_map, map, slice_index_or}
 
 -- a die

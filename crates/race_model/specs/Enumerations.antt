@@ -1,6 +1,7 @@
--- The results of a throw as a list, by a plain search: slow, with a position as often as there are ways to it, and
--- used by no program. `law_enumerated` says that its members are the results by the rules, so that the rules can be
--- tried out on small positions by computation. Source: the bearing-off rules of backgammon.
+-- The results of a throw as a list, by a plain search: slow, with a position as often as there are
+-- ways to it, and used by no program. `law_enumerated` says that its members are the results by
+-- the rules, so that the rules can be tried out on small positions by computation. Source: the
+-- bearing-off rules of backgammon.
 use Rattle.std.specs.Prelude.{ℕ, ◌-◌, ◌==◌, nat_lt, if◌then◌else◌, List, [], ◌∷◌, ◌++◌, length, drop, sum, flat_map}
 use Rattle.std.specs.List.{range_with_len}
 use Rattle.race_model.specs.Positions.{Board, count, checkers, fewer, more}
@@ -21,7 +22,8 @@ all_steps x d = flat_map (step_from x (number d)) (range_with_len 1 (length x))
 -- what the dice, one after another, make of x
 abbrev pub all_runs : List Die → Board → List Board
 all_runs [] x = x ∷ []
-all_runs (d ∷ dice) x = if checkers x == 0 then x ∷ [] else flat_map (all_runs dice) (all_steps x d)
+all_runs (d ∷ dice) x =
+    if checkers x == 0 then x ∷ [] else flat_map (all_runs dice) (all_steps x d)
 
 -- what a throw makes of x
 abbrev pub all_results : Board → Throw → List Board

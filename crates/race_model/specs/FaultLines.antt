@@ -16,8 +16,10 @@ header_line exact_length = codes "header bad-length"
 
 -- a question about a record that is answered no
 abbrev pub test_line : Test → List ℕ
-test_line (play_test rank roll) = codes "play rank " ++ decimal rank ++ codes " roll " ++ decimal roll
-test_line (least_test rank roll) = codes "not-least rank " ++ decimal rank ++ codes " roll " ++ decimal roll
+test_line (play_test rank roll) =
+    codes "play rank " ++ decimal rank ++ codes " roll " ++ decimal roll
+test_line (least_test rank roll) =
+    codes "not-least rank " ++ decimal rank ++ codes " roll " ++ decimal roll
 test_line (mean_test rank) = codes "mean rank " ++ decimal rank
 test_line (spread_test rank k) = codes "spread rank " ++ decimal rank ++ codes " k " ++ decimal k
 

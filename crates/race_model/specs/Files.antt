@@ -5,9 +5,12 @@ use Rattle.race_model.specs.Positions.{Board}
 use Rattle.race_model.specs.Dice.{Throw, roll_index}
 use Rattle.race_model.specs.Ranks.{rank, count_to}
 
--- the header of the file of a bound: magic, version, bound, count of records, bytes of a record, reserved
+-- the header of the file of a bound: magic, version, bound,
+-- count of records, bytes of a record, reserved
 abbrev pub header : ℕ → List ℕ
-header bound = codes "EPCTABLE" ++ to_be_bytes w16 1 ++ to_be_bytes w16 bound ++ to_be_bytes w32 (count_to bound) ++ to_be_bytes w32 426 ++ replicate 12 0
+header bound =
+    codes "EPCTABLE" ++ to_be_bytes w16 1 ++ to_be_bytes w16 bound
+    ++ to_be_bytes w32 (count_to bound) ++ to_be_bytes w32 426 ++ replicate 12 0
 
 -- a list of bytes: each of its numbers is under 256, as is what one reads beyond its end
 abbrev pub IsBytes : List ℕ → Type 0
@@ -21,8 +24,8 @@ bytes_at f place n = take n (drop place f)
 unfoldable pub bound_of : List ℕ → ℕ
 bound_of f = from_be_bytes w16 (bytes_at f 10 2)
 
--- a file whose bound is at most a limit: the header, a record of 426 bytes for each position of at most
--- the bound, and nothing after them
+-- a file whose bound is at most a limit: the header, a record of 426
+-- bytes for each position of at most the bound, and nothing after them
 pub record IsFileTo (limit : ℕ) (f : List ℕ) : Type 0 where
   pub bounded : bound_of f ≤ limit
   pub headed : take 32 f ≡ header (bound_of f)

@@ -20,8 +20,8 @@ rank_of (least_test rank roll) = rank
 rank_of (mean_test rank) = rank
 rank_of (spread_test rank k) = rank
 
--- its place among the questions about that rank: for each roll the play and then whether it is least,
--- then the mean, then the shares
+-- its place among the questions about that rank: for each roll the
+-- play and then whether it is least, then the mean, then the shares
 abbrev pub place_of : Test → ℕ
 place_of (play_test rank roll) = 2 * roll
 place_of (least_test rank roll) = 2 * roll + 1

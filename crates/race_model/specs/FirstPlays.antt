@@ -1,5 +1,6 @@
 -- The plays of a throw, move by move, and the first of those that lead to a position.
--- Source: the bearing-off rules of backgammon; the order in which plays are looked for is this project's profile.
+-- Source: the bearing-off rules of backgammon; the order in
+-- which plays are looked for is this project's profile.
 use Rattle.std.specs.Prelude.{◌≡◌, ◌≢◌, ℕ, zero, suc, ◌-◌, ◌<◌, ◌⊎◌, List, [], ◌∷◌, ◌++◌, codes, decimal}
 use Rattle.race_model.specs.Positions.{Board, IsFinished}
 use Rattle.race_model.specs.Dice.{Die, number, Throw}
@@ -15,9 +16,12 @@ Moves x [] [] y = y ≡ x
 Moves x [] (m ∷ moves) y = ⊥
 Moves x (d ∷ dice) [] y = IsFinished x × (y ≡ x)
 Moves x (d ∷ dice) (m ∷ moves) y =
-    (¬ IsFinished x) × ((m.1 ≡ m.0 - number d) × ((z : Board) × (StepFrom x (number d) m.0 z × Moves z dice moves y)))
+    (¬ IsFinished x)
+    × ((m.1 ≡ m.0 - number d)
+    × ((z : Board) × (StepFrom x (number d) m.0 z × Moves z dice moves y)))
 
--- the first play is found before the second: where they first differ, it moves from the higher point
+-- the first play is found before the second: where they
+-- first differ, it moves from the higher point
 abbrev pub IsFoundBefore : List Move → List Move → Type 0
 IsFoundBefore [] others = ⊥
 IsFoundBefore (m ∷ moves) [] = ⊥
@@ -28,12 +32,15 @@ pub record IsFirstOf (x : Board) (dice : List Die) (y : Board) (moves : List Mov
   pub leads : Moves x dice moves y
   pub first : (others : List Move) → Moves x dice others y → ¬ IsFoundBefore others moves
 
--- the first play of a roll that leads to y: with the greater die first, and where none leads there, with the
--- smaller die first
+-- the first play of a roll that leads to y: with the greater die
+-- first, and where none leads there, with the smaller die first
 pub data IsFirstPlay (x : Board) (v : Throw) (y : Board) (moves : List Move) : Type 0 where
-  greater_first : v.first ≢ v.second → IsFirstOf x (v.first ∷ v.second ∷ []) y moves → IsFirstPlay x v y moves
-  smaller_first : v.first ≢ v.second → (¬ Run x (v.first ∷ v.second ∷ []) y) → IsFirstOf x (v.second ∷ v.first ∷ []) y moves → IsFirstPlay x v y moves
-  of_double : v.first ≡ v.second → IsFirstOf x (v.first ∷ v.first ∷ v.first ∷ v.first ∷ []) y moves → IsFirstPlay x v y moves
+  greater_first : v.first ≢ v.second → IsFirstOf x (v.first ∷ v.second ∷ []) y moves →
+      IsFirstPlay x v y moves
+  smaller_first : v.first ≢ v.second → (¬ Run x (v.first ∷ v.second ∷ []) y) →
+      IsFirstOf x (v.second ∷ v.first ∷ []) y moves → IsFirstPlay x v y moves
+  of_double : v.first ≡ v.second →
+      IsFirstOf x (v.first ∷ v.first ∷ v.first ∷ v.first ∷ []) y moves → IsFirstPlay x v y moves
 
 -- a point as text: its number, and `off` where a checker is borne off
 abbrev pub point_text : ℕ → List ℕ

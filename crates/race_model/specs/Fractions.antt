@@ -1,6 +1,6 @@
 -- Exact numbers as fractions in lowest terms, and rounded to thousandths.
--- Source: an average roll is worth 49/6 pips, doubles counted fourfold (the GNU Backgammon manual, on effective
--- pip counts); the rest is this project's profile.
+-- Source: an average roll is worth 49/6 pips, doubles counted fourfold (the GNU
+-- Backgammon manual, on effective pip counts); the rest is this project's profile.
 use Rattle.std.specs.Prelude.{◌≡◌, ℕ, ◌+◌, ◌*◌, ◌<◌, ◌≤◌}
 use Rattle.std.specs.Int.{IsGcd}
 use Rattle.race_model.specs.LocalEquations.{whole}
@@ -19,7 +19,8 @@ IsMean total n d = IsFraction total whole n d
 abbrev pub IsEffectivePips : ℕ → ℕ → ℕ → Type 0
 IsEffectivePips total n d = IsFraction (49 * total) (6 * whole) n d
 
--- q thousandths are nearest to n / d, and a half is rounded up: (2 * q - 1) * d ≤ 2000 * n < (2 * q + 1) * d
+-- q thousandths are nearest to n / d, and a half is rounded
+-- up: (2 * q - 1) * d ≤ 2000 * n < (2 * q + 1) * d
 pub record IsThousandths (n d q : ℕ) : Type 0 where
   pub not_over : 2 * q * d ≤ 2000 * n + d
   pub not_under : 2000 * n < (2 * q + 1) * d

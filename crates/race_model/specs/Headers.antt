@@ -32,7 +32,8 @@ HeaderHolds limit front size long_enough = (32 ≤ length front) × (32 ≤ size
 HeaderHolds limit front size magic = bytes_at front 0 8 ≡ codes "EPCTABLE"
 HeaderHolds limit front size version = from_be_bytes w16 (bytes_at front 8 2) ≡ 1
 HeaderHolds limit front size bound = bound_of front ≤ limit
-HeaderHolds limit front size count = from_be_bytes w32 (bytes_at front 12 4) ≡ count_to (bound_of front)
+HeaderHolds limit front size count =
+    from_be_bytes w32 (bytes_at front 12 4) ≡ count_to (bound_of front)
 HeaderHolds limit front size record_bytes = from_be_bytes w32 (bytes_at front 16 4) ≡ 426
 HeaderHolds limit front size reserved = bytes_at front 20 12 ≡ replicate 12 0
 HeaderHolds limit front size exact_length = size ≡ 32 + 426 * count_to (bound_of front)
@@ -42,6 +43,8 @@ abbrev pub IsHeader : ℕ → List ℕ → ℕ → Type 0
 IsHeader limit front size = (t : HeaderTest) → HeaderHolds limit front size t
 
 -- the first answer that is no
-pub record IsFirstHeaderFault (limit : ℕ) (front : List ℕ) (size : ℕ) (t : HeaderTest) : Type 0 where
-  pub fails : ¬ HeaderHolds limit front size t
-  pub earlier : (u : HeaderTest) → header_place u < header_place t → HeaderHolds limit front size u
+pub record IsFirstHeaderFault (limit : ℕ) (front : List ℕ) (size : ℕ) (t : HeaderTest) : Type 0
+  where
+    pub fails : ¬ HeaderHolds limit front size t
+    pub earlier : (u : HeaderTest) → header_place u < header_place t →
+        HeaderHolds limit front size u

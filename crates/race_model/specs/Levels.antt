@@ -1,4 +1,5 @@
--- The positions of one pip count, and the line that an audit writes of them. Source: this project's profile.
+-- The positions of one pip count, and the line that an
+-- audit writes of them. Source: this project's profile.
 use Rattle.std.specs.Prelude.{◌≡◌, ℕ, ◌-◌, ◌≤◌, List, ◌++◌, codes, decimal}
 use Rattle.race_model.specs.Positions.{Board, IsPosition, pips}
 use Rattle.race_model.specs.Ranks.{count_to, first_of}
@@ -25,4 +26,6 @@ pub record IsLevelLine (f : List ℕ) (p : ℕ) (text : List ℕ) : Type 0 where
   pub least_is : IsShareText least least_text
   pub greatest_text : List ℕ
   pub greatest_is : IsShareText greatest greatest_text
-  pub written : text ≡ codes "pips " ++ decimal p ++ codes " positions " ++ decimal (level_count p) ++ codes " least " ++ least_text ++ codes " greatest " ++ greatest_text
+  pub written : text
+      ≡ codes "pips " ++ decimal p ++ codes " positions " ++ decimal (level_count p)
+      ++ codes " least " ++ least_text ++ codes " greatest " ++ greatest_text

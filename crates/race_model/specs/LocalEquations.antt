@@ -28,14 +28,15 @@ IsBest f x v = (z : Board) → Legal x v z → mean_at f (play f x v) ≤ mean f
 abbrev pub weighted : (Throw → ℕ) → ℕ
 weighted g = sum_by (λ v. weight v * g v) all_rolls
 
--- the mean equation: no roll for the finished position, else one roll and the mean of what is recorded
+-- the mean equation: no roll for the finished position,
+-- else one roll and the mean of what is recorded
 pub record HasMean (f : List ℕ) (x : Board) : Type 0 where
   pub at_end : IsFinished x → mean f x ≡ 0
   pub before : ¬ IsFinished x → 36 * mean f x ≡ 36 * whole + weighted (λ v. mean_at f (play f x v))
 
--- the spread equation at k rolls: the finished position has its whole share at 0 rolls, and any other
--- position has none there; the other shares of the finished position are none, and those of any other
--- position are the mean of the shares of what is recorded, at one roll fewer
+-- the spread equation at k rolls: the finished position has its whole share at 0 rolls, and any
+-- other position has none there; the other shares of the finished position are none, and those of
+-- any other position are the mean of the shares of what is recorded, at one roll fewer
 abbrev pub HasShare : List ℕ → Board → ℕ → Type 0
 HasShare f x zero = (IsFinished x → spread f x 0 ≡ whole) × (¬ IsFinished x → spread f x 0 ≡ 0)
 HasShare f x (suc k) =

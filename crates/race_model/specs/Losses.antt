@@ -8,7 +8,8 @@ use Rattle.race_model.specs.Ranks.{rank}
 use Rattle.race_model.specs.Files.{mean, mean_at, play}
 use Rattle.race_model.specs.Strategies.{Strategy, stop, turn, IsLeast}
 
--- l is the loss of the result y: the least total after it exceeds by l the least one among all results of the throw
+-- l is the loss of the result y: the least total after it
+-- exceeds by l the least one among all results of the throw
 pub record IsLoss (x : Board) (v : Throw) (y : Board) (l : ℕ) : Type 0 where
   pub after : ℕ
   pub best : ℕ
@@ -17,7 +18,8 @@ pub record IsLoss (x : Board) (v : Throw) (y : Board) (l : ℕ) : Type 0 where
   pub best_least : (z : Board) (t : ℕ) → Legal x v z → IsLeast z t → best ≤ t
   pub loss_is : best + l ≡ after
 
--- the loss by a file, as a numerator over 36 ^ 22: the mean after the result less the mean after the recorded play
+-- the loss by a file, as a numerator over 36 ^ 22: the mean
+-- after the result less the mean after the recorded play
 abbrev pub loss : List ℕ → Board → Throw → Board → ℕ
 loss f x v y = mean f y - mean_at f (play f x v)
 
@@ -28,9 +30,11 @@ BeginsWith (turn to next) v y = to v ≡ y
 
 -- a result that is listed before another: of smaller loss, or of equal loss and lower rank
 abbrev pub IsListedBefore : List ℕ → Board → Throw → Board → Board → Type 0
-IsListedBefore f x v y z = (loss f x v y < loss f x v z) ⊎ ((loss f x v y ≡ loss f x v z) × (rank y < rank z))
+IsListedBefore f x v y z =
+    (loss f x v y < loss f x v z) ⊎ ((loss f x v y ≡ loss f x v z) × (rank y < rank z))
 
 -- the list of moves of a throw: every result, each before those that follow it, so each once
 pub record IsMoveList (f : List ℕ) (x : Board) (v : Throw) (ys : List Board) : Type 0 where
   pub members : (y : Board) → Contains ys y ↔ Legal x v y
-  pub ordered : (i j : ℕ) → i < j → j < length ys → IsListedBefore f x v (slice_index_or ys i finished) (slice_index_or ys j finished)
+  pub ordered : (i j : ℕ) → i < j → j < length ys →
+      IsListedBefore f x v (slice_index_or ys i finished) (slice_index_or ys j finished)

@@ -15,9 +15,12 @@ is_leading_digit c = nat_le 49 c && nat_le c 57
 abbrev pub count_value : List ℕ → Option ℕ
 count_value [] = None
 count_value (a ∷ []) = if is_digit a then Some (a - 48) else None
-count_value (a ∷ b ∷ []) = if is_leading_digit a && is_digit b then Some (10 * (a - 48) + (b - 48)) else None
+count_value (a ∷ b ∷ []) =
+    if is_leading_digit a && is_digit b then Some (10 * (a - 48) + (b - 48)) else None
 count_value (a ∷ b ∷ c ∷ []) =
-    if is_leading_digit a && (is_digit b && is_digit c) then Some (100 * (a - 48) + 10 * (b - 48) + (c - 48)) else None
+    if is_leading_digit a
+    && (is_digit b && is_digit c) then Some (100 * (a - 48) + 10 * (b - 48) + (c - 48)) else
+    None
 count_value (a ∷ b ∷ c ∷ d ∷ more) = None
 
 -- the text states these six counts

@@ -1,4 +1,5 @@
--- Lines of input: the six kinds of query, and when each is refused. Source: this project's profile.
+-- Lines of input: the six kinds of query, and when each is
+-- refused. Source: this project's profile.
 use Rattle.std.specs.Prelude.{◌≡◌, ℕ, ◌+◌, ◌<◌, ◌≤◌, ◌⊎◌, ◌==◌, List, [], ◌∷◌, ◌++◌, codes}
 use Rattle.std.specs.List.{slice_split}
 use Rattle.race_model.specs.Positions.{Board, IsFinished, checkers, pips}
@@ -29,11 +30,14 @@ abbrev pub IsQuery : List ℕ → Query → Type 0
 IsQuery line (mean_query x) = (p : List ℕ) × IsPositionText p x × (line ≡ codes "mean " ++ p)
 IsQuery line (dist_query x) = (p : List ℕ) × IsPositionText p x × (line ≡ codes "dist " ++ p)
 IsQuery line (play_query x v) =
-    (p r : List ℕ) × IsPositionText p x × IsRollText r v × (line ≡ codes "play " ++ p ++ codes " " ++ r)
+    (p r : List ℕ) × IsPositionText p x × IsRollText r v
+    × (line ≡ codes "play " ++ p ++ codes " " ++ r)
 IsQuery line (loss_query x v y) =
-    (p r q : List ℕ) × IsPositionText p x × IsRollText r v × IsPositionText q y × (line ≡ codes "loss " ++ p ++ codes " " ++ r ++ codes " " ++ q)
+    (p r q : List ℕ) × IsPositionText p x × IsRollText r v × IsPositionText q y
+    × (line ≡ codes "loss " ++ p ++ codes " " ++ r ++ codes " " ++ q)
 IsQuery line (moves_query x v) =
-    (p r : List ℕ) × IsPositionText p x × IsRollText r v × (line ≡ codes "moves " ++ p ++ codes " " ++ r)
+    (p r : List ℕ) × IsPositionText p x × IsRollText r v
+    × (line ≡ codes "moves " ++ p ++ codes " " ++ r)
 IsQuery line (rank_query x) = (p : List ℕ) × IsPositionText p x × (line ≡ codes "rank " ++ p)
 
 -- the words of a line: its parts between spaces
@@ -42,15 +46,20 @@ words line = slice_split (λ c. c == 32) line
 
 -- the words of the line ask this
 abbrev pub HasWords : List ℕ → Query → Type 0
-HasWords line (mean_query x) = (p : List ℕ) × IsPositionText p x × (words line ≡ codes "mean" ∷ p ∷ [])
-HasWords line (dist_query x) = (p : List ℕ) × IsPositionText p x × (words line ≡ codes "dist" ∷ p ∷ [])
+HasWords line (mean_query x) =
+    (p : List ℕ) × IsPositionText p x × (words line ≡ codes "mean" ∷ p ∷ [])
+HasWords line (dist_query x) =
+    (p : List ℕ) × IsPositionText p x × (words line ≡ codes "dist" ∷ p ∷ [])
 HasWords line (play_query x v) =
     (p r : List ℕ) × IsPositionText p x × IsRollText r v × (words line ≡ codes "play" ∷ p ∷ r ∷ [])
 HasWords line (loss_query x v y) =
-    (p r q : List ℕ) × IsPositionText p x × IsRollText r v × IsPositionText q y × (words line ≡ codes "loss" ∷ p ∷ r ∷ q ∷ [])
+    (p r q : List ℕ) × IsPositionText p x × IsRollText r v × IsPositionText q y
+    × (words line ≡ codes "loss" ∷ p ∷ r ∷ q ∷ [])
 HasWords line (moves_query x v) =
-    (p r : List ℕ) × IsPositionText p x × IsRollText r v × (words line ≡ codes "moves" ∷ p ∷ r ∷ [])
-HasWords line (rank_query x) = (p : List ℕ) × IsPositionText p x × (words line ≡ codes "rank" ∷ p ∷ [])
+    (p r : List ℕ) × IsPositionText p x × IsRollText r v
+    × (words line ≡ codes "moves" ∷ p ∷ r ∷ [])
+HasWords line (rank_query x) =
+    (p : List ℕ) × IsPositionText p x × (words line ≡ codes "rank" ∷ p ∷ [])
 
 -- the position that a query is about, which stands first in its line
 abbrev pub subject : Query → Board
@@ -100,9 +109,12 @@ pub data Refusal : Type 0 where
 pub data IsRefused (bound : ℕ) (line : List ℕ) : Refusal → Type 0 where
   no_query : ((q : Query) → ¬ IsQuery line q) → IsRefused bound line bad_line
   of_too_many : (q : Query) → IsQuery line q → HasTooMany q → IsRefused bound line too_many
-  of_over_bound : (q : Query) → IsQuery line q → ¬ HasTooMany q → bound < pips (subject q) → IsRefused bound line over_bound
-  of_finished : (q : Query) → IsQuery line q → ¬ HasTooMany q → pips (subject q) ≤ bound → AsksOfFinished q → IsRefused bound line at_end
-  of_no_result : (q : Query) → IsQuery line q → ¬ HasTooMany q → pips (subject q) ≤ bound → ¬ AsksOfFinished q → ¬ HasResult q → IsRefused bound line not_legal
+  of_over_bound : (q : Query) → IsQuery line q → ¬ HasTooMany q → bound < pips (subject q) →
+      IsRefused bound line over_bound
+  of_finished : (q : Query) → IsQuery line q → ¬ HasTooMany q → pips (subject q) ≤ bound →
+      AsksOfFinished q → IsRefused bound line at_end
+  of_no_result : (q : Query) → IsQuery line q → ¬ HasTooMany q → pips (subject q) ≤ bound →
+      ¬ AsksOfFinished q → ¬ HasResult q → IsRefused bound line not_legal
 
 -- the query of a line that is not refused
 pub record IsAccepted (bound : ℕ) (line : List ℕ) (q : Query) : Type 0 where

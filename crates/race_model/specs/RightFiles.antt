@@ -1,6 +1,6 @@
--- What it means that a database is right: its means are the least over all strategies, its plays reach them,
--- and its shares are those of its plays. Source: the GNU Backgammon manual for what a one-sided database is;
--- the rest is this project's profile.
+-- What it means that a database is right: its means are the least over all strategies, its plays
+-- reach them, and its shares are those of its plays. Source: the GNU Backgammon manual for what a
+-- one-sided database is; the rest is this project's profile.
 use Rattle.std.specs.Prelude.{◌≡◌, ℕ, zero, suc, ◌≤◌, ◌==◌, if◌then◌else◌, List}
 use Rattle.race_model.specs.Positions.{Board, IsPosition, checkers, pips}
 use Rattle.race_model.specs.Dice.{Throw}
@@ -11,7 +11,8 @@ use Rattle.race_model.specs.Strategies.{Strategy, stop, turn, Fits, total, count
 -- the strategy that plays what is recorded, for at most n turns
 unfoldable pub follow : List ℕ → ℕ → Board → Strategy
 follow f zero x = stop
-follow f (suc n) x = if checkers x == 0 then stop else turn (recorded f x) (λ v. follow f n (recorded f x v))
+follow f (suc n) x =
+    if checkers x == 0 then stop else turn (recorded f x) (λ v. follow f n (recorded f x v))
 
 -- all that a record says of a position is so
 pub record IsRightAt (f : List ℕ) (x : Board) : Type 0 where

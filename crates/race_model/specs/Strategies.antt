@@ -1,19 +1,22 @@
--- Strategies as whole histories, and the numbers of rolls that they need. A strategy may play otherwise after
--- each history, and may look at which die was which. Source: the GNU Backgammon manual for what a one-sided
--- database counts; that a strategy sees the whole history is this project's profile.
--- `sequences 22` is a list of 36 ^ 22 sequences, which no proof and no program may ever compute: what is built
--- on it is `unfoldable`, so that it is opened only where a proof asks for it, and never at the number 22.
+-- Strategies as whole histories, and the numbers of rolls that they need. A strategy may play
+-- otherwise after each history, and may look at which die was which. Source: the GNU Backgammon
+-- manual for what a one-sided database counts; that a strategy sees the whole history is this
+-- project's profile. `sequences 22` is a list of 36 ^ 22 sequences, which no proof and no program
+-- may ever compute: what is built on it is `unfoldable`, so that it is opened only where a proof
+-- asks for it, and never at the number 22.
 use Rattle.std.specs.Prelude.{◌≡◌, ℕ, zero, suc, ◌≤◌, ◌==◌, List, [], ◌∷◌, flat_map, map, sum_by, count_by}
 use Rattle.race_model.specs.Positions.{Board, IsFinished}
 use Rattle.race_model.specs.Dice.{Throw, throws}
 use Rattle.race_model.specs.Plays.{Legal}
 
--- a finite tree: it stops, or for each of the 36 throws it plays to a position and goes on with a strategy
+-- a finite tree: it stops, or for each of the 36 throws it
+-- plays to a position and goes on with a strategy
 pub data Strategy : Type 0 where
   stop : Strategy
   turn : (Throw → Board) → (Throw → Strategy) → Strategy
 
--- the strategy can be played from x: it stops just where the board is empty, and each play is legal
+-- the strategy can be played from x: it stops just where
+-- the board is empty, and each play is legal
 abbrev pub Fits : Strategy → Board → Type 0
 Fits stop x = IsFinished x
 Fits (turn to next) x = (¬ IsFinished x) × ((v : Throw) → Legal x v (to v) × Fits (next v) (to v))
@@ -41,7 +44,8 @@ count_over m s k = count_by (λ w. rolls s w == k) (sequences m)
 unfoldable pub total : Strategy → ℕ
 total s = total_over 22 s
 
--- in how many sequences of 22 throws a strategy needs exactly k rolls: the chance of that is this over 36 ^ 22
+-- in how many sequences of 22 throws a strategy needs
+-- exactly k rolls: the chance of that is this over 36 ^ 22
 unfoldable pub count_of : Strategy → ℕ → ℕ
 count_of s k = count_over 22 s k
 

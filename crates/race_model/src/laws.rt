@@ -1,5 +1,5 @@
-//! Facts about the definitions, each on a function with an empty body: a call brings the fact into the
-//! caller's proof, and costs nothing when it runs.
+//! Facts about the definitions, each on a function with an empty body: a call
+//! brings the fact into the caller's proof, and costs nothing when it runs.
 
 pub use bounds::law_bounds;
 pub use dice::law_rolls;

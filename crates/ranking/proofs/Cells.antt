@@ -8,12 +8,15 @@ pub record IsFilled (f : ℕ → ℕ) (n i : ℕ) (xs : List ℕ) : Type 0 where
   pub below : (m : ℕ) → m < i → slice_index xs m ≡ f m
 
 -- one more is written
-pub filled_more : (f : ℕ → ℕ) (n i v : ℕ) (xs : List ℕ) → IsFilled f n i xs → i < n → v ≡ f i → IsFilled f n (i + 1) (slice_set xs i v)
+pub filled_more : (f : ℕ → ℕ) (n i v : ℕ) (xs : List ℕ) → IsFilled f n i xs → i < n → v ≡ f i →
+    IsFilled f n (i + 1) (slice_set xs i v)
 filled_more f n i v xs h room e = record {
   long = length-set xs i v ∙ h.long;
   below =
       let lt : i < length xs = omega (arith, h.long) in
-      below_more (λ m. slice_index (slice_set xs i v) m ≡ f m) i (λ m l. let ne : m ≢ i = omega arith in get_or-set_other xs i m v 0 ne ∙ h.below m l) (get_or-set_same xs i v 0 lt ∙ e);
+      below_more (λ m. slice_index (slice_set xs i v) m ≡ f m) i
+      (λ m l. let ne : m ≢ i = omega arith in get_or-set_other xs i m v 0 ne ∙ h.below m l)
+      (get_or-set_same xs i v 0 lt ∙ e);
 }
 
 -- a list of zeros has zeros

@@ -27,16 +27,28 @@ used_room : (p k m t : ℕ) → p ≤ 6 → k ≤ 15 → t < used p k m → (0 <
 used_room p zero m t h l more = absurd (omega (arith, used-none p m h))
 used_room p (suc k) m t h l more = by_room (cases_lt m p) where
   by_room : (m < p) ⊎ (p ≤ m) → (0 < suc k) × (p ≤ m)
-  by_room (inl low) = absurd (omega (arith, more, (used-step p k m h (omega arith) ∙ ap (λ b. if b then 0 else ways p k (m - p)) (lt-ltb m p low))))
+  by_room (inl low) =
+      absurd (omega (
+        arith,
+        more,
+        (used-step p k m h (omega arith)
+            ∙ ap (λ b. if b then 0 else ways p k (m - p)) (lt-ltb m p low)),
+      ))
   by_room (inr room) = (omega arith, room)
 
 -- where more come later one checker more fits
-pub counted_more : (p k m t c : ℕ) → p ≤ 6 → k ≤ 15 → IsCounted p k m t c → t < used p (k - c) (m - p * c) → IsCounted p k m t (c + 1)
+pub counted_more : (p k m t c : ℕ) → p ≤ 6 → k ≤ 15 → IsCounted p k m t c →
+    t < used p (k - c) (m - p * c) → IsCounted p k m t (c + 1)
 counted_more p k m t c h l w more =
     let room = used_room p (k - c) (m - p * c) t h (omega arith) more in
-    record { fits = omega (arith, room.0); weight = omega (arith, room.1, w.weight); least = below_more (λ j. t < used p (k - j) (m - p * j)) c w.least more }
+    record {
+      fits = omega (arith, room.0);
+      weight = omega (arith, room.1, w.weight);
+      least = below_more (λ j. t < used p (k - j) (m - p * j)) c w.least more;
+    }
 
--- fewer lists come later than have a checker more than j on the first point, where that has more than j
+-- fewer lists come later than have a checker more than j on
+-- the first point, where that has more than j
 later-fewer : (p k d j : ℕ) (cs : List ℕ) → j < d → d + sum cs ≤ k → k ≤ 15 → length cs + p ≡ 6 →
     later p k (d ∷ cs) < used p (k - j) (pips_from p (d ∷ cs) - p * j)
 later-fewer p k d j cs low few h long =
@@ -60,30 +72,51 @@ later-fewer p k d j cs low few h long =
     )
 
 -- the count that is found is that of the list
-found_list : (p k m t c d : ℕ) (cs : List ℕ) → p ≤ 6 → k ≤ 15 → length cs + p ≡ 6 → d + sum cs ≤ k → pips_from p (d ∷ cs) ≡ m → later p k (d ∷ cs) ≡ t →
+found_list : (p k m t c d : ℕ) (cs : List ℕ) → p ≤ 6 → k ≤ 15 → length cs + p ≡ 6 →
+    d + sum cs ≤ k → pips_from p (d ∷ cs) ≡ m → later p k (d ∷ cs) ≡ t →
     IsCounted p k m t c → used p (k - c) (m - p * c) ≤ t → c ≡ d
 found_list p k m t c d cs h l long few weighs left w enough = by_order (cases_order c d) where
   by_order : (c ≡ d) ⊎ ((c < d) ⊎ (d < c)) → c ≡ d
   by_order (inl e) = e
   by_order (inr (inl low)) =
-      absurd (omega (arith, enough, left, later-fewer p k d c cs low few l long, ap (λ q. used p (k - c) (q - p * c)) weighs))
+      absurd (omega (
+        arith,
+        enough,
+        left,
+        later-fewer p k d c cs low few l long,
+        ap (λ q. used p (k - c) (q - p * c)) weighs,
+      ))
   by_order (inr (inr high)) =
       let m_is : m - p * d ≡ pips_from (suc p) cs = omega arith in
-      absurd (omega (arith, w.least d high, left, used-is (length cs) p (k - d) (pips_from (suc p) cs) long, ap (λ q. used p (k - d) q) m_is))
+      absurd (omega (
+        arith,
+        w.least d high,
+        left,
+        used-is (length cs) p (k - d) (pips_from (suc p) cs) long,
+        ap (λ q. used p (k - d) q) m_is,
+      ))
 
 -- the count that is found is that of the position
-pub count_found : (x : List ℕ) (p k m s t c : ℕ) → IsPosition x → 1 ≤ p → p ≤ 6 → IsRead x p k m s → s + t ≡ later 1 15 x →
+pub count_found : (x : List ℕ) (p k m s t c : ℕ) → IsPosition x → 1 ≤ p → p ≤ 6 →
+    IsRead x p k m s → s + t ≡ later 1 15 x →
     IsCounted p k m t c → used p (k - c) (m - p * c) ≤ t → c ≡ count x p
 count_found x zero k m s t c q low high r left w enough = absurd (omega arith)
 count_found x (suc i) k m s t c q low high r left w enough =
     let short : i < length x = omega (arith, q.six) in
     let back : suc i - 1 ≡ i = omega arith in
     let next : i + 1 ≡ suc i = omega arith in
-    let d : drop (suc i - 1) x ≡ slice_index x i ∷ drop (suc i) x = ap (λ j. drop j x) back ∙ drop_more x i 0 short ∙ ap (λ j. slice_index x i ∷ drop j x) next in
+    let d : drop (suc i - 1) x ≡ slice_index x i ∷ drop (suc i) x =
+    ap (λ j. drop j x) back ∙ drop_more x i 0 short
+    ∙ ap (λ j. slice_index x i ∷ drop j x) next in
     let few : sum (slice_index x i ∷ drop (suc i) x) ≤ k = subst (λ ys. sum ys ≤ k) d r.few in
-    let weighs : pips_from (suc i) (slice_index x i ∷ drop (suc i) x) ≡ m = subst (λ ys. pips_from (suc i) ys ≡ m) d r.weighs in
-    let added : s + later (suc i) k (slice_index x i ∷ drop (suc i) x) ≡ later 1 15 x = subst (λ ys. s + later (suc i) k ys ≡ later 1 15 x) d r.added in
-    found_list (suc i) k m t c (slice_index x i) (drop (suc i) x) high r.room (omega (arith, length-drop (suc i) x, q.six)) (omega (arith, few, sum-cons (slice_index x i) (drop (suc i) x))) weighs (omega arith) w enough
+    let weighs : pips_from (suc i) (slice_index x i ∷ drop (suc i) x) ≡ m =
+    subst (λ ys. pips_from (suc i) ys ≡ m) d r.weighs in
+    let added : s + later (suc i) k (slice_index x i ∷ drop (suc i) x) ≡ later 1 15 x =
+    subst (λ ys. s + later (suc i) k ys ≡ later 1 15 x) d r.added in
+    found_list (suc i) k m t c (slice_index x i) (drop (suc i) x) high r.room
+    (omega (arith, length-drop (suc i) x, q.six))
+    (omega (arith, few, sum-cons (slice_index x i) (drop (suc i) x))) weighs (omega arith) w
+    enough
 
 -- the pip count of a rank, from where the counts of fewer pips pass it
 pub record IsPipsOf (index above : ℕ) : Type 0 where
@@ -93,45 +126,94 @@ pub record IsPipsOf (index above : ℕ) : Type 0 where
   pub range : above - 1 ≤ 90
 
 -- the pip count of a rank is that before which the counts of fewer pips pass it
-pub pips_found : (starts : List ℕ) (index above : ℕ) → length starts ≡ 92 → index < 54264 → above ≤ length starts →
+pub pips_found : (starts : List ℕ) (index above : ℕ) → length starts ≡ 92 → index < 54264 →
+    above ≤ length starts →
     ((m : ℕ) → m < 92 → slice_index starts m ≡ first_of m) →
-    IsPartitionPoint (λ y. nat_le y index ≡ true) (λ y. nat_le y index ≡ false) starts above → IsPipsOf index above
-pips_found starts index above long low most sums point = record { some = some; from = from; to = subst (λ m. index < first_of m) (sym again) to; range = omega (arith, inside) } where
-  some : 1 ≤ above
-  some = by_cases (cases_lt 0 above) where
-    by_cases : (0 < above) ⊎ (above ≤ 0) → 1 ≤ above
-    by_cases (inl h) = h
-    by_cases (inr h) = absurd (omega (arith, leb-false (slice_index starts 0) index (point.1 0 0 h (omega (arith, long))), sums 0 (omega arith), order.first_of-zero))
+    IsPartitionPoint (λ y. nat_le y index ≡ true) (λ y. nat_le y index ≡ false) starts above →
+    IsPipsOf index above
+pips_found starts index above long low most sums point =
+    record {
+      some = some;
+      from = from;
+      to = subst (λ m. index < first_of m) (sym again) to;
+      range = omega (arith, inside);
+    } where
+      some : 1 ≤ above
+      some = by_cases (cases_lt 0 above) where
+        by_cases : (0 < above) ⊎ (above ≤ 0) → 1 ≤ above
+        by_cases (inl h) = h
+        by_cases (inr h) =
+            absurd (omega (
+              arith,
+              leb-false (slice_index starts 0) index (point.1 0 0 h (omega (arith, long))),
+              sums 0 (omega arith),
+              order.first_of-zero,
+            ))
 
-  from : first_of (above - 1) ≤ index
-  from = omega (arith, leb-true (slice_index starts (above - 1)) index (point.0 (above - 1) 0 (omega arith) (omega (arith, some))), sums (above - 1) (omega (arith, some, most, long)))
+      from : first_of (above - 1) ≤ index
+      from =
+          omega (
+            arith,
+            leb-true (slice_index starts (above - 1)) index
+                (point.0 (above - 1) 0 (omega arith) (omega (arith, some))),
+            sums (above - 1) (omega (arith, some, most, long)),
+          )
 
-  inside : above < 92
-  inside = by_cases (cases_lt above 92) where
-    by_cases : (above < 92) ⊎ (92 ≤ above) → above < 92
-    by_cases (inl h) = h
-    by_cases (inr h) = absurd (omega (arith, h, low, from, totals.first_of-all (above - 1) (omega arith)))
+      inside : above < 92
+      inside = by_cases (cases_lt above 92) where
+        by_cases : (above < 92) ⊎ (92 ≤ above) → above < 92
+        by_cases (inl h) = h
+        by_cases (inr h) =
+            absurd (omega (arith, h, low, from, totals.first_of-all (above - 1) (omega arith)))
 
-  to : index < first_of above
-  to = omega (arith, leb-false (slice_index starts above) index (point.1 above 0 (omega arith) (omega (arith, inside, long))), sums above inside)
+      to : index < first_of above
+      to =
+          omega (
+            arith,
+            leb-false (slice_index starts above) index
+                (point.1 above 0 (omega arith) (omega (arith, inside, long))),
+            sums above inside,
+          )
 
-  again : above - 1 + 1 ≡ above
-  again = omega (arith, some)
+      again : above - 1 + 1 ≡ above
+      again = omega (arith, some)
 
 -- the counts of fewer pips rise
-pub starts_rise : (starts : List ℕ) → length starts ≡ 92 → ((m : ℕ) → m < 92 → slice_index starts m ≡ first_of m) → IsNonDecreasingBy (λ x. x) starts
+pub starts_rise : (starts : List ℕ) → length starts ≡ 92 →
+    ((m : ℕ) → m < 92 → slice_index starts m ≡ first_of m) → IsNonDecreasingBy (λ x. x) starts
 starts_rise starts long sums i j d low high =
-    omega (arith, sums i (omega (arith, long)), sums j (omega (arith, long)), order.first_of-rises i j low, get_or_default starts i d 0 (omega arith), get_or_default starts j d 0 high)
+    omega (
+      arith,
+      sums i (omega (arith, long)),
+      sums j (omega (arith, long)),
+      order.first_of-rises i j low,
+      get_or_default starts i d 0 (omega arith),
+      get_or_default starts j d 0 high,
+    )
 
 -- the pip count of a position lies where its rank does
-pub pips-are : (x : Board) (m : ℕ) → IsPosition x → first_of m ≤ rank x → rank x < first_of (m + 1) → pips x ≡ m
+pub pips-are : (x : Board) (m : ℕ) → IsPosition x → first_of m ≤ rank x →
+    rank x < first_of (m + 1) → pips x ≡ m
 pips-are x m p low high = by_order (cases_order (pips x) m) where
   by_order : (pips x ≡ m) ⊎ ((pips x < m) ⊎ (m < pips x)) → pips x ≡ m
   by_order (inl e) = e
-  by_order (inr (inl less)) = absurd (omega (arith, low, (order.rank_within x p).1, order.first_of-suc (pips x), order.first_of-rises (suc (pips x)) m less))
+  by_order (inr (inl less)) =
+      absurd (omega (
+        arith,
+        low,
+        (order.rank_within x p).1,
+        order.first_of-suc (pips x),
+        order.first_of-rises (suc (pips x)) m less,
+      ))
   by_order (inr (inr more)) =
       let e : m + 1 ≡ suc m = add-one m in
-      absurd (omega (arith, high, (order.rank_within x p).0, ap first_of e, order.first_of-rises (suc m) (pips x) more))
+      absurd (omega (
+        arith,
+        high,
+        (order.rank_within x p).0,
+        ap first_of e,
+        order.first_of-rises (suc m) (pips x) more,
+      ))
 
 -- what the position of a rank has, where its pip count is found
 pub record IsStart (index m start : ℕ) : Type 0 where
@@ -142,15 +224,23 @@ pub record IsStart (index m start : ℕ) : Type 0 where
   pub left : start - 1 - index ≡ later 1 15 (at_rank index)
 
 -- so it starts
-pub start_at : (index m start : ℕ) → index < 54264 → first_of m ≤ index → index < first_of (m + 1) → start ≡ first_of (m + 1) → IsStart index m start
+pub start_at : (index m start : ℕ) → index < 54264 → first_of m ≤ index →
+    index < first_of (m + 1) → start ≡ first_of (m + 1) → IsStart index m start
 start_at index m start low from to e =
     let p : IsPosition (at_rank index) = order.at_rank_position index in
     let r : rank (at_rank index) ≡ index = totals.rank-at_rank index low in
     let w : pips (at_rank index) ≡ m = pips-are (at_rank index) m p (omega arith) (omega arith) in
     let e2 : m + 1 ≡ suc m = add-one m in
     let whole : rank (at_rank index) + suc (later 1 15 (at_rank index)) ≡ first_of (m + 1) =
-    order.rank-later (at_rank index) p ∙ ap count_to w ∙ sym (order.first_of-suc m) ∙ ap first_of (sym e2) in
-    record { is_position = p; weighs = w; inside = omega arith; under = omega arith; left = omega arith }
+    order.rank-later (at_rank index) p ∙ ap count_to w ∙ sym (order.first_of-suc m)
+    ∙ ap first_of (sym e2) in
+    record {
+      is_position = p;
+      weighs = w;
+      inside = omega arith;
+      under = omega arith;
+      left = omega arith;
+    }
 
 -- a point counts one more than its place in the list
 count-at : (x : List ℕ) (p : ℕ) → 1 ≤ p → count x p ≡ slice_index x (p - 1)
@@ -166,7 +256,8 @@ pub record IsWritten (x : List ℕ) (p k m t : ℕ) (counts : List ℕ) : Type 0
   pub same : (j : ℕ) → j < p - 1 → slice_index counts j ≡ slice_index x j
 
 -- at first none is written
-pub written_start : (x : List ℕ) (m t : ℕ) → IsPosition x → pips x ≡ m → m ≤ 90 → t ≡ later 1 15 x → IsWritten x 1 15 m t (replicate 6 0)
+pub written_start : (x : List ℕ) (m t : ℕ) → IsPosition x → pips x ≡ m → m ≤ 90 →
+    t ≡ later 1 15 x → IsWritten x 1 15 m t (replicate 6 0)
 written_start x m t p e h l = record {
   s = 0;
   read = subst (λ n. IsRead x 1 15 n 0) e (read_start x p (omega arith));
@@ -178,13 +269,16 @@ written_start x m t p e h l = record {
 -- one count more is written
 pub record IsWrittenNext (x : List ℕ) (p k m t c : ℕ) (counts : List ℕ) : Type 0 where
   pub enough : used p (k - c) (m - p * c) ≤ t
-  pub next : IsWritten x (p + 1) (k - c) (m - p * c) (t - used p (k - c) (m - p * c)) (slice_set counts (p - 1) c)
+  pub next : IsWritten x (p + 1) (k - c) (m - p * c) (t - used p (k - c) (m - p * c))
+      (slice_set counts (p - 1) c)
 
 -- the count that is found is written
-pub written_next : (x : List ℕ) (p k m t c : ℕ) (counts : List ℕ) → IsPosition x → 1 ≤ p → p ≤ 6 → IsWritten x p k m t counts →
+pub written_next : (x : List ℕ) (p k m t c : ℕ) (counts : List ℕ) → IsPosition x → 1 ≤ p → p ≤ 6 →
+    IsWritten x p k m t counts →
     IsCounted p k m t c → used p (k - c) (m - p * c) ≤ t → IsWrittenNext x p k m t c counts
 written_next x p k m t c counts q low high w counted enough =
-    let c_is : c ≡ count x p = count_found x p k m w.s t c q low high w.read w.left counted enough in
+    let c_is : c ≡ count x p =
+    count_found x p k m w.s t c q low high w.read w.left counted enough in
     let n : IsNext x p k m w.s c = read_next x p k m w.s c q low high c_is w.read in
     record {
       enough = enough;
@@ -196,12 +290,20 @@ written_next x p k m t c counts q low high w counted enough =
         same = λ j h. same j h (cases_order j (p - 1)) c_is;
       };
     } where
-      same : (j : ℕ) → j < p + 1 - 1 → (j ≡ p - 1) ⊎ ((j < p - 1) ⊎ (p - 1 < j)) → c ≡ count x p → slice_index (slice_set counts (p - 1) c) j ≡ slice_index x j
-      same j h (inl e) c_is = rw e (let lt : p - 1 < length counts = omega (arith, w.long) in get_or-set_same counts (p - 1) c 0 lt ∙ c_is ∙ count-at x p low)
-      same j h (inr (inl less)) c_is = let ne : j ≢ p - 1 = omega arith in get_or-set_other counts (p - 1) j c 0 ne ∙ w.same j less
+      same : (j : ℕ) → j < p + 1 - 1 → (j ≡ p - 1) ⊎ ((j < p - 1) ⊎ (p - 1 < j)) → c ≡ count x p →
+          slice_index (slice_set counts (p - 1) c) j ≡ slice_index x j
+      same j h (inl e) c_is =
+          rw e
+          (let lt : p - 1 < length counts = omega (arith, w.long) in
+          get_or-set_same counts (p - 1) c 0 lt ∙ c_is ∙ count-at x p low)
+      same j h (inr (inl less)) c_is =
+          let ne : j ≢ p - 1 = omega arith in
+          get_or-set_other counts (p - 1) j c 0 ne ∙ w.same j less
       same j h (inr (inr more)) c_is = absurd (omega arith)
 
 -- all counts are written: it is the position
-pub written_all : (x : List ℕ) (p k m t : ℕ) (counts : List ℕ) → IsPosition x → p ≡ 7 → IsWritten x p k m t counts → counts ≡ x
+pub written_all : (x : List ℕ) (p k m t : ℕ) (counts : List ℕ) → IsPosition x → p ≡ 7 →
+    IsWritten x p k m t counts → counts ≡ x
 written_all x p k m t counts q e w =
-    same_number_lists counts x (omega (arith, w.long, q.six)) (λ j h. w.same j (omega (arith, w.long)))
+    same_number_lists counts x (omega (arith, w.long, q.six))
+    (λ j h. w.same j (omega (arith, w.long)))

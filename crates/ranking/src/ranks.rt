@@ -15,19 +15,21 @@ const MOST_PIPS: u8 = 90;
 /// How many positions there are.
 const POSITIONS: u16 = 54264;
 
-/// The ranks of all positions, by a table that is counted once. The rank of a position is the number of
-/// positions before it: those of fewer pips, and of as many pips those with the smaller list of counts.
-/// (This project's profile.)
+/// The ranks of all positions, by a table that is counted once. The rank of a position is the
+/// number of positions before it: those of fewer pips, and of as many pips those with the smaller
+/// list of counts. (This project's profile.)
 ///
-/// A rank is counted back from the last position of as many pips: those that come after it have a checker
-/// more on some point than it has, and as many on each point below, which is one number of the table a point.
+/// A rank is counted back from the last position of as many pips: those that come after it have a
+/// checker more on some point than it has, and as many on each point below, which is one number of
+/// the table a point.
 #[derive(Drop)]
 pub struct Ranks {
     // for each point: how many lists on the points from it on have a checker there
     tables: [Table; 6],
     // for each pip count, and one beyond: how many positions have fewer pips
     starts: [u16; 92],
-    ghost counted: { (i : ℕ) (d : Table) → i < 6 → IsTable (used (i + 1)) (slice_index_or tables i d) },
+    ghost counted: { (i : ℕ) (d : Table) → i < 6 →
+        IsTable (used (i + 1)) (slice_index_or tables i d) },
     ghost summed: { (m : ℕ) → m < 92 → slice_index starts m ≡ first_of m },
 }
 
@@ -47,8 +49,8 @@ impl Ranks {
         }
     }
 
-    /// How many positions have fewer than so many pips: the rank of the first position of so many pips, and
-    /// 54,264 above 90 pips.
+    /// How many positions have fewer than so many pips: the rank of
+    /// the first position of so many pips, and 54,264 above 90 pips.
     pub fn first_of(&self, pips: u8) -> u16
         ensures { result ≡ first_of pips }
     {
@@ -116,8 +118,8 @@ impl Ranks {
         above as u8 - 1
     }
 
-    // How many checkers stand on a point, where so many positions come later: the least number for which
-    // no more come later with a checker more on that point.
+    // How many checkers stand on a point, where so many positions come later: the
+    // least number for which no more come later with a checker more on that point.
     fn count_at(&self, point: u8, checkers: u8, pips: u8, later: u16) -> u8
         requires first { 1 ≤ point }
         requires last { point ≤ 6 }
@@ -126,7 +128,8 @@ impl Ranks {
         ensures fits { result ≤ checkers }
         ensures weight { point * result ≤ pips }
         ensures enough { used point (checkers - result) (pips - point * result) ≤ later }
-        ensures least { (j : ℕ) → j < result → later < used point (checkers - j) (pips - point * j) }
+        ensures least { (j : ℕ) → j < result →
+            later < used point (checkers - j) (pips - point * j) }
     {
         let mut count = 0;
         while later < self.used(point, checkers - count, pips - point * count) {
@@ -135,8 +138,8 @@ impl Ranks {
         count
     }
 
-    // How many lists of counts on the points from one on have a checker there, at most so many checkers, and
-    // so many pips.
+    // How many lists of counts on the points from one on have a
+    // checker there, at most so many checkers, and so many pips.
     fn used(&self, point: u8, checkers: u8, pips: u8) -> u16
         requires first { 1 ≤ point }
         requires last { point ≤ 6 }

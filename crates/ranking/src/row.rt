@@ -17,7 +17,9 @@ impl Row {
 
     /// Each number moved up by some pips, and zero below.
     pub fn shifted(&self, by: u8) -> Row
-        ensures { (m : ℕ) → m < 91 → slice_index result.cells m ≡ (if nat_lt m by then 0 else slice_index self.now.cells (m - by)) }
+        ensures { (m : ℕ) → m < 91 →
+            slice_index result.cells m
+            ≡ (if nat_lt m by then 0 else slice_index self.now.cells (m - by)) }
     {
         let by = usize::from(by);
         let mut cells = [0; PIP_COUNTS];
@@ -29,8 +31,11 @@ impl Row {
 
     /// The sums of the numbers of two rows.
     pub fn plus(&self, other: &Row) -> Row
-        requires { (m : ℕ) → m < 91 → slice_index self.now.cells m + slice_index other.now.cells m < 2 ^ 16 }
-        ensures { (m : ℕ) → m < 91 → slice_index result.cells m ≡ slice_index self.now.cells m + slice_index other.now.cells m }
+        requires { (m : ℕ) → m < 91 →
+            slice_index self.now.cells m + slice_index other.now.cells m < 2 ^ 16 }
+        ensures { (m : ℕ) → m < 91 →
+            slice_index result.cells m
+            ≡ slice_index self.now.cells m + slice_index other.now.cells m }
     {
         let mut cells = [0; PIP_COUNTS];
         for pips in 0..PIP_COUNTS {

@@ -25,8 +25,8 @@ impl Table {
         }
     }
 
-    /// Turns the table of the lists on the points above one into that of the lists from that point on, and
-    /// gives the table of those that have a checker there.
+    /// Turns the table of the lists on the points above one into that of the lists
+    /// from that point on, and gives the table of those that have a checker there.
     pub fn add_point(&mut self, point: u8) -> Table
         requires first { 1 ≤ point }
         requires last { point ≤ 6 }

@@ -92,7 +92,8 @@ same_die six six = inl refl
 
 -- dice that show the same number are the same
 pub same_number : (a b : Die) → number a ≡ number b → a ≡ b
-same_number a b e = ⊎_elim (λ same. same) (λ apart. absurd (numbers_apart a b apart e)) (same_die a b)
+same_number a b e =
+    ⊎_elim (λ same. same) (λ apart. absurd (numbers_apart a b apart e)) (same_die a b)
 
 -- the two throws show the same dice in the same order
 abbrev pub is_throw : Throw → Throw → Bool
@@ -101,7 +102,9 @@ is_throw v u = eqb (number v.first) (number u.first) && eqb (number v.second) (n
 -- .. and then they are the same throw
 pub same_throw : (v u : Throw) → is_throw v u ≡ true → v ≡ u
 same_throw v u e =
-    let parts = both_tests (eqb (number v.first) (number u.first)) (eqb (number v.second) (number u.second)) e in
+    let parts =
+    both_tests (eqb (number v.first) (number u.first))
+    (eqb (number v.second) (number u.second)) e in
     let first = same_number v.first u.first (eqb-true _ _ parts.0) in
     let second = same_number v.second u.second (eqb-true _ _ parts.1) in
     λ i. record { first = first i; second = second i }

@@ -1,4 +1,4 @@
--- Sums over the 21 rolls, as a list of parts in the order of their indices makes them.
+-- Sums over the 36 throws and over the 21 rolls, also where a list has a part for each roll.
 use Rattle.std.proofs.Common.{◌≡◌, ⊎_elim, ℕ, ◌<◌, List, map, length, get_or, sum_by, refl, sym, ap, ◌∙◌, arith}
 use Rattle.std.proofs.lemmas.List.{ext_get_or, length-map}
 use Rattle.std.proofs.Math.ListN.{get_or-map}
@@ -25,7 +25,8 @@ roll_index-range v = ⊎_elim
     (roll_or_reversed v)
 
 -- parts that hold something of each roll, in the order of the index, with the weight of the roll
-module _ {T : Type 0} (g : ℕ → T) (parts : List (ℕ × T)) (len : length parts ≡ 21) (each : (j : ℕ) (d : ℕ × T) → j < 21 → get_or parts j d ≡ (weight (roll_at j), g j)) where
+module _ {T : Type 0} (g : ℕ → T) (parts : List (ℕ × T)) (len : length parts ≡ 21)
+    (each : (j : ℕ) (d : ℕ × T) → j < 21 → get_or parts j d ≡ (weight (roll_at j), g j)) where
   -- what such a part is
   of_roll : Throw → ℕ × T
   of_roll v = (weight v, g (roll_index v))
@@ -34,13 +35,15 @@ module _ {T : Type 0} (g : ℕ → T) (parts : List (ℕ × T)) (len : length pa
   unfolding roll_at of_roll
   parts_are =
       let d : Throw = record { first = one; second = one } in
-      ext_get_or (of_roll d) parts (map of_roll all_rolls) (len ∙ sym (length-map all_rolls of_roll ∙ length-all_rolls)) (λ i lt.
+      let long = len ∙ sym (length-map all_rolls of_roll ∙ length-all_rolls) in
+      ext_get_or (of_roll d) parts (map of_roll all_rolls) long (λ i lt.
       each i (of_roll d) (omega arith)
       ∙ (ap (λ n. (weight (roll_at i), g n)) (sym (roll_of_index i (omega arith)).1)
       ∙ sym (get_or-map of_roll all_rolls i d)))
 
   -- a sum over the parts is one over the rolls
-  pub parts_sum : (u : ℕ × T → ℕ) → sum_by u parts ≡ sum_by (λ v. u (weight v, g (roll_index v))) all_rolls
+  pub parts_sum : (u : ℕ × T → ℕ) →
+      sum_by u parts ≡ sum_by (λ v. u (weight v, g (roll_index v))) all_rolls
   unfolding of_roll
   parts_sum u = rw parts_are (sum_by-map u of_roll all_rolls)
 
@@ -53,7 +56,9 @@ pub length-throws : length throws ≡ 36
 unfolding throws
 length-throws = refl
 
--- the sum over the 36 throws of a number that goes by the roll is the weighted sum over the 21 rolls
-pub sum_by-throws : (g : ℕ → ℕ) → sum_by (λ v. g (roll_index v)) throws ≡ weighted (λ v. g (roll_index v))
+-- the sum over the 36 throws of a number that goes by the
+-- roll is the weighted sum over the 21 rolls
+pub sum_by-throws : (g : ℕ → ℕ) →
+    sum_by (λ v. g (roll_index v)) throws ≡ weighted (λ v. g (roll_index v))
 unfolding throws all_rolls
 sum_by-throws g = omega arith

@@ -36,18 +36,24 @@ in_or_not y (x ∷ xs) = ⊎_elim
 
 -- a throw leads to a position or not
 pub legal_or_not : (x : Board) (v : Throw) (y : Board) → Legal x v y ⊎ (¬ Legal x v y)
-legal_or_not x v y = ⊎_elim (λ h. inl (results_listed x v y h)) (λ n. inr (λ l. n (listed_results x v y l))) (in_or_not y (all_results x v))
+legal_or_not x v y =
+    ⊎_elim (λ h. inl (results_listed x v y h)) (λ n. inr (λ l. n (listed_results x v y l)))
+    (in_or_not y (all_results x v))
 
 -- both of two facts hold or not
 both_or_not : (P Q : Type 0) → P ⊎ (¬ P) → Q ⊎ (¬ Q) → (P × Q) ⊎ (¬ (P × Q))
-both_or_not P Q p q = ⊎_elim (λ a. ⊎_elim (λ b. inl (a, b)) (λ n. inr (λ h. n h.1)) q) (λ n. inr (λ h. n h.0)) p
+both_or_not P Q p q =
+    ⊎_elim (λ a. ⊎_elim (λ b. inl (a, b)) (λ n. inr (λ h. n h.1)) q) (λ n. inr (λ h. n h.0)) p
 
 -- a fact follows from another or not
 if_or_not : (P Q : Type 0) → P ⊎ (¬ P) → Q ⊎ (¬ Q) → (P → Q) ⊎ (¬ (P → Q))
-if_or_not P Q p q = ⊎_elim (λ b. inl (λ _. b)) (λ n. ⊎_elim (λ a. inr (λ h. n (h a))) (λ m. inl (λ a. absurd (m a))) p) q
+if_or_not P Q p q =
+    ⊎_elim (λ b. inl (λ _. b))
+    (λ n. ⊎_elim (λ a. inr (λ h. n (h a))) (λ m. inl (λ a. absurd (m a))) p) q
 
 -- no member of a list has a smaller mean, or one has
-none_under : (f : List ℕ) (m : ℕ) (xs : List Board) → ((z : Board) → IsIn z xs → m ≤ mean f z) ⊎ (¬ ((z : Board) → IsIn z xs → m ≤ mean f z))
+none_under : (f : List ℕ) (m : ℕ) (xs : List Board) →
+    ((z : Board) → IsIn z xs → m ≤ mean f z) ⊎ (¬ ((z : Board) → IsIn z xs → m ≤ mean f z))
 none_under f m [] = inl (λ z h. absurd h)
 none_under f m (x ∷ xs) = ⊎_elim
     (λ le. ⊎_elim
@@ -65,7 +71,8 @@ played_or_not : (f : List ℕ) (x : Board) (v : Throw) → IsPlayed f x v ⊎ (�
 played_or_not f x v = ⊎_elim
     (λ h. inl (record { ranked = h.0; legal = h.1 }))
     (λ n. inr (λ p. n (p.ranked, p.legal)))
-    (both_or_not (rank (recorded f x v) ≡ play f x v) (Legal x v (recorded f x v)) (same_or_not (rank (recorded f x v)) (play f x v)) (legal_or_not x v (recorded f x v)))
+    (both_or_not (rank (recorded f x v) ≡ play f x v) (Legal x v (recorded f x v))
+    (same_or_not (rank (recorded f x v)) (play f x v)) (legal_or_not x v (recorded f x v)))
 
 -- the least equation
 best_or_not : (f : List ℕ) (x : Board) (v : Throw) → IsBest f x v ⊎ (¬ IsBest f x v)
@@ -83,18 +90,31 @@ mean_or_not : (f : List ℕ) (x : Board) → HasMean f x ⊎ (¬ HasMean f x)
 mean_or_not f x = ⊎_elim
     (λ h. inl (record { at_end = h.0; before = h.1 }))
     (λ n. inr (λ m. n (m.at_end, m.before)))
-    (both_or_not (IsFinished x → mean f x ≡ 0) (¬ IsFinished x → 36 * mean f x ≡ 36 * whole + weighted (λ v. mean_at f (play f x v)))
+    (both_or_not (IsFinished x → mean f x ≡ 0)
+    (¬ IsFinished x → 36 * mean f x ≡ 36 * whole + weighted (λ v. mean_at f (play f x v)))
     (if_or_not (IsFinished x) (mean f x ≡ 0) (finished_or_not x) (same_or_not (mean f x) 0))
-    (if_or_not (¬ IsFinished x) (36 * mean f x ≡ 36 * whole + weighted (λ v. mean_at f (play f x v))) (not_or (IsFinished x) (finished_or_not x)) (same_or_not (36 * mean f x) (36 * whole + weighted (λ v. mean_at f (play f x v))))))
+    (if_or_not (¬ IsFinished x)
+    (36 * mean f x ≡ 36 * whole + weighted (λ v. mean_at f (play f x v)))
+    (not_or (IsFinished x) (finished_or_not x))
+    (same_or_not (36 * mean f x) (36 * whole + weighted (λ v. mean_at f (play f x v))))))
 
 -- the spread equation
 share_or_not : (f : List ℕ) (x : Board) (k : ℕ) → HasShare f x k ⊎ (¬ HasShare f x k)
-share_or_not f x zero = both_or_not (IsFinished x → spread f x 0 ≡ whole) (¬ IsFinished x → spread f x 0 ≡ 0)
-    (if_or_not (IsFinished x) (spread f x 0 ≡ whole) (finished_or_not x) (same_or_not (spread f x 0) whole))
-    (if_or_not (¬ IsFinished x) (spread f x 0 ≡ 0) (not_or (IsFinished x) (finished_or_not x)) (same_or_not (spread f x 0) 0))
-share_or_not f x (suc k) = both_or_not (IsFinished x → spread f x (suc k) ≡ 0) (¬ IsFinished x → 36 * spread f x (suc k) ≡ weighted (λ v. spread_at f (play f x v) k))
-    (if_or_not (IsFinished x) (spread f x (suc k) ≡ 0) (finished_or_not x) (same_or_not (spread f x (suc k)) 0))
-    (if_or_not (¬ IsFinished x) (36 * spread f x (suc k) ≡ weighted (λ v. spread_at f (play f x v) k)) (not_or (IsFinished x) (finished_or_not x)) (same_or_not (36 * spread f x (suc k)) (weighted (λ v. spread_at f (play f x v) k))))
+share_or_not f x zero =
+    both_or_not (IsFinished x → spread f x 0 ≡ whole) (¬ IsFinished x → spread f x 0 ≡ 0)
+    (if_or_not (IsFinished x) (spread f x 0 ≡ whole) (finished_or_not x)
+    (same_or_not (spread f x 0) whole))
+    (if_or_not (¬ IsFinished x) (spread f x 0 ≡ 0) (not_or (IsFinished x) (finished_or_not x))
+    (same_or_not (spread f x 0) 0))
+share_or_not f x (suc k) =
+    both_or_not (IsFinished x → spread f x (suc k) ≡ 0)
+    (¬ IsFinished x → 36 * spread f x (suc k) ≡ weighted (λ v. spread_at f (play f x v) k))
+    (if_or_not (IsFinished x) (spread f x (suc k) ≡ 0) (finished_or_not x)
+    (same_or_not (spread f x (suc k)) 0))
+    (if_or_not (¬ IsFinished x)
+    (36 * spread f x (suc k) ≡ weighted (λ v. spread_at f (play f x v) k))
+    (not_or (IsFinished x) (finished_or_not x))
+    (same_or_not (36 * spread f x (suc k)) (weighted (λ v. spread_at f (play f x v) k))))
 
 -- each question is answered yes or no
 pub yes_or_no : (f : List ℕ) (t : Test) → Holds f t ⊎ (¬ Holds f t)
@@ -116,7 +136,8 @@ few_places f (spread_test r k) asked = omega (arith, asked.1)
 
 -- a question that is asked earlier has a lower place
 earlier_index : (f : List ℕ) (t u : Test) → Asks f t → Asks f u → IsEarlier t u → index t < index u
-earlier_index f t u a b earlier = by (rank_of t) (rank_of u) (place_of t) (place_of u) (few_places f t a) earlier
+earlier_index f t u a b earlier =
+    by (rank_of t) (rank_of u) (place_of t) (place_of u) (few_places f t a) earlier
   where
     by : (r q p o : ℕ) → p < 66 → (r < q) ⊎ ((r ≡ q) × (p < o)) → 66 * r + p < 66 * q + o
     by r q p o few earlier = omega arith
@@ -124,7 +145,9 @@ earlier_index f t u a b earlier = by (rank_of t) (rank_of u) (place_of t) (place
 -- questions at one place are one
 one_question : (f : List ℕ) (t u : Test) → Asks f t → Asks f u → index t ≡ index u → t ≡ u
 one_question f t u a b e =
-    let parts = apart (rank_of t) (rank_of u) (place_of t) (place_of u) (few_places f t a) (few_places f u b) e in
+    let parts =
+    apart (rank_of t) (rank_of u) (place_of t) (place_of u) (few_places f t a)
+    (few_places f u b) e in
     same_question f t u a b parts.0 parts.1
   where
     apart : (r q p o : ℕ) → p < 66 → o < 66 → 66 * r + p ≡ 66 * q + o → (r ≡ q) × (p ≡ o)
@@ -138,7 +161,8 @@ record IsQuestion (f : List ℕ) (n : ℕ) : Type 0 where
 
 -- so it is
 question_at : (f : List ℕ) (n : ℕ) → n < 66 * count_to (bound_of f) → IsQuestion f n
-question_at f n under = by (n / 66) (n % 66) (rank_under (count_to (bound_of f)) under) (omega arith) (omega arith)
+question_at f n under =
+    by (n / 66) (n % 66) (rank_under (count_to (bound_of f)) under) (omega arith) (omega arith)
   where
     rank_under : (c : ℕ) → n < 66 * c → n / 66 < c
     rank_under c h = omega arith
@@ -146,12 +170,24 @@ question_at f n under = by (n / 66) (n % 66) (rank_under (count_to (bound_of f))
     by : (r p : ℕ) → r < count_to (bound_of f) → p < 66 → 66 * r + p ≡ n → IsQuestion f n
     by r p inside few e = ⊎_elim
         (λ low. ⊎_elim
-        (λ even. record { test = play_test r (p / 2); asked = (inside, omega arith); place = omega (arith, e, even) })
-        (λ odd. record { test = least_test r (p / 2); asked = (inside, omega arith); place = omega (arith, e, odd) })
+        (λ even. record {
+          test = play_test r (p / 2);
+          asked = (inside, omega arith);
+          place = omega (arith, e, even);
+        })
+        (λ odd. record {
+          test = least_test r (p / 2);
+          asked = (inside, omega arith);
+          place = omega (arith, e, odd);
+        })
         (parity p))
         (λ high. ⊎_elim
         (λ at. record { test = mean_test r; asked = inside; place = omega (arith, e, at) })
-        (λ more. record { test = spread_test r (p - 43); asked = (inside, omega arith); place = omega (arith, e, more) })
+        (λ more. record {
+          test = spread_test r (p - 43);
+          asked = (inside, omega arith);
+          place = omega (arith, e, more);
+        })
         high)
         (split p)
       where
@@ -162,24 +198,46 @@ question_at f n under = by (n / 66) (n % 66) (rank_under (count_to (bound_of f))
         split p = grind arith
 
 -- all questions before a place are answered yes, or there is a first fault
-search_to : (f : List ℕ) (n : ℕ) → n ≤ 66 * count_to (bound_of f) → ((t : Test) → Asks f t → index t < n → Holds f t) ⊎ ((t : Test) × IsFirstFault (Asks f) f t)
+search_to : (f : List ℕ) (n : ℕ) → n ≤ 66 * count_to (bound_of f) →
+    ((t : Test) → Asks f t → index t < n → Holds f t) ⊎ ((t : Test) × IsFirstFault (Asks f) f t)
 search_to f zero le = inl (λ t asked h. absurd (omega arith))
 search_to f (suc n) le = ⊎_elim
     (λ all. next all (question_at f n le))
     (λ fault. inr fault)
     (search_to f n (omega arith))
   where
-    next : ((t : Test) → Asks f t → index t < n → Holds f t) → IsQuestion f n → ((t : Test) → Asks f t → index t < suc n → Holds f t) ⊎ ((t : Test) × IsFirstFault (Asks f) f t)
+    next : ((t : Test) → Asks f t → index t < n → Holds f t) → IsQuestion f n →
+        ((t : Test) → Asks f t → index t < suc n → Holds f t)
+        ⊎ ((t : Test) × IsFirstFault (Asks f) f t)
     next all q = ⊎_elim
-        (λ holds. inl (λ t asked h. ⊎_elim (λ less. all t asked less) (λ same. subst (Holds f) (sym (one_question f t q.test asked q.asked (same ∙ sym q.place))) holds) (split (index t) n h)))
-        (λ fails. inr (q.test, record { is_asked = q.asked; fails = fails; earlier = λ u asked earlier. all u asked (subst (λ m. index u < m) q.place (earlier_index f u q.test asked q.asked earlier)) }))
+        (λ holds.
+        inl (λ t asked h.
+        ⊎_elim (λ less. all t asked less)
+        (λ same.
+        subst (Holds f)
+        (sym (one_question f t q.test asked q.asked (same ∙ sym q.place)))
+        holds) (split (index t) n h)))
+        (λ fails.
+        inr (
+          q.test,
+          record {
+            is_asked = q.asked;
+            fails = fails;
+            earlier =
+                λ u asked earlier.
+                all u asked
+                (subst (λ m. index u < m) q.place
+                (earlier_index f u q.test asked q.asked earlier));
+          },
+        ))
         (yes_or_no f q.test)
       where
         split : (m n : ℕ) → m < suc n → (m < n) ⊎ (m ≡ n)
         split m n h = grind arith
 
 -- a file is locally right, or has a first fault
-pub local_or_fault : (limit : ℕ) (f : List ℕ) → IsFileTo limit f → IsLocal limit f ⊎ ((t : Test) × IsFirstFault (Asks f) f t)
+pub local_or_fault : (limit : ℕ) (f : List ℕ) → IsFileTo limit f →
+    IsLocal limit f ⊎ ((t : Test) × IsFirstFault (Asks f) f t)
 local_or_fault limit f file = ⊎_elim
     (λ all. inl (local_of_answers limit f file (λ t asked. all t asked (last t asked))))
     (λ fault. inr fault)

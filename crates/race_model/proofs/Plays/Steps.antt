@@ -1,4 +1,5 @@
--- What a step may do: there is one for every die, it takes at least one pip, and it leads to a position.
+-- What a step may do: there is one for every die, it takes
+-- at least one pip, and it leads to a position.
 use Rattle.std.proofs.Common.{◌≡◌, ◌⊎◌, inl, inr, ⊎_elim, ℕ, zero, suc, ◌+◌, ◌-◌, ◌*◌, ◌<◌, ◌≤◌, length, get_or, set, refl, sym, subst, subst₂, ◌∙◌, arith}
 use Rattle.std.proofs.lemmas.List.{length-set}
 use Rattle.race_model.specs.Positions.{Board, IsPosition, IsFinished, IsHighest, count, checkers, fewer, more, pips, pips_from}
@@ -33,7 +34,8 @@ less_one a b c g h e = by (g - 1) (omega arith)
   where
     by : (m : ℕ) → g ≡ m + 1 → a + c ≡ b
     by m same =
-        let here : a + c * (m + 1) ≡ b + c * m = subst₂ (λ u v. a + c * u ≡ b + c * v) same (omega arith) e in
+        let here : a + c * (m + 1) ≡ b + c * m =
+        subst₂ (λ u v. a + c * u ≡ b + c * v) same (omega arith) e in
         omega (arith, here)
 
 -- what a write that adds one does to a weighted sum
@@ -53,7 +55,9 @@ one_fewer x (suc i) h =
     let place = on_board x i h in
     let sums = sum-set x i (get_or x i 0 - 1) place in
     let places = pips_from-set 1 x i (get_or x i 0 - 1) place in
-    let by_pips = less_one (pips_from 1 (set x i (get_or x i 0 - 1))) (pips_from 1 x) (1 + i) (get_or x i 0) h places in
+    let by_pips =
+    less_one (pips_from 1 (set x i (get_or x i 0 - 1))) (pips_from 1 x) (1 + i) (get_or x i 0)
+    h places in
     record {
       same_length = length-set x i (get_or x i 0 - 1);
       checkers_lost = omega (arith, sums);
@@ -65,7 +69,9 @@ pub one_more : (x : Board) (i : ℕ) → i < length x → Loses (more x (suc i))
 one_more x i place =
     let sums = sum-set x i (get_or x i 0 + 1) place in
     let places = pips_from-set 1 x i (get_or x i 0 + 1) place in
-    let by_pips = one_more_of (pips_from 1 (set x i (get_or x i 0 + 1))) (pips_from 1 x) (1 + i) (get_or x i 0) places in
+    let by_pips =
+    one_more_of (pips_from 1 (set x i (get_or x i 0 + 1))) (pips_from 1 x) (1 + i)
+    (get_or x i 0) places in
     record {
       same_length = sym (length-set x i (get_or x i 0 + 1));
       checkers_lost = omega (arith, sums);
@@ -78,7 +84,8 @@ occupied_place x zero h = absurd (omega arith)
 occupied_place x (suc i) h = let place = on_board x i h in (omega arith, omega (arith, place))
 
 -- one checker moved down
-pub one_moved : (x : Board) (d s : ℕ) → 0 < d → d < s → 0 < count x s → Loses x (more (fewer x s) (s - d)) 0 d
+pub one_moved : (x : Board) (d s : ℕ) → 0 < d → d < s → 0 < count x s →
+    Loses x (more (fewer x s) (s - d)) 0 d
 one_moved x d s positive below occupied = at (s - d) (omega arith)
   where
     taken : Loses x (fewer x s) 1 s
@@ -99,13 +106,20 @@ one_moved x d s positive below occupied = at (s - d) (omega arith)
 -- a die either moves a checker down by its number, or bears one off from some point
 pub data Change (x : Board) (d : ℕ) (y : Board) : Type 0 where
   moved : Loses x y 0 d → Change x d y
-  borne_off : (s : ℕ) → 0 < s → (s ≡ d) ⊎ ((p : ℕ) → d ≤ p → count x p ≡ 0) → IsHighest x s ⊎ (s ≡ d) → Loses x y 1 s → Change x d y
+  borne_off : (s : ℕ) → 0 < s → (s ≡ d) ⊎ ((p : ℕ) → d ≤ p → count x p ≡ 0) →
+      IsHighest x s ⊎ (s ≡ d) → Loses x y 1 s → Change x d y
 
 -- what a step changes
 pub changed : (x : Board) (d : Die) (y : Board) → Step x d y → Change x (number d) y
-changed x d y (s, bear_off at occupied to) = borne_off s (occupied_place x s occupied).0 (inl at) (inr at) (subst (λ z. Loses x z 1 s) (sym to) (one_fewer x s occupied))
-changed x d y (s, move_down below occupied to) = moved (subst (λ z. Loses x z 0 (number d)) (sym to) (one_moved x (number d) s (number_positive d) below occupied))
-changed x d y (s, from_highest empty top to) = borne_off s (occupied_place x s top.occupied).0 (inr empty) (inl top) (subst (λ z. Loses x z 1 s) (sym to) (one_fewer x s top.occupied))
+changed x d y (s, bear_off at occupied to) =
+    borne_off s (occupied_place x s occupied).0 (inl at) (inr at)
+    (subst (λ z. Loses x z 1 s) (sym to) (one_fewer x s occupied))
+changed x d y (s, move_down below occupied to) =
+    moved (subst (λ z. Loses x z 0 (number d)) (sym to)
+    (one_moved x (number d) s (number_positive d) below occupied))
+changed x d y (s, from_highest empty top to) =
+    borne_off s (occupied_place x s top.occupied).0 (inr empty) (inl top)
+    (subst (λ z. Loses x z 1 s) (sym to) (one_fewer x s top.occupied))
 
 -- a step takes at least one pip
 pub fewer_pips : (x : Board) (d : Die) (y : Board) → Step x d y → pips y < pips x
@@ -120,5 +134,11 @@ pub to_position : (x : Board) (d : Die) (y : Board) → IsPosition x → Step x 
 to_position x d y at s = by (changed x d y s)
   where
     by : Change x (number d) y → IsPosition y
-    by (moved l) = record { six = l.same_length ∙ at.six; few = omega (arith, l.checkers_lost, at.few) }
-    by (borne_off t positive _ _ l) = record { six = l.same_length ∙ at.six; few = omega (arith, l.checkers_lost, at.few) }
+    by (moved l) = record {
+      six = l.same_length ∙ at.six;
+      few = omega (arith, l.checkers_lost, at.few);
+    }
+    by (borne_off t positive _ _ l) = record {
+      six = l.same_length ∙ at.six;
+      few = omega (arith, l.checkers_lost, at.few);
+    }

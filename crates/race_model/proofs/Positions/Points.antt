@@ -10,7 +10,8 @@ pub sum-set : (x : List ℕ) (i v : ℕ) → i < length x → sum (set x i v) + 
 sum-set x i v h = sum_by-set (λ c. c) x i v 0 h
 
 -- the pips after a write
-pub pips_from-set : (p : ℕ) (x : List ℕ) (i v : ℕ) → i < length x → pips_from p (set x i v) + (p + i) * get_or x i 0 ≡ pips_from p x + (p + i) * v
+pub pips_from-set : (p : ℕ) (x : List ℕ) (i v : ℕ) → i < length x →
+    pips_from p (set x i v) + (p + i) * get_or x i 0 ≡ pips_from p x + (p + i) * v
 pips_from-set p [] i v h = absurd (omega arith)
 pips_from-set p (c ∷ cs) zero v h = omega arith
 pips_from-set p (c ∷ cs) (suc i) v h =
@@ -25,14 +26,17 @@ on_board (c ∷ cs) zero h = omega arith
 on_board (c ∷ cs) (suc i) h = let rest = on_board cs i h in omega (arith, rest)
 
 -- above n and at n there is nothing, so there is nothing above n - 1
-above_less : (x : Board) (n : ℕ) → count x (suc n) ≡ 0 → ((q : ℕ) → suc n < q → count x q ≡ 0) → (q : ℕ) → n < q → count x q ≡ 0
+above_less : (x : Board) (n : ℕ) → count x (suc n) ≡ 0 → ((q : ℕ) → suc n < q → count x q ≡ 0) →
+    (q : ℕ) → n < q → count x q ≡ 0
 above_less x n e above q h = ⊎_elim (λ l. above q l) (λ s. ap (count x) s ∙ e) (apart n q h)
   where
     apart : (n q : ℕ) → n < q → (suc n < q) ⊎ (q ≡ suc n)
     apart n q h = grind arith
 
--- each point up to n is above all checkers, or one of them is the highest point with a checker on it
-highest_to : (x : Board) (n : ℕ) → ((q : ℕ) → n < q → count x q ≡ 0) → ((p : ℕ) × IsHighest x p) ⊎ ((q : ℕ) → count x q ≡ 0)
+-- each point up to n is above all checkers, or one of them
+-- is the highest point with a checker on it
+highest_to : (x : Board) (n : ℕ) → ((q : ℕ) → n < q → count x q ≡ 0) →
+    ((p : ℕ) × IsHighest x p) ⊎ ((q : ℕ) → count x q ≡ 0)
 highest_to x zero above = inr (λ q. at q)
   where
     at : (q : ℕ) → count x q ≡ 0
@@ -40,7 +44,10 @@ highest_to x zero above = inr (λ q. at q)
     at (suc q) = above (suc q) (omega arith)
 highest_to x (suc n) above = at (count x (suc n)) refl (highest_to x n)
   where
-    at : (c : ℕ) → count x (suc n) ≡ c → (((q : ℕ) → n < q → count x q ≡ 0) → ((p : ℕ) × IsHighest x p) ⊎ ((q : ℕ) → count x q ≡ 0)) → ((p : ℕ) × IsHighest x p) ⊎ ((q : ℕ) → count x q ≡ 0)
+    at : (c : ℕ) → count x (suc n) ≡ c →
+        (((q : ℕ) → n < q → count x q ≡ 0) →
+        ((p : ℕ) × IsHighest x p) ⊎ ((q : ℕ) → count x q ≡ 0)) →
+        ((p : ℕ) × IsHighest x p) ⊎ ((q : ℕ) → count x q ≡ 0)
     at zero e below = below (above_less x n e above)
     at (suc c) e below = inl (suc n, record { occupied = omega (arith, e); above = above })
 

@@ -21,13 +21,22 @@ some_pips x unfinished none = unfinished (empty (checkers x) (pips x) (sum-at_mo
     empty c p le e = omega arith
 
 -- each share is told
-pub told : (f : List ℕ) (x : Board) (k : ℕ) → IsPosition x → IsRightAt f x → k ≤ 22 → spread f x k ≡ told_share (pips x) (spread f x) k
+pub told : (f : List ℕ) (x : Board) (k : ℕ) → IsPosition x → IsRightAt f x → k ≤ 22 →
+    spread f x k ≡ told_share (pips x) (spread f x) k
 told f x zero at right le = right.spread_is 0 le ∙ ⊎_elim
-    (λ none. ap (λ s. count_of s 0) (follow-finished f 22 x none) ∙ count_of-stop ∙ sym (ap (λ b. cond b whole 0) (eq-eqb (pips x) 0 (no_pips x none))))
-    (λ unfinished. ap (λ s. count_of s 0) (follow-unfinished f 21 x unfinished) ∙ count_of-turn_none _ _ ∙ sym (ap (λ b. cond b whole 0) (ne_eqb (pips x) 0 (some_pips x unfinished))))
+    (λ none.
+    ap (λ s. count_of s 0) (follow-finished f 22 x none) ∙ count_of-stop
+    ∙ sym (ap (λ b. cond b whole 0) (eq-eqb (pips x) 0 (no_pips x none))))
+    (λ unfinished.
+    ap (λ s. count_of s 0) (follow-unfinished f 21 x unfinished) ∙ count_of-turn_none _ _
+    ∙ sym (ap (λ b. cond b whole 0) (ne_eqb (pips x) 0 (some_pips x unfinished))))
     (finished_or_not x)
 told f x (suc k) at right le = by (leb (suc k) (most_rolls (pips x))) refl
   where
-    by : (b : Bool) → leb (suc k) (most_rolls (pips x)) ≡ b → spread f x (suc k) ≡ cond b (spread f x (suc k)) 0
+    by : (b : Bool) → leb (suc k) (most_rolls (pips x)) ≡ b →
+        spread f x (suc k) ≡ cond b (spread f x (suc k)) 0
     by true e = refl
-    by false e = right.spread_is (suc k) le ∙ count_of-beyond x (follow f 22 x) (suc k) at right.fits (leb-false (suc k) (most_rolls (pips x)) e)
+    by false e =
+        right.spread_is (suc k) le
+        ∙ count_of-beyond x (follow f 22 x) (suc k) at right.fits
+        (leb-false (suc k) (most_rolls (pips x)) e)

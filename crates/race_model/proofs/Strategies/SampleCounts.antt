@@ -1,4 +1,5 @@
--- The rolls of the sample, by computation over 36 and 1,296 sequences, and from there over those of 22 throws.
+-- The rolls of the sample, by computation over 36 and 1,296
+-- sequences, and from there over those of 22 throws.
 use Rattle.std.proofs.Common.{Bool, true, false, cond, leb, ◌≡◌, ℕ, zero, suc, ◌*◌, ◌^◌, refl, ap, ◌∙◌, arith}
 use Rattle.std.proofs.Math.Nat.{pow-suc}
 use Rattle.race_model.specs.Dice.{Throw, throws}
@@ -30,7 +31,8 @@ after_two (suc k) = suc (after_two k)
 
 -- a throw more
 one_more : (k t : ℕ) → 36 * (36 ^ k * t) ≡ 36 ^ suc k * t
-one_more k t = let e : 36 ^ suc k * t ≡ 36 ^ k * 36 * t = ap (λ a. a * t) (pow-suc 36 k) in omega (arith, e)
+one_more k t =
+    let e : 36 ^ suc k * t ≡ 36 ^ k * 36 * t = ap (λ a. a * t) (pow-suc 36 k) in omega (arith, e)
 
 -- a strategy of at most two turns
 module _ (s : Strategy) (within : IsWithin 2 s) where
@@ -42,12 +44,16 @@ module _ (s : Strategy) (within : IsWithin 2 s) where
   -- its total over more throws
   total_over-after_two : (k : ℕ) → total_over (after_two k) s ≡ 36 ^ k * total_over 2 s
   total_over-after_two zero = omega arith
-  total_over-after_two (suc k) = total_over-more (after_two k) s (still_within k) ∙ ap (λ t. 36 * t) (total_over-after_two k) ∙ one_more k (total_over 2 s)
+  total_over-after_two (suc k) =
+      total_over-more (after_two k) s (still_within k) ∙ ap (λ t. 36 * t) (total_over-after_two k)
+      ∙ one_more k (total_over 2 s)
 
   -- .. and its counts
   count_over-after_two : (k n : ℕ) → count_over (after_two k) s n ≡ 36 ^ k * count_over 2 s n
   count_over-after_two zero n = omega arith
-  count_over-after_two (suc k) n = count_over-more (after_two k) s n (still_within k) ∙ ap (λ t. 36 * t) (count_over-after_two k n) ∙ one_more k (count_over 2 s n)
+  count_over-after_two (suc k) n =
+      count_over-more (after_two k) s n (still_within k)
+      ∙ ap (λ t. 36 * t) (count_over-after_two k n) ∙ one_more k (count_over 2 s n)
 
 -- the sample has at most two turns on any path
 sample_within : IsWithin 2 from_six_point
@@ -66,9 +72,11 @@ sample_mean = omega (arith, total_over-after_two from_six_point sample_within 20
 -- its chance of one roll is 3/4, and that of two is 1/4
 pub sample_share_of_one : 4 * count_of from_six_point 1 ≡ 3 * whole
 unfolding count_of whole
-sample_share_of_one = omega (arith, count_over-after_two from_six_point sample_within 20 1, sample_one)
+sample_share_of_one =
+    omega (arith, count_over-after_two from_six_point sample_within 20 1, sample_one)
 
 -- .. and that of two rolls is 1/4
 pub sample_share_of_two : 4 * count_of from_six_point 2 ≡ whole
 unfolding count_of whole
-sample_share_of_two = omega (arith, count_over-after_two from_six_point sample_within 20 2, sample_two)
+sample_share_of_two =
+    omega (arith, count_over-after_two from_six_point sample_within 20 2, sample_two)

@@ -11,40 +11,52 @@ pub fn law_playable()
     ensures { (x : Board) (d : Die) → IsPosition x → ¬ IsFinished x → (y : Board) × Step x d y }
 {}
 
-/// A throw leads where the throw that shows the same dice the other way round leads. So plays that are
-/// recorded for the 21 rolls are recorded for the 36 throws, and are least there if they are for the rolls
-/// (the bearing-off rules of backgammon).
+/// A throw leads where the throw that shows the same dice the other way round leads. So plays that
+/// are recorded for the 21 rolls are recorded for the 36 throws, and are least there if they are
+/// for the rolls (the bearing-off rules of backgammon).
 pub fn law_reversed()
     ensures legal { (x : Board) (v : Throw) (y : Board) → Legal x v y ↔ Legal x (reversed v) y }
-    ensures played { (f : List ℕ) (x : Board) → ((i : ℕ) → i < 21 → IsPlayed f x (roll_at i)) → (v : Throw) → IsPlayed f x v }
-    ensures best { (f : List ℕ) (x : Board) → ((i : ℕ) → i < 21 → IsBest f x (roll_at i)) → (v : Throw) → IsBest f x v }
+    ensures played { (f : List ℕ) (x : Board) → ((i : ℕ) → i < 21 → IsPlayed f x (roll_at i)) →
+        (v : Throw) → IsPlayed f x v }
+    ensures best { (f : List ℕ) (x : Board) → ((i : ℕ) → i < 21 → IsBest f x (roll_at i)) →
+        (v : Throw) → IsBest f x v }
 {}
 
-/// What a throw may lead to from a position: always somewhere, to a position, with no more pips, and with
-/// fewer where a checker was left. From the finished position, which is the one with six empty points, it
-/// leads to that one alone (the bearing-off rules of backgammon).
+/// What a throw may lead to from a position: always somewhere, to a position, with no more pips,
+/// and with fewer where a checker was left. From the finished position, which is the one with six
+/// empty points, it leads to that one alone (the bearing-off rules of backgammon).
 pub fn law_results()
     ensures some { (x : Board) (v : Throw) → (y : Board) × Legal x v y }
-    ensures position { (x : Board) (v : Throw) (y : Board) → IsPosition x → Legal x v y → IsPosition y }
+    ensures position { (x : Board) (v : Throw) (y : Board) → IsPosition x → Legal x v y →
+        IsPosition y }
     ensures pips { (x : Board) (v : Throw) (y : Board) → Legal x v y → pips y ≤ pips x }
-    ensures fewer_pips { (x : Board) (v : Throw) (y : Board) → ¬ IsFinished x → Legal x v y → pips y < pips x }
+    ensures fewer_pips { (x : Board) (v : Throw) (y : Board) → ¬ IsFinished x → Legal x v y →
+        pips y < pips x }
     ensures at_end { (x : Board) (v : Throw) (y : Board) → IsFinished x → Legal x v y ↔ (y ≡ x) }
     ensures end { (x : Board) → IsPosition x → IsFinished x → x ≡ finished }
 {}
 
-/// The rule of the most dice, that as many of the numbers thrown must be used as is legally possible, and the
-/// greater one where only one can be, leads to exactly the positions to which a legal play leads, which goes on
-/// until the dice are used or no checker is left (the rules of backgammon).
+/// The rule of the most dice, that as many of the numbers thrown must be used as is legally
+/// possible, and the greater one where only one can be, leads to exactly the positions to which a
+/// legal play leads, which goes on until the dice are used or no checker is left (the rules of
+/// backgammon).
 pub fn law_most_dice()
     ensures { (x : Board) (v : Throw) (y : Board) → MostDice x v y ↔ Legal x v y }
 {}
 
-/// The plain list of results has the results as its members, so the rules can be tried out by computation: 4-1 from
-/// one checker on point 3 and one on point 4 leaves one on point 2 or one on point 3, the second by the ace first;
-/// 1-1 moves a checker from point 6 to point 2; and 6-6 leaves the finished position as it is.
+/// The plain list of results has the results as its members, so the rules can be tried out by
+/// computation: 4-1 from one checker on point 3 and one on point 4 leaves one on point 2 or one on
+/// point 3, the second by the ace first; 1-1 moves a checker from point 6 to point 2; and 6-6
+/// leaves the finished position as it is.
 pub fn law_enumerated()
-    ensures members { (x : Board) (v : Throw) (y : Board) → Contains (all_results x v) y ↔ Legal x v y }
-    ensures two_ways { all_results (0 ∷ 0 ∷ 1 ∷ 1 ∷ 0 ∷ 0 ∷ []) (record { first = four; second = one }) ≡ (0 ∷ 1 ∷ 0 ∷ 0 ∷ 0 ∷ 0 ∷ []) ∷ (0 ∷ 1 ∷ 0 ∷ 0 ∷ 0 ∷ 0 ∷ []) ∷ (0 ∷ 0 ∷ 1 ∷ 0 ∷ 0 ∷ 0 ∷ []) ∷ [] }
-    ensures double { all_results (0 ∷ 0 ∷ 0 ∷ 0 ∷ 0 ∷ 1 ∷ []) (record { first = one; second = one }) ≡ (0 ∷ 1 ∷ 0 ∷ 0 ∷ 0 ∷ 0 ∷ []) ∷ [] }
+    ensures members { (x : Board) (v : Throw) (y : Board) →
+        Contains (all_results x v) y ↔ Legal x v y }
+    ensures two_ways { all_results (0 ∷ 0 ∷ 1 ∷ 1 ∷ 0 ∷ 0 ∷ [])
+        (record { first = four; second = one })
+        ≡ (0 ∷ 1 ∷ 0 ∷ 0 ∷ 0 ∷ 0 ∷ []) ∷ (0 ∷ 1 ∷ 0 ∷ 0 ∷ 0 ∷ 0 ∷ [])
+        ∷ (0 ∷ 0 ∷ 1 ∷ 0 ∷ 0 ∷ 0 ∷ []) ∷ [] }
+    ensures double { all_results (0 ∷ 0 ∷ 0 ∷ 0 ∷ 0 ∷ 1 ∷ [])
+        (record { first = one; second = one })
+        ≡ (0 ∷ 1 ∷ 0 ∷ 0 ∷ 0 ∷ 0 ∷ []) ∷ [] }
     ensures end { all_results finished (record { first = six; second = six }) ≡ finished ∷ [] }
 {}

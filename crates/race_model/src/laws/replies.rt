@@ -4,15 +4,17 @@ ghost use Rattle.race_model.specs.SameNumbers.{HasSameNumbers};
 ghost use Rattle.race_model.specs.Queries.{Query, IsQuery, HasWords};
 ghost use Rattle.race_model.specs.Replies.{IsReply};
 
-/// A line has one reply: the definition leaves no choice. Two right files that hold the same bound, means, plays and
-/// shares give the same reply to each line, whatever else their bytes are.
+/// A line has one reply: the definition leaves no choice. Two right files that hold the same
+/// bound, means, plays and shares give the same reply to each line, whatever else their bytes are.
 pub fn law_replies()
-    ensures one { (f line text other : List ℕ) → IsReply f line text → IsReply f line other → text ≡ other }
-    ensures same { (limit : ℕ) (f g : List ℕ) → IsRight limit f → IsRight limit g → HasSameNumbers f g → (line text : List ℕ) → IsReply f line text → IsReply g line text }
+    ensures one { (f line text other : List ℕ) → IsReply f line text → IsReply f line other →
+        text ≡ other }
+    ensures same { (limit : ℕ) (f g : List ℕ) → IsRight limit f → IsRight limit g →
+        HasSameNumbers f g → (line text : List ℕ) → IsReply f line text → IsReply g line text }
 {}
 
-/// What a line asks is told by its words, the parts between spaces, and a line asks one thing at most. None that
-/// asks something has more than 55 bytes.
+/// What a line asks is told by its words, the parts between spaces, and a line
+/// asks one thing at most. None that asks something has more than 55 bytes.
 pub fn law_lines()
     ensures words { (line : List ℕ) (q : Query) → IsQuery line q ↔ HasWords line q }
     ensures one { (line : List ℕ) (q r : Query) → IsQuery line q → IsQuery line r → q ≡ r }

@@ -12,45 +12,65 @@ ghost use Rattle.race_model.specs.SameNumbers.{HasSameNumbers};
 ghost use Rattle.race_model.specs.CompactShares.{told_share};
 ghost use Rattle.race_model.specs.Horizon.{most_rolls};
 
-/// The local equations, which test each record against records of lower rank alone, hold of a list of bytes
-/// exactly where it is a right file: its means are the least over all strategies, also those that look at the
-/// history, its plays reach them, and its shares are those of its plays. The limit of the bound, 44 in version 1
-/// of the file, may be any number up to 58. The same is said of the positions alone, whatever the form of the file.
+/// The local equations, which test each record against records of lower rank alone, hold of a list
+/// of bytes exactly where it is a right file: its means are the least over all strategies, also
+/// those that look at the history, its plays reach them, and its shares are those of its plays.
+/// The limit of the bound, 44 in version 1 of the file, may be any number up to 58. The same is
+/// said of the positions alone, whatever the form of the file.
 pub fn law_right()
     ensures right { (limit : ℕ) (f : List ℕ) → limit ≤ 58 → IsLocal limit f → IsRight limit f }
     ensures local { (limit : ℕ) (f : List ℕ) → limit ≤ 58 → IsRight limit f → IsLocal limit f }
-    ensures right_at { (f : List ℕ) → bound_of f ≤ 58 → ((x : Board) → IsPosition x → pips x ≤ bound_of f → IsLocalAt f x) → (x : Board) → IsPosition x → pips x ≤ bound_of f → IsRightAt f x }
-    ensures local_at { (f : List ℕ) → bound_of f ≤ 58 → ((x : Board) → IsPosition x → pips x ≤ bound_of f → IsRightAt f x) → (x : Board) → IsPosition x → pips x ≤ bound_of f → IsLocalAt f x }
+    ensures right_at { (f : List ℕ) → bound_of f ≤ 58 →
+        ((x : Board) → IsPosition x → pips x ≤ bound_of f → IsLocalAt f x) → (x : Board) →
+        IsPosition x → pips x ≤ bound_of f → IsRightAt f x }
+    ensures local_at { (f : List ℕ) → bound_of f ≤ 58 →
+        ((x : Board) → IsPosition x → pips x ≤ bound_of f → IsRightAt f x) → (x : Board) →
+        IsPosition x → pips x ≤ bound_of f → IsLocalAt f x }
 {}
 
-/// What a recorded play leads to, where the recorded number is the rank of a position to which the throw leads:
-/// a position with no more pips, so one of the records of the file, of lower rank while a checker is left; and the
-/// finished position records its own rank, 0. A number that is no rank of a position is never a recorded play of
-/// a right file.
+/// What a recorded play leads to, where the recorded number is the rank of a position to which the
+/// throw leads: a position with no more pips, so one of the records of the file, of lower rank
+/// while a checker is left; and the finished position records its own rank, 0. A number that is no
+/// rank of a position is never a recorded play of a right file.
 pub fn law_recorded()
-    ensures position { (f : List ℕ) (x : Board) (v : Throw) → IsPosition x → IsPlayed f x v → IsPosition (recorded f x v) × (pips (recorded f x v) ≤ pips x) }
-    ensures under { (f : List ℕ) (x : Board) (v : Throw) (bound : ℕ) → IsPosition x → pips x ≤ bound → IsPlayed f x v → play f x v < count_to bound }
-    ensures lower { (f : List ℕ) (x : Board) (v : Throw) → IsPosition x → ¬ IsFinished x → IsPlayed f x v → play f x v < rank x }
-    ensures at_end { (f : List ℕ) (x : Board) (v : Throw) → IsPosition x → IsFinished x → IsPlayed f x v → play f x v ≡ 0 }
+    ensures position { (f : List ℕ) (x : Board) (v : Throw) → IsPosition x → IsPlayed f x v →
+        IsPosition (recorded f x v) × (pips (recorded f x v) ≤ pips x) }
+    ensures under { (f : List ℕ) (x : Board) (v : Throw) (bound : ℕ) → IsPosition x →
+        pips x ≤ bound → IsPlayed f x v → play f x v < count_to bound }
+    ensures lower { (f : List ℕ) (x : Board) (v : Throw) → IsPosition x → ¬ IsFinished x →
+        IsPlayed f x v → play f x v < rank x }
+    ensures at_end { (f : List ℕ) (x : Board) (v : Throw) → IsPosition x → IsFinished x →
+        IsPlayed f x v → play f x v ≡ 0 }
 {}
 
-/// Right files agree on the mean of each position of at most the bound of both. Built files of one bound hold the
-/// same numbers, since the builder records of the plays to the least mean the one to the lowest rank; and files of
-/// bytes that hold the same numbers are byte for byte one, so there is one built file of a bound.
+/// Right files agree on the mean of each position of at most the bound of both. Built files of one
+/// bound hold the same numbers, since the builder records of the plays to the least mean the one
+/// to the lowest rank; and files of bytes that hold the same numbers are byte for byte one, so
+/// there is one built file of a bound.
 pub fn law_agree()
-    ensures right { (limit : ℕ) (f g : List ℕ) → IsRight limit f → IsRight limit g → (x : Board) → IsPosition x → pips x ≤ bound_of f → pips x ≤ bound_of g → mean f x ≡ mean g x }
-    ensures built { (limit bound : ℕ) (f g : List ℕ) → limit ≤ 58 → IsBuilt limit bound f → IsBuilt limit bound g → HasSameNumbers f g }
-    ensures same_bytes { (limit : ℕ) (f g : List ℕ) → IsBytes f → IsBytes g → IsFileTo limit f → IsFileTo limit g → HasSameNumbers f g → f ≡ g }
-    ensures one_built { (limit bound : ℕ) (f g : List ℕ) → limit ≤ 58 → IsBuilt limit bound f → IsBuilt limit bound g → f ≡ g }
+    ensures right { (limit : ℕ) (f g : List ℕ) → IsRight limit f → IsRight limit g → (x : Board) →
+        IsPosition x → pips x ≤ bound_of f → pips x ≤ bound_of g → mean f x ≡ mean g x }
+    ensures built { (limit bound : ℕ) (f g : List ℕ) → limit ≤ 58 → IsBuilt limit bound f →
+        IsBuilt limit bound g → HasSameNumbers f g }
+    ensures same_bytes { (limit : ℕ) (f g : List ℕ) → IsBytes f → IsBytes g → IsFileTo limit f →
+        IsFileTo limit g → HasSameNumbers f g → f ≡ g }
+    ensures one_built { (limit bound : ℕ) (f g : List ℕ) → limit ≤ 58 →
+        IsBuilt limit bound f → IsBuilt limit bound g → f ≡ g }
 {}
 
-/// The shares of a position. Those of a strategy from at most 58 pips add up to the whole, and each times its
-/// number of rolls to the total; so do those that a right file records, and it records no share beyond the most
-/// rolls of a pip count: a record that leaves these out loses none, and tells them all.
+/// The shares of a position. Those of a strategy from at most 58 pips add up to the whole, and
+/// each times its number of rolls to the total; so do those that a right file records, and it
+/// records no share beyond the most rolls of a pip count: a record that leaves these out loses
+/// none, and tells them all.
 pub fn law_spread()
-    ensures strategy { (x : Board) (s : Strategy) → IsPosition x → pips x ≤ 58 → Fits s x → sum_by (count_of s) (range_with_len 0 23) ≡ whole }
-    ensures mean { (x : Board) (s : Strategy) → IsPosition x → pips x ≤ 58 → Fits s x → sum_by (λ k. count_of s k * k) (range_with_len 0 23) ≡ total s }
-    ensures recorded { (limit : ℕ) (f : List ℕ) → limit ≤ 58 → IsRight limit f → (x : Board) → IsPosition x → pips x ≤ bound_of f → sum_by (spread f x) (range_with_len 0 23) ≡ whole }
-    ensures beyond { (limit : ℕ) (f : List ℕ) → IsRight limit f → (x : Board) (k : ℕ) → IsPosition x → pips x ≤ bound_of f → most_rolls (pips x) < k → k ≤ 22 → spread f x k ≡ 0 }
-    ensures told { (f : List ℕ) (x : Board) (k : ℕ) → IsPosition x → IsRightAt f x → k ≤ 22 → spread f x k ≡ told_share (pips x) (spread f x) k }
+    ensures strategy { (x : Board) (s : Strategy) → IsPosition x → pips x ≤ 58 → Fits s x →
+        sum_by (count_of s) (range_with_len 0 23) ≡ whole }
+    ensures mean { (x : Board) (s : Strategy) → IsPosition x → pips x ≤ 58 → Fits s x →
+        sum_by (λ k. count_of s k * k) (range_with_len 0 23) ≡ total s }
+    ensures recorded { (limit : ℕ) (f : List ℕ) → limit ≤ 58 → IsRight limit f → (x : Board) →
+        IsPosition x → pips x ≤ bound_of f → sum_by (spread f x) (range_with_len 0 23) ≡ whole }
+    ensures beyond { (limit : ℕ) (f : List ℕ) → IsRight limit f → (x : Board) (k : ℕ) →
+        IsPosition x → pips x ≤ bound_of f → most_rolls (pips x) < k → k ≤ 22 → spread f x k ≡ 0 }
+    ensures told { (f : List ℕ) (x : Board) (k : ℕ) → IsPosition x → IsRightAt f x → k ≤ 22 →
+        spread f x k ≡ told_share (pips x) (spread f x) k }
 {}

@@ -16,6 +16,8 @@ invariant-loop-play l = record {
 abbrev pub invariant-loop-k : goal.invariant-loop-k
 invariant-loop-k l = record {
   len : array_vec_len l.bytes ≡ 58 + 16 * l.k;
-  items : l.bytes.items ≡ (wide_bytes l.fn.mean ++ flat_map short_bytes l.plays) ++ flat_map wide_bytes (take l.k l.spread);
+  items : l.bytes.items
+      ≡ (wide_bytes l.fn.mean ++ flat_map short_bytes l.plays)
+      ++ flat_map wide_bytes (take l.k l.spread);
   told : 0 < l.k → (length l.spread ≡ 23) × (sum l.spread ≡ whole);
 }

@@ -6,7 +6,8 @@ use Rattle.db_layout.proofs.writing.write_bytes.Given as goal
 abbrev pub invariant-loop-written : goal.invariant-loop-written
 invariant-loop-written g l = record {
   within : l.written ≤ length l.bytes;
-  written : Appends (g.W.Write.contents l.initial.writer) (g.W.Write.contents l.writer) (take l.written l.bytes);
+  written : Appends (g.W.Write.contents l.initial.writer) (g.W.Write.contents l.writer)
+      (take l.written l.bytes);
 }
 
 -- the bytes that are left

@@ -2,16 +2,28 @@ use Rattle.fixed_fraction.proofs.Fractions.{divisor_positive, reduced, reduced_s
 use Rattle.fixed_fraction.proofs.fraction.reduced.Goals as goal
 
 pub nonzero_div-result : goal.nonzero_div-result
-nonzero_div-result c = divisor_positive c.args.numerator c.args.denominator c.greatest_common_divisor-divisor.result c.greatest_common_divisor-divisor.ensures c.requires.positive
+nonzero_div-result c =
+    divisor_positive c.args.numerator c.args.denominator c.greatest_common_divisor-divisor.result
+    c.greatest_common_divisor-divisor.ensures c.requires.positive
 
 pub nonzero_div-result-2 : goal.nonzero_div-result-2
-nonzero_div-result-2 c = divisor_positive c.args.numerator c.args.denominator c.greatest_common_divisor-divisor.result c.greatest_common_divisor-divisor.ensures c.requires.positive
+nonzero_div-result-2 c =
+    divisor_positive c.args.numerator c.args.denominator c.greatest_common_divisor-divisor.result
+    c.greatest_common_divisor-divisor.ensures c.requires.positive
 
 pub invariant_of-result : goal.invariant_of-result
-invariant_of-result c = reduced_small c.args.numerator c.args.denominator c.greatest_common_divisor-divisor.result c.requires.positive c.requires.short c.requires.within c.greatest_common_divisor-divisor.ensures
+invariant_of-result c =
+    reduced_small c.args.numerator c.args.denominator c.greatest_common_divisor-divisor.result
+    c.requires.positive c.requires.short c.requires.within
+    c.greatest_common_divisor-divisor.ensures
 
 pub returns-clause-value : goal.returns-clause-value
-returns-clause-value c = reduced c.args.numerator c.args.denominator c.greatest_common_divisor-divisor.result c.requires.positive c.greatest_common_divisor-divisor.ensures
+returns-clause-value c =
+    reduced c.args.numerator c.args.denominator c.greatest_common_divisor-divisor.result
+    c.requires.positive c.greatest_common_divisor-divisor.ensures
 
 pub returns-clause-ratio : goal.returns-clause-ratio
-returns-clause-ratio c = reduced_small c.args.numerator c.args.denominator c.greatest_common_divisor-divisor.result c.requires.positive c.requires.short c.requires.within c.greatest_common_divisor-divisor.ensures
+returns-clause-ratio c =
+    reduced_small c.args.numerator c.args.denominator c.greatest_common_divisor-divisor.result
+    c.requires.positive c.requires.short c.requires.within
+    c.greatest_common_divisor-divisor.ensures

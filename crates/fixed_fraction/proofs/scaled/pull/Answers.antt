@@ -9,18 +9,33 @@ pub loop-weight-init : goal.loop-weight-init
 loop-weight-init c = record { total = omega (arith, whole_is); small = omega (arith, whole_is) }
 
 -- the weights so far and the next one are within 36
-weights : (c : goal.After-numerator) → sum_by (λ part. part.0) (take (c.loop-weight.weight-index + 1) c.args.parts.now) ≤ 36
+weights : (c : goal.After-numerator) →
+    sum_by (λ part. part.0) (take (c.loop-weight.weight-index + 1) c.args.parts.now) ≤ 36
 weights c =
     let lt : c.loop-weight.weight-index < length c.args.parts.now = omega arith in
-    let more = sum_by_more (λ part. part.0) c.args.parts.now c.loop-weight.weight-index c.loop-weight-item.result lt in
-    omega (arith, sum_by_more_le (λ part. part.0) c.args.parts.now c.loop-weight.weight-index c.loop-weight-item.result lt, c.requires)
+    let more =
+    sum_by_more (λ part. part.0) c.args.parts.now c.loop-weight.weight-index
+    c.loop-weight-item.result lt in
+    omega (
+      arith,
+      sum_by_more_le (λ part. part.0) c.args.parts.now c.loop-weight.weight-index
+          c.loop-weight-item.result lt,
+      c.requires,
+    )
 
 -- the sum with the next part is within the bound by the weights
-bounded : (c : goal.After-numerator) → c.loop-weight.total + c.from.result * c.numerator.result ≤ 36 * whole + sum_by (λ part. part.0) (take (c.loop-weight.weight-index + 1) c.args.parts.now) * (22 * whole)
+bounded : (c : goal.After-numerator) →
+    c.loop-weight.total + c.from.result * c.numerator.result
+    ≤ 36 * whole
+    + sum_by (λ part. part.0) (take (c.loop-weight.weight-index + 1) c.args.parts.now)
+    * (22 * whole)
 bounded c =
     let lt : c.loop-weight.weight-index < length c.args.parts.now = omega arith in
-    let more = sum_by_more (λ part. part.0) c.args.parts.now c.loop-weight.weight-index c.loop-weight-item.result lt in
-    part_small c.loop-weight.total c.from.result c.numerator.result _ _ (22 * whole) (36 * whole) c.numerator.ensures.range (rw c.from.ensures more) c.loop-weight.invariant.small
+    let more =
+    sum_by_more (λ part. part.0) c.args.parts.now c.loop-weight.weight-index
+    c.loop-weight-item.result lt in
+    part_small c.loop-weight.total c.from.result c.numerator.result _ _ (22 * whole) (36 * whole)
+    c.numerator.ensures.range (rw c.from.ensures more) c.loop-weight.invariant.small
 
 pub overflow_mul-total-in-loop-weight : goal.overflow_mul-total-in-loop-weight
 overflow_mul-total-in-loop-weight c =
@@ -35,9 +50,13 @@ overflow_add-total c =
 pub loop-weight-preserved : goal.loop-weight-preserved
 loop-weight-preserved c =
     let lt : c.loop-weight.weight-index < length c.args.parts.now = omega arith in
-    let more = sum_by_more (λ part. part.0 * part.1) c.args.parts.now c.loop-weight.weight-index c.loop-weight-item.result lt in
+    let more =
+    sum_by_more (λ part. part.0 * part.1) c.args.parts.now c.loop-weight.weight-index
+    c.loop-weight-item.result lt in
     record {
-      total = rw (more, c.from.ensures, c.numerator.ensures.value) (omega (arith, c.loop-weight.invariant.total));
+      total =
+          rw (more, c.from.ensures, c.numerator.ensures.value)
+          (omega (arith, c.loop-weight.invariant.total));
       small = bounded c;
     }
 

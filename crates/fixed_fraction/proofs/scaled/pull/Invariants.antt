@@ -6,5 +6,6 @@ use Rattle.fixed_fraction.proofs.scaled.pull.Given as goal
 abbrev pub invariant-loop-weight : goal.invariant-loop-weight
 invariant-loop-weight l = record {
   total : l.total ≡ 36 * whole + sum_by (λ part. part.0 * part.1) (take l.weight-index l.parts);
-  small : l.total ≤ 36 * whole + sum_by (λ part. part.0) (take l.weight-index l.parts) * (22 * whole);
+  small : l.total
+      ≤ 36 * whole + sum_by (λ part. part.0) (take l.weight-index l.parts) * (22 * whole);
 }

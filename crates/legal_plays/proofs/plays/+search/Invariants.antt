@@ -9,4 +9,6 @@ decreases-search l = length l.dice.now
 
 -- no step from a higher point leads on to the target
 abbrev pub invariant-loop-source : goal.invariant-loop-source
-invariant-loop-source l = (s : ℕ) (z : List ℕ) → l.source < s → StepFrom l.position (number l.die) s z → ¬ Run z l.rest l.target
+invariant-loop-source l =
+    (s : ℕ) (z : List ℕ) → l.source < s → StepFrom l.position (number l.die) s z →
+    ¬ Run z l.rest l.target

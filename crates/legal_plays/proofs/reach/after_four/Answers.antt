@@ -5,5 +5,10 @@ use Rattle.legal_plays.proofs.reach.after_four.Goals as goal
 pub returns-clause-members : goal.returns-clause-members
 returns-clause-members c =
     let d = c.args.die in
-    let three = next_die c.args.position.now (d ∷ d ∷ []) d c.after_two-two.result.items c.after_die-three.result.items c.after_two-two.ensures.members (rw c.as_slice.ensures.value at c.after_die-three.ensures.members) in
-    next_die c.args.position.now (d ∷ d ∷ d ∷ []) d c.after_die-three.result.items c.after_die.result.items three (rw c.as_slice-2.ensures.value at c.after_die.ensures.members)
+    let three =
+    next_die c.args.position.now (d ∷ d ∷ []) d c.after_two-two.result.items
+    c.after_die-three.result.items c.after_two-two.ensures.members
+    (rw c.as_slice.ensures.value at c.after_die-three.ensures.members) in
+    next_die c.args.position.now (d ∷ d ∷ d ∷ []) d c.after_die-three.result.items
+    c.after_die.result.items three
+    (rw c.as_slice-2.ensures.value at c.after_die.ensures.members)

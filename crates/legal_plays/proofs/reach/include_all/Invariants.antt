@@ -7,5 +7,7 @@ abbrev pub invariant-loop-other : goal.invariant-loop-other
 invariant-loop-other g l = record {
   ordered : IsAscending l.found.items;
   few : length l.found.items ≤ length l.initial.found.items + l.other-index;
-  members : (y : List ℕ) → Contains l.found.items y ↔ (Contains l.initial.found.items y ⊎ Contains (take l.other-index l.others) y);
+  members : (y : List ℕ) →
+      Contains l.found.items y
+      ↔ (Contains l.initial.found.items y ⊎ Contains (take l.other-index l.others) y);
 }

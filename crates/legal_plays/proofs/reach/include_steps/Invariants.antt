@@ -9,5 +9,7 @@ invariant-loop-source g l = record {
   ordered : IsAscending l.found.items;
   range : l.source ≤ 7;
   few : length l.found.items + 1 ≤ length l.initial.found.items + l.source;
-  members : (y : List ℕ) → Contains l.found.items y ↔ (Contains l.initial.found.items y ⊎ StepBelow l.position l.die l.source y);
+  members : (y : List ℕ) →
+      Contains l.found.items y
+      ↔ (Contains l.initial.found.items y ⊎ StepBelow l.position l.die l.source y);
 }

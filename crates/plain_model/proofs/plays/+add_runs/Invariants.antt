@@ -9,4 +9,6 @@ decreases-add_runs l = length l.dice.now
 
 -- what the steps from the points passed lead to has been added
 abbrev pub invariant-loop-source : goal.invariant-loop-source
-invariant-loop-source l = l.found.items ≡ l.initial.found.items ++ from_points l.rest l.position (number l.die) 1 (l.source - 1)
+invariant-loop-source l =
+    l.found.items
+    ≡ l.initial.found.items ++ from_points l.rest l.position (number l.die) 1 (l.source - 1)

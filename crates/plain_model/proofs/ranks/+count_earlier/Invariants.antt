@@ -11,6 +11,8 @@ decreases-count_earlier l = l.left
 -- the lists with the numbers passed in the first place left have been counted
 abbrev pub invariant-loop-checkers : goal.invariant-loop-checkers
 invariant-loop-checkers l = record {
-  counted : l.found ≡ sum_by (λ c. positions_before (take (6 - l.left) l.counts ++ c ∷ []) (l.left - 1) l.others) (numbers_from 0 l.checkers);
+  counted : l.found
+      ≡ sum_by (λ c. positions_before (take (6 - l.left) l.counts ++ c ∷ []) (l.left - 1) l.others)
+      (numbers_from 0 l.checkers);
   bounded : l.found ≤ l.checkers * 16 ^ (l.left - 1);
 }

@@ -5,8 +5,10 @@ use Rattle.plain_model.proofs.totals.second_throws_with.Given as goal
 
 -- all throws passed are counted, or none
 abbrev pub invariant-loop-one : goal.invariant-loop-one
-invariant-loop-one l = l.count ≡ (if rolls_of_two l.start l.after == l.rolls then 6 * l._one else 0)
+invariant-loop-one l =
+    l.count ≡ (if rolls_of_two l.start l.after == l.rolls then 6 * l._one else 0)
 
 -- .. and so many more with this first die
 abbrev pub invariant-loop-other : goal.invariant-loop-other
-invariant-loop-other l = l.count ≡ (if rolls_of_two l.start l.after == l.rolls then 6 * l._one + l._other else 0)
+invariant-loop-other l =
+    l.count ≡ (if rolls_of_two l.start l.after == l.rolls then 6 * l._one + l._other else 0)

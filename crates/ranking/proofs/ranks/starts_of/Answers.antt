@@ -15,9 +15,22 @@ pub loop-pips-init : goal.loop-pips-init
 loop-pips-init c = record { long = refl; below = first_start }
 
 pub overflow_add-starts : goal.overflow_add-starts
-overflow_add-starts c = Fits-of_lt {w = w16} (omega (arith, c.loop-pips.invariant.below c.loop-pips.pips (omega arith), c.requires.each c.loop-pips.pips c.loop-pips-test.true, first_of-step c.loop-pips.pips, first_of-most (c.loop-pips.pips + 1)))
+overflow_add-starts c =
+    Fits-of_lt {w = w16}
+    (omega (
+      arith,
+      c.loop-pips.invariant.below c.loop-pips.pips (omega arith),
+      c.requires.each c.loop-pips.pips c.loop-pips-test.true,
+      first_of-step c.loop-pips.pips,
+      first_of-most (c.loop-pips.pips + 1),
+    ))
 
 pub loop-pips-preserved : goal.loop-pips-preserved
 loop-pips-preserved c =
     filled_more first_of 92 (c.loop-pips.pips + 1) _ _ c.loop-pips.invariant (omega arith)
-    (omega (arith, c.loop-pips.invariant.below c.loop-pips.pips (omega arith), c.requires.each c.loop-pips.pips c.loop-pips-test.true, first_of-step c.loop-pips.pips))
+    (omega (
+      arith,
+      c.loop-pips.invariant.below c.loop-pips.pips (omega arith),
+      c.requires.each c.loop-pips.pips c.loop-pips-test.true,
+      first_of-step c.loop-pips.pips,
+    ))

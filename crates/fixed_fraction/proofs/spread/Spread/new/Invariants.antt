@@ -4,4 +4,7 @@ use Rattle.fixed_fraction.proofs.spread.Spread.new.Given as goal
 
 -- the sum of the shares so far, which is within the whole
 abbrev pub invariant-loop-share : goal.invariant-loop-share
-invariant-loop-share l = record { total : l.total ≡ sum (take l.share-index l.shares); within : l.total ≤ whole }
+invariant-loop-share l = record {
+  total : l.total ≡ sum (take l.share-index l.shares);
+  within : l.total ≤ whole;
+}

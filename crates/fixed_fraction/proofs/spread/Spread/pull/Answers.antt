@@ -7,5 +7,6 @@ invariant_of-result c =
     let kept = c.loop-k.invariant in
     let room = c.if-not-leaves_room.ensures {u = tt} in (
       kept.len,
-      moved_whole c.loop-k.shares c.args.parts.now kept.len kept.start (λ j lt. kept.moved j (omega arith)) (room.room.0 refl) (room.wholes refl) c.requires,
+      moved_whole c.loop-k.shares c.args.parts.now kept.len kept.start
+          (λ j lt. kept.moved j (omega arith)) (room.room.0 refl) (room.wholes refl) c.requires,
     )

@@ -1,3 +1,5 @@
+-- By induction on the turns that a game can take;
+-- each share is at most the weighted mean of shares.
 use Rattle.race_model.proofs.Strategies.Horizons.{ends_in_22}
 use Rattle.race_model.proofs.RightFiles.Bounded.{mean_at_most, share_at_most}
 use Rattle.race_model.proofs.laws.bounds.law_bounds.Goals as goal

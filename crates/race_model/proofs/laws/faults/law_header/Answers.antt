@@ -3,4 +3,8 @@ use Rattle.race_model.proofs.FirstFaults.HeaderFacts.{file_of_header, header_of_
 use Rattle.race_model.proofs.laws.faults.law_header.Goals as goal
 
 pub returns : goal.returns
-returns c = record { file = file_of_header; header = header_of_file; refused = header_fault_refuses }
+returns c = record {
+  file = file_of_header;
+  header = header_of_file;
+  refused = header_fault_refuses;
+}

@@ -1,4 +1,5 @@
--- The plan that plays to the result at that throw and else as recorded is least just where nothing is lost.
+-- The plan that plays to the result at that throw and else
+-- as recorded is least just where nothing is lost.
 use Rattle.race_model.proofs.RightFiles.RightFacts.{recorded_least, loss_is_loss, begins, no_loss}
 use Rattle.race_model.proofs.laws.losses.law_loss.Goals as goal
 
@@ -6,5 +7,10 @@ pub returns : goal.returns
 returns c = record {
   least = recorded_least;
   loss = loss_is_loss;
-  none = λ limit f small right x at low unfinished v y leads. (begins limit f small right x at low unfinished v y leads, λ found. no_loss limit f small right x at low unfinished v y found.0 found.1 found.2 found.3);
+  none =
+      λ limit f small right x at low unfinished v y leads. (
+        begins limit f small right x at low unfinished v y leads,
+        λ found.
+            no_loss limit f small right x at low unfinished v y found.0 found.1 found.2 found.3,
+      );
 }

@@ -10,6 +10,10 @@ returns c = record {
   position = legal_position;
   pips = legal_pips;
   fewer_pips = legal_fewer_pips;
-  at_end = λ x v y none. (legal_finished x v y none, λ same. subst (λ z. Legal x v z) (sym same) (legal_stays x v none));
+  at_end =
+      λ x v y none. (
+        legal_finished x v y none,
+        λ same. subst (λ z. Legal x v z) (sym same) (legal_stays x v none),
+      );
   end = only_finished;
 }

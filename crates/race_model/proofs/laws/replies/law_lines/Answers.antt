@@ -3,4 +3,8 @@ use Rattle.race_model.proofs.Replies.Lines.{words_of_query, query_of_words, one_
 use Rattle.race_model.proofs.laws.replies.law_lines.Goals as goal
 
 pub returns : goal.returns
-returns c = record { words = λ line q. (words_of_query line q, query_of_words line q); one = one_query; short = short_line }
+returns c = record {
+  words = λ line q. (words_of_query line q, query_of_words line q);
+  one = one_query;
+  short = short_line;
+}

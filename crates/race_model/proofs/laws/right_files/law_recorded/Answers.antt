@@ -3,4 +3,9 @@ use Rattle.race_model.proofs.RightFiles.Recorded.{recorded_position, recorded_un
 use Rattle.race_model.proofs.laws.right_files.law_recorded.Goals as goal
 
 pub returns : goal.returns
-returns c = record { position = recorded_position; under = recorded_under; lower = recorded_lower; at_end = recorded_at_end }
+returns c = record {
+  position = recorded_position;
+  under = recorded_under;
+  lower = recorded_lower;
+  at_end = recorded_at_end;
+}
