@@ -11,5 +11,7 @@ pub use whole::Whole;
 
 pub mod record;
 pub mod table;
+#[cfg(test)]
+mod tests;
 pub mod trial;
 pub mod whole;
