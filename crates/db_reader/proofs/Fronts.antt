@@ -16,10 +16,14 @@ take-within f n k is = ⊎_elim
     (cases_lt (length f) n)
 
 -- what an answer about the first 32 bytes says of the file
-pub front-file : (f : List ℕ) (r : Result Header HeaderFault) → ((i : ℕ) → get_or f i 0 < 256) → IfOk r (λ header. IsHeader 44 (take 32 f) (length f) × (header.bound ≡ bound_of (take 32 f))) → OnOk r (IsFileTo 44 f)
+pub front-file : (f : List ℕ) (r : Result Header HeaderFault) → ((i : ℕ) → get_or f i 0 < 256)
+    → IfOk r (λ header. IsHeader 44 (take 32 f) (length f) × (header.bound ≡ bound_of (take 32 f)))
+    → OnOk r (IsFileTo 44 f)
 front-file f (Ok header) small is = file_of_header 44 f small is.0
 front-file f (Err fault) small is = is
 
-pub front-bound : (f : List ℕ) (r : Result Header HeaderFault) → IfOk r (λ header. IsHeader 44 (take 32 f) (length f) × (header.bound ≡ bound_of (take 32 f))) → IfOk r (λ header. header.bound ≡ bound_of f)
+pub front-bound : (f : List ℕ) (r : Result Header HeaderFault)
+    → IfOk r (λ header. IsHeader 44 (take 32 f) (length f) × (header.bound ≡ bound_of (take 32 f)))
+    → IfOk r (λ header. header.bound ≡ bound_of f)
 front-bound f (Ok header) is = is.1 ∙ front_bound f
 front-bound f (Err fault) is = is

@@ -18,7 +18,8 @@ fn bound_zero() -> [u8; 458]
     file
 }
 
-/// The mean and the last share of the first record; none where the table answers no header, or can't be read.
+/// The mean and the last share of the first record; none where the table answers no header, or
+/// can't be read.
 fn first_numbers<T: Table>(table: &mut T) -> Option<(u128, u128)> {
     let header = table.header().ok()?;
     if header.count == 0 {
