@@ -32,7 +32,8 @@ front-bound f (Ok header) is = is.1 ∙ bound_of-front f
 front-bound f (Err fault) is = is
 
 -- a file whose first bytes are under 256 and state its header: what follows them is not looked at
-pub front-is_file : (f : List ℕ) → ((i : ℕ) → get_or (take 32 f) i 0 < 256) → IsHeader 44 (take 32 f) (length f)
+pub front-is_file : (f : List ℕ) → ((i : ℕ) → get_or (take 32 f) i 0 < 256) →
+    IsHeader 44 (take 32 f) (length f)
     → IsFileTo 44 f
 front-is_file f small is = record {
   bounded = omega (arith, same-bound, padded-file.bounded);

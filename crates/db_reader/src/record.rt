@@ -34,7 +34,8 @@ impl Record {
         }
     }
 
-    /// Fills the room with the bytes of a source from an offset on, in one read. At a fault it may hold any bytes.
+    /// Fills the room with the bytes of a source from an offset on, in one read. At a fault it
+    /// may hold any bytes.
     pub(crate) fn read_from<S: Source>(
         &mut self,
         source: &mut S,

@@ -13,7 +13,8 @@ pub roll-more : (g : Throw → ℕ) (i : ℕ) → i < 21
     → sum_by g (take (i + 1) all_rolls) ≡ sum_by g (take i all_rolls) + g (roll_at i)
 unfolding roll_at
 roll-more g i lt =
-    sum_by_more g all_rolls i (record { first = one; second = one }) (omega (arith, length-all_rolls))
+    sum_by_more g all_rolls i (record { first = one; second = one })
+    (omega (arith, length-all_rolls))
 
 -- the weights of the first rolls are within 36
 pub weights-within : (i : ℕ) → i < 21 → sum_by weight (take i all_rolls) + weight (roll_at i) ≤ 36
@@ -83,7 +84,8 @@ shares-moved (x ∷ ys) totals len len_t start moved none all =
     let terms = sum_upto-same 22 (λ k. 36 * get_or ys k 0 + 0) (λ k. get_or totals k 0)
     (λ k lt. omega (arith, moved k lt)) in
     finish x (sum (x ∷ ys)) (sum ys) (sum_upto 22 (λ k. get_or ys k 0)) _ _ _ start cons
-    (omega (arith, places, rest)) scaled blank terms (sum_upto-without_last totals 22 len_t none ∙ all)
+    (omega (arith, places, rest)) scaled blank terms
+    (sum_upto-without_last totals 22 len_t none ∙ all)
   where
     finish : (x total rest upto scaled blank shares : ℕ) → x ≡ 0 → total ≡ x + rest
         → rest ≡ upto → scaled ≡ 36 * upto + blank → blank ≡ 0 → scaled ≡ shares

@@ -14,7 +14,8 @@ abbrev pub IsLowest : List ℕ → Board → Throw → Type 0
 IsLowest f x v =
     (z : Board) → Legal x v z → mean f z ≡ mean_at f (play f x v) → play f x v ≤ rank z
 
--- the built file of a bound. That it is one of bytes leaves one list alone: its numbers fix its bytes
+-- the built file of a bound. That it is one of bytes leaves
+-- one list alone: its numbers fix its bytes
 pub record IsBuilt (limit bound : ℕ) (f : List ℕ) : Type 0 where
   pub bytes : IsBytes f
   pub bound_is : bound_of f ≡ bound

@@ -1,4 +1,5 @@
--- How many pips a throw takes at most: a die takes no more than it shows, so a double takes at most 24.
+-- How many pips a throw takes at most: a die takes no more
+-- than it shows, so a double takes at most 24.
 use Rattle.std.proofs.Common.{◌≡◌, ◌⊎◌, ⊎_elim, ℕ, ◌+◌, ◌*◌, ◌<◌, ◌≤◌, List, [], ◌∷◌, length, arith, ap}
 use Rattle.race_model.specs.Positions.{Board, IsHighest, count, pips}
 use Rattle.race_model.specs.Dice.{Die, one, two, three, four, five, six, number, Throw}
@@ -32,9 +33,9 @@ step_takes x d y s = by (changed x d y s)
     by (moved l) = omega (arith, l.pips_lost, number_most d)
     by (borne_off t positive why top l) =
         let few : t ≤ 6 = ⊎_elim
-            (λ e. omega (arith, number_most d))
-            (λ empty. ⊎_elim (λ is. low t empty is) (λ e. omega (arith, number_most d)) top)
-            why in
+        (λ e. omega (arith, number_most d))
+        (λ empty. ⊎_elim (λ is. low t empty is) (λ e. omega (arith, number_most d)) top)
+        why in
         omega (arith, l.pips_lost)
 
 -- dice take at most 6 pips each
@@ -43,14 +44,15 @@ run_takes [] x y same = omega (arith, ap pips same)
 run_takes (d ∷ dice) x y run = ⊎_elim
     (λ stays. omega (arith, ap pips stays.1))
     (λ goes.
-        let first = step_takes x d goes.1.0 goes.1.1.0 in
-        let rest = run_takes dice goes.1.0 y goes.1.1.1 in
-        omega arith)
+    let first = step_takes x d goes.1.0 goes.1.1.0 in
+    let rest = run_takes dice goes.1.0 y goes.1.1.1 in
+    omega arith)
     run
 
 -- a throw takes at most 24 pips
 pub legal_takes : (x : Board) (v : Throw) (y : Board) → Legal x v y → pips x ≤ pips y + 24
 legal_takes x v y (in_order apart run) = omega (arith, run_takes (v.first ∷ v.second ∷ []) x y run)
-legal_takes x v y (in_reverse apart run) = omega (arith, run_takes (v.second ∷ v.first ∷ []) x y run)
+legal_takes x v y (in_reverse apart run) =
+    omega (arith, run_takes (v.second ∷ v.first ∷ []) x y run)
 legal_takes x v y (double same run) =
     omega (arith, run_takes (v.first ∷ v.first ∷ v.first ∷ v.first ∷ []) x y run)
