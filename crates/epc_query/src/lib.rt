@@ -1,0 +1,4 @@
+//! The query language of a bearoff database: what a line asks.
+#![tactic(auto)]
+
+mod query;
