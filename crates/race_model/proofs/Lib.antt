@@ -39,3 +39,4 @@ pub mod LeastExists
 pub mod SampleLeast
 pub mod Members
 pub mod RollParts
+pub mod InputLines
