@@ -2,7 +2,7 @@
 use Rattle.std.proofs.Common.{◌≡◌, ℕ, false, List, [], ◌++◌, Result, Ok, Err, OnOk, Some, sym, ap, subst, ◌∙◌, arith}
 use Rattle.std.specs.Result.{is_err}
 use Rattle.race_model.specs.RightFiles.{IsRight}
-use Rattle.race_model.proofs.Right.{right_of_local}
+use Rattle.race_model.proofs.RightFiles.Right.{right_of_local}
 use Rattle.retrograde.specs.BuiltBytes.{WritesBuilt}
 
 -- a build without a fault has written a right database

@@ -11,11 +11,11 @@ use Rattle.race_model.specs.Files.{bound_of, mean, spread}
 use Rattle.race_model.specs.LocalEquations.{whole, IsLocal, IsLocalAt}
 use Rattle.race_model.specs.Strategies.{IsLeast, count_of}
 use Rattle.race_model.specs.RightFiles.{follow}
-use Rattle.race_model.proofs.RightFacts.{shares_add_up}
-use Rattle.race_model.proofs.Horizons.{ends_in_22}
-use Rattle.race_model.proofs.Bounded.{mean_at_most}
-use Rattle.race_model.proofs.RankOrder.{rank-bound}
-use Rattle.race_model.proofs.Right.{right_of_local}
+use Rattle.race_model.proofs.RightFiles.RightFacts.{shares_add_up}
+use Rattle.race_model.proofs.Strategies.Horizons.{ends_in_22}
+use Rattle.race_model.proofs.RightFiles.Bounded.{mean_at_most}
+use Rattle.race_model.proofs.Ranks.RankOrder.{rank_bound}
+use Rattle.race_model.proofs.RightFiles.Right.{right_of_local}
 use Rattle.certificate.specs.RecordedPlays.{HasRecord}
 use Rattle.certificate.proofs.PlayTests.{record-of_position}
 use Rattle.certificate.proofs.RecordTests.{file-records}
@@ -28,8 +28,8 @@ module _ (f : List ℕ) (local : IsLocal 44 f) (x : Board) (at : IsPosition x) (
   -- positions of no higher rank meet the equations
   accepted-lower : (z : Board) → IsPosition z → rank z ≤ rank x → IsLocalAt f z
   accepted-lower z is le =
-      let mine = (rank-bound x (bound_of f) at).1 low in
-      local.at_each z is ((rank-bound z (bound_of f) is).0 (omega arith))
+      let mine = (rank_bound x (bound_of f) at).1 low in
+      local.at_each z is ((rank_bound z (bound_of f) is).0 (omega arith))
 
   -- the recorded mean is within 22 rolls
   pub accepted-mean : mean f x ≤ 22 * whole

@@ -6,13 +6,13 @@ use Rattle.race_model.specs.Ranks.{rank, at_rank, count_to}
 use Rattle.race_model.specs.Files.{IsFileTo, bound_of}
 use Rattle.race_model.specs.LocalEquations.{IsLocalAt, IsLocal}
 use Rattle.race_model.specs.FirstFault.{Test, play_test, least_test, mean_test, spread_test, rank_of, Holds, Asks, IsFirstFault}
-use Rattle.race_model.proofs.Throws.{roll_of_index}
-use Rattle.race_model.proofs.RankOrder.{rank-bound, rank-found, at_rank-position}
-use Rattle.race_model.proofs.PositionTotals.{rank-at_rank, count_to-most}
+use Rattle.race_model.proofs.Dice.Throws.{roll_of_index}
+use Rattle.race_model.proofs.Ranks.RankOrder.{rank_bound, at_rank-rank, at_rank_position}
+use Rattle.race_model.proofs.Ranks.PositionTotals.{rank-at_rank, count_to-most}
 use Rattle.race_model.specs.RightFiles.{IsRight}
-use Rattle.race_model.proofs.HeaderFacts.{header_fault_refuses}
-use Rattle.race_model.proofs.Faults.{fault_refuses}
-use Rattle.race_model.proofs.Right.{local_of_right}
+use Rattle.race_model.proofs.FirstFaults.HeaderFacts.{header_fault_refuses}
+use Rattle.race_model.proofs.FirstFaults.Questions.{fault_refuses}
+use Rattle.race_model.proofs.RightFiles.Right.{local_of_right}
 use Rattle.db_layout.specs.HeaderFaults.{test_of}
 use Rattle.certificate.specs.RecordFaults.{IsFirstInRecord, test_of_record}
 use Rattle.certificate.specs.CheckFaults.{IsFirst, of_record_at}
@@ -43,7 +43,7 @@ first-of_file f r t accepted first = record {
   earlier = λ u asks before. ⊎_elim
       (λ lower.
       let there = rank-at_rank (rank_of u) (omega (arith, asked-rank f u asks, count_to-most (bound_of f))) in
-      local-answers f u (accepted (at_rank (rank_of u)) (at_rank-position (rank_of u)) (omega (arith, first.of_rank))) asks)
+      local-answers f u (accepted (at_rank (rank_of u)) (at_rank_position (rank_of u)) (omega (arith, first.of_rank))) asks)
       (λ here. first.earlier u (here.0 ∙ first.of_rank) here.1 asks)
       before;
 }
@@ -61,7 +61,7 @@ accepted-more f r accepted here z at low = ⊎_elim
     (λ less. accepted z at less)
     (λ more.
     let is : rank z ≡ r = omega arith in
-    let same : at_rank r ≡ z = ap at_rank (sym is) ∙ rank-found z at in
+    let same : at_rank r ≡ z = ap at_rank (sym is) ∙ at_rank-rank z at in
     subst (IsLocalAt f) same here)
     (cases_lt (rank z) r)
 
@@ -69,7 +69,7 @@ accepted-more f r accepted here z at low = ⊎_elim
 pub accepted-all : (f : List ℕ) (r : ℕ) → IsFileTo 44 f → count_to (bound_of f) ≤ r → ((z : Board) → IsPosition z → rank z < r → IsLocalAt f z) → IsLocal 44 f
 accepted-all f r file all accepted = record {
   file = file;
-  at_each = λ x at low. let lt = (rank-bound x (bound_of f) at).1 low in accepted x at (omega arith);
+  at_each = λ x at low. let lt = (rank_bound x (bound_of f) at).1 low in accepted x at (omega arith);
 }
 
 -- a file with a first fault is not right

@@ -4,7 +4,7 @@ use Rattle.std.proofs.lemmas.Bool.{cases_lt}
 use Rattle.std.proofs.lemmas.List.{take_all}
 use Rattle.race_model.specs.Files.{IsFileTo, bound_of}
 use Rattle.race_model.specs.Headers.{IsHeader}
-use Rattle.race_model.proofs.HeaderFacts.{file_of_header, front_bound}
+use Rattle.race_model.proofs.FirstFaults.HeaderFacts.{file_of_header, bound_of-front}
 use Rattle.db_layout.specs.declared.header.Header.{Header}
 use Rattle.db_layout.specs.declared.header.HeaderFault.{HeaderFault}
 
@@ -21,5 +21,5 @@ front-file f (Ok header) small is = file_of_header 44 f small is.0
 front-file f (Err fault) small is = is
 
 pub front-bound : (f : List ℕ) (r : Result Header HeaderFault) → IfOk r (λ header. IsHeader 44 (take 32 f) (length f) × (header.bound ≡ bound_of (take 32 f))) → IfOk r (λ header. header.bound ≡ bound_of f)
-front-bound f (Ok header) is = is.1 ∙ front_bound f
+front-bound f (Ok header) is = is.1 ∙ bound_of-front f
 front-bound f (Err fault) is = is

@@ -8,12 +8,12 @@ use Rattle.race_model.specs.Ranks.{rank, at_rank, count_to}
 use Rattle.race_model.specs.Files.{IsFileTo, bound_of, mean, mean_at, play_at, spread_at}
 use Rattle.race_model.specs.LocalEquations.{recorded, whole, IsPlayed, IsBest, HasMean, HasShare, HasLeastMean, IsLocalAt}
 use Rattle.race_model.specs.FirstFault.{Test, play_test, least_test, mean_test, spread_test, rank_of, place_of, Holds, Asks}
-use Rattle.race_model.proofs.Results.{legal_position, legal_pips}
-use Rattle.race_model.proofs.Throws.{roll_of_index, index_of_roll}
-use Rattle.race_model.proofs.RankOrder.{rank-bound, rank-apart, at_rank-position}
-use Rattle.race_model.proofs.PositionTotals.{rank-at_rank, count_to-most}
-use Rattle.race_model.proofs.Horizons.{ends_in_22}
-use Rattle.race_model.proofs.Bounded.{recorded_lower, mean_at_most, share_at_most}
+use Rattle.race_model.proofs.Plays.Results.{legal_position, legal_pips}
+use Rattle.race_model.proofs.Dice.Throws.{roll_of_index, index_of_roll}
+use Rattle.race_model.proofs.Ranks.RankOrder.{rank_bound, rank_apart, at_rank_position}
+use Rattle.race_model.proofs.Ranks.PositionTotals.{rank-at_rank, count_to-most}
+use Rattle.race_model.proofs.Strategies.Horizons.{ends_in_22}
+use Rattle.race_model.proofs.RightFiles.Bounded.{recorded_lower, mean_at_most, share_at_most}
 use Rattle.certificate.specs.RecordedPlays.{ArePlays, HasRecord, HaveRecords, HaveMeans, HaveShares}
 use Rattle.certificate.specs.PlayFaults.{FirstOfPlays}
 use Rattle.certificate.specs.RecordFaults.{IsFirstInRecord, test_of_record, of_record}
@@ -30,10 +30,10 @@ module _ (f : List ℕ) (r : ℕ) (file : IsFileTo 44 f) (lt : r < count_to (bou
   rank-is = rank-at_rank r (omega (arith, count_to-most (bound_of f)))
 
   pub position-is : IsPosition (at_rank r)
-  position-is = at_rank-position r
+  position-is = at_rank_position r
 
   pub position-low : pips (at_rank r) ≤ bound_of f
-  position-low = (rank-bound (at_rank r) (bound_of f) position-is).0 (omega (arith, rank-is))
+  position-low = (rank_bound (at_rank r) (bound_of f) position-is).0 (omega (arith, rank-is))
 
   -- a fault of the plays is the first of the record
   pub first-play : (roll : ℕ) → FirstOfPlays f (at_rank r) roll NotLegal → IsFirstInRecord f r (play_test r roll)
@@ -103,7 +103,7 @@ module _ (f : List ℕ) (r : ℕ) (file : IsFileTo 44 f) (lt : r < count_to (bou
         let low = le_trans (legal_pips x (roll_at i) y here.legal) position-low in
         let at = legal_position x (roll_at i) y position-is here.legal in
         let is : rank y ≡ slice_index plays i = here.ranked ∙ (ap (play_at f (rank x)) (roll_of_index i small).1 ∙ sym (are i small)) in
-        subst (HasRecord f) is (file-records f file (rank y) ((rank-bound y (bound_of f) at).1 low))
+        subst (HasRecord f) is (file-records f file (rank y) ((rank_bound y (bound_of f) at).1 low))
 
     module _ (accepted : (z : Board) → IsPosition z → rank z < r → IsLocalAt f z) where
       -- a play of an unfinished position has been accepted
@@ -140,6 +140,6 @@ module _ (f : List ℕ) (r : ℕ) (file : IsFileTo 44 f) (lt : r < count_to (bou
           ⊎_elim
           (λ less. (accepted z at (omega (arith, rank-is))).means)
           (λ more.
-          let same : z ≡ at_rank r = rank-apart z (at_rank r) at position-is (omega arith) in
+          let same : z ≡ at_rank r = rank_apart z (at_rank r) at position-is (omega arith) in
           subst (HasLeastMean f) (sym same) (least-mean has))
           (cases_lt (rank z) (rank (at_rank r))))

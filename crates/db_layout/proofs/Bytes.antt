@@ -9,7 +9,7 @@ use Rattle.std.specs.Int.{w16, w128, byte_worth, bytes_high_first, sum_through, 
 use Rattle.std.proofs.lemmas.Nat.{from_be_bytes-to_be_bytes_2}
 use Rattle.race_model.specs.Files.{mean_of, play_of, share_of}
 use Rattle.race_model.specs.LocalEquations.{whole}
-use Rattle.fixed_fraction.proofs.Shares.{share-le}
+use Rattle.fixed_fraction.proofs.Shares.{share_at_most_sum}
 use Rattle.db_layout.specs.Records.{short_bytes, wide_bytes, record_of, IsRecordOf}
 
 -- a sum from its first number on
@@ -35,8 +35,8 @@ value-cons k b bs =
     sum_through-first (λ i. byte_worth (suc k - i) (get_or (b ∷ bs) i 0)) k ∙ ap₂ (λ n m. n + m) first rest
 
 -- the parts of a number, by one byte more
-split-byte : (n m p q d e r : ℕ) → m * 256 * q + r ≡ n → m * p + e ≡ n → 256 * q + d ≡ p → r ≡ d * m + e
-split-byte n m p q d e r a b c =
+split_byte : (n m p q d e r : ℕ) → m * 256 * q + r ≡ n → m * p + e ≡ n → 256 * q + d ≡ p → r ≡ d * m + e
+split_byte n m p q d e r a b c =
     let h : m * (256 * q + d) + e ≡ n = rw c b in
     omega (arith, mul-distrib m (256 * q) d)
   where
@@ -46,11 +46,11 @@ split-byte n m p q d e r a b c =
 -- the remainder by one byte more
 mod-byte : (n m : ℕ) → n % (m * 256) ≡ n / m % 256 * m + n % m
 mod-byte n m =
-    split-byte n m (n / m) (n / (m * 256)) (n / m % 256) (n % m) (n % (m * 256)) (div-add-mod n (m * 256)) (div-add-mod n m) (rw (← div-div-eq-div-mul n m 256) (div-add-mod (n / m) 256))
+    split_byte n m (n / m) (n / (m * 256)) (n / m % 256) (n % m) (n % (m * 256)) (div-add-mod n (m * 256)) (div-add-mod n m) (rw (← div-div-eq-div-mul n m 256) (div-add-mod (n / m) 256))
 
 -- a power, its last factor on the right
-pow-succ-right : (n m : ℕ) → n ^ suc m ≡ n ^ m * n
-pow-succ-right n m = omega (arith, pow-succ' n m)
+pow-suc_right : (n m : ℕ) → n ^ suc m ≡ n ^ m * n
+pow-suc_right n m = omega (arith, pow-succ' n m)
 
 -- k + 1 bytes of a number give its remainder
 value-bytes : (k n : ℕ) → value k (bytes_high_first (suc k) n) ≡ n % 256 ^ suc k
@@ -59,7 +59,7 @@ value-bytes zero n = omega arith
 value-bytes (suc k) n =
     value-cons k (n / 256 ^ suc k % 256) (bytes_high_first (suc k) n)
     ∙ (ap (λ m. n / 256 ^ suc k % 256 * 256 ^ suc k + m) (value-bytes k n)
-    ∙ (sym (mod-byte n (256 ^ suc k)) ∙ ap (λ m. n % m) (sym (pow-succ-right 256 (suc k)))))
+    ∙ (sym (mod-byte n (256 ^ suc k)) ∙ ap (λ m. n % m) (sym (pow-suc_right 256 (suc k)))))
 
 -- a number of 128 bits is read back
 pub from_be_bytes-to_be_bytes_16 : (n : ℕ) → n < 2 ^ 128 → from_be_bytes w128 (to_be_bytes w128 n) ≡ n
@@ -67,83 +67,83 @@ unfolding value
 from_be_bytes-to_be_bytes_16 n fits = value-bytes 15 n ∙ omega arith
 
 -- .. and one of 16 bits
-pub short-read : (n : ℕ) → n < 2 ^ 16 → from_be_bytes w16 (short_bytes n) ≡ n
+pub from_be_bytes-short : (n : ℕ) → n < 2 ^ 16 → from_be_bytes w16 (short_bytes n) ≡ n
 unfolding short_bytes
-short-read n fits = from_be_bytes-to_be_bytes_2 n fits
+from_be_bytes-short n fits = from_be_bytes-to_be_bytes_2 n fits
 
-pub wide-read : (n : ℕ) → n < 2 ^ 128 → from_be_bytes w128 (wide_bytes n) ≡ n
+pub from_be_bytes-wide : (n : ℕ) → n < 2 ^ 128 → from_be_bytes w128 (wide_bytes n) ≡ n
 unfolding wide_bytes
-wide-read n fits = from_be_bytes-to_be_bytes_16 n fits
+from_be_bytes-wide n fits = from_be_bytes-to_be_bytes_16 n fits
 
 -- their lengths
-pub short-length : (n : ℕ) → length (short_bytes n) ≡ 2
+pub length-short_bytes : (n : ℕ) → length (short_bytes n) ≡ 2
 unfolding short_bytes
-short-length n = refl
+length-short_bytes n = refl
 
-pub wide-length : (n : ℕ) → length (wide_bytes n) ≡ 16
+pub length-wide_bytes : (n : ℕ) → length (wide_bytes n) ≡ 16
 unfolding wide_bytes
-wide-length n = refl
+length-wide_bytes n = refl
 
 -- parts of equal length one after another
-pub parts-length : (g : ℕ → List ℕ) (w : ℕ) → ((x : ℕ) → length (g x) ≡ w) → (xs : List ℕ) → length (flat_map g xs) ≡ w * length xs
-parts-length g w each [] = omega arith
-parts-length g w each (x ∷ xs) = omega (arith, length-append (g x) (flat_map g xs), each x, parts-length g w each xs)
+pub length-parts : (g : ℕ → List ℕ) (w : ℕ) → ((x : ℕ) → length (g x) ≡ w) → (xs : List ℕ) → length (flat_map g xs) ≡ w * length xs
+length-parts g w each [] = omega arith
+length-parts g w each (x ∷ xs) = omega (arith, length-append (g x) (flat_map g xs), each x, length-parts g w each xs)
 
 -- .. and one of them
-pub part-at : (g : ℕ → List ℕ) (w : ℕ) → ((x : ℕ) → length (g x) ≡ w) → (xs rest : List ℕ) (i : ℕ) → i < length xs → take w (drop (w * i) (flat_map g xs ++ rest)) ≡ g (get_or xs i 0)
-part-at g w each [] rest i lt = absurd (omega arith)
-part-at g w each (x ∷ xs) rest zero lt =
+pub take-part : (g : ℕ → List ℕ) (w : ℕ) → ((x : ℕ) → length (g x) ≡ w) → (xs rest : List ℕ) (i : ℕ) → i < length xs → take w (drop (w * i) (flat_map g xs ++ rest)) ≡ g (get_or xs i 0)
+take-part g w each [] rest i lt = absurd (omega arith)
+take-part g w each (x ∷ xs) rest zero lt =
     let start : w * 0 ≡ 0 = omega arith in
     rw (start, append_assoc, ← each x) (take-append_seam (g x) (flat_map g xs ++ rest))
-part-at g w each (x ∷ xs) rest (suc i) lt =
+take-part g w each (x ∷ xs) rest (suc i) lt =
     let next : w * suc i ≡ length (g x) + w * i = omega (arith, each x) in
-    rw (next, append_assoc, drop-append-add (g x) (flat_map g xs ++ rest) (w * i)) (part-at g w each xs rest i (omega arith))
+    rw (next, append_assoc, drop-append-add (g x) (flat_map g xs ++ rest) (w * i)) (take-part g w each xs rest i (omega arith))
 
 -- what one reads in the bytes of a record
-pub record-reads : (mean : ℕ) (plays shares : List ℕ) → mean < 2 ^ 128 → length plays ≡ 21 → ((i : ℕ) → get_or plays i 0 < 2 ^ 16) → length shares ≡ 23 → ((k : ℕ) → get_or shares k 0 < 2 ^ 128) → IsRecordOf (record_of mean plays shares) mean plays shares
+pub record_reads : (mean : ℕ) (plays shares : List ℕ) → mean < 2 ^ 128 → length plays ≡ 21 → ((i : ℕ) → get_or plays i 0 < 2 ^ 16) → length shares ≡ 23 → ((k : ℕ) → get_or shares k 0 < 2 ^ 128) → IsRecordOf (record_of mean plays shares) mean plays shares
 unfolding record_of mean_of play_of share_of
-record-reads mean plays shares small few low many short = record {
-  len = omega (arith, length-append (wide_bytes mean) (flat_map short_bytes plays ++ flat_map wide_bytes shares), length-append (flat_map short_bytes plays) (flat_map wide_bytes shares), wide-length mean, parts-length short_bytes 2 short-length plays, parts-length wide_bytes 16 wide-length shares);
-  mean_is = ap (from_be_bytes w128) first ∙ wide-read mean small;
-  play_is = λ i lt. ap (from_be_bytes w16) (play i lt) ∙ short-read (get_or plays i 0) (low i);
-  share_is = λ k le. ap (from_be_bytes w128) (share k le) ∙ wide-read (get_or shares k 0) (short k);
+record_reads mean plays shares small few low many short = record {
+  len = omega (arith, length-append (wide_bytes mean) (flat_map short_bytes plays ++ flat_map wide_bytes shares), length-append (flat_map short_bytes plays) (flat_map wide_bytes shares), length-wide_bytes mean, length-parts short_bytes 2 length-short_bytes plays, length-parts wide_bytes 16 length-wide_bytes shares);
+  mean_is = ap (from_be_bytes w128) first ∙ from_be_bytes-wide mean small;
+  play_is = λ i lt. ap (from_be_bytes w16) (play i lt) ∙ from_be_bytes-short (get_or plays i 0) (low i);
+  share_is = λ k le. ap (from_be_bytes w128) (share k le) ∙ from_be_bytes-wide (get_or shares k 0) (short k);
 } where
   first : take 16 (wide_bytes mean ++ (flat_map short_bytes plays ++ flat_map wide_bytes shares)) ≡ wide_bytes mean
-  first = subst (λ (n : ℕ). take n (wide_bytes mean ++ (flat_map short_bytes plays ++ flat_map wide_bytes shares)) ≡ wide_bytes mean) (wide-length mean) (take-append_seam (wide_bytes mean) (flat_map short_bytes plays ++ flat_map wide_bytes shares))
+  first = subst (λ (n : ℕ). take n (wide_bytes mean ++ (flat_map short_bytes plays ++ flat_map wide_bytes shares)) ≡ wide_bytes mean) (length-wide_bytes mean) (take-append_seam (wide_bytes mean) (flat_map short_bytes plays ++ flat_map wide_bytes shares))
 
   play : (i : ℕ) → i < 21 → take 2 (drop (16 + 2 * i) (wide_bytes mean ++ (flat_map short_bytes plays ++ flat_map wide_bytes shares))) ≡ short_bytes (get_or plays i 0)
-  play i lt = rw (← wide-length mean, drop-append-add (wide_bytes mean) (flat_map short_bytes plays ++ flat_map wide_bytes shares) (2 * i)) (part-at short_bytes 2 short-length plays (flat_map wide_bytes shares) i (omega arith))
+  play i lt = rw (← length-wide_bytes mean, drop-append-add (wide_bytes mean) (flat_map short_bytes plays ++ flat_map wide_bytes shares) (2 * i)) (take-part short_bytes 2 length-short_bytes plays (flat_map wide_bytes shares) i (omega arith))
 
   share : (k : ℕ) → k ≤ 22 → take 16 (drop (58 + 16 * k) (wide_bytes mean ++ (flat_map short_bytes plays ++ flat_map wide_bytes shares))) ≡ wide_bytes (get_or shares k 0)
   share k le =
-      let place : 58 + 16 * k ≡ length (wide_bytes mean) + (length (flat_map short_bytes plays) + 16 * k) = omega (arith, wide-length mean, parts-length short_bytes 2 short-length plays) in
-      let part = part-at wide_bytes 16 wide-length shares [] k (omega arith) in
+      let place : 58 + 16 * k ≡ length (wide_bytes mean) + (length (flat_map short_bytes plays) + 16 * k) = omega (arith, length-wide_bytes mean, length-parts short_bytes 2 length-short_bytes plays) in
+      let part = take-part wide_bytes 16 length-wide_bytes shares [] k (omega arith) in
       rw (place, drop-append-add (wide_bytes mean) (flat_map short_bytes plays ++ flat_map wide_bytes shares) (length (flat_map short_bytes plays) + 16 * k), drop-append-add (flat_map short_bytes plays) (flat_map wide_bytes shares) (16 * k)) (subst (λ (bs : List ℕ). take 16 (drop (16 * k) bs) ≡ wide_bytes (get_or shares k 0)) (append-nil (flat_map wide_bytes shares)) part)
 
 -- the parts of one number more
-pub part-more : (g : ℕ → List ℕ) (xs : List ℕ) (i : ℕ) → i < length xs → flat_map g (take (i + 1) xs) ≡ flat_map g (take i xs) ++ g (get_or xs i 0)
-part-more g xs i lt = ap (flat_map g) (take_more xs i 0 lt) ∙ (flat_map-append g (take i xs) (get_or xs i 0 ∷ []) ∙ ap (λ (bs : List ℕ). flat_map g (take i xs) ++ bs) (append-nil (g (get_or xs i 0))))
+pub flat_map-take_more : (g : ℕ → List ℕ) (xs : List ℕ) (i : ℕ) → i < length xs → flat_map g (take (i + 1) xs) ≡ flat_map g (take i xs) ++ g (get_or xs i 0)
+flat_map-take_more g xs i lt = ap (flat_map g) (take_more xs i 0 lt) ∙ (flat_map-append g (take i xs) (get_or xs i 0 ∷ []) ∙ ap (λ (bs : List ℕ). flat_map g (take i xs) ++ bs) (append-nil (g (get_or xs i 0))))
 
 -- the bytes that the code makes of a number
-pub short-is : (n : ℕ) (bs : List ℕ) → bs ≡ to_be_bytes w16 n → bs ≡ short_bytes n
+pub short_is : (n : ℕ) (bs : List ℕ) → bs ≡ to_be_bytes w16 n → bs ≡ short_bytes n
 unfolding short_bytes
-short-is n bs e = e
+short_is n bs e = e
 
-pub wide-is : (n : ℕ) (bs : List ℕ) → bs ≡ to_be_bytes w128 n → bs ≡ wide_bytes n
+pub wide_is : (n : ℕ) (bs : List ℕ) → bs ≡ to_be_bytes w128 n → bs ≡ wide_bytes n
 unfolding wide_bytes
-wide-is n bs e = e
+wide_is n bs e = e
 
 -- no share of a spread is over 128 bits
-pub shares-fit : (shares : List ℕ) → sum shares ≡ whole → (k : ℕ) → get_or shares k 0 < 2 ^ 128
+pub shares_fit : (shares : List ℕ) → sum shares ≡ whole → (k : ℕ) → get_or shares k 0 < 2 ^ 128
 unfolding whole
-shares-fit shares all k = omega (arith, share-le shares k)
+shares_fit shares all k = omega (arith, share_at_most_sum shares k)
 
 -- .. nor is a mean
-pub mean-fits : (mean : ℕ) → mean ≤ 22 * whole → mean < 2 ^ 128
+pub mean_fits : (mean : ℕ) → mean ≤ 22 * whole → mean < 2 ^ 128
 unfolding whole
-mean-fits mean le = omega arith
+mean_fits mean le = omega arith
 
 -- the bytes of a record, as they are added up
-pub record-is : (mean : ℕ) (plays shares : List ℕ) → (wide_bytes mean ++ flat_map short_bytes plays) ++ flat_map wide_bytes shares ≡ record_of mean plays shares
+pub record_is : (mean : ℕ) (plays shares : List ℕ) → (wide_bytes mean ++ flat_map short_bytes plays) ++ flat_map wide_bytes shares ≡ record_of mean plays shares
 unfolding record_of
-record-is mean plays shares = append_assoc (wide_bytes mean) (flat_map short_bytes plays) (flat_map wide_bytes shares)
+record_is mean plays shares = append_assoc (wide_bytes mean) (flat_map short_bytes plays) (flat_map wide_bytes shares)

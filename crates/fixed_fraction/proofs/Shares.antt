@@ -7,10 +7,10 @@ use Rattle.race_model.specs.LocalEquations.{whole}
 use Rattle.fixed_fraction.specs.Shares.{weighted_share}
 
 -- no share is more than all of them together
-pub share-le : (xs : List ℕ) (k : ℕ) → get_or xs k 0 ≤ sum xs
-share-le [] k = omega arith
-share-le (x ∷ xs) zero = omega (arith, sum_by-cons (λ y. y) x xs)
-share-le (x ∷ xs) (suc k) = omega (arith, sum_by-cons (λ y. y) x xs, share-le xs k)
+pub share_at_most_sum : (xs : List ℕ) (k : ℕ) → get_or xs k 0 ≤ sum xs
+share_at_most_sum [] k = omega arith
+share_at_most_sum (x ∷ xs) zero = omega (arith, sum_by-cons (λ y. y) x xs)
+share_at_most_sum (x ∷ xs) (suc k) = omega (arith, sum_by-cons (λ y. y) x xs, share_at_most_sum xs k)
 
 -- the sum of the numbers below n
 abbrev pub sum_upto : ℕ → (ℕ → ℕ) → ℕ
@@ -40,48 +40,48 @@ sum-by_places xs (suc n) h =
     rw (← add-one) (omega (arith, more, sum-by_places xs n (omega arith)))
 
 -- the weighted shares of all rolls are the weights of all parts, each with all its shares
-pub shares-by_parts : (parts : List (ℕ × List ℕ)) (n : ℕ) → sum_upto n (weighted_share parts) ≡ sum_by (λ part. part.0 * sum_upto n (λ k. get_or part.1 k 0)) parts
-shares-by_parts [] n = sum_upto-zero n
-shares-by_parts (p ∷ ps) n =
+pub sum_upto-weighted_share : (parts : List (ℕ × List ℕ)) (n : ℕ) → sum_upto n (weighted_share parts) ≡ sum_by (λ part. part.0 * sum_upto n (λ k. get_or part.1 k 0)) parts
+sum_upto-weighted_share [] n = sum_upto-zero n
+sum_upto-weighted_share (p ∷ ps) n =
     let cons = sum_upto-same n (weighted_share (p ∷ ps)) (λ k. p.0 * get_or p.1 k 0 + weighted_share ps k) (λ k _. sum_by-cons (λ part. part.0 * get_or part.1 k 0) p ps) in
     let split = sum_upto-linear n p.0 (λ k. get_or p.1 k 0) (weighted_share ps) in
-    let rest = shares-by_parts ps n in
+    let rest = sum_upto-weighted_share ps n in
     let all = sum_by-cons (λ part. part.0 * sum_upto n (λ k. get_or part.1 k 0)) p ps in
     omega (arith, cons, split, rest, all)
 
 -- a list whose last number is 0 adds up to the numbers before it
-pub without-last : (xs : List ℕ) (n : ℕ) → length xs ≡ suc n → get_or xs n 0 ≡ 0 → sum_upto n (λ k. get_or xs k 0) ≡ sum xs
-without-last xs n len last =
+pub sum_upto-without_last : (xs : List ℕ) (n : ℕ) → length xs ≡ suc n → get_or xs n 0 ≡ 0 → sum_upto n (λ k. get_or xs k 0) ≡ sum xs
+sum_upto-without_last xs n len last =
     let all = take_all (suc n) xs (omega arith) in
     let places = sum-by_places xs (suc n) (omega arith) in
     let total : sum (take (suc n) xs) ≡ sum xs = ap sum all in
     omega (arith, places, total, last)
 
 -- parts of a whole each, with no share at 22 rolls, have their weights times the whole below 22 rolls
-wholes-by_weight : (parts : List (ℕ × List ℕ)) → All (λ part. get_or part.1 22 0 ≡ 0) parts → All (λ part. (sum part.1 ≡ whole) × (length part.1 ≡ 23)) parts → sum_by (λ part. part.0 * sum_upto 22 (λ k. get_or part.1 k 0)) parts ≡ sum_by (λ part. part.0) parts * whole
-wholes-by_weight [] room wholes = omega arith
-wholes-by_weight (p ∷ ps) room wholes =
+wholes_by_weight : (parts : List (ℕ × List ℕ)) → All (λ part. get_or part.1 22 0 ≡ 0) parts → All (λ part. (sum part.1 ≡ whole) × (length part.1 ≡ 23)) parts → sum_by (λ part. part.0 * sum_upto 22 (λ k. get_or part.1 k 0)) parts ≡ sum_by (λ part. part.0) parts * whole
+wholes_by_weight [] room wholes = omega arith
+wholes_by_weight (p ∷ ps) room wholes =
     let here = All-head (λ part. (sum part.1 ≡ whole) × (length part.1 ≡ 23)) p ps wholes in
     let none = All-head (λ part. get_or part.1 22 0 ≡ 0) p ps room in
-    let one = without-last p.1 22 here.1 none in
-    let rest = wholes-by_weight ps (All-tail (λ part. get_or part.1 22 0 ≡ 0) p ps room) (All-tail (λ part. (sum part.1 ≡ whole) × (length part.1 ≡ 23)) p ps wholes) in
+    let one = sum_upto-without_last p.1 22 here.1 none in
+    let rest = wholes_by_weight ps (All-tail (λ part. get_or part.1 22 0 ≡ 0) p ps room) (All-tail (λ part. (sum part.1 ≡ whole) × (length part.1 ≡ 23)) p ps wholes) in
     let value : p.0 * sum_upto 22 (λ k. get_or p.1 k 0) ≡ p.0 * whole = ap (λ n. p.0 * n) (one ∙ here.0) in
     let terms = sum_by-cons (λ part. part.0 * sum_upto 22 (λ k. get_or part.1 k 0)) p ps in
     let weights = sum_by-cons (λ (part : ℕ × List ℕ). part.0) p ps in
     rw (terms, weights, value, rest) (omega arith)
 
 -- shares that are the weighted shares of such parts, one roll later, add up to the whole
-pub moved-whole : (xs : List ℕ) (parts : List (ℕ × List ℕ)) → length xs ≡ 23 → get_or xs 0 0 ≡ 0 → ((j : ℕ) → j < 22 → 36 * get_or xs (suc j) 0 ≡ weighted_share parts j) → All (λ part. get_or part.1 22 0 ≡ 0) parts → All (λ part. (sum part.1 ≡ whole) × (length part.1 ≡ 23)) parts → sum_by (λ part. part.0) parts ≡ 36 → sum xs ≡ whole
-moved-whole [] parts len start moved room wholes weights = absurd (omega arith)
-moved-whole (x ∷ ys) parts len start moved room wholes weights =
+pub moved_whole : (xs : List ℕ) (parts : List (ℕ × List ℕ)) → length xs ≡ 23 → get_or xs 0 0 ≡ 0 → ((j : ℕ) → j < 22 → 36 * get_or xs (suc j) 0 ≡ weighted_share parts j) → All (λ part. get_or part.1 22 0 ≡ 0) parts → All (λ part. (sum part.1 ≡ whole) × (length part.1 ≡ 23)) parts → sum_by (λ part. part.0) parts ≡ 36 → sum xs ≡ whole
+moved_whole [] parts len start moved room wholes weights = absurd (omega arith)
+moved_whole (x ∷ ys) parts len start moved room wholes weights =
     let cons = sum_by-cons (λ y. y) x ys in
     let places = sum-by_places ys 22 (omega arith) in
     let all : sum (take 22 ys) ≡ sum ys = ap sum (take_all 22 ys (omega arith)) in
     let scaled = sum_upto-linear 22 36 (λ k. get_or ys k 0) (λ k. 0) in
     let blank = sum_upto-zero 22 in
     let terms = sum_upto-same 22 (λ k. 36 * get_or ys k 0 + 0) (weighted_share parts) (λ k lt. omega (arith, moved k lt)) in
-    let parts_sum = shares-by_parts parts 22 in
-    let by_weight = wholes-by_weight parts room wholes in
+    let parts_sum = sum_upto-weighted_share parts 22 in
+    let by_weight = wholes_by_weight parts room wholes in
     let by_36 : sum_by (λ part. part.0) parts * whole ≡ 36 * whole = ap (λ n. n * whole) weights in
     finish x (sum (x ∷ ys)) (sum ys) (sum_upto 22 (λ k. get_or ys k 0)) _ _ _ start cons (omega (arith, places, all)) scaled blank terms (parts_sum ∙ (by_weight ∙ by_36))
   where

@@ -25,12 +25,12 @@ checkers-none x p h low empty =
     omega (arith, checkers-by_point x h, empty 1 (omega arith), empty 2 (omega arith), empty 3 (omega arith), empty 4 (omega arith), empty 5 (omega arith), empty 6 (omega arith))
 
 -- a list of six is its six elements
-pub listed-six : (x : List ℕ) → length x ≡ 6 → get_or x 0 0 ∷ get_or x 1 0 ∷ get_or x 2 0 ∷ get_or x 3 0 ∷ get_or x 4 0 ∷ get_or x 5 0 ∷ [] ≡ x
-listed-six [] h = absurd (omega arith)
-listed-six (a ∷ []) h = absurd (omega arith)
-listed-six (a ∷ b ∷ []) h = absurd (omega arith)
-listed-six (a ∷ b ∷ c ∷ []) h = absurd (omega arith)
-listed-six (a ∷ b ∷ c ∷ d ∷ []) h = absurd (omega arith)
-listed-six (a ∷ b ∷ c ∷ d ∷ e ∷ []) h = absurd (omega arith)
-listed-six (a ∷ b ∷ c ∷ d ∷ e ∷ f ∷ []) h = refl
-listed-six (a ∷ b ∷ c ∷ d ∷ e ∷ f ∷ g ∷ xs) h = absurd (omega arith)
+pub listed_six : (x : List ℕ) → length x ≡ 6 → get_or x 0 0 ∷ get_or x 1 0 ∷ get_or x 2 0 ∷ get_or x 3 0 ∷ get_or x 4 0 ∷ get_or x 5 0 ∷ [] ≡ x
+listed_six [] h = absurd (omega arith)
+listed_six (a ∷ []) h = absurd (omega arith)
+listed_six (a ∷ b ∷ []) h = absurd (omega arith)
+listed_six (a ∷ b ∷ c ∷ []) h = absurd (omega arith)
+listed_six (a ∷ b ∷ c ∷ d ∷ []) h = absurd (omega arith)
+listed_six (a ∷ b ∷ c ∷ d ∷ e ∷ []) h = absurd (omega arith)
+listed_six (a ∷ b ∷ c ∷ d ∷ e ∷ f ∷ []) h = refl
+listed_six (a ∷ b ∷ c ∷ d ∷ e ∷ f ∷ g ∷ xs) h = absurd (omega arith)

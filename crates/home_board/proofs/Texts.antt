@@ -17,17 +17,17 @@ length-values (p ∷ ps) (c ∷ cs) e =
     ap suc (length-values ps cs rest)
 
 -- each part of such a list states a count
-pub no-refused : (pieces : List (List ℕ)) (counts : List ℕ) (n : ℕ) (d : List ℕ) → map count_value pieces ≡ map (λ c. Some c) counts → n < length pieces → count_value (get_or pieces n d) ≡ None → ⊥
-no-refused [] counts n d e h none = absurd (omega arith)
-no-refused (p ∷ ps) [] n d e h none = cc
-no-refused (p ∷ ps) (c ∷ cs) zero d e h none = cc
-no-refused (p ∷ ps) (c ∷ cs) (suc n) d e h none =
+pub no_refused : (pieces : List (List ℕ)) (counts : List ℕ) (n : ℕ) (d : List ℕ) → map count_value pieces ≡ map (λ c. Some c) counts → n < length pieces → count_value (get_or pieces n d) ≡ None → ⊥
+no_refused [] counts n d e h none = absurd (omega arith)
+no_refused (p ∷ ps) [] n d e h none = cc
+no_refused (p ∷ ps) (c ∷ cs) zero d e h none = cc
+no_refused (p ∷ ps) (c ∷ cs) (suc n) d e h none =
     let rest : map count_value ps ≡ map (λ c. Some c) cs = cc in
-    no-refused ps cs n d rest (omega arith) none
+    no_refused ps cs n d rest (omega arith) none
 
 -- one more part, and the count that it states
-pub states-more : (pieces : List (List ℕ)) (counts : List ℕ) (n c : ℕ) (d : List ℕ) → map count_value (take n pieces) ≡ map (λ c. Some c) counts → n < length pieces → count_value (get_or pieces n d) ≡ Some c → map count_value (take (n + 1) pieces) ≡ map (λ c. Some c) (counts ++ c ∷ [])
-states-more pieces counts n c d e h is =
+pub states_more : (pieces : List (List ℕ)) (counts : List ℕ) (n c : ℕ) (d : List ℕ) → map count_value (take n pieces) ≡ map (λ c. Some c) counts → n < length pieces → count_value (get_or pieces n d) ≡ Some c → map count_value (take (n + 1) pieces) ≡ map (λ c. Some c) (counts ++ c ∷ [])
+states_more pieces counts n c d e h is =
     rw (add-one) (more pieces counts n e h is)
   where
     more : (pieces : List (List ℕ)) (counts : List ℕ) (n : ℕ) → map count_value (take n pieces) ≡ map (λ c. Some c) counts → n < length pieces → count_value (get_or pieces n d) ≡ Some c → map count_value (take (suc n) pieces) ≡ map (λ c. Some c) (counts ++ c ∷ [])
@@ -42,15 +42,15 @@ states-more pieces counts n c d e h is =
         cc
 
 -- counts that are read the same are the same
-values-apart : (xs ys : List ℕ) → map (λ c. Some c) xs ≡ map (λ c. Some c) ys → xs ≡ ys
-values-apart [] [] e = refl
-values-apart [] (y ∷ ys) e = cc
-values-apart (x ∷ xs) [] e = cc
-values-apart (x ∷ xs) (y ∷ ys) e =
+values_apart : (xs ys : List ℕ) → map (λ c. Some c) xs ≡ map (λ c. Some c) ys → xs ≡ ys
+values_apart [] [] e = refl
+values_apart [] (y ∷ ys) e = cc
+values_apart (x ∷ xs) [] e = cc
+values_apart (x ∷ xs) (y ∷ ys) e =
     let rest : map (λ c. Some c) xs ≡ map (λ c. Some c) ys = cc in
-    let r = values-apart xs ys rest in
+    let r = values_apart xs ys rest in
     cc
 
 -- a text states no two lists of counts
-pub text-apart : (text xs ys : List ℕ) → IsPositionText text xs → IsPositionText text ys → xs ≡ ys
-text-apart text xs ys a b = values-apart xs ys (sym a.each ∙ b.each)
+pub text_apart : (text xs ys : List ℕ) → IsPositionText text xs → IsPositionText text ys → xs ≡ ys
+text_apart text xs ys a b = values_apart xs ys (sym a.each ∙ b.each)

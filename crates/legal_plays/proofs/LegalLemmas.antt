@@ -4,9 +4,9 @@ use Rattle.std.proofs.lemmas.List.Elements.{Contains-get_or}
 use Rattle.race_model.specs.Positions.{Board, fewer, more}
 use Rattle.race_model.specs.Dice.{Die, Throw, number}
 use Rattle.race_model.specs.Plays.{StepFrom, Run, Legal, bear_off, move_down, from_highest, in_order, in_reverse, double}
-use Rattle.race_model.proofs.FromRight.{same_number}
+use Rattle.race_model.proofs.Dice.Faces.{same_number}
 use Rattle.legal_plays.specs.RankOrder.{IsInRankOrder, IsAscending}
-use Rattle.legal_plays.proofs.RankLemmas.{before-less}
+use Rattle.legal_plays.proofs.RankLemmas.{before_less}
 
 -- a double is played four times
 pub legal_double : (x : Board) (v : Throw) (y : Board) → v.first ≡ v.second → Run x (v.first ∷ v.first ∷ v.first ∷ v.first ∷ []) y ↔ Legal x v y
@@ -98,7 +98,7 @@ length-legal x v y (double same run) = length-run x (v.first ∷ v.first ∷ v.f
 pub in_rank_order : (xs : List Board) (n : ℕ) → ((y : Board) → Contains xs y → length y ≡ n) → IsAscending xs → IsInRankOrder xs
 in_rank_order xs n long ascending = record {
   pairs = λ i j d before inside.
-      before-less (get_or xs i d) (get_or xs j d)
+      before_less (get_or xs i d) (get_or xs j d)
       (long _ (Contains-get_or xs i d (omega arith)) ∙ sym (long _ (Contains-get_or xs j d inside)))
       (ascending.pairs i j d before inside);
 }

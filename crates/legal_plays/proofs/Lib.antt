@@ -7,4 +7,3 @@ pub mod ReachLemmas
 pub mod RollLemmas
 pub mod StepLemmas
 pub mod TextLemmas
-pub mod FirstPlayLemmas

@@ -5,14 +5,15 @@ use Rattle.race_model.specs.Positions.{Board}
 use Rattle.race_model.specs.Dice.{Die, Throw, number}
 use Rattle.race_model.specs.Plays.{Run}
 use Rattle.legal_plays.specs.declared.moves.Move.{Move}
-use Rattle.legal_plays.specs.FirstPlay.{IsFirst, IsFirstPlay, smaller_first}
-use Rattle.legal_plays.proofs.PlayLemmas.{plays_run}
+use Rattle.race_model.specs.FirstPlays.{IsFirstOf, IsFirstPlay, smaller_first}
+use Rattle.race_model.proofs.Plays.PlayOrder.{moves_run}
+use Rattle.legal_plays.specs.MoveLists.{moves_of}
 
 -- a play is found exactly where there is a run
-pub found_run : (x : Board) (dice : List Die) (y : Board) (found : Option (ArrayVec Move)) → IfSome found (λ play. IsFirst x dice y play.items) → IfNone found (¬ Run x dice y)
+pub found_run : (x : Board) (dice : List Die) (y : Board) (found : Option (ArrayVec Move)) → IfSome found (λ play. IsFirstOf x dice y (moves_of play.items)) → IfNone found (¬ Run x dice y)
     → IsSome found ↔ Run x dice y
 found_run x dice y None first none = (λ some. absurd (cc), λ run. absurd (none run))
-found_run x dice y (Some play) first none = (λ some. plays_run x dice play.items y first.plays, λ run. refl)
+found_run x dice y (Some play) first none = (λ some. moves_run dice x y (moves_of play.items) first.leads, λ run. refl)
 
 -- the dice of the roll are as different as what was read of them
 differ : (v : Throw) (a b : Die) → a ≡ v.first → b ≡ v.second → (number a ≢ number b) → v.first ≢ v.second
@@ -20,12 +21,12 @@ differ v a b first second apart same = apart (ap number (first ∙ same ∙ sym 
 
 -- the first play with the smaller die first, where the other order has none
 pub first_of_smaller : (x : Board) (v : Throw) (a b : Die) (y : Board) (found : Option (ArrayVec Move)) → a ≡ v.first → b ≡ v.second → (number a ≢ number b)
-    → (¬ Run x (a ∷ b ∷ []) y) → IfSome found (λ play. IsFirst x (b ∷ a ∷ []) y play.items) → IfSome found (λ play. IsFirstPlay x v y play.items)
+    → (¬ Run x (a ∷ b ∷ []) y) → IfSome found (λ play. IsFirstOf x (b ∷ a ∷ []) y (moves_of play.items)) → IfSome found (λ play. IsFirstPlay x v y (moves_of play.items))
 first_of_smaller x v a b y None first second apart none searched = tt
 first_of_smaller x v a b y (Some play) first second apart none searched =
     smaller_first (differ v a b first second apart)
     (subst (λ d. ¬ Run x (d ∷ v.second ∷ []) y) first (subst (λ d. ¬ Run x (a ∷ d ∷ []) y) second none))
-    (subst (λ d. IsFirst x (v.second ∷ d ∷ []) y play.items) first (subst (λ d. IsFirst x (d ∷ a ∷ []) y play.items) second searched))
+    (subst (λ d. IsFirstOf x (v.second ∷ d ∷ []) y (moves_of play.items)) first (subst (λ d. IsFirstOf x (d ∷ a ∷ []) y (moves_of play.items)) second searched))
 
 -- where the first of two searches finds nothing, what is found is found by the second
 pub second_only : (found : Option (ArrayVec Move)) (Second : Type 0) → found ≡ None → Second ↔ (IsSome found ⊎ Second)

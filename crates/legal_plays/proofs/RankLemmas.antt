@@ -58,8 +58,8 @@ comes_first-less (c ∷ cs) (d ∷ ds) e h =
     ]
 
 -- of two positions, the smaller one by the comparison is before the other
-pub before-less : (x y : List ℕ) → length x ≡ length y → rank_cmp x y ≡ Less → IsTrue (is_before x y)
-before-less x y e h =
+pub before_less : (x y : List ℕ) → length x ≡ length y → rank_cmp x y ≡ Less → IsTrue (is_before x y)
+before_less x y e h =
     elim (less_by (nat_cmp (pips x) (pips y)) (slice_cmp nat_cmp x y) h) [
       | inl less ↦ grind (arith, nat_tests)
       | inr tie ↦ grind (arith, nat_tests, comes_first-less x y e tie.1, tie.0)

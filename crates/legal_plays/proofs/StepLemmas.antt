@@ -7,8 +7,8 @@ use Rattle.std.proofs.lemmas.List.Sums.{get_or-le-sum_by}
 use Rattle.race_model.specs.Positions.{Board, count, IsFinished, IsHighest}
 use Rattle.race_model.specs.Dice.{Die, number}
 use Rattle.race_model.specs.Plays.{StepFrom, Step}
-use Rattle.race_model.proofs.Enumerated.{from_occupied}
-use Rattle.race_model.proofs.PlayOrder.{one_step}
+use Rattle.race_model.proofs.Plays.Enumerated.{from_occupied}
+use Rattle.race_model.proofs.Plays.PlayOrder.{one_step}
 
 -- a step from one of the points below a limit
 abbrev pub StepBelow : Board → Die → ℕ → Board → Type 0

@@ -1,5 +1,5 @@
 pub mod Faces
-pub mod FirstPlay
+pub mod MoveLists
 pub mod RankOrder
 pub mod Reach
 pub mod Texts

@@ -2,7 +2,8 @@
 ghost use Rattle.std.specs.Prelude.{◌≡◌, ℕ, ◌≤◌, ◌↔◌, length, IsSome, IfSome, IfNone};
 ghost use Rattle.arrayvec.specs.ArrayVec.{array_vec_len};
 ghost use Rattle.race_model.specs.Plays.{Run, Legal};
-ghost use Rattle.legal_plays.specs.FirstPlay.{IsFirst, IsFirstPlay};
+ghost use Rattle.race_model.specs.FirstPlays.{IsFirstOf, IsFirstPlay};
+ghost use Rattle.legal_plays.specs.MoveLists.{moves_of};
 
 use crate::{Die, Move, Roll, step};
 use arrayvec::ArrayVec;
@@ -16,7 +17,8 @@ pub type Play = ArrayVec<Move, 4>;
 // highest point down.
 fn search(position: &Position, dice: &[Die], target: &Position) -> Option<Play>
     requires { length dice.now ≤ 4 }
-    ensures first { IfSome result (λ play. IsFirst position.now dice.now target.now play.items) }
+    ensures first { IfSome result (λ play.
+        IsFirstOf position.now dice.now target.now (moves_of play.items)) }
     ensures len { IfSome result (λ play. array_vec_len play ≤ length dice.now) }
     ensures none { IfNone result (¬ Run position.now dice.now target.now) }
 {
@@ -46,7 +48,8 @@ fn search(position: &Position, dice: &[Die], target: &Position) -> Option<Play>
 /// doesn't lead to the target; for each die the points are tried from 6 down to 1, depth first. None
 /// exactly where the target isn't one of the roll's results.
 pub fn play_to(position: &Position, roll: Roll, target: &Position) -> Option<Play>
-    ensures first { IfSome result (λ play. IsFirstPlay position.now roll target.now play.items) }
+    ensures first { IfSome result (λ play.
+        IsFirstPlay position.now roll target.now (moves_of play.items)) }
     ensures legal { IsSome result ↔ Legal position.now roll target.now }
 {
     let (high, low) = (roll.high(), roll.low());

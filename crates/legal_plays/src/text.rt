@@ -3,7 +3,9 @@ ghost use Rattle.std.specs.Prelude.{◌≡◌, ◌+◌, ◌≤◌, ◌<◌, ◌+
 ghost use Rattle.arrayvec.specs.ArrayString.{array_string_len};
 ghost use Rattle.race_model.specs.Dice.{Die as Face, number, IsRoll};
 ghost use Rattle.legal_plays.specs.Faces.{roll_of};
-ghost use Rattle.legal_plays.specs.Texts.{roll_text, point_text, move_text, play_text};
+ghost use Rattle.race_model.specs.FirstPlays.{point_text, move_text};
+ghost use Rattle.legal_plays.specs.MoveLists.{move_of, moves_of};
+ghost use Rattle.legal_plays.specs.Texts.{roll_text, play_text};
 
 use crate::{Die, Move, Play, Roll};
 use arrayvec::ArrayString;
@@ -34,7 +36,7 @@ fn parse_die(digit: u8) -> Option<Die>
 /// The moves with a space between each two, each from a point to a point, as `6/5`, or off the board,
 /// as `3/off` (this project's profile). The play without moves has the empty text.
 pub fn write_play(play: &Play) -> ArrayString<23>
-    ensures { result.bytes ≡ play_text play.now.items }
+    ensures { result.bytes ≡ play_text (moves_of play.now.items) }
 {
     let mut text = ArrayString::new();
     for (index, one) in play.as_slice().iter().enumerate() {
@@ -50,7 +52,7 @@ pub fn write_play(play: &Play) -> ArrayString<23>
 #[tactic(auto, using(crate::proofs::TextLemmas::one_digit))]
 fn push_move(text: &mut ArrayString<23>, one: Move)
     requires { array_string_len text.old + 5 ≤ 23 }
-    ensures bytes { text.new.bytes ≡ text.old.bytes ++ move_text one }
+    ensures bytes { text.new.bytes ≡ text.old.bytes ++ move_text (move_of one) }
     ensures len { array_string_len text.new ≤ array_string_len text.old + 5 }
 {
     text.push_str(Buffer::new().format(one.from));

@@ -23,12 +23,12 @@ flat_map-append f [] ys = refl
 flat_map-append f (x ∷ xs) ys = ap (λ l. f x ++ l) (flat_map-append f xs ys) ∙ sym (append_assoc (f x) (flat_map f xs) (flat_map f ys))
 
 -- a range by its last number
-range-last : (a n : ℕ) → range_with_len a (suc n) ≡ range_with_len a n ++ (a + n) ∷ []
-range-last a zero = ap (λ k. k ∷ []) (add_zero a)
+range_with_len-last : (a n : ℕ) → range_with_len a (suc n) ≡ range_with_len a n ++ (a + n) ∷ []
+range_with_len-last a zero = ap (λ k. k ∷ []) (add_zero a)
   where
     add_zero : (m : ℕ) → m ≡ m + 0
     add_zero m = omega arith
-range-last a (suc n) = ap (λ l. a ∷ l) (range-last (a + 1) n ∙ ap (λ k. range_with_len (a + 1) n ++ k ∷ []) (regroup a n))
+range_with_len-last a (suc n) = ap (λ l. a ∷ l) (range_with_len-last (a + 1) n ∙ ap (λ k. range_with_len (a + 1) n ++ k ∷ []) (regroup a n))
   where
     regroup : (a n : ℕ) → a + 1 + n ≡ a + suc n
     regroup a n = omega arith
@@ -39,15 +39,15 @@ append-nil [] = refl
 append-nil (x ∷ xs) = ap (λ l. x ∷ l) (append-nil xs)
 
 -- no points
-pub from_none : (rest : List Die) (x : Board) (d : ℕ) → from_points rest x d 1 0 ≡ []
+pub from_points-none : (rest : List Die) (x : Board) (d : ℕ) → from_points rest x d 1 0 ≡ []
 unfolding from_points
-from_none rest x d = refl
+from_points-none rest x d = refl
 
 -- one point more
-pub from_last : (rest : List Die) (x : Board) (d n : ℕ) → from_points rest x d 1 (suc n) ≡ from_points rest x d 1 n ++ flat_map (all_runs rest) (step_from x d (suc n))
+pub from_points-last : (rest : List Die) (x : Board) (d n : ℕ) → from_points rest x d 1 (suc n) ≡ from_points rest x d 1 n ++ flat_map (all_runs rest) (step_from x d (suc n))
 unfolding from_points
-from_last rest x d n =
-    ap (λ l. flat_map (all_runs rest) (flat_map (step_from x d) l)) (range-last 1 n)
+from_points-last rest x d n =
+    ap (λ l. flat_map (all_runs rest) (flat_map (step_from x d) l)) (range_with_len-last 1 n)
     ∙ ap (flat_map (all_runs rest)) (flat_map-append (step_from x d) (range_with_len 1 n) ((1 + n) ∷ []) ∙ ap (λ l. flat_map (step_from x d) (range_with_len 1 n) ++ l) (append-nil (step_from x d (1 + n)) ∙ ap (step_from x d) (one_add n)))
     ∙ flat_map-append (all_runs rest) (flat_map (step_from x d) (range_with_len 1 n)) (step_from x d (suc n))
   where
@@ -55,20 +55,20 @@ from_last rest x d n =
     one_add m = omega arith
 
 -- no dice lead nowhere
-pub runs_of_none : (dice : List Die) (x : Board) → length dice ≡ 0 → all_runs dice x ≡ x ∷ []
-runs_of_none [] x h = refl
-runs_of_none (d ∷ dice) x h = absurd (omega arith)
+pub all_runs-none : (dice : List Die) (x : Board) → length dice ≡ 0 → all_runs dice x ≡ x ∷ []
+all_runs-none [] x h = refl
+all_runs-none (d ∷ dice) x h = absurd (omega arith)
 
 -- no dice lead from the finished position
-pub runs_from_finished : (dice : List Die) (x : Board) → checkers x ≡ 0 → all_runs dice x ≡ x ∷ []
-runs_from_finished [] x h = refl
-runs_from_finished (d ∷ dice) x h = ap (λ b. cond b (x ∷ []) (flat_map (all_runs dice) (all_steps x d))) (eq-eqb (checkers x) 0 h)
+pub all_runs-finished : (dice : List Die) (x : Board) → checkers x ≡ 0 → all_runs dice x ≡ x ∷ []
+all_runs-finished [] x h = refl
+all_runs-finished (d ∷ dice) x h = ap (λ b. cond b (x ∷ []) (flat_map (all_runs dice) (all_steps x d))) (eq-eqb (checkers x) 0 h)
 
 -- else the first die steps from each point, and the rest are played from there
-pub runs_on : (dice : List Die) (x : Board) (d : Die) → 0 < length dice → d ≡ get_or dice 0 d → (checkers x ≡ 0 → ⊥) → length x ≡ 6 → all_runs dice x ≡ from_points (take (length dice - 1) (drop 1 dice)) x (number d) 1 6
+pub all_runs-on : (dice : List Die) (x : Board) (d : Die) → 0 < length dice → d ≡ get_or dice 0 d → (checkers x ≡ 0 → ⊥) → length x ≡ 6 → all_runs dice x ≡ from_points (take (length dice - 1) (drop 1 dice)) x (number d) 1 6
 unfolding from_points
-runs_on [] x d some is left six = absurd (omega arith)
-runs_on (e ∷ dice) x d some is left six =
+all_runs-on [] x d some is left six = absurd (omega arith)
+all_runs-on (e ∷ dice) x d some is left six =
     ap (λ b. cond b (x ∷ []) (flat_map (all_runs dice) (all_steps x e))) (ne_eqb (checkers x) 0 left)
     ∙ ap (λ n. flat_map (all_runs dice) (flat_map (step_from x (number e)) (range_with_len 1 n))) six
     ∙ ap (λ f. flat_map (all_runs dice) (flat_map (step_from x (number f)) (range_with_len 1 6))) (sym is)
@@ -92,7 +92,7 @@ one_more_point rest x d (suc k) to start now next some leads before after =
     after
     ∙ ap (λ l. l ++ flat_map (all_runs rest) to) (before ∙ ap (λ n. start ++ from_points rest x d 1 n) (less k))
     ∙ append_assoc start (from_points rest x d 1 k) (flat_map (all_runs rest) to)
-    ∙ ap (λ l. start ++ l) (ap (λ t. from_points rest x d 1 k ++ flat_map (all_runs rest) t) (sym leads) ∙ sym (from_last rest x d k))
+    ∙ ap (λ l. start ++ l) (ap (λ t. from_points rest x d 1 k ++ flat_map (all_runs rest) t) (sym leads) ∙ sym (from_points-last rest x d k))
     ∙ ap (λ n. start ++ from_points rest x d 1 n) (same k)
   where
     less : (k : ℕ) → suc k - 1 ≡ k

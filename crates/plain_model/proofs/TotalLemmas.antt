@@ -5,8 +5,9 @@ use Rattle.std.proofs.lemmas.List.{get_or_default}
 use Rattle.race_model.specs.Positions.{Board, checkers, finished}
 use Rattle.race_model.specs.Dice.{Throw, throws}
 use Rattle.race_model.specs.Strategies.{Strategy, stop, turn, total_over, count_over}
-use Rattle.race_model.proofs.Sums.{throw_count, sum_equal, sum_of_same}
-use Rattle.race_model.proofs.Histories.{over, over_none, over_stop, over_turn, total_is, count_is, one_at}
+use Rattle.race_model.proofs.Numbers.Sums.{sum_by-equal, sum_by-constant}
+use Rattle.race_model.proofs.Dice.RollSums.{length-throws}
+use Rattle.race_model.proofs.Strategies.Histories.{over, over-none, over-stop, over-turn, total_over-over, count_over-over, one_at}
 use Rattle.plain_model.specs.TwoTurns.{place_of, begins_with, rolls_of_two}
 
 -- a number that goes by the rolls, added up over all sequences whose first throw has one of the first n places
@@ -31,8 +32,8 @@ added_to-bound h most x plays zero few = omega arith
 added_to-bound h most x plays (suc n) few = omega (arith, added_to-bound h most x plays n few, few (get_or plays n finished))
 
 -- at most two rolls are needed of two
-pub at_most_two : (x y : Board) → rolls_of_two x y ≤ 2
-at_most_two x y = by (eqb (checkers x) 0) (eqb (checkers y) 0)
+pub rolls_of_two-most : (x y : Board) → rolls_of_two x y ≤ 2
+rolls_of_two-most x y = by (eqb (checkers x) 0) (eqb (checkers y) 0)
   where
     by : (b c : Bool) → cond {A = ℕ} b 0 (cond c 1 2) ≤ 2
     by true c = lit≤ tt
@@ -40,39 +41,39 @@ at_most_two x y = by (eqb (checkers x) 0) (eqb (checkers y) 0)
     by false false = lit≤ tt
 
 -- a sequence is counted once at most
-pub at_most_one : (k r : ℕ) → one_at k r ≤ 1
-at_most_one k r = by (eqb r k)
+pub one_at-most : (k r : ℕ) → one_at k r ≤ 1
+one_at-most k r = by (eqb r k)
   where
     by : (b : Bool) → cond {A = ℕ} b 1 0 ≤ 1
     by true = lit≤ tt
     by false = lit≤ tt
 
 -- each throw has one of the 36 places
-by_places : (h : ℕ → ℕ) (x : Board) (plays : List Board) → added_to h x plays 36 ≡ sum_by (λ v. 36 * h (rolls_of_two x (get_or plays (place_of v) finished))) throws
+added_to-by_places : (h : ℕ → ℕ) (x : Board) (plays : List Board) → added_to h x plays 36 ≡ sum_by (λ v. 36 * h (rolls_of_two x (get_or plays (place_of v) finished))) throws
 unfolding throws added_to
-by_places h x plays = refl
+added_to-by_places h x plays = refl
 
 -- 36 times, once for each second throw
 thirty_six_times : (n : ℕ) → n * 36 ^ 1 ≡ 36 * n
 thirty_six_times n = omega arith
 
 -- over one throw a strategy needs one roll in each of the 36 sequences, unless it stops
-over_one : (b : Bool) (to : Throw → Board) (next : Throw → Strategy) (h : ℕ → ℕ) → over 1 (cond b stop (turn to next)) h ≡ 36 * h (cond b 0 1)
-over_one true to next h = over_stop 1 h ∙ omega arith
-over_one false to next h =
-    over_turn 0 to next h
-    ∙ sum_equal (λ v. over 0 (next v) (λ k. h (suc k))) (λ v. h 1) throws (λ v. over_none (next v) (λ k. h (suc k)))
-    ∙ sum_of_same (h 1) throws
-    ∙ ap (λ n. h 1 * n) throw_count
+over-one : (b : Bool) (to : Throw → Board) (next : Throw → Strategy) (h : ℕ → ℕ) → over 1 (cond b stop (turn to next)) h ≡ 36 * h (cond b 0 1)
+over-one true to next h = over-stop 1 h ∙ omega arith
+over-one false to next h =
+    over-turn 0 to next h
+    ∙ sum_by-equal (λ v. over 0 (next v) (λ k. h (suc k))) (λ v. h 1) throws (λ v. over-none (next v) (λ k. h (suc k)))
+    ∙ sum_by-constant (h 1) throws
+    ∙ ap (λ n. h 1 * n) length-throws
     ∙ omega arith
 
 -- over two throws, by the first of them
-over_two : (b : Bool) (c : Throw → Bool) (first : Throw → Board) (second : Throw → Throw → Board) (later : Throw → Throw → Strategy) (h : ℕ → ℕ) → over 2 (cond b stop (turn first (λ v. cond (c v) stop (turn (second v) (later v))))) h ≡ sum_by (λ v. 36 * h (cond b 0 (cond (c v) 1 2))) throws
-over_two true c first second later h =
-    over_stop 2 h ∙ omega arith ∙ ap (λ n. 36 * h 0 * n) (sym throw_count) ∙ sym (sum_of_same (36 * h 0) throws)
-over_two false c first second later h =
-    over_turn 1 first (λ v. cond (c v) stop (turn (second v) (later v))) h
-    ∙ sum_equal _ (λ v. 36 * h (cond (c v) 1 2)) throws (λ v. over_one (c v) (second v) (later v) (λ k. h (suc k)) ∙ ap (λ n. 36 * h n) (one_more (c v)))
+over-two : (b : Bool) (c : Throw → Bool) (first : Throw → Board) (second : Throw → Throw → Board) (later : Throw → Throw → Strategy) (h : ℕ → ℕ) → over 2 (cond b stop (turn first (λ v. cond (c v) stop (turn (second v) (later v))))) h ≡ sum_by (λ v. 36 * h (cond b 0 (cond (c v) 1 2))) throws
+over-two true c first second later h =
+    over-stop 2 h ∙ omega arith ∙ ap (λ n. 36 * h 0 * n) (sym length-throws) ∙ sym (sum_by-constant (36 * h 0) throws)
+over-two false c first second later h =
+    over-turn 1 first (λ v. cond (c v) stop (turn (second v) (later v))) h
+    ∙ sum_by-equal _ (λ v. 36 * h (cond (c v) 1 2)) throws (λ v. over-one (c v) (second v) (later v) (λ k. h (suc k)) ∙ ap (λ n. 36 * h n) (one_more (c v)))
   where
     one_more : (d : Bool) → suc (cond d 0 1) ≡ cond d 1 2
     one_more true = refl
@@ -81,16 +82,16 @@ over_two false c first second later h =
 -- what was added up by the places is the sum over all sequences of two throws
 added_to-over : (h : ℕ → ℕ) (x : Board) (plays : List Board) (second : Throw → Throw → Board) (later : Throw → Throw → Strategy) → added_to h x plays 36 ≡ over 2 (begins_with x plays second later) h
 added_to-over h x plays second later =
-    by_places h x plays
-    ∙ sym (over_two (eqb (checkers x) 0) (λ v. eqb (checkers (get_or plays (place_of v) finished)) 0) (λ v. get_or plays (place_of v) finished) second later h)
+    added_to-by_places h x plays
+    ∙ sym (over-two (eqb (checkers x) 0) (λ v. eqb (checkers (get_or plays (place_of v) finished)) 0) (λ v. get_or plays (place_of v) finished) second later h)
 
 -- the rolls, added up, are the total over two throws
 pub added_to-total : (x : Board) (plays : List Board) (second : Throw → Throw → Board) (later : Throw → Throw → Strategy) → added_to (λ k. k) x plays 36 ≡ total_over 2 (begins_with x plays second later)
-added_to-total x plays second later = added_to-over (λ k. k) x plays second later ∙ sym (total_is 2 (begins_with x plays second later))
+added_to-total x plays second later = added_to-over (λ k. k) x plays second later ∙ sym (total_over-over 2 (begins_with x plays second later))
 
 -- the sequences with so many rolls are counted
 pub added_to-count : (k : ℕ) (x : Board) (plays : List Board) (second : Throw → Throw → Board) (later : Throw → Throw → Strategy) → added_to (one_at k) x plays 36 ≡ count_over 2 (begins_with x plays second later) k
-added_to-count k x plays second later = added_to-over (one_at k) x plays second later ∙ sym (count_is 2 (begins_with x plays second later) k)
+added_to-count k x plays second later = added_to-over (one_at k) x plays second later ∙ sym (count_over-over 2 (begins_with x plays second later) k)
 
 -- all 36 second throws are counted, or none
 pub counted_or_not : (k r : ℕ) → (if r == k then 36 else 0) ≡ 36 * one_at k r

@@ -35,9 +35,11 @@ pub data IsFirstPlay (x : Board) (v : Throw) (y : Board) (moves : List Move) : T
   smaller_first : v.first ≢ v.second → (¬ Run x (v.first ∷ v.second ∷ []) y) → IsFirstOf x (v.second ∷ v.first ∷ []) y moves → IsFirstPlay x v y moves
   of_double : v.first ≡ v.second → IsFirstOf x (v.first ∷ v.first ∷ v.first ∷ v.first ∷ []) y moves → IsFirstPlay x v y moves
 
+-- a point as text: its number, and `off` where a checker is borne off
+abbrev pub point_text : ℕ → List ℕ
+point_text zero = codes "off"
+point_text (suc p) = decimal (suc p)
+
 -- a move as text: 6/5, or 3/off
 abbrev pub move_text : Move → List ℕ
-move_text m = decimal m.0 ++ codes "/" ++ target m.1 where
-  target : ℕ → List ℕ
-  target zero = codes "off"
-  target (suc p) = decimal (suc p)
+move_text m = decimal m.0 ++ codes "/" ++ point_text m.1

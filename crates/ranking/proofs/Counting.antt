@@ -7,14 +7,14 @@ use Rattle.std.proofs.lemmas.List.{drop_more, length-drop, get_or_default, lengt
 use Rattle.std.proofs.lemmas.Grind.{same_number_lists}
 use Rattle.race_model.specs.Positions.{Board, IsPosition, pips_from, pips, count}
 use Rattle.race_model.specs.Ranks.{rank, at_rank, first_of, count_to}
-use Rattle.race_model.proofs.Points.{sum_cons}
-use Rattle.race_model.proofs.RankCounts.{later, split-all}
-use Rattle.race_model.proofs.RankCounts as counts
-use Rattle.race_model.proofs.RankOrder as order
-use Rattle.race_model.proofs.PositionTotals as totals
+use Rattle.race_model.proofs.Numbers.Sums.{sum-cons}
+use Rattle.race_model.proofs.Ranks.RankCounts.{later, split_all}
+use Rattle.race_model.proofs.Ranks.RankCounts as counts
+use Rattle.race_model.proofs.Ranks.RankOrder as order
+use Rattle.race_model.proofs.Ranks.PositionTotals as totals
 use Rattle.ranking.specs.Lists.{used, ways}
 use Rattle.ranking.proofs.TableCounts.{used-is, used-none, used-step}
-use Rattle.ranking.proofs.Reading.{IsRead, IsNext, read-start, read-next}
+use Rattle.ranking.proofs.Reading.{IsRead, IsNext, read_start, read_next}
 
 -- c checkers fit on point p, and with fewer there more than t positions come later
 pub record IsCounted (p k m t c : ℕ) : Type 0 where
@@ -23,23 +23,23 @@ pub record IsCounted (p k m t c : ℕ) : Type 0 where
   pub least : (j : ℕ) → j < c → t < used p (k - j) (m - p * j)
 
 -- where lists have a checker on a point, there is one and it fits
-used-room : (p k m t : ℕ) → p ≤ 6 → k ≤ 15 → t < used p k m → (0 < k) × (p ≤ m)
-used-room p zero m t h l more = absurd (omega (arith, used-none p m h))
-used-room p (suc k) m t h l more = by_room (cases_lt m p) where
+used_room : (p k m t : ℕ) → p ≤ 6 → k ≤ 15 → t < used p k m → (0 < k) × (p ≤ m)
+used_room p zero m t h l more = absurd (omega (arith, used-none p m h))
+used_room p (suc k) m t h l more = by_room (cases_lt m p) where
   by_room : (m < p) ⊎ (p ≤ m) → (0 < suc k) × (p ≤ m)
   by_room (inl low) = absurd (omega (arith, more, (used-step p k m h (omega arith) ∙ ap (λ b. if b then 0 else ways p k (m - p)) (lt-ltb m p low))))
   by_room (inr room) = (omega arith, room)
 
 -- where more come later one checker more fits
-pub counted-more : (p k m t c : ℕ) → p ≤ 6 → k ≤ 15 → IsCounted p k m t c → t < used p (k - c) (m - p * c) → IsCounted p k m t (c + 1)
-counted-more p k m t c h l w more =
-    let room = used-room p (k - c) (m - p * c) t h (omega arith) more in
+pub counted_more : (p k m t c : ℕ) → p ≤ 6 → k ≤ 15 → IsCounted p k m t c → t < used p (k - c) (m - p * c) → IsCounted p k m t (c + 1)
+counted_more p k m t c h l w more =
+    let room = used_room p (k - c) (m - p * c) t h (omega arith) more in
     record { fits = omega (arith, room.0); weight = omega (arith, room.1, w.weight); least = below_more (λ j. t < used p (k - j) (m - p * j)) c w.least more }
 
 -- fewer lists come later than have a checker more than j on the first point, where that has more than j
-fewer-later : (p k d j : ℕ) (cs : List ℕ) → j < d → d + sum cs ≤ k → k ≤ 15 → length cs + p ≡ 6 →
+later-fewer : (p k d j : ℕ) (cs : List ℕ) → j < d → d + sum cs ≤ k → k ≤ 15 → length cs + p ≡ 6 →
     later p k (d ∷ cs) < used p (k - j) (pips_from p (d ∷ cs) - p * j)
-fewer-later p k d j cs low few h long =
+later-fewer p k d j cs low few h long =
     let e = d - suc j in
     let l = k - suc j in
     let d_is : d ≡ e + suc j = omega arith in
@@ -54,28 +54,28 @@ fewer-later p k d j cs low few h long =
       used-is (length cs) p (suc l) (pips_from p (d ∷ cs) - p * j) long,
       counts.used-more (length cs) p l (pips_from p (d ∷ cs) - p * j) (omega arith) room,
       ap (λ q. counts.ways (suc (length cs)) p l q) m_is,
-      split-all (e ∷ cs) p l (omega (arith, sum_cons e cs)) (omega arith),
+      split_all (e ∷ cs) p l (omega (arith, sum-cons e cs)) (omega arith),
       ap (λ q. counts.used (length cs) p q (pips_from (suc p) cs)) same,
       ap (λ q. later (suc p) q cs) same,
     )
 
 -- the count that is found is that of the list
-found-list : (p k m t c d : ℕ) (cs : List ℕ) → p ≤ 6 → k ≤ 15 → length cs + p ≡ 6 → d + sum cs ≤ k → pips_from p (d ∷ cs) ≡ m → later p k (d ∷ cs) ≡ t →
+found_list : (p k m t c d : ℕ) (cs : List ℕ) → p ≤ 6 → k ≤ 15 → length cs + p ≡ 6 → d + sum cs ≤ k → pips_from p (d ∷ cs) ≡ m → later p k (d ∷ cs) ≡ t →
     IsCounted p k m t c → used p (k - c) (m - p * c) ≤ t → c ≡ d
-found-list p k m t c d cs h l long few weighs left w enough = by_order (cases_order c d) where
+found_list p k m t c d cs h l long few weighs left w enough = by_order (cases_order c d) where
   by_order : (c ≡ d) ⊎ ((c < d) ⊎ (d < c)) → c ≡ d
   by_order (inl e) = e
   by_order (inr (inl low)) =
-      absurd (omega (arith, enough, left, fewer-later p k d c cs low few l long, ap (λ q. used p (k - c) (q - p * c)) weighs))
+      absurd (omega (arith, enough, left, later-fewer p k d c cs low few l long, ap (λ q. used p (k - c) (q - p * c)) weighs))
   by_order (inr (inr high)) =
       let m_is : m - p * d ≡ pips_from (suc p) cs = omega arith in
       absurd (omega (arith, w.least d high, left, used-is (length cs) p (k - d) (pips_from (suc p) cs) long, ap (λ q. used p (k - d) q) m_is))
 
 -- the count that is found is that of the position
-pub count-found : (x : List ℕ) (p k m s t c : ℕ) → IsPosition x → 1 ≤ p → p ≤ 6 → IsRead x p k m s → s + t ≡ later 1 15 x →
+pub count_found : (x : List ℕ) (p k m s t c : ℕ) → IsPosition x → 1 ≤ p → p ≤ 6 → IsRead x p k m s → s + t ≡ later 1 15 x →
     IsCounted p k m t c → used p (k - c) (m - p * c) ≤ t → c ≡ count x p
-count-found x zero k m s t c q low high r left w enough = absurd (omega arith)
-count-found x (suc i) k m s t c q low high r left w enough =
+count_found x zero k m s t c q low high r left w enough = absurd (omega arith)
+count_found x (suc i) k m s t c q low high r left w enough =
     let short : i < length x = omega (arith, q.six) in
     let back : suc i - 1 ≡ i = omega arith in
     let next : i + 1 ≡ suc i = omega arith in
@@ -83,7 +83,7 @@ count-found x (suc i) k m s t c q low high r left w enough =
     let few : sum (slice_index x i ∷ drop (suc i) x) ≤ k = subst (λ ys. sum ys ≤ k) d r.few in
     let weighs : pips_from (suc i) (slice_index x i ∷ drop (suc i) x) ≡ m = subst (λ ys. pips_from (suc i) ys ≡ m) d r.weighs in
     let added : s + later (suc i) k (slice_index x i ∷ drop (suc i) x) ≡ later 1 15 x = subst (λ ys. s + later (suc i) k ys ≡ later 1 15 x) d r.added in
-    found-list (suc i) k m t c (slice_index x i) (drop (suc i) x) high r.room (omega (arith, length-drop (suc i) x, q.six)) (omega (arith, few, sum_cons (slice_index x i) (drop (suc i) x))) weighs (omega arith) w enough
+    found_list (suc i) k m t c (slice_index x i) (drop (suc i) x) high r.room (omega (arith, length-drop (suc i) x, q.six)) (omega (arith, few, sum-cons (slice_index x i) (drop (suc i) x))) weighs (omega arith) w enough
 
 -- the pip count of a rank, from where the counts of fewer pips pass it
 pub record IsPipsOf (index above : ℕ) : Type 0 where
@@ -93,10 +93,10 @@ pub record IsPipsOf (index above : ℕ) : Type 0 where
   pub range : above - 1 ≤ 90
 
 -- the pip count of a rank is that before which the counts of fewer pips pass it
-pub pips-found : (starts : List ℕ) (index above : ℕ) → length starts ≡ 92 → index < 54264 → above ≤ length starts →
+pub pips_found : (starts : List ℕ) (index above : ℕ) → length starts ≡ 92 → index < 54264 → above ≤ length starts →
     ((m : ℕ) → m < 92 → slice_index starts m ≡ first_of m) →
     IsPartitionPoint (λ y. nat_le y index ≡ true) (λ y. nat_le y index ≡ false) starts above → IsPipsOf index above
-pips-found starts index above long low most sums point = record { some = some; from = from; to = subst (λ m. index < first_of m) (sym again) to; range = omega (arith, inside) } where
+pips_found starts index above long low most sums point = record { some = some; from = from; to = subst (λ m. index < first_of m) (sym again) to; range = omega (arith, inside) } where
   some : 1 ≤ above
   some = by_cases (cases_lt 0 above) where
     by_cases : (0 < above) ⊎ (above ≤ 0) → 1 ≤ above
@@ -119,8 +119,8 @@ pips-found starts index above long low most sums point = record { some = some; f
   again = omega (arith, some)
 
 -- the counts of fewer pips rise
-pub starts-rise : (starts : List ℕ) → length starts ≡ 92 → ((m : ℕ) → m < 92 → slice_index starts m ≡ first_of m) → IsNonDecreasingBy (λ x. x) starts
-starts-rise starts long sums i j d low high =
+pub starts_rise : (starts : List ℕ) → length starts ≡ 92 → ((m : ℕ) → m < 92 → slice_index starts m ≡ first_of m) → IsNonDecreasingBy (λ x. x) starts
+starts_rise starts long sums i j d low high =
     omega (arith, sums i (omega (arith, long)), sums j (omega (arith, long)), order.first_of-rises i j low, get_or_default starts i d 0 (omega arith), get_or_default starts j d 0 high)
 
 -- the pip count of a position lies where its rank does
@@ -128,10 +128,10 @@ pub pips-are : (x : Board) (m : ℕ) → IsPosition x → first_of m ≤ rank x 
 pips-are x m p low high = by_order (cases_order (pips x) m) where
   by_order : (pips x ≡ m) ⊎ ((pips x < m) ⊎ (m < pips x)) → pips x ≡ m
   by_order (inl e) = e
-  by_order (inr (inl less)) = absurd (omega (arith, low, (order.rank-within x p).1, order.first_of-suc (pips x), order.first_of-rises (suc (pips x)) m less))
+  by_order (inr (inl less)) = absurd (omega (arith, low, (order.rank_within x p).1, order.first_of-suc (pips x), order.first_of-rises (suc (pips x)) m less))
   by_order (inr (inr more)) =
       let e : m + 1 ≡ suc m = add-one m in
-      absurd (omega (arith, high, (order.rank-within x p).0, ap first_of e, order.first_of-rises (suc m) (pips x) more))
+      absurd (omega (arith, high, (order.rank_within x p).0, ap first_of e, order.first_of-rises (suc m) (pips x) more))
 
 -- what the position of a rank has, where its pip count is found
 pub record IsStart (index m start : ℕ) : Type 0 where
@@ -142,9 +142,9 @@ pub record IsStart (index m start : ℕ) : Type 0 where
   pub left : start - 1 - index ≡ later 1 15 (at_rank index)
 
 -- so it starts
-pub start-at : (index m start : ℕ) → index < 54264 → first_of m ≤ index → index < first_of (m + 1) → start ≡ first_of (m + 1) → IsStart index m start
-start-at index m start low from to e =
-    let p : IsPosition (at_rank index) = order.at_rank-position index in
+pub start_at : (index m start : ℕ) → index < 54264 → first_of m ≤ index → index < first_of (m + 1) → start ≡ first_of (m + 1) → IsStart index m start
+start_at index m start low from to e =
+    let p : IsPosition (at_rank index) = order.at_rank_position index in
     let r : rank (at_rank index) ≡ index = totals.rank-at_rank index low in
     let w : pips (at_rank index) ≡ m = pips-are (at_rank index) m p (omega arith) (omega arith) in
     let e2 : m + 1 ≡ suc m = add-one m in
@@ -166,10 +166,10 @@ pub record IsWritten (x : List ℕ) (p k m t : ℕ) (counts : List ℕ) : Type 0
   pub same : (j : ℕ) → j < p - 1 → slice_index counts j ≡ slice_index x j
 
 -- at first none is written
-pub written-start : (x : List ℕ) (m t : ℕ) → IsPosition x → pips x ≡ m → m ≤ 90 → t ≡ later 1 15 x → IsWritten x 1 15 m t (replicate 6 0)
-written-start x m t p e h l = record {
+pub written_start : (x : List ℕ) (m t : ℕ) → IsPosition x → pips x ≡ m → m ≤ 90 → t ≡ later 1 15 x → IsWritten x 1 15 m t (replicate 6 0)
+written_start x m t p e h l = record {
   s = 0;
-  read = subst (λ n. IsRead x 1 15 n 0) e (read-start x p (omega arith));
+  read = subst (λ n. IsRead x 1 15 n 0) e (read_start x p (omega arith));
   left = omega arith;
   long = refl;
   same = λ j h. absurd (omega arith);
@@ -181,11 +181,11 @@ pub record IsWrittenNext (x : List ℕ) (p k m t c : ℕ) (counts : List ℕ) : 
   pub next : IsWritten x (p + 1) (k - c) (m - p * c) (t - used p (k - c) (m - p * c)) (slice_set counts (p - 1) c)
 
 -- the count that is found is written
-pub written-next : (x : List ℕ) (p k m t c : ℕ) (counts : List ℕ) → IsPosition x → 1 ≤ p → p ≤ 6 → IsWritten x p k m t counts →
+pub written_next : (x : List ℕ) (p k m t c : ℕ) (counts : List ℕ) → IsPosition x → 1 ≤ p → p ≤ 6 → IsWritten x p k m t counts →
     IsCounted p k m t c → used p (k - c) (m - p * c) ≤ t → IsWrittenNext x p k m t c counts
-written-next x p k m t c counts q low high w counted enough =
-    let c_is : c ≡ count x p = count-found x p k m w.s t c q low high w.read w.left counted enough in
-    let n : IsNext x p k m w.s c = read-next x p k m w.s c q low high c_is w.read in
+written_next x p k m t c counts q low high w counted enough =
+    let c_is : c ≡ count x p = count_found x p k m w.s t c q low high w.read w.left counted enough in
+    let n : IsNext x p k m w.s c = read_next x p k m w.s c q low high c_is w.read in
     record {
       enough = enough;
       next = record {
@@ -202,6 +202,6 @@ written-next x p k m t c counts q low high w counted enough =
       same j h (inr (inr more)) c_is = absurd (omega arith)
 
 -- all counts are written: it is the position
-pub written-all : (x : List ℕ) (p k m t : ℕ) (counts : List ℕ) → IsPosition x → p ≡ 7 → IsWritten x p k m t counts → counts ≡ x
-written-all x p k m t counts q e w =
+pub written_all : (x : List ℕ) (p k m t : ℕ) (counts : List ℕ) → IsPosition x → p ≡ 7 → IsWritten x p k m t counts → counts ≡ x
+written_all x p k m t counts q e w =
     same_number_lists counts x (omega (arith, w.long, q.six)) (λ j h. w.same j (omega (arith, w.long)))

@@ -10,15 +10,15 @@ use Rattle.ranking.proofs.Cells.{zeros}
 use Rattle.ranking.proofs.TableCounts.{ways-most, ways-end, ways-step, used-none, used-step}
 
 -- the row of the lists on no points
-row-end : (k : ℕ) → IsRow (ways 7 k) (record { cells = slice_set (replicate 91 0) 0 1 })
-row-end k = record { each = λ m h. at m } where
+row_end : (k : ℕ) → IsRow (ways 7 k) (record { cells = slice_set (replicate 91 0) 0 1 })
+row_end k = record { each = λ m h. at m } where
   at : (m : ℕ) → slice_index (slice_set (replicate 91 0) 0 1) m ≡ ways 7 k m
   at zero = sym (ways-end k 0)
   at (suc m) = zeros 90 m ∙ sym (ways-end k (suc m) ∙ ap (λ b. cond {A = ℕ} b 1 0) (ne_eqb 0 (suc m) (λ e. omega arith)))
 
 -- the table of the lists on no points
-pub table-end : IsTable (ways 7) (record { rows = replicate 16 (record { cells = slice_set (replicate 91 0) 0 1 }) })
-table-end = record { long = refl; each = λ k d h. subst (IsRow (ways 7 k)) (sym (get_or-replicate 16 k (record { cells = slice_set (replicate 91 0) 0 1 }) d h)) (row-end k) }
+pub table_end : IsTable (ways 7) (record { rows = replicate 16 (record { cells = slice_set (replicate 91 0) 0 1 }) })
+table_end = record { long = refl; each = λ k d h. subst (IsRow (ways 7 k)) (sym (get_or-replicate 16 k (record { cells = slice_set (replicate 91 0) 0 1 }) d h)) (row_end k) }
 
 -- the rows below j are those from point p on, the others those above it, and what was added is kept
 pub record IsPartway (p j : ℕ) (rows added : List Row) : Type 0 where
@@ -29,9 +29,9 @@ pub record IsPartway (p j : ℕ) (rows added : List Row) : Type 0 where
   pub counted : (k : ℕ) (d : Row) → k < j → IsRow (used p k) (slice_index_or added k d)
 
 -- the row of no checkers is right from the start
-pub partway-start : (p : ℕ) (rows : List Row) → p ≤ 6 → length rows ≡ 16 → ((k : ℕ) (d : Row) → k < 16 → IsRow (ways (p + 1) k) (slice_index_or rows k d)) →
+pub partway_start : (p : ℕ) (rows : List Row) → p ≤ 6 → length rows ≡ 16 → ((k : ℕ) (d : Row) → k < 16 → IsRow (ways (p + 1) k) (slice_index_or rows k d)) →
     IsPartway p 1 rows (replicate 16 (record { cells = replicate 91 0 }))
-partway-start p rows h l above = record {
+partway_start p rows h l above = record {
   long = l;
   long_added = refl;
   done = λ k d low. first k d (omega arith);
@@ -47,33 +47,33 @@ partway-start p rows h l above = record {
   none k d e = rw e (record { each = λ m low. zeros 91 m ∙ sym (used-none p m h) })
 
 -- the row that is added
-pub added-row : (p k : ℕ) (below row : Row) → p ≤ 6 → k < 15 → IsRow (ways p k) below →
+pub added_row : (p k : ℕ) (below row : Row) → p ≤ 6 → k < 15 → IsRow (ways p k) below →
     ((m : ℕ) → m < 91 → slice_index row.cells m ≡ (if nat_lt m p then 0 else slice_index below.cells (m - p))) → IsRow (used p (suc k)) row
-added-row p k below row h l b s = record { each = λ m low. s m low ∙ by_room m low (cases_lt m p) ∙ sym (used-step p k m h l) } where
+added_row p k below row h l b s = record { each = λ m low. s m low ∙ by_room m low (cases_lt m p) ∙ sym (used-step p k m h l) } where
   by_room : (m : ℕ) → m < 91 → (m < p) ⊎ (p ≤ m) → (if nat_lt m p then 0 else slice_index below.cells (m - p)) ≡ (if nat_lt m p then 0 else ways p k (m - p))
   by_room m low (inl small) = rw (lt-ltb m p small) refl
   by_room m low (inr room) = rw (le-ltb m p room) (b.each (m - p) (omega arith))
 
 -- the row that is added at j
-pub added-at : (p j : ℕ) (rows added : List Row) (d row : Row) → p ≤ 6 → 1 ≤ j → j < 16 → IsPartway p j rows added →
+pub added_at : (p j : ℕ) (rows added : List Row) (d row : Row) → p ≤ 6 → 1 ≤ j → j < 16 → IsPartway p j rows added →
     ((m : ℕ) → m < 91 → slice_index row.cells m ≡ (if nat_lt m p then 0 else slice_index (slice_index_or rows (j - 1) d).cells (m - p))) →
     IsRow (used p j) row
-added-at p j rows added d row h g l w s =
+added_at p j rows added d row h g l w s =
     let e : suc (j - 1) ≡ j = omega arith in
-    subst (λ i. IsRow (used p i) row) e (added-row p (j - 1) (slice_index_or rows (j - 1) d) row h (omega arith) (w.done (j - 1) d (omega arith)) s)
+    subst (λ i. IsRow (used p i) row) e (added_row p (j - 1) (slice_index_or rows (j - 1) d) row h (omega arith) (w.done (j - 1) d (omega arith)) s)
 
 -- the two rows that are added up stay in range
-pub sum-fits : (p k m : ℕ) (row more : Row) → 1 ≤ p → p ≤ 6 → k ≤ 15 → IsRow (ways (p + 1) k) row → IsRow (used p k) more → m < 91 →
+pub sum_fits : (p k m : ℕ) (row more : Row) → 1 ≤ p → p ≤ 6 → k ≤ 15 → IsRow (ways (p + 1) k) row → IsRow (used p k) more → m < 91 →
     slice_index row.cells m + slice_index more.cells m < 2 ^ 16
-sum-fits p k m row more g h l a b low =
+sum_fits p k m row more g h l a b low =
     let e : p + 1 ≡ suc p = add-one p in
     omega (arith, a.each m low, b.each m low, ap (λ q. ways q k m) e, ways-step p k m h l, ways-most p k m g l)
 
 -- one row more
-pub partway-more : (p j : ℕ) (rows added : List Row) (d row more : Row) → p ≤ 6 → j < 16 → IsPartway p j rows added → IsRow (used p j) more →
+pub partway_more : (p j : ℕ) (rows added : List Row) (d row more : Row) → p ≤ 6 → j < 16 → IsPartway p j rows added → IsRow (used p j) more →
     ((m : ℕ) → m < 91 → slice_index row.cells m ≡ slice_index (slice_index_or rows j d).cells m + slice_index more.cells m) →
     IsPartway p (j + 1) (slice_set rows j row) (slice_set added j more)
-partway-more p j rows added d row more h l w u s = record {
+partway_more p j rows added d row more h l w u s = record {
   long = length-set rows j row ∙ w.long;
   long_added = length-set added j more ∙ w.long_added;
   done = λ k d low. in_done k d low (cases_order k j);

@@ -4,10 +4,10 @@ use Rattle.std.specs.Prelude.{◌⊎◌, ◌==◌}
 use Rattle.std.proofs.lemmas.Bool.{lt-ltb, le-ltb, cases_lt}
 use Rattle.race_model.specs.Positions.{pips_from}
 use Rattle.race_model.specs.Ranks.{first_of, count_to}
-use Rattle.race_model.proofs.BoxCounts.{within}
-use Rattle.race_model.proofs.RankCounts as counts
-use Rattle.race_model.proofs.RankOrder as order
-use Rattle.race_model.proofs.PositionTotals as totals
+use Rattle.race_model.proofs.Ranks.BoxCounts.{within}
+use Rattle.race_model.proofs.Ranks.RankCounts as counts
+use Rattle.race_model.proofs.Ranks.RankOrder as order
+use Rattle.race_model.proofs.Ranks.PositionTotals as totals
 use Rattle.ranking.specs.Lists.{ways, used, is_used}
 
 -- the lists on the points from p on are those of 7 - p counts
@@ -46,26 +46,26 @@ used-step p k m h l = used-is (6 - p) p (suc k) m (omega arith) ∙ by_room (cas
   by_room (inr room) = rw (le-ltb m p room) (counts.used-more (6 - p) p k m l room ∙ sym (ways-is (suc (6 - p)) p k (m - p) (omega arith)))
 
 -- the positions of at most m pips are those of fewer and those of m
-pub start-step : (m : ℕ) → first_of (m + 1) ≡ first_of m + ways 1 15 m
-start-step m =
+pub first_of-step : (m : ℕ) → first_of (m + 1) ≡ first_of m + ways 1 15 m
+first_of-step m =
     let e : m + 1 ≡ suc m = add-one m in
     omega (arith, ap first_of e, order.first_of-suc m, order.count_to-step m, ways-is 6 1 15 m refl)
 
 -- no more positions have fewer pips than there are
-pub start-most : (m : ℕ) → first_of m ≤ 54264
-start-most zero = omega (arith, order.first_of-zero)
-start-most (suc m) = omega (arith, order.first_of-suc m, totals.count_to-most m)
+pub first_of-most : (m : ℕ) → first_of m ≤ 54264
+first_of-most zero = omega (arith, order.first_of-zero)
+first_of-most (suc m) = omega (arith, order.first_of-suc m, totals.count_to-most m)
 
 -- pip counts above 90 count as 90, or 91 where fewer are counted
-pub first-capped : (b : ℕ) → first_of (min b 91) ≡ first_of b
-first-capped b = by_cases (cases_lt b 91) where
+pub first_of-capped : (b : ℕ) → first_of (min b 91) ≡ first_of b
+first_of-capped b = by_cases (cases_lt b 91) where
   by_cases : (b < 91) ⊎ (91 ≤ b) → first_of (min b 91) ≡ first_of b
   by_cases (inl less) = let e : min b 91 ≡ b = omega arith in ap first_of e
   by_cases (inr more) = let e : min b 91 ≡ 91 = omega arith in ap first_of e ∙ totals.first_of-all 91 (omega arith) ∙ sym (totals.first_of-all b (omega arith))
 
 -- .. and so where at most so many are counted
-pub count-capped : (b : ℕ) → first_of (min b 90 + 1) ≡ count_to b
-count-capped b = by_cases (cases_lt b 90) where
+pub first_of-capped_suc : (b : ℕ) → first_of (min b 90 + 1) ≡ count_to b
+first_of-capped_suc b = by_cases (cases_lt b 90) where
   by_cases : (b < 90) ⊎ (90 ≤ b) → first_of (min b 90 + 1) ≡ count_to b
   by_cases (inl less) = let e : min b 90 + 1 ≡ suc b = omega arith in ap first_of e ∙ order.first_of-suc b
   by_cases (inr more) = let e : min b 90 + 1 ≡ 91 = omega arith in ap first_of e ∙ totals.first_of-all 91 (omega arith) ∙ sym (totals.count_to-all b more)

@@ -8,11 +8,11 @@ use Rattle.race_model.specs.Ranks.{rank, at_rank, count_to}
 use Rattle.race_model.specs.Files.{header, bound_of, record_at, IsFileTo, mean_of, play_of, share_of, mean_at, play_at, spread_at, play}
 use Rattle.race_model.specs.LocalEquations.{whole, weighted, IsPlayed, IsBest, HasMean, HasShare, IsLocalAt}
 use Rattle.race_model.specs.BuiltFile.{IsLowest, IsBuilt}
-use Rattle.race_model.proofs.Results.{legal_position, legal_pips}
-use Rattle.race_model.proofs.RankOrder.{rank-bound, rank-found}
-use Rattle.race_model.proofs.Sums.{sum_equal}
-use Rattle.race_model.proofs.Throws.{index_of_roll}
-use Rattle.race_model.proofs.RollParts.{index-range}
+use Rattle.race_model.proofs.Plays.Results.{legal_position, legal_pips}
+use Rattle.race_model.proofs.Ranks.RankOrder.{rank_bound, at_rank-rank}
+use Rattle.race_model.proofs.Numbers.Sums.{sum_by-equal}
+use Rattle.race_model.proofs.Dice.Throws.{index_of_roll}
+use Rattle.race_model.proofs.Dice.RollSums.{roll_index-range}
 use Rattle.retrograde.specs.BestPlays.{IsBestPlay}
 use Rattle.retrograde.specs.BuiltRecords.{shares_of, sum_of_means, sum_of_shares, IsMade, AreMade}
 use Rattle.retrograde.specs.BuiltBytes.{bytes_of, built_file}
@@ -68,25 +68,25 @@ module _ (bound : ℕ) (low : bound ≤ 44) (means : List ℕ) (plays spreads : 
   -- a position of at most the bound
   module _ (x : Board) (at : IsPosition x) (under : pips x ≤ bound) where
     ranked : rank x < count_to bound
-    ranked = (rank-bound x bound at).1 under
+    ranked = (rank_bound x bound at).1 under
 
     result-ranked : (v : Throw) (z : Board) → Legal x v z → rank z < count_to bound
-    result-ranked v z legal = (rank-bound z bound (legal_position x v z at legal)).1 (le_trans (legal_pips x v z legal) under)
+    result-ranked v z legal = (rank_bound z bound (legal_position x v z at legal)).1 (le_trans (legal_pips x v z legal) under)
 
     -- what is recorded for a roll
     number : Throw → ℕ
     number v = slice_index (slice_index_or plays (rank x) []) (roll_index v)
 
     here : IsMade means spreads x (slice_index means (rank x)) (slice_index_or plays (rank x) []) (shares_of spreads (rank x))
-    here = subst (λ (y : Board). IsMade means spreads y (slice_index means (rank x)) (slice_index_or plays (rank x) []) (shares_of spreads (rank x))) (rank-found x at) (are.made (rank x) ranked)
+    here = subst (λ (y : Board). IsMade means spreads y (slice_index means (rank x)) (slice_index_or plays (rank x) []) (shares_of spreads (rank x))) (at_rank-rank x at) (are.made (rank x) ranked)
 
     number-is : (v : Throw) → play built x v ≡ number v
     unfolding number
-    number-is v = play-read (rank x) (roll_index v) ranked (index-range v)
+    number-is v = play-read (rank x) (roll_index v) ranked (roll_index-range v)
 
     best-by_index : (v : Throw) → IsBestPlay means x (roll_at (roll_index v)) (number v)
     unfolding number
-    best-by_index v = here.best (roll_index v) (index-range v)
+    best-by_index v = here.best (roll_index v) (roll_index-range v)
 
     number-ranked : (v : Throw) → number v < count_to bound
     number-ranked v =
@@ -125,11 +125,11 @@ module _ (bound : ℕ) (low : bound ≤ 44) (means : List ℕ) (plays spreads : 
 
     means-same : weighted (λ v. mean_at built (play built x v)) ≡ sum_of_means means (slice_index_or plays (rank x) [])
     unfolding number
-    means-same = sum_equal (λ v. weight v * mean_at built (play built x v)) (λ v. weight v * slice_index means (number v)) all_rolls (λ v. ap (λ n. weight v * n) (played-mean v))
+    means-same = sum_by-equal (λ v. weight v * mean_at built (play built x v)) (λ v. weight v * slice_index means (number v)) all_rolls (λ v. ap (λ n. weight v * n) (played-mean v))
 
     shares-same : (k : ℕ) → k ≤ 22 → weighted (λ v. spread_at built (play built x v) k) ≡ sum_of_shares spreads (slice_index_or plays (rank x) []) k
     unfolding number
-    shares-same k few = sum_equal (λ v. weight v * spread_at built (play built x v) k) (λ v. weight v * slice_index (shares_of spreads (number v)) k) all_rolls (λ v. ap (λ n. weight v * n) (played-share v k few))
+    shares-same k few = sum_by-equal (λ v. weight v * spread_at built (play built x v) k) (λ v. weight v * slice_index (shares_of spreads (number v)) k) all_rolls (λ v. ap (λ n. weight v * n) (played-share v k few))
 
     has-mean : HasMean built x
     has-mean = record {

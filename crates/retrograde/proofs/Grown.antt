@@ -8,12 +8,12 @@ use Rattle.race_model.specs.Dice.{Throw, all_rolls, roll_at, roll_index, weight}
 use Rattle.race_model.specs.Plays.{Legal}
 use Rattle.race_model.specs.Ranks.{rank, at_rank}
 use Rattle.race_model.specs.LocalEquations.{whole}
-use Rattle.race_model.proofs.Results.{finished_or_not}
-use Rattle.race_model.proofs.RankOrder.{at_rank-position}
-use Rattle.race_model.proofs.PositionTotals.{rank-at_rank}
-use Rattle.race_model.proofs.Sums.{sum_equal}
+use Rattle.race_model.proofs.Plays.Results.{finished_or_not}
+use Rattle.race_model.proofs.Ranks.RankOrder.{at_rank_position}
+use Rattle.race_model.proofs.Ranks.PositionTotals.{rank-at_rank}
+use Rattle.race_model.proofs.Numbers.Sums.{sum_by-equal}
 use Rattle.db_layout.specs.Records.{record_of, IsRecordOf}
-use Rattle.race_model.proofs.RollParts.{index-range}
+use Rattle.race_model.proofs.Dice.RollSums.{roll_index-range}
 use Rattle.retrograde.specs.BestPlays.{IsBestPlay}
 use Rattle.retrograde.specs.BuiltRecords.{shares_of, sum_of_means, sum_of_shares, IsMade, IsReached, AreMade}
 use Rattle.retrograde.proofs.Best.{best-at_end, finished-stays}
@@ -51,17 +51,17 @@ grown-made means more spreads others x mean plays shares same held made = record
 } where
   play : (v : Throw) → slice_index plays (roll_index v) < length means
   play v =
-      let best = made.best (roll_index v) (index-range v) in
+      let best = made.best (roll_index v) (roll_index-range v) in
       omega (arith, held (roll_at (roll_index v)) best.legal.0 best.legal.1, best.legal.2)
 
   means_same : sum_of_means (means ++ more) plays ≡ sum_of_means means plays
   means_same =
-      sum_equal (λ v. weight v * slice_index (means ++ more) (slice_index plays (roll_index v))) (λ v. weight v * slice_index means (slice_index plays (roll_index v))) all_rolls
+      sum_by-equal (λ v. weight v * slice_index (means ++ more) (slice_index plays (roll_index v))) (λ v. weight v * slice_index means (slice_index plays (roll_index v))) all_rolls
       (λ v. ap (λ n. weight v * n) (get_or-append means more 0 (slice_index plays (roll_index v)) (play v)))
 
   shares_same : (k : ℕ) → sum_of_shares (spreads ++ others) plays k ≡ sum_of_shares spreads plays k
   shares_same k =
-      sum_equal (λ v. weight v * slice_index (shares_of (spreads ++ others) (slice_index plays (roll_index v))) k) (λ v. weight v * slice_index (shares_of spreads (slice_index plays (roll_index v))) k) all_rolls
+      sum_by-equal (λ v. weight v * slice_index (shares_of (spreads ++ others) (slice_index plays (roll_index v))) k) (λ v. weight v * slice_index (shares_of spreads (slice_index plays (roll_index v))) k) all_rolls
       (λ v. ap (λ (shares : List ℕ). weight v * slice_index shares k) (get_or-append spreads others [] (slice_index plays (roll_index v)) (let lt = play v in omega arith)))
 
 -- the record of the finished position is right over any others
@@ -114,14 +114,14 @@ module _ (n : ℕ) (means : List ℕ) (plays spreads : List (List ℕ)) (mean : 
   -- .. and is right
   old_made : (r : ℕ) → r < n → Made r
   old_made r lt =
-      let is = grown-made means (mean ∷ []) spreads (shares ∷ []) (at_rank r) (slice_index means r) (slice_index_or plays r []) (shares_of spreads r) (are.means_len ∙ sym are.spreads_len) (λ v z legal. let le = legal-no_higher (at_rank r) v z (at_rank-position r) legal in omega (arith, rank-at_rank r (omega arith), are.means_len)) (are.made r lt) in
+      let is = grown-made means (mean ∷ []) spreads (shares ∷ []) (at_rank r) (slice_index means r) (slice_index_or plays r []) (shares_of spreads r) (are.means_len ∙ sym are.spreads_len) (λ v z legal. let le = legal-no_higher (at_rank r) v z (at_rank_position r) legal in omega (arith, rank-at_rank r (omega arith), are.means_len)) (are.made r lt) in
       subst (λ (m : ℕ). IsMade (means ++ mean ∷ []) (spreads ++ shares ∷ []) (at_rank r) m (slice_index_or (plays ++ played ∷ []) r []) (shares_of (spreads ++ shares ∷ []) r)) (old_mean r lt)
       (subst (λ (p : List ℕ). IsMade (means ++ mean ∷ []) (spreads ++ shares ∷ []) (at_rank r) (slice_index means r) p (shares_of (spreads ++ shares ∷ []) r)) (old_played r lt)
       (subst (λ (s : List ℕ). IsMade (means ++ mean ∷ []) (spreads ++ shares ∷ []) (at_rank r) (slice_index means r) (slice_index_or plays r []) s) (old_shares r lt) is))
 
   new_made : Made n
   new_made =
-      let at = at_rank-position n in
+      let at = at_rank_position n in
       let is = ⊎_elim
       (λ none. made-anywhere means (means ++ mean ∷ []) spreads (spreads ++ shares ∷ []) (at_rank n) mean played shares at none made)
       (λ unfinished. grown-made means (mean ∷ []) spreads (shares ∷ []) (at_rank n) mean played shares (are.means_len ∙ sym are.spreads_len) (λ v z legal. let lower = legal-lower (at_rank n) v z at unfinished legal in omega (arith, rank-at_rank n low, are.means_len)) made)

@@ -6,10 +6,10 @@ use Rattle.race_model.specs.Dice.{Throw, roll_at, roll_index}
 use Rattle.race_model.specs.Plays.{Legal}
 use Rattle.race_model.specs.Ranks.{rank, at_rank}
 use Rattle.race_model.specs.LocalEquations.{whole}
-use Rattle.race_model.proofs.Results.{legal_position, legal_fewer_pips}
-use Rattle.race_model.proofs.RankOrder.{rank-fewer, rank-found}
-use Rattle.race_model.proofs.Throws.{roll_of_index}
-use Rattle.race_model.proofs.RollParts.{index-range}
+use Rattle.race_model.proofs.Plays.Results.{legal_position, legal_fewer_pips}
+use Rattle.race_model.proofs.Ranks.RankOrder.{rank-fewer, at_rank-rank}
+use Rattle.race_model.proofs.Dice.Throws.{roll_of_index}
+use Rattle.race_model.proofs.Dice.RollSums.{roll_index-range}
 use Rattle.retrograde.specs.BestPlays.{IsBestPlay}
 use Rattle.retrograde.specs.BuiltRecords.{shares_of, sum_of_means, sum_of_shares, IsMade, IsReached, AreMade}
 use Rattle.retrograde.proofs.Best.{best-at_end}
@@ -24,7 +24,7 @@ pub best-legal : (means : List ℕ) (x : Board) (v : Throw) (r : ℕ) → IsPosi
 best-legal means x v r at best =
     let z = best.legal.0 in
     let leads = best.legal.1 in
-    let found : at_rank r ≡ z = ap at_rank (sym best.legal.2) ∙ rank-found z (legal_position x v z at leads) in
+    let found : at_rank r ≡ z = ap at_rank (sym best.legal.2) ∙ at_rank-rank z (legal_position x v z at leads) in
     (subst (λ (y : Board). Legal x v y) (sym found) leads, ap rank found ∙ best.legal.2)
 
 -- an unfinished position, the records of lower rank, and the best plays
@@ -47,7 +47,7 @@ module _ (x : Board) (at : IsPosition x) (unfinished : ¬ IsFinished x) (low : p
 
   -- where strategies go on
   next-reached : (v : Throw) → IsReached (at_rank (slice_index plays (roll_index v))) (slice_index means (slice_index plays (roll_index v))) (shares_of spreads (slice_index plays (roll_index v)))
-  next-reached v = made.reached (slice_index plays (roll_index v)) (play-lower (roll_index v) (index-range v))
+  next-reached v = made.reached (slice_index plays (roll_index v)) (play-lower (roll_index v) (roll_index-range v))
 
   -- the mean can be pulled
   pub can-pull_mean : (mean : ℕ) × ((mean ≤ 22 * whole) × (36 * mean ≡ 36 * whole + sum_of_means means plays))

@@ -10,17 +10,18 @@ use Rattle.race_model.specs.Plays.{Legal}
 use Rattle.race_model.specs.Ranks.{at_rank}
 use Rattle.race_model.specs.LocalEquations.{whole}
 use Rattle.race_model.specs.Strategies.{Strategy, stop, turn, Fits, total, count_of, IsWithin}
-use Rattle.race_model.proofs.Throws.{roll_or_reversed, index_of_roll, index_reversed, legal_reversed}
-use Rattle.race_model.proofs.Sums.{sum_equal, by_rolls}
-use Rattle.race_model.proofs.Histories.{fits_within, count_beyond}
-use Rattle.race_model.proofs.Horizons.{ends_in_22, within_22}
-use Rattle.race_model.proofs.Spreads.{counts_add_up, counts_weigh}
-use Rattle.race_model.proofs.Totals.{total_of_turn, count_of_turn, count_of_turn_none, total_of_stop, count_of_stop, count_of_stop_more}
+use Rattle.race_model.proofs.Dice.Throws.{roll_or_reversed, index_of_roll, roll_index-reversed, legal_reversed}
+use Rattle.race_model.proofs.Numbers.Sums.{sum_by-equal}
+use Rattle.race_model.proofs.Dice.RollSums.{sum_by-throws}
+use Rattle.race_model.proofs.Strategies.Histories.{fits_within, count_over-beyond}
+use Rattle.race_model.proofs.Strategies.Horizons.{ends_in_22, within_22}
+use Rattle.race_model.proofs.Strategies.Spreads.{counts_add_up, counts_weigh}
+use Rattle.race_model.proofs.Strategies.Totals.{total-turn, count_of-turn, count_of-turn_none, total-stop, count_of-stop, count_of-stop_more}
 use Rattle.retrograde.specs.BuiltRecords.{IsReached, shares_of, sum_of_means, sum_of_shares}
 
 -- what is legal for each roll is legal for each throw
 pub legal-by_index : (x : Board) (to : ℕ → Board) → ((i : ℕ) → i < 21 → Legal x (roll_at i) (to i)) → (v : Throw) → Legal x v (to (roll_index v))
-legal-by_index x to legal v = ⊎_elim (by_roll v) (λ is. subst (λ (i : ℕ). Legal x v (to i)) (index_reversed v) (legal_reversed x (reversed v) (to (roll_index (reversed v))) (by_roll (reversed v) is))) (roll_or_reversed v)
+legal-by_index x to legal v = ⊎_elim (by_roll v) (λ is. subst (λ (i : ℕ). Legal x v (to i)) (roll_index-reversed v) (legal_reversed x (reversed v) (to (roll_index (reversed v))) (by_roll (reversed v) is))) (roll_or_reversed v)
   where
     by_roll : (u : Throw) → IsRoll u → Legal x u (to (roll_index u))
     by_roll u is = subst (λ (w : Throw). Legal x w (to (roll_index u))) (index_of_roll u is).1 (legal (roll_index u) (index_of_roll u is).0)
@@ -28,7 +29,7 @@ legal-by_index x to legal v = ⊎_elim (by_roll v) (λ is. subst (λ (i : ℕ). 
 -- no count goes beyond the rolls that a strategy can take
 pub no-count_beyond : (s : Strategy) (k : ℕ) → IsWithin 21 s → 21 < k → count_of s k ≡ 0
 unfolding count_of
-no-count_beyond s k within lt = count_beyond 22 21 k s within lt
+no-count_beyond s k within lt = count_over-beyond 22 21 k s within lt
 
 -- a sum of weighed numbers below 23 is at most 22 times that of the numbers
 weigh-small : (c : ℕ → ℕ) (a n : ℕ) → a + n ≤ 23 → sum_by (λ k. c k * k) (range_with_len a n) ≤ 22 * sum_by c (range_with_len a n)
@@ -65,16 +66,16 @@ module _ (x : Board) (at : IsPosition x) (low : pips x ≤ 58) (unfinished : ¬ 
   total-is : 36 * total (turn to next) ≡ 36 * whole + sum_of_means means plays
   unfolding to next
   total-is =
-      let ours = total_of_turn to next within in
-      let branches = sum_equal (λ v. total (next v)) (λ v. slice_index means (slice_index plays (roll_index v))) throws (λ v. (reached v).total_is) in
-      omega (arith, ours, branches, by_rolls (λ i. slice_index means (slice_index plays i)))
+      let ours = total-turn to next within in
+      let branches = sum_by-equal (λ v. total (next v)) (λ v. slice_index means (slice_index plays (roll_index v))) throws (λ v. (reached v).total_is) in
+      omega (arith, ours, branches, sum_by-throws (λ i. slice_index means (slice_index plays i)))
 
   count-is : (k : ℕ) → k ≤ 22 → 36 * count_of (turn to next) (suc k) ≡ sum_of_shares spreads plays k
   unfolding to next
   count-is k le =
-      let ours = count_of_turn to next k within in
-      let branches = sum_equal (λ v. count_of (next v) k) (λ v. slice_index (shares_of spreads (slice_index plays (roll_index v))) k) throws (λ v. (reached v).counts k le) in
-      omega (arith, ours, branches, by_rolls (λ i. slice_index (shares_of spreads (slice_index plays i)) k))
+      let ours = count_of-turn to next k within in
+      let branches = sum_by-equal (λ v. count_of (next v) k) (λ v. slice_index (shares_of spreads (slice_index plays (roll_index v))) k) throws (λ v. (reached v).counts k le) in
+      omega (arith, ours, branches, sum_by-throws (λ i. slice_index (shares_of spreads (slice_index plays i)) k))
 
   -- the mean can be pulled exactly
   pub mean-exact : (mean : ℕ) × ((mean ≤ 22 * whole) × (36 * mean ≡ 36 * whole + sum_of_means means plays))
@@ -98,13 +99,13 @@ module _ (x : Board) (at : IsPosition x) (low : pips x ≤ 58) (unfinished : ¬ 
     counts = counts;
   } where
     counts : (k : ℕ) → k ≤ 22 → count_of (turn to next) k ≡ slice_index shares k
-    counts zero le = count_of_turn_none to next ∙ sym start
+    counts zero le = count_of-turn_none to next ∙ sym start
     counts (suc k) le = omega (arith, moved k le, count-is k (le_of_lt le))
 
 -- the strategy that stops has the mean and the shares of the finished position
 pub stop-reached : (x : Board) (mean : ℕ) (shares : List ℕ) → IsFinished x → mean ≡ 0 → slice_index shares 0 ≡ whole → ((k : ℕ) → slice_index shares (suc k) ≡ 0) → IsReached x mean shares
-stop-reached x mean shares none mean_is start more = record { strategy = stop; fits = none; total_is = total_of_stop ∙ sym mean_is; counts = counts }
+stop-reached x mean shares none mean_is start more = record { strategy = stop; fits = none; total_is = total-stop ∙ sym mean_is; counts = counts }
   where
     counts : (k : ℕ) → k ≤ 22 → count_of stop k ≡ slice_index shares k
-    counts zero le = count_of_stop ∙ sym start
-    counts (suc k) le = count_of_stop_more k ∙ sym (more k)
+    counts zero le = count_of-stop ∙ sym start
+    counts (suc k) le = count_of-stop_more k ∙ sym (more k)

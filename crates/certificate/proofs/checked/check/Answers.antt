@@ -1,5 +1,5 @@
 use Rattle.std.proofs.Common.{refl, arith}
-use Rattle.race_model.proofs.Right.{right_of_local}
+use Rattle.race_model.proofs.RightFiles.Right.{right_of_local}
 use Rattle.certificate.proofs.FileTests.{first-refuses}
 use Rattle.certificate.proofs.checked.check.Goals as goal
 

@@ -2,8 +2,8 @@ use Rattle.std.proofs.Common.{◌≡◌, ℕ, ◌*◌, ◌<◌, length, get_or, 
 use Rattle.std.specs.Prelude.{slice_index}
 use Rattle.race_model.specs.Dice.{roll_at, weight}
 use Rattle.race_model.specs.Files.{mean_of, mean_at}
-use Rattle.race_model.proofs.Members.{set-next}
-use Rattle.race_model.proofs.RollParts.{parts-sum, parts-weights}
+use Rattle.race_model.proofs.Numbers.Members.{set_next}
+use Rattle.race_model.proofs.Dice.RollSums.{parts_sum, parts_weights}
 use Rattle.certificate.specs.RecordedPlays.{sum_of_means}
 use Rattle.certificate.proofs.Pulled.{mean-of_record}
 use Rattle.certificate.proofs.equations.expected_mean.Goals as goal
@@ -19,7 +19,7 @@ loop-index-preserved c =
     let fits : c.loop-index.index < length c.loop-index.parts = omega (arith, c.loop-index.invariant.len) in
     record {
       len = length-set c.loop-index.parts c.from-place.result (c.weight.result, c.unwrap-mean.result) ∙ c.loop-index.invariant.len;
-      parts = λ j d. set-next (λ j part. part ≡ (weight (roll_at j), mean_at c.args.table.now (slice_index c.args.plays.now j))) c.loop-index.parts c.loop-index.index c.from-place.result (c.weight.result, c.unwrap-mean.result) d c.from-place.ensures fits (λ j. c.loop-index.invariant.parts j d) part j;
+      parts = λ j d. set_next (λ j part. part ≡ (weight (roll_at j), mean_at c.args.table.now (slice_index c.args.plays.now j))) c.loop-index.parts c.loop-index.index c.from-place.result (c.weight.result, c.unwrap-mean.result) d c.from-place.ensures fits (λ j. c.loop-index.invariant.parts j d) part j;
     }
 
 -- the mean that a roll plays to
@@ -32,12 +32,12 @@ unfolding number
 each c j d lt = c.loop-index.invariant.parts j d (omega arith)
 
 pub pull-requires : goal.pull-requires
-pull-requires c = parts-weights (number c) c.loop-index.parts c.loop-index.invariant.len (each c)
+pull-requires c = parts_weights (number c) c.loop-index.parts c.loop-index.invariant.len (each c)
 
 -- what is pulled is the weighted sum of the means
 total : (c : goal.After-parts-1) → sum_by (λ part. part.0 * part.1) c.loop-index.parts ≡ sum_of_means c.args.table.now c.args.plays.now
 unfolding number
-total c = parts-sum (number c) c.loop-index.parts c.loop-index.invariant.len (each c) (λ part. part.0 * part.1)
+total c = parts_sum (number c) c.loop-index.parts c.loop-index.invariant.len (each c) (λ part. part.0 * part.1)
 
 pub returns-clause-value : goal.returns-clause-value
 returns-clause-value c = rw (total c.before) at c.pull.ensures.value

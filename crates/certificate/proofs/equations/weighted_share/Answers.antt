@@ -3,7 +3,7 @@ use Rattle.std.specs.Prelude.{slice_index}
 use Rattle.std.proofs.lemmas.List.{take_all}
 use Rattle.race_model.specs.Dice.{all_rolls, weight}
 use Rattle.race_model.specs.Files.{share_of, spread_at}
-use Rattle.race_model.proofs.RollParts.{roll_count}
+use Rattle.race_model.proofs.Dice.RollSums.{length-all_rolls}
 use Rattle.certificate.proofs.Pulled.{share-of_record, share-step}
 use Rattle.certificate.proofs.equations.weighted_share.Goals as goal
 
@@ -32,4 +32,4 @@ loop-index-preserved c =
     record { total = step.total; small = step.small }
 
 pub returns : goal.returns
-returns c = rw (take_all c.loop-index.index all_rolls (omega (arith, roll_count))) at c.loop-index.invariant.total
+returns c = rw (take_all c.loop-index.index all_rolls (omega (arith, length-all_rolls))) at c.loop-index.invariant.total

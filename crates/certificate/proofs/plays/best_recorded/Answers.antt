@@ -4,7 +4,7 @@ use Rattle.race_model.specs.Dice.{roll_index}
 use Rattle.race_model.specs.Ranks.{rank}
 use Rattle.race_model.specs.Files.{mean, mean_of, mean_at, play_of, play_at}
 use Rattle.certificate.specs.RecordedPlays.{HasRecord}
-use Rattle.race_model.proofs.Members.{some-member, member-of_all}
+use Rattle.race_model.proofs.Numbers.Members.{some_member, member_of_all}
 use Rattle.certificate.proofs.Pulled.{mean-of_record, play-of_record}
 use Rattle.certificate.proofs.PlayTests.{record-of_position, records-of_results, not_played, is_played, not_best, is_best}
 use Rattle.certificate.proofs.plays.best_recorded.Goals as goal
@@ -26,9 +26,9 @@ pub record-requires-2 : goal.record-requires-2
 record-requires-2 c =
     let legal : c.look_over-seen.result.is_legal ≡ true = search (rules, tests) in
     let some = subst (λ (xs : List Board). Any (λ y. rank y ≡ c.play-recorded.result) xs) c.as_slice.ensures.value (c.look_over-seen.ensures.is_legal legal) in
-    let found = some-member (λ y. rank y ≡ c.play-recorded.result) c.results.result.items some in
+    let found = some_member (λ y. rank y ≡ c.play-recorded.result) c.results.result.items some in
     let all = records-of_results c.args.table.now c.args.position.now c.args.roll c.results.result.items c.results.ensures.members c.requires.records c.requires.position c.requires.low in
-    subst (HasRecord c.args.table.now) found.2 (member-of_all (λ y. HasRecord c.args.table.now (rank y)) c.results.result.items found.0 all found.1)
+    subst (HasRecord c.args.table.now) found.2 (member_of_all (λ y. HasRecord c.args.table.now (rank y)) c.results.result.items found.0 all found.1)
 
 pub returns-then-seen-mean-clause-fault : goal.returns-then-seen-mean-clause-fault
 returns-then-seen-mean-clause-fault c =

@@ -2,11 +2,11 @@ use Rattle.std.proofs.Common.{◌+◌, ◌*◌, ◌<◌, ◌≤◌, ◌/◌, len
 use Rattle.std.proofs.lemmas.List.{take_all}
 use Rattle.std.proofs.lemmas.List.Sums.{sum_by_more, sum_by_more_le}
 use Rattle.race_model.specs.LocalEquations.{whole}
-use Rattle.fixed_fraction.proofs.Pulls.{part-small, sum-fits, whole-is}
+use Rattle.fixed_fraction.proofs.Pulls.{part_small, sum_fits, whole_is}
 use Rattle.fixed_fraction.proofs.scaled.pull.Goals as goal
 
 pub loop-weight-init : goal.loop-weight-init
-loop-weight-init c = record { total = omega (arith, whole-is); small = omega (arith, whole-is) }
+loop-weight-init c = record { total = omega (arith, whole_is); small = omega (arith, whole_is) }
 
 -- the weights so far and the next one are within 36
 weights : (c : goal.After-numerator) → sum_by (λ part. part.0) (take (c.loop-weight.weight-index + 1) c.args.parts.now) ≤ 36
@@ -20,16 +20,16 @@ bounded : (c : goal.After-numerator) → c.loop-weight.total + c.from.result * c
 bounded c =
     let lt : c.loop-weight.weight-index < length c.args.parts.now = omega arith in
     let more = sum_by_more (λ part. part.0) c.args.parts.now c.loop-weight.weight-index c.loop-weight-item.result lt in
-    part-small c.loop-weight.total c.from.result c.numerator.result _ _ (22 * whole) (36 * whole) c.numerator.ensures.range (rw c.from.ensures more) c.loop-weight.invariant.small
+    part_small c.loop-weight.total c.from.result c.numerator.result _ _ (22 * whole) (36 * whole) c.numerator.ensures.range (rw c.from.ensures more) c.loop-weight.invariant.small
 
 pub overflow_mul-total-in-loop-weight : goal.overflow_mul-total-in-loop-weight
 overflow_mul-total-in-loop-weight c =
-    let fits = sum-fits _ _ (weights c) (bounded c) in
+    let fits = sum_fits _ _ (weights c) (bounded c) in
     omega arith
 
 pub overflow_add-total : goal.overflow_add-total
 overflow_add-total c =
-    let fits = sum-fits _ _ (weights c) (bounded c) in
+    let fits = sum_fits _ _ (weights c) (bounded c) in
     omega arith
 
 pub loop-weight-preserved : goal.loop-weight-preserved

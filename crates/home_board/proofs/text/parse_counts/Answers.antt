@@ -5,20 +5,20 @@ use Rattle.std.proofs.lemmas.List.Elements.{All-push}
 use Rattle.std.proofs.lemmas.Iterator.Splits.{YieldsList-from_slice_split}
 use Rattle.std.proofs.lemmas.Iterator.Consumers.{YieldsList-turn, YieldsList-end}
 use Rattle.race_model.specs.PositionText.{count_value}
-use Rattle.home_board.proofs.Counts.{listed-six}
-use Rattle.home_board.proofs.Texts.{parts, length-values, no-refused, states-more}
+use Rattle.home_board.proofs.Counts.{listed_six}
+use Rattle.home_board.proofs.Texts.{parts, length-values, no_refused, states_more}
 use Rattle.home_board.proofs.text.parse_counts.Goals as goal
 
 pub returns-in_err-count-clause-none : goal.returns-in_err-count-clause-none
 returns-in_err-count-clause-none c = λ _ counts is.
     let t = YieldsList-turn (YieldsList-from_slice_split {s = c.into_iter-part-iterator.result} _ (λ b. b == 44) c.args.text.now (rw c.into_iter-part-iterator.ensures.into_iter_gives c.split-part-items.ensures.rest) (rw c.into_iter-part-iterator.ensures.into_iter_gives c.split-part-items.ensures.done) (rw c.into_iter-part-iterator.ensures.into_iter_gives c.split-part-items.ensures.closure) (λ x r q k. search (rules, tests))) c.loop-part.yielded _ c.loop-part.yielded_by _ _ c.in-Some.part c.in-Some.is c.next.ensures.steps in
     let refused : count_value (get_or (parts c.args.text.now) (length c.loop-part.yielded) c.in-Some.part.now) ≡ None = rw (← t.1) (sym c.parse_count.ensures.value ∙ c.in_err-count.was {u = tt}) in
-    no-refused (parts c.args.text.now) counts (length c.loop-part.yielded) c.in-Some.part.now is.each t.0 refused
+    no_refused (parts c.args.text.now) counts (length c.loop-part.yielded) c.in-Some.part.now is.each t.0 refused
 
 pub loop-part-preserved : goal.loop-part-preserved
 loop-part-preserved c =
     let t = YieldsList-turn (YieldsList-from_slice_split {s = c.into_iter-part-iterator.result} _ (λ b. b == 44) c.args.text.now (rw c.into_iter-part-iterator.ensures.into_iter_gives c.split-part-items.ensures.rest) (rw c.into_iter-part-iterator.ensures.into_iter_gives c.split-part-items.ensures.done) (rw c.into_iter-part-iterator.ensures.into_iter_gives c.split-part-items.ensures.closure) (λ x r q k. search (rules, tests))) c.loop-part.yielded _ c.loop-part.yielded_by _ _ c.in-Some.part c.in-Some.is c.next.ensures.steps in
-    let states = states-more (parts c.args.text.now) c.loop-part.counts.items (length c.loop-part.yielded) c.in_ok-count.count c.in-Some.part.now c.loop-part.invariant.states t.0 (rw (← t.1) (sym c.parse_count.ensures.value ∙ c.in_ok-count.was {u = tt})) in
+    let states = states_more (parts c.args.text.now) c.loop-part.counts.items (length c.loop-part.yielded) c.in_ok-count.count c.in-Some.part.now c.loop-part.invariant.states t.0 (rw (← t.1) (sym c.parse_count.ensures.value ∙ c.in_ok-count.was {u = tt})) in
     record {
       states = rw (c.push.ensures.items, length_push c.loop-part.yielded c.in-Some.part) states;
       as_many = omega (arith, length_push c.loop-part.yielded c.in-Some.part, length_push c.loop-part.counts.items c.in_ok-count.count, ap length c.push.ensures.items);
@@ -35,7 +35,7 @@ pub returns-in-len6-clause-read : goal.returns-in-len6-clause-read
 returns-in-len6-clause-read c =
     let e = YieldsList-end (YieldsList-from_slice_split {s = c.into_iter-part-iterator.result} _ (λ b. b == 44) c.args.text.now (rw c.into_iter-part-iterator.ensures.into_iter_gives c.split-part-items.ensures.rest) (rw c.into_iter-part-iterator.ensures.into_iter_gives c.split-part-items.ensures.done) (rw c.into_iter-part-iterator.ensures.into_iter_gives c.split-part-items.ensures.closure) (λ x r q k. search (rules, tests))) c.loop-part.yielded _ c.loop-part.yielded_by _ _ c.in-None.is c.next.ensures.steps in
     let six : length c.as_slice.result.now ≡ 6 = omega (arith, c.in-len6.len_at_least, c.in-len6.len_below) in
-    let listed = listed-six c.as_slice.result.now six ∙ c.as_slice.ensures.value in
+    let listed = listed_six c.as_slice.result.now six ∙ c.as_slice.ensures.value in
     let all : take (length c.loop-part.yielded) (parts c.args.text.now) ≡ parts c.args.text.now = take_all (length c.loop-part.yielded) (parts c.args.text.now) (omega (arith, e.1)) in
     let small = subst (λ counts. All (λ count. count < 1000) counts) (sym listed) c.loop-part.invariant.small in
     (rw listed (record { six = omega (arith, ap length c.as_slice.ensures.value); each = sym (ap (map count_value) all) ∙ c.loop-part.invariant.states }), small)

@@ -1,13 +1,13 @@
 use Rattle.std.proofs.Common.{◌≡◌, [], ◌∷◌, ◌++◌, get_or, take, length, sym, ap, ◌∙◌, refl, arith, add-one, length-append}
 use Rattle.std.specs.Prelude.{decimal}
 use Rattle.std.proofs.lemmas.List.{take_all}
-use Rattle.home_board.proofs.Written.{joined, joined-states, before_next, before_next-some, before_next-none, next-written, next-fits}
+use Rattle.home_board.proofs.Written.{joined, joined_states, before_next, before_next-some, joined-before_none, joined-taken, next_fits}
 use Rattle.home_board.proofs.text.write_position.Goals as goal
 use Rattle.home_board.proofs.text.write_position.Goals.{then-written-gt0, else-written-gt0}
 
 pub push_str-requires : goal.push_str-requires
 push_str-requires c =
-    let fits = next-fits c.args.position.now c.loop-written.written c.count-count.ensures.position c.loop-written-test.true in
+    let fits = next_fits c.args.position.now c.loop-written.written c.count-count.ensures.position c.loop-written-test.true in
     let comma = before_next-some c.args.position.now c.loop-written.written c.if-written-gt0.true in
     (omega arith, omega (arith, ap length comma, ap length c.loop-written.invariant.text, length-append (joined (take c.loop-written.written c.args.position.now)) (44 ∷ [])))
 
@@ -22,23 +22,23 @@ before c =
           ∙ sym (before_next-some c.args.position.now c.loop-written.written w.if-written-gt0.true)))
       | else-written-gt0 w ↦
           ap (λ t. t.bytes) w.text-is
-          ∙ (c.loop-written.invariant.text ∙ before_next-none c.args.position.now c.loop-written.written w.if-written-gt0.false)
+          ∙ (c.loop-written.invariant.text ∙ joined-before_none c.args.position.now c.loop-written.written w.if-written-gt0.false)
     ]
 
 -- the text of the count
-count-text : (c : goal.After-format) → c.format.result.now ≡ decimal (get_or c.args.position.now c.loop-written.written 0)
-count-text c = c.format.ensures.text ∙ ap decimal (c.count-count.ensures.value ∙ rw add-one refl)
+count_text : (c : goal.After-format) → c.format.result.now ≡ decimal (get_or c.args.position.now c.loop-written.written 0)
+count_text c = c.format.ensures.text ∙ ap decimal (c.count-count.ensures.value ∙ rw add-one refl)
 
 pub push_str-requires-in-loop-written : goal.push_str-requires-in-loop-written
 push_str-requires-in-loop-written c =
-    let fits = next-fits c.args.position.now c.loop-written.written c.count-count.ensures.position c.loop-written-test.true in
-    (omega arith, omega (arith, ap length (before c), ap length (count-text c)))
+    let fits = next_fits c.args.position.now c.loop-written.written c.count-count.ensures.position c.loop-written-test.true in
+    (omega arith, omega (arith, ap length (before c), ap length (count_text c)))
 
 pub loop-written-preserved : goal.loop-written-preserved
 loop-written-preserved c =
-    let next = next-written c.args.position.now c.loop-written.written c.count-count.ensures.position c.loop-written-test.true in
+    let next = joined-taken c.args.position.now c.loop-written.written c.count-count.ensures.position c.loop-written-test.true in
     record {
-      text = c.push_str-in-loop-written.ensures.bytes ∙ rw (before c.before.before, count-text c.before.before) (sym next);
+      text = c.push_str-in-loop-written.ensures.bytes ∙ rw (before c.before.before, count_text c.before.before) (sym next);
       position = λ _. c.count-count.ensures.position;
     }
 
@@ -46,4 +46,4 @@ pub returns : goal.returns
 returns c =
     let is = c.loop-written.invariant.position (omega arith) in
     let all = take_all c.loop-written.written c.args.position.now (omega (arith, is.six)) in
-    rw (c.loop-written.invariant.text, all) (joined-states c.args.position.now is)
+    rw (c.loop-written.invariant.text, all) (joined_states c.args.position.now is)

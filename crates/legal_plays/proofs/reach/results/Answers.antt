@@ -1,6 +1,6 @@
 use Rattle.std.proofs.Common.{eqb-true, sym, length, [], ◌∷◌, inl, arith}
 use Rattle.std.proofs.lemmas.Bool.{eqb-false}
-use Rattle.race_model.proofs.Results.{run_somewhere}
+use Rattle.race_model.proofs.Plays.Results.{run_somewhere}
 use Rattle.legal_plays.proofs.LegalLemmas.{results_double, results_apart, length-legal, in_rank_order}
 use Rattle.legal_plays.proofs.reach.results.Goals as goal
 

@@ -2,19 +2,19 @@ use Rattle.std.proofs.Common.{arith, ◌≡◌, ◌-◌, ◌<◌, ◌++◌, leng
 use Rattle.std.proofs.lemmas.Bool.{eqb-false}
 use Rattle.race_model.specs.Positions.{checkers}
 use Rattle.race_model.specs.Dice.{number}
-use Rattle.plain_model.proofs.RunLemmas.{runs_of_none, runs_from_finished, runs_on, from_none, one_more_point, from_points, from_one, from_nowhere, append-nil}
+use Rattle.plain_model.proofs.RunLemmas.{all_runs-none, all_runs-finished, all_runs-on, from_points-none, one_more_point, from_points, from_one, from_nowhere, append-nil}
 use Rattle.plain_model.proofs.plays.+add_runs.Goals as goal
 use Rattle.plain_model.proofs.plays.+add_runs.Goals.{then-is_empty-via-then-is_empty, then-is_empty-via-else-is_empty+then-is_finished, in-Some+in_ok-add_runs, in_default}
 
 pub returns-then-is_empty : goal.returns-then-is_empty
 returns-then-is_empty t c =
     elim c.then-is_empty.branch [
-      | then-is_empty-via-then-is_empty w ↦ c.in_ok-push.ensures.items ∙ ap (λ l. c.args.found.now.items ++ l) (sym (runs_of_none c.args.dice.now c.args.position.now (eqb-true _ _ (sym w.if-is_empty.ensures))))
-      | then-is_empty-via-else-is_empty+then-is_finished w ↦ c.in_ok-push.ensures.items ∙ ap (λ l. c.args.found.now.items ++ l) (sym (runs_from_finished c.args.dice.now c.args.position.now (w.is_finished.ensures.value.0 w.if-is_finished.true)))
+      | then-is_empty-via-then-is_empty w ↦ c.in_ok-push.ensures.items ∙ ap (λ l. c.args.found.now.items ++ l) (sym (all_runs-none c.args.dice.now c.args.position.now (eqb-true _ _ (sym w.if-is_empty.ensures))))
+      | then-is_empty-via-else-is_empty+then-is_finished w ↦ c.in_ok-push.ensures.items ∙ ap (λ l. c.args.found.now.items ++ l) (sym (all_runs-finished c.args.dice.now c.args.position.now (w.is_finished.ensures.value.0 w.if-is_finished.true)))
     ]
 
 pub loop-source-init : goal.loop-source-init
-loop-source-init t c = sym (ap (λ l. c.args.found.now.items ++ l) (from_none _ _ _) ∙ append-nil _)
+loop-source-init t c = sym (ap (λ l. c.args.found.now.items ++ l) (from_points-none _ _ _) ∙ append-nil _)
 
 pub loop-source-preserved : goal.loop-source-preserved
 loop-source-preserved t c =
@@ -37,4 +37,4 @@ returns t c =
     c.loop-source.invariant
     ∙ ap (λ l. c.args.found.now.items ++ l)
     (ap (λ n. from_points (take (length c.args.dice.now - 1) (drop 1 c.args.dice.now)) c.args.position.now (number c.index-dice-0.result) 1 n) all
-    ∙ sym (runs_on c.args.dice.now c.args.position.now c.index-dice-0.result some c.index-dice-0.is left c.is_finished.ensures.position.six))
+    ∙ sym (all_runs-on c.args.dice.now c.args.position.now c.index-dice-0.result some c.index-dice-0.is left c.is_finished.ensures.position.six))

@@ -1,5 +1,5 @@
 use Rattle.std.proofs.Common.{◌≡◌, ◌+◌, ◌*◌}
-use Rattle.race_model.proofs.Histories.{one_at}
+use Rattle.race_model.proofs.Strategies.Histories.{one_at}
 use Rattle.plain_model.proofs.TotalLemmas.{added_to}
 use Rattle.plain_model.proofs.totals.sequences_of_two.Given as goal
 

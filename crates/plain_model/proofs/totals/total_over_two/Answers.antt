@@ -1,5 +1,5 @@
 use Rattle.std.proofs.Common.{arith, ◌≡◌, ◌+◌, ◌*◌, ◌<◌, length, ap, sym, ◌∙◌}
-use Rattle.plain_model.proofs.TotalLemmas.{added_to, added_to-zero, added_to-next, added_to-bound, added_to-total, at_most_two}
+use Rattle.plain_model.proofs.TotalLemmas.{added_to, added_to-zero, added_to-next, added_to-bound, added_to-total, rolls_of_two-most}
 use Rattle.plain_model.proofs.totals.total_over_two.Goals as goal
 
 pub loop-first-init : goal.loop-first-init
@@ -7,8 +7,8 @@ loop-first-init c = sym (added_to-zero (λ k. k) c.args.start.now c.args.plays.n
 
 pub overflow_add-total : goal.overflow_add-total
 overflow_add-total c =
-    let few = added_to-bound (λ k. k) 2 c.args.start.now c.args.plays.now (6 * c.loop-first.first + c.loop-second.second) (at_most_two c.args.start.now) in
-    omega (arith, c.loop-second.invariant, c.over_second_throws-total.ensures, few, at_most_two c.args.start.now c.index-plays-first.result)
+    let few = added_to-bound (λ k. k) 2 c.args.start.now c.args.plays.now (6 * c.loop-first.first + c.loop-second.second) (rolls_of_two-most c.args.start.now) in
+    omega (arith, c.loop-second.invariant, c.over_second_throws-total.ensures, few, rolls_of_two-most c.args.start.now c.index-plays-first.result)
 
 pub loop-second-preserved : goal.loop-second-preserved
 loop-second-preserved c =

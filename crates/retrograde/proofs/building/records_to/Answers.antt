@@ -1,7 +1,7 @@
 use Rattle.std.proofs.Common.{◌<◌, arith, subst}
 use Rattle.race_model.specs.Positions.{Board}
 use Rattle.race_model.specs.Ranks.{count_to}
-use Rattle.race_model.proofs.PositionTotals.{count_to-most, at_rank-under}
+use Rattle.race_model.proofs.Ranks.PositionTotals.{count_to-most, at_rank_under}
 use Rattle.retrograde.specs.BuiltRecords.{IsMade, IsReached}
 use Rattle.retrograde.proofs.Grown.{one-more}
 use Rattle.retrograde.proofs.building.records_to.Goals as goal
@@ -13,7 +13,7 @@ pub next_record-made-requires-clause-low : goal.next_record-made-requires-clause
 next_record-made-requires-clause-low c =
     let is = rw c.unwrap-position.ensures at c.unrank.ensures.value in
     let under : c.loop-rank.rank < count_to c.args.bound = omega (arith, c.count_to-rank-end.ensures) in
-    let low = (at_rank-under c.args.bound c.loop-rank.rank under).1 in
+    let low = (at_rank_under c.args.bound c.loop-rank.rank under).1 in
     rw is (omega (arith, low, c.requires))
 
 pub loop-rank-preserved : goal.loop-rank-preserved

@@ -2,12 +2,12 @@ use Rattle.std.proofs.Common.{◌≡◌, ◌<◌, ◌≤◌, List, length, All, 
 use Rattle.std.specs.Prelude.{slice_index}
 use Rattle.race_model.specs.Positions.{Board}
 use Rattle.race_model.specs.Ranks.{rank}
-use Rattle.race_model.proofs.Members.{all-of_members}
+use Rattle.race_model.proofs.Numbers.Members.{all_of_members}
 use Rattle.retrograde.proofs.Best.{best-of_results}
 use Rattle.retrograde.proofs.plays.best_result.Goals as goal
 
 pub best_of-requires-clause-held : goal.best_of-requires-clause-held
-best_of-requires-clause-held c = rw c.as_slice.ensures.value (all-of_members (λ z. rank z < length c.args.means.now) c.results.result.items (λ z is. c.requires z ((c.results.ensures.members z).0 is)))
+best_of-requires-clause-held c = rw c.as_slice.ensures.value (all_of_members (λ z. rank z < length c.args.means.now) c.results.result.items (λ z is. c.requires z ((c.results.ensures.members z).0 is)))
 
 pub returns : goal.returns
 returns c =

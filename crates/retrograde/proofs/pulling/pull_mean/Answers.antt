@@ -1,8 +1,8 @@
 use Rattle.std.proofs.Common.{◌≡◌, ℕ, ◌*◌, ◌<◌, length, get_or, sum_by, ap, ◌∙◌, refl, arith, length-set}
 use Rattle.std.specs.Prelude.{slice_index}
 use Rattle.race_model.specs.Dice.{roll_at, weight}
-use Rattle.race_model.proofs.Members.{set-next}
-use Rattle.race_model.proofs.RollParts.{parts-sum, parts-weights}
+use Rattle.race_model.proofs.Numbers.Members.{set_next}
+use Rattle.race_model.proofs.Dice.RollSums.{parts_sum, parts_weights}
 use Rattle.retrograde.specs.BuiltRecords.{sum_of_means}
 use Rattle.retrograde.proofs.pulling.pull_mean.Goals as goal
 
@@ -16,7 +16,7 @@ loop-index-preserved c =
     let part : (c.weight.result, c.unwrap.result) ≡ (weight (roll_at c.loop-index.index), slice_index means (slice_index plays c.loop-index.index)) = rw (c.weight.ensures.value, roll, mean) refl in
     record {
       len = length-set c.loop-index.parts c.from-place.result (c.weight.result, c.unwrap.result) ∙ c.loop-index.invariant.len;
-      parts = λ j d. set-next (λ j part. part ≡ (weight (roll_at j), slice_index means (slice_index plays j))) c.loop-index.parts c.loop-index.index c.from-place.result (c.weight.result, c.unwrap.result) d c.from-place.ensures fits (λ j. c.loop-index.invariant.parts j d) part j;
+      parts = λ j d. set_next (λ j part. part ≡ (weight (roll_at j), slice_index means (slice_index plays j))) c.loop-index.parts c.loop-index.index c.from-place.result (c.weight.result, c.unwrap.result) d c.from-place.ensures fits (λ j. c.loop-index.invariant.parts j d) part j;
     }
 
 pub unwrap-requires : goal.unwrap-requires
@@ -32,12 +32,12 @@ unfolding mean_of
 each c j d lt = c.loop-index.invariant.parts j d (omega arith)
 
 pub pull-requires : goal.pull-requires
-pull-requires c = parts-weights (mean_of c) c.loop-index.parts c.loop-index.invariant.len (each c)
+pull-requires c = parts_weights (mean_of c) c.loop-index.parts c.loop-index.invariant.len (each c)
 
 -- what is pulled is the weighted sum of the means
 total : (c : goal.After-parts-1) → sum_by (λ part. part.0 * part.1) c.loop-index.parts ≡ sum_of_means c.args.means.now c.args.plays.now
 unfolding mean_of
-total c = parts-sum (mean_of c) c.loop-index.parts c.loop-index.invariant.len (each c) (λ part. part.0 * part.1)
+total c = parts_sum (mean_of c) c.loop-index.parts c.loop-index.invariant.len (each c) (λ part. part.0 * part.1)
 
 pub unwrap-requires-2 : goal.unwrap-requires-2
 unwrap-requires-2 c =

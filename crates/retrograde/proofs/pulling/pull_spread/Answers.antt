@@ -3,7 +3,7 @@ use Rattle.std.specs.Prelude.{slice_index}
 use Rattle.race_model.specs.Dice.{roll_at, weight}
 use Rattle.fixed_fraction.specs.Shares.{weighted_share}
 use Rattle.retrograde.specs.BuiltRecords.{shares_of, sum_of_shares}
-use Rattle.race_model.proofs.RollParts.{parts-sum, parts-weights}
+use Rattle.race_model.proofs.Dice.RollSums.{parts_sum, parts_weights}
 use Rattle.retrograde.proofs.pulling.pull_spread.Goals as goal
 
 -- the shares that a roll plays to
@@ -16,12 +16,12 @@ unfolding shares
 each c j d lt = c.loop-index.invariant.parts j d (omega arith)
 
 pub pull-requires : goal.pull-requires
-pull-requires c = parts-weights (shares c) c.loop-index.parts c.loop-index.invariant.len (each c)
+pull-requires c = parts_weights (shares c) c.loop-index.parts c.loop-index.invariant.len (each c)
 
 -- the weighted shares of the parts are those of the plays
 total : (c : goal.After-parts-1) (k : ℕ) → weighted_share c.loop-index.parts k ≡ sum_of_shares c.args.spreads.now c.args.plays.now k
 unfolding shares
-total c k = parts-sum (shares c) c.loop-index.parts c.loop-index.invariant.len (each c) (λ part. part.0 * slice_index part.1 k)
+total c k = parts_sum (shares c) c.loop-index.parts c.loop-index.invariant.len (each c) (λ part. part.0 * slice_index part.1 k)
 
 -- no part has a share at 22 rolls
 none : (c : goal.After-parts-1) → All (λ part. slice_index part.1 22 ≡ 0) c.loop-index.parts

@@ -1,5 +1,5 @@
-use Rattle.race_model.proofs.Horizons.{ends_in_22}
-use Rattle.race_model.proofs.Bounded.{mean_at_most, share_at_most}
+use Rattle.race_model.proofs.Strategies.Horizons.{ends_in_22}
+use Rattle.race_model.proofs.RightFiles.Bounded.{mean_at_most, share_at_most}
 use Rattle.race_model.proofs.laws.bounds.law_bounds.Goals as goal
 
 pub returns : goal.returns

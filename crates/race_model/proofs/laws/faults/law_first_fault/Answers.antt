@@ -1,6 +1,6 @@
 -- Each rank under the count is that of a position of at most the bound.
-use Rattle.race_model.proofs.Faults.{answers, local_of_answers, fault_refuses, one_fault}
-use Rattle.race_model.proofs.Decisions.{local_or_fault}
+use Rattle.race_model.proofs.FirstFaults.Questions.{answers, local_of_answers, fault_refuses, one_fault}
+use Rattle.race_model.proofs.FirstFaults.Decisions.{local_or_fault}
 use Rattle.race_model.proofs.laws.faults.law_first_fault.Goals as goal
 
 pub returns : goal.returns

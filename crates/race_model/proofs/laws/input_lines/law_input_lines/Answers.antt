@@ -1,4 +1,4 @@
-use Rattle.race_model.proofs.InputLines.{cut_of, one_cut, feed_more, byte_more, pieces_stay}
+use Rattle.race_model.proofs.Replies.InputLines.{cut_of, one_cut, feed_more, byte_more, pieces_stay}
 use Rattle.race_model.proofs.laws.input_lines.law_input_lines.Goals as goal
 
 pub returns-clause-cut : goal.returns-clause-cut

@@ -1,5 +1,5 @@
 -- The plan that plays to the result at that throw and else as recorded is least just where nothing is lost.
-use Rattle.race_model.proofs.RightFacts.{recorded_least, loss_is_loss, begins, no_loss}
+use Rattle.race_model.proofs.RightFiles.RightFacts.{recorded_least, loss_is_loss, begins, no_loss}
 use Rattle.race_model.proofs.laws.losses.law_loss.Goals as goal
 
 pub returns : goal.returns

@@ -1,5 +1,5 @@
 -- No word of a line has a space, and the first words differ in their first two letters.
-use Rattle.race_model.proofs.Lines.{words_of_query, query_of_words, one_query, short_line}
+use Rattle.race_model.proofs.Replies.Lines.{words_of_query, query_of_words, one_query, short_line}
 use Rattle.race_model.proofs.laws.replies.law_lines.Goals as goal
 
 pub returns : goal.returns

@@ -1,6 +1,6 @@
 -- A reply is told by the numbers of the file alone, and each part of it has one text.
-use Rattle.race_model.proofs.OneReply.{one_reply}
-use Rattle.race_model.proofs.EqualReplies.{same_reply}
+use Rattle.race_model.proofs.Replies.OneReply.{one_reply}
+use Rattle.race_model.proofs.Replies.EqualReplies.{same_reply}
 use Rattle.race_model.proofs.laws.replies.law_replies.Goals as goal
 
 pub returns : goal.returns

@@ -1,7 +1,7 @@
 -- A least total is one number; the lowest rank and the shares follow from the means, and the bytes from the numbers.
-use Rattle.race_model.proofs.RightFacts.{means_agree}
-use Rattle.race_model.proofs.Built.{built_same}
-use Rattle.race_model.proofs.SameBytes.{one_file}
+use Rattle.race_model.proofs.RightFiles.RightFacts.{means_agree}
+use Rattle.race_model.proofs.RightFiles.Built.{built_same}
+use Rattle.race_model.proofs.RightFiles.SameBytes.{one_file}
 use Rattle.race_model.proofs.laws.right_files.law_agree.Goals as goal
 
 pub returns : goal.returns

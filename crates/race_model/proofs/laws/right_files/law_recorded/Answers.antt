@@ -1,5 +1,5 @@
 -- Ranks rise with the pips, and each throw takes a pip while a checker is left.
-use Rattle.race_model.proofs.Recorded.{recorded_position, recorded_under, recorded_lower, recorded_at_end}
+use Rattle.race_model.proofs.RightFiles.Recorded.{recorded_position, recorded_under, recorded_lower, recorded_at_end}
 use Rattle.race_model.proofs.laws.right_files.law_recorded.Goals as goal
 
 pub returns : goal.returns

@@ -1,11 +1,11 @@
 use Rattle.std.proofs.Common.{◌+◌, ◌<◌, subst, arith}
-use Rattle.ranking.proofs.Counting.{IsCounted, counted-more}
+use Rattle.ranking.proofs.Counting.{IsCounted, counted_more}
 use Rattle.ranking.proofs.ranks.Ranks.count_at.Goals as goal
 
 -- one checker more fits
 more : (c : goal.In-loop-count) → IsCounted c.args.point c.args.checkers c.args.pips c.args.later (c.loop-count.count + 1)
 more c =
-    counted-more _ _ _ _ _ c.requires.last c.requires.few c.loop-count.invariant
+    counted_more _ _ _ _ _ c.requires.last c.requires.few c.loop-count.invariant
     (subst (λ n. c.args.later < n) c.used.ensures c.loop-count-test.true)
 
 pub loop-count-smaller : goal.loop-count-smaller

@@ -1,10 +1,10 @@
 use Rattle.std.proofs.Common.{◌+◌, ap, ◌∙◌, arith}
 use Rattle.race_model.specs.Ranks.{first_of}
-use Rattle.ranking.proofs.TableCounts.{count-capped}
+use Rattle.ranking.proofs.TableCounts.{first_of-capped_suc}
 use Rattle.ranking.proofs.ranks.Ranks.count_to.Goals as goal
 
 pub returns : goal.returns
 returns c =
     c.args.self.now.summed (c.from.result + 1) (omega arith)
     ∙ ap (λ m. first_of (m + 1)) (c.from.ensures ∙ c.min.ensures)
-    ∙ count-capped c.args.pips
+    ∙ first_of-capped_suc c.args.pips

@@ -1,10 +1,10 @@
 use Rattle.std.proofs.Common.{ap, ◌∙◌, arith}
 use Rattle.race_model.specs.Ranks.{first_of}
-use Rattle.ranking.proofs.TableCounts.{first-capped}
+use Rattle.ranking.proofs.TableCounts.{first_of-capped}
 use Rattle.ranking.proofs.ranks.Ranks.first_of.Goals as goal
 
 pub returns : goal.returns
 returns c =
     c.args.self.now.summed c.from.result (omega arith)
     ∙ ap first_of (c.from.ensures ∙ c.min.ensures)
-    ∙ first-capped c.args.pips
+    ∙ first_of-capped c.args.pips

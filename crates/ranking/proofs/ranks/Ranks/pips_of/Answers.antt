@@ -1,15 +1,15 @@
 use Rattle.std.proofs.Common.{◌≡◌, length, nat_le, rules}
 use Rattle.std.specs.List.Sorted.{IsNonDecreasingBy}
 use Rattle.std.proofs.lemmas.List.Sorted.{IsPartitionPoint-from_clause, IsPartitionedBy-leb}
-use Rattle.ranking.proofs.Counting.{IsPipsOf, pips-found, starts-rise}
+use Rattle.ranking.proofs.Counting.{IsPipsOf, pips_found, starts_rise}
 use Rattle.ranking.proofs.ranks.Ranks.pips_of.Goals as goal
 
 -- where the counts of fewer pips pass the rank
 pips : (c : goal.After-partition_point-above) → IsPipsOf c.args.index c.partition_point-above.result
 pips c =
     let long : length c.args.self.now.starts ≡ 92 = search rules in
-    let rising : IsNonDecreasingBy (λ x. x) c.args.self.now.starts = starts-rise c.args.self.now.starts long c.args.self.now.summed in
-    pips-found c.args.self.now.starts c.args.index c.partition_point-above.result long c.requires c.partition_point-above.ensures.bound c.args.self.now.summed
+    let rising : IsNonDecreasingBy (λ x. x) c.args.self.now.starts = starts_rise c.args.self.now.starts long c.args.self.now.summed in
+    pips_found c.args.self.now.starts c.args.index c.partition_point-above.result long c.requires c.partition_point-above.ensures.bound c.args.self.now.summed
     (IsPartitionPoint-from_clause (λ y. nat_le y c.args.index) _ _ c.partition_point-above.ensures.partitioned (IsPartitionedBy-leb (λ x. x) _ c.args.index rising) (λ a r q k. search rules))
 
 pub overflow_sub-result : goal.overflow_sub-result

@@ -1,14 +1,14 @@
 use Rattle.std.proofs.Common.{◌+◌, w16, get_or, ap, ◌∙◌, arith}
 use Rattle.std.proofs.Math.Facts.{Fits-of_lt}
 use Rattle.race_model.specs.Ranks.{first_of}
-use Rattle.ranking.proofs.Reading.{IsNext, IsRanked, read-next, rank-read, later-most}
+use Rattle.ranking.proofs.Reading.{IsNext, IsRanked, read_next, rank_read, later-most}
 use Rattle.ranking.proofs.ranks.Ranks.rank.Goals as goal
 
 -- the next point is read
 next : (c : goal.After-used-later) →
     IsNext c.args.position.now c.loop-point.point c.loop-point.checkers_left c.loop-point.pips_left c.loop-point.later c.count-count.result
 next c =
-    read-next _ _ _ _ _ _ c.pips-pips.ensures.position c.loop-point.auto.point c.loop-point-test.true c.count-count.ensures.value c.loop-point.invariant
+    read_next _ _ _ _ _ _ c.pips-pips.ensures.position c.loop-point.auto.point c.loop-point-test.true c.count-count.ensures.value c.loop-point.invariant
 
 pub overflow_add-later : goal.overflow_add-later
 overflow_add-later c = Fits-of_lt {w = w16} (omega (arith, (next c).next.added, c.used-later.ensures, later-most _ c.pips-pips.ensures.position))
@@ -19,7 +19,7 @@ loop-point-preserved c = rw c.used-later.ensures (next c).next
 -- all points are read
 ranked : (c : goal.After-result-1) → IsRanked c.args.position.now (get_or c.args.self.now.starts (c.from.result + 1) 0) c.loop-point.later
 ranked c =
-    rank-read _ _ _ _ _ _ c.pips-pips.ensures.position (omega arith) c.loop-point.invariant
+    rank_read _ _ _ _ _ _ c.pips-pips.ensures.position (omega arith) c.loop-point.invariant
     (c.args.self.now.summed (c.from.result + 1) (omega arith) ∙ ap (λ m. first_of (m + 1)) (c.from.ensures ∙ c.pips-pips.ensures.value))
 
 pub overflow_sub-result : goal.overflow_sub-result

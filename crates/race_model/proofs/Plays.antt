@@ -1,0 +1,8 @@
+-- Steps, runs and legal plays, the first play, and the demand for the most dice.
+pub mod Steps
+pub mod Results
+pub mod Enumerated
+pub mod Needs
+pub mod MostPlays
+pub mod PlayOrder
+pub mod SinglePlays

@@ -1,0 +1,3 @@
+-- Positions and their text.
+pub mod Points
+pub mod OneText

@@ -1,0 +1,5 @@
+-- Ranks, by counts over the box of all boards.
+pub mod BoxCounts
+pub mod RankCounts
+pub mod RankOrder
+pub mod PositionTotals

@@ -1,0 +1,195 @@
+-- How many positions there are, in all and to a pip count, by sums that are cheap to compute.
+use Rattle.std.proofs.Common.{◌≡◌, ℕ, zero, suc, ◌+◌, ◌-◌, ◌<◌, ◌≤◌, ◌⊎◌, Bool, true, false, cond, not, List, refl, sym, ◌∙◌, ap, subst, inl, inr, arith}
+use Rattle.std.specs.Prelude.{nat_lt, nat_le, ◌==◌}
+use Rattle.std.proofs.lemmas.Bool.{le-leb, ltb-true, ltb-false, cases_lt}
+use Rattle.race_model.specs.Positions.{Board, IsPosition, pips, finished}
+use Rattle.race_model.specs.Ranks.{count_positions, rank, first_of, count_to, position_count, at_rank}
+use Rattle.race_model.proofs.Ranks.BoxCounts.{within, within-nil, within-zero, within-suc, within-add, within-none_on}
+use Rattle.race_model.proofs.Ranks.RankCounts.{ways, ways-nil, ways-zero, ways-low, ways-more}
+use Rattle.race_model.proofs.Ranks.RankOrder.{count_to-step, first_of-suc, first_of-zero, count_to-rises, rank-later, rank_within, rank_bound, pips-range, at_rank_search, at_rank_position, at_rank-rank, rank_reached}
+
+-- the sum of a function at 0 to k
+abbrev sum_to : (ℕ → ℕ) → ℕ → ℕ
+sum_to f zero = f 0
+sum_to f (suc k) = f (suc k) + sum_to f k
+
+-- how many lists of n counts have at most k checkers, by sums alone
+abbrev size : ℕ → ℕ → ℕ
+size zero k = 1
+size (suc n) k = sum_to (size n) k
+
+-- that is how many there are, where it is known of fewer points
+within-size_suc : (n : ℕ) → ((k : ℕ) → k ≤ 15 → within n k (λ _. true) ≡ size n k) → (k : ℕ) → k ≤ 15 → within (suc n) k (λ _. true) ≡ size (suc n) k
+within-size_suc n rest zero h = within-zero n (λ _. true) ∙ rest 0 h
+within-size_suc n rest (suc k) h = omega (arith, within-suc n k (λ _. true) (omega arith), rest (suc k) h, within-size_suc n rest k (omega arith))
+
+-- that is how many there are
+within-size : (n k : ℕ) → k ≤ 15 → within n k (λ _. true) ≡ size n k
+within-size zero k h = within-nil k (λ _. true)
+within-size (suc n) k h = within-size_suc n (within-size n) k h
+
+-- more points or more checkers, more lists
+size-checkers : (n k : ℕ) → size n k ≤ size n (suc k)
+size-checkers zero k = omega arith
+size-checkers (suc n) k = omega arith
+
+-- .. and more points too
+size-points : (n k : ℕ) → size n k ≤ size (suc n) k
+size-points n zero = omega arith
+size-points n (suc k) = omega arith
+
+-- no more than positions
+size-most : (n k : ℕ) → n ≤ 6 → k ≤ 15 → size n k ≤ 54264
+size-most n k h l = omega (arith, by_points n k (6 - n), by_checkers k (15 - k), ap (λ j. size j k) (omega-points n h), ap (size 6) (omega-checkers k l)) where
+  omega-points : (n : ℕ) → n ≤ 6 → n + (6 - n) ≡ 6
+  omega-points n h = omega arith
+
+  omega-checkers : (k : ℕ) → k ≤ 15 → k + (15 - k) ≡ 15
+  omega-checkers k h = omega arith
+
+  by_points : (n k d : ℕ) → size n k ≤ size (n + d) k
+  by_points n k zero = let e : n + 0 ≡ n = omega arith in omega (arith, ap (λ j. size j k) e)
+  by_points n k (suc d) = let e : n + suc d ≡ suc (n + d) = omega arith in omega (arith, ap (λ j. size j k) e, size-points (n + d) k, by_points n k d)
+
+  by_checkers : (k d : ℕ) → size 6 k ≤ size 6 (k + d)
+  by_checkers k zero = let e : k + 0 ≡ k = omega arith in omega (arith, ap (size 6) e)
+  by_checkers k (suc d) = let e : k + suc d ≡ suc (k + d) = omega arith in omega (arith, ap (size 6) e, size-checkers 6 (k + d), by_checkers k d)
+
+-- no test lets more lists pass than there are positions
+pub within-most : (n k : ℕ) (test : List ℕ → Bool) → n ≤ 6 → k ≤ 15 → within n k test ≤ 54264
+within-most n k test h l =
+    omega (arith, size-most n k h l, within-size n k l, within-add n k (λ _. true) test (λ y. not (test y)) (λ y. either (test y))) where
+      either : (c : Bool) → cond {A = ℕ} true 1 0 ≡ cond c 1 0 + cond (not c) 1 0
+      either true = refl
+      either false = refl
+
+-- how many positions there are
+pub position_count-all : position_count ≡ 54264
+unfolding position_count count_positions within
+position_count-all = within-size 6 15 (omega arith)
+
+-- all positions have at most 90 pips
+pub count_to-all : (b : ℕ) → 90 ≤ b → count_to b ≡ 54264
+unfolding count_to position_count count_positions within
+count_to-all b h =
+    omega (arith, position_count-all, none, within-add 6 15 (λ _. true) (λ y. nat_le (pips y) b) (λ y. not (nat_le (pips y) b)) (λ y. either (nat_le (pips y) b))) where
+      either : (c : Bool) → cond {A = ℕ} true 1 0 ≡ cond c 1 0 + cond (not c) 1 0
+      either true = refl
+      either false = refl
+
+      none : within 6 15 (λ y. not (nat_le (pips y) b)) ≡ 0
+      none =
+          within-none_on 6 15 (λ y. not (nat_le (pips y) b)) (omega arith)
+          (λ y l few. ap not (le-leb (pips y) b (omega (arith, pips-range y (record { six = l; few = few })))))
+
+-- .. so no more are found with fewer than 91 or more
+pub first_of-all : (b : ℕ) → 90 < b → first_of b ≡ 54264
+first_of-all zero h = absurd (omega arith)
+first_of-all (suc b) h = first_of-suc b ∙ count_to-all b (omega arith)
+
+-- no count is above that of all positions
+pub count_to-most : (b : ℕ) → count_to b ≤ 54264
+count_to-most b = by_cases (cases_lt b 90) where
+  by_cases : (b < 90) ⊎ (90 ≤ b) → count_to b ≤ 54264
+  by_cases (inl less) = omega (arith, count_to-rises b 90 (omega arith), count_to-all 90 (omega arith))
+  by_cases (inr more) = omega (arith, count_to-all b more)
+
+-- ranks are under the number of positions
+pub rank-range : (x : Board) → IsPosition x → rank x < 54264
+rank-range x p = omega (arith, (rank_within x p).1, count_to-most (pips x))
+
+-- the rank of the position of a rank is that rank
+pub rank-at_rank : (r : ℕ) → r < 54264 → rank (at_rank r) ≡ r
+rank-at_rank r h = by_position (rank_reached 91 r (omega (arith, h, first_of-all 91 (omega arith)))) where
+  by_position : (x : Board) × ((IsPosition x) × (rank x ≡ r)) → rank (at_rank r) ≡ r
+  by_position (x, a) = subst (λ q. rank (at_rank q) ≡ q) a.1 (ap rank (at_rank-rank x a.0))
+
+-- a rank under the count of a bound is that of a position of at most so many pips
+pub at_rank_under : (b r : ℕ) → r < count_to b → (rank (at_rank r) ≡ r) × (pips (at_rank r) ≤ b)
+at_rank_under b r h =
+    let ranked : rank (at_rank r) ≡ r = rank-at_rank r (omega (arith, count_to-most b)) in
+    (ranked, (rank_bound (at_rank r) b (at_rank_position r)).0 (subst (λ q. q < count_to b) (sym ranked) h))
+
+-- the finished position stands for each number that is no rank
+pub at_rank-past : (r : ℕ) → 54264 ≤ r → at_rank r ≡ finished
+unfolding count_positions within
+at_rank-past r h = by_search (at_rank_search r) where
+  by_search : ((at_rank r ≡ finished) × (count_positions (λ y. rank y == r) ≡ 0)) ⊎ ((IsPosition (at_rank r)) × (rank (at_rank r) ≡ r)) → at_rank r ≡ finished
+  by_search (inl none) = none.0
+  by_search (inr some) = absurd (omega (arith, h, some.1, rank-range (at_rank r) some.0))
+
+-- no position is before the finished one
+pub rank-finished : rank finished ≡ 0
+rank-finished =
+    let e : pips finished ≡ 0 = refl in
+    omega (arith, rank-later finished (record { six = refl; few = omega arith }), ap count_to e, count_to-step 0, first_of-zero, ways-none 6 0 15 (omega arith)) where
+      ways-none : (n p k : ℕ) → k ≤ 15 → ways n (suc p) k 0 ≡ 1
+      ways-none zero p k h = ways-nil (suc p) k 0
+      ways-none (suc n) p zero h = ways-zero n (suc p) 0 ∙ ways-none n (suc p) 0 h
+      ways-none (suc n) p (suc k) h = ways-low n (suc p) k 0 (omega arith) (omega arith) ∙ ways-none n (suc p) (suc k) h
+
+-- how many lists of n counts, of the points from p on, have at most k checkers and m pips, by sums alone
+abbrev add_up : (ℕ → ℕ → ℕ) → ℕ → ℕ → ℕ → ℕ
+add_up rest p zero m = rest 0 m
+add_up rest p (suc k) m = rest (suc k) m + elim (nat_lt m p) [ true ↦ 0 | false ↦ add_up rest p k (m - p) ]
+
+-- .. for the lists on any number of points
+abbrev ways_sum : ℕ → ℕ → ℕ → ℕ → ℕ
+ways_sum zero p k m = cond (0 == m) 1 0
+ways_sum (suc n) p k m = add_up (ways_sum n (suc p)) p k m
+
+-- these are the counts, where it is known of the other points
+ways-add_up : (n p : ℕ) → ((k m : ℕ) → k ≤ 15 → ways n (suc p) k m ≡ ways_sum n (suc p) k m) →
+    (k m : ℕ) → k ≤ 15 → ways (suc n) p k m ≡ add_up (ways_sum n (suc p)) p k m
+ways-add_up n p rest zero m h = ways-zero n p m ∙ rest 0 m h
+ways-add_up n p rest (suc k) m h = by_room (nat_lt m p) refl (λ j. ways-add_up n p rest k j) where
+  by_room : (b : Bool) → nat_lt m p ≡ b → ((j : ℕ) → k ≤ 15 → ways (suc n) p k j ≡ add_up (ways_sum n (suc p)) p k j) →
+      ways (suc n) p (suc k) m ≡ ways_sum n (suc p) (suc k) m + elim (nat_lt m p) [ true ↦ 0 | false ↦ add_up (ways_sum n (suc p)) p k (m - p) ]
+  by_room true e fewer = rw e (omega (arith, ways-low n p k m (omega arith) (ltb-true m p e), rest (suc k) m h))
+  by_room false e fewer = rw e (omega (arith, ways-more n p k m (omega arith) (ltb-false m p e), rest (suc k) m h, fewer (m - p) (omega arith)))
+
+-- these are the counts
+ways-ways_sum : (n p k m : ℕ) → k ≤ 15 → ways n p k m ≡ ways_sum n p k m
+ways-ways_sum zero p k m h = ways-nil p k m
+ways-ways_sum (suc n) p k m h = ways-add_up n p (ways-ways_sum n (suc p)) k m h
+
+-- how many positions have fewer pips, by sums alone
+abbrev first_sum : ℕ → ℕ
+first_sum zero = 0
+first_sum (suc m) = first_sum m + ways_sum 6 1 15 m
+
+-- these are the counts of fewer pips
+first_of-sum : (m : ℕ) → first_of m ≡ first_sum m
+first_of-sum zero = first_of-zero
+first_of-sum (suc m) = omega (arith, first_of-suc m, count_to-step m, first_of-sum m, ways-ways_sum 6 1 15 m (omega arith))
+
+-- how many positions have at most 8 pips
+pub count_to-eight : count_to 8 ≡ 64
+count_to-eight = sym (first_of-suc 8) ∙ first_of-sum 9
+
+-- how many positions have at most 44 pips
+pub count_to-44 : count_to 44 ≡ 26314
+count_to-44 = sym (first_of-suc 44) ∙ first_of-sum 45
+
+-- how many positions have m pips to n - 1 more, by sums alone
+abbrev next_sum : ℕ → ℕ → ℕ
+next_sum m zero = 0
+next_sum m (suc n) = ways_sum 6 1 15 m + next_sum (suc m) n
+
+-- .. and these come next
+first_of-next : (m n : ℕ) → first_of (m + n) ≡ first_of m + next_sum m n
+first_of-next m zero = let e : m + 0 ≡ m = omega arith in omega (arith, ap first_of e)
+first_of-next m (suc n) =
+    let e : m + suc n ≡ suc m + n = omega arith in
+    omega (arith, ap first_of e, first_of-next (suc m) n, first_of-suc m, count_to-step m, ways-ways_sum 6 1 15 m (omega arith))
+
+-- the positions of 45 to 51 pips, and of 52 to 58
+first_of-52 : first_of 52 ≡ first_of 45 + 11069
+first_of-52 = first_of-next 45 7
+
+first_of-59 : first_of 59 ≡ first_of 52 + 8679
+first_of-59 = first_of-next 52 7
+
+-- how many positions have at most 58 pips
+pub count_to-58 : count_to 58 ≡ 46062
+count_to-58 = omega (arith, first_of-suc 58, first_of-59, first_of-52, first_of-suc 44, count_to-44)

@@ -1,0 +1,10 @@
+-- Right files and the local equations.
+pub mod FromLocal
+pub mod FromRight
+pub mod Right
+pub mod RightFacts
+pub mod Bounded
+pub mod Recorded
+pub mod Built
+pub mod SameBytes
+pub mod Compact
