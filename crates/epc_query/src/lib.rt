@@ -4,6 +4,8 @@
 pub use reply::{Choice, Level, Refusal, Reply};
 pub use writing::{write_level, write_reply};
 
+pub mod laws;
+mod line_buffer;
 mod query;
 mod reply;
 mod text;
