@@ -1,0 +1,15 @@
+//! Tables: where the header and the records of a database are read. It rests on `db_layout` for the bytes of a
+//! header and of a record, and on `race_model` for what a database file is. The crates above read by the trait
+//! `Table` alone, and may use that a table which tells its bytes answers the header and the records of these bytes,
+//! and fails only where it says so. `Whole` is the table over bytes in memory; a table over a file would be one
+//! more.
+#![tactic(auto)]
+
+pub use record::Record;
+pub use table::{ReadFault, Table, TableFault};
+pub use whole::Whole;
+
+pub mod record;
+pub mod table;
+pub mod trial;
+pub mod whole;
