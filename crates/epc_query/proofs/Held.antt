@@ -1,5 +1,5 @@
 -- What a writer was given of bytes that wait, over several steps, and prefixes of it.
-use Rattle.std.proofs.Common.{◌≡◌, ◌⊎◌, inl, inr, ℕ, ◌+◌, ◌≤◌, ◌<◌, min, List, [], ◌++◌, length, take, Option, Result, Ok, Err, OnErr, ap, sym, subst, ◌∙◌, arith, append_assoc}
+use Rattle.std.proofs.Common.{◌≡◌, ◌⊎◌, inl, inr, ℕ, ◌+◌, ◌≤◌, ◌<◌, min, List, [], ◌++◌, length, take, Option, Result, Ok, Err, OnOk, OnErr, ap, sym, subst, ◌∙◌, arith, append_assoc}
 use Rattle.std.specs.Io.KnownBytes.{Appends}
 use Rattle.std.proofs.lemmas.List.{append-nil, take-append-le, take_all}
 use Rattle.std.proofs.lemmas.Bool.{cases_lt}
@@ -105,3 +105,8 @@ takes_part old mid new waiting xs a h =
 pub takes_same : (old new : Option (List ℕ)) (before after xs ys : List ℕ) → xs ≡ ys → Takes old new before after xs → Takes old new before after ys
 takes_same old new before after xs ys e a =
     record { written = a.written; appended = a.appended; joined = ap (λ t. before ++ t) (sym e) ∙ a.joined }
+
+-- .. and at an answer
+pub on_ok_of : {T E P : Type 0} (r : Result T E) → P → OnOk r P
+on_ok_of (Ok x) h = h
+on_ok_of (Err e) h = tt

@@ -2,3 +2,5 @@ pub mod Readings
 pub mod Texts
 pub mod Held
 pub mod Answers
+pub mod Faults
+pub mod Costs

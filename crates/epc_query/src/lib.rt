@@ -4,9 +4,17 @@
 pub use reply::{Choice, Level, Refusal, Reply};
 pub use writing::{write_level, write_reply};
 
+mod answer;
 pub mod laws;
 mod line_buffer;
+mod losses;
+mod move_list;
 mod query;
+
+pub use answer::{Stop, answer_line};
+pub use losses::loss;
+pub use move_list::moves;
+
 mod reply;
 mod text;
 mod writing;
