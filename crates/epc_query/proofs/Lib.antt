@@ -5,3 +5,4 @@ pub mod Answered
 pub mod Costs
 pub mod CostOrder
 pub mod Stops
+pub mod Runs

@@ -4,3 +4,4 @@ pub mod Held
 pub mod Answers
 pub mod Faults
 pub mod Costs
+pub mod Runs

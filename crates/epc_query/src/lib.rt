@@ -7,6 +7,13 @@ pub use writing::{write_level, write_reply};
 mod answer;
 pub mod laws;
 mod line_buffer;
+mod lines;
+mod run_fault;
+mod running;
+
+pub use run_fault::RunFault;
+pub use running::run;
+
 mod losses;
 mod move_list;
 mod query;
