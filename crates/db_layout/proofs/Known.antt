@@ -1,13 +1,19 @@
 -- Known bytes that grow in several steps.
-use Rattle.std.proofs.Common.{ℕ, ◌+◌, List, [], ◌++◌, take, drop, Option, Some, None, sym, subst, append_assoc}
+use Rattle.std.proofs.Common.{ℕ, ◌+◌, List, [], ◌++◌, take, drop, Option, Some, None, sym, subst, ◌∙◌, append_assoc}
 use Rattle.std.proofs.lemmas.List.{append-nil}
 use Rattle.std.proofs.Math.Seq.{take-add}
-use Rattle.std.specs.Io.KnownBytes.{Appends}
+use Rattle.std.specs.Io.KnownBytes.{Appends, Keeps}
 
 -- bytes that nothing was done to have grown by none
 pub appends_none : (old : Option (List ℕ)) → Appends old old []
 appends_none None = tt
 appends_none (Some xs) = sym (append-nil xs)
+
+-- .. and so have bytes that stay
+pub appends_kept : (old new : Option (List ℕ)) → Keeps old new → Appends old new []
+appends_kept None new h = tt
+appends_kept (Some xs) None h = h
+appends_kept (Some xs) (Some ys) h = h ∙ sym (append-nil xs)
 
 -- bytes that grow twice grow by both
 pub appends_twice : (old mid new : Option (List ℕ)) (bs cs : List ℕ) → Appends old mid bs →

@@ -1,4 +1,5 @@
 -- Lines of queries and their replies.
 pub mod Lines
+pub mod InputLines
 pub mod OneReply
 pub mod EqualReplies

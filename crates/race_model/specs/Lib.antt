@@ -17,6 +17,7 @@ pub mod Fractions
 pub mod FaultLines
 pub mod FirstPlays
 pub mod Queries
+pub mod InputLines
 pub mod Replies
 pub mod Levels
 pub mod SameNumbers

@@ -1,0 +1,5 @@
+use Rattle.epc_query.proofs.Answered.{reply_text}
+use Rattle.epc_query.proofs.laws.law_reply_text.Goals as goal
+
+pub returns : goal.returns
+returns c = reply_text c.law_results.ensures.position

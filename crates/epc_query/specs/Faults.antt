@@ -1,0 +1,65 @@
+-- When a query is refused, by a database of a bound. Source: this project's profile.
+use Rattle.std.specs.Prelude.{◌≡◌, ℕ, ◌<◌, ◌≤◌, List, Result, Ok, Err}
+use Rattle.race_model.specs.Positions.{pips}
+use Rattle.race_model.specs.Queries.{Query, mean_query, dist_query, play_query, loss_query, moves_query, rank_query, subject, AsksOfFinished, HasResult, IsRefused, IsAccepted}
+use Rattle.certificate.specs.declared.query_fault.QueryFault.{QueryFault}
+use Rattle.certificate.specs.declared.query_fault.QueryFault.TheVariants.{OverBound, Finished, NotLegal, Memory, Read}
+use Rattle.epc_query.specs.declared.answer.Stop.{Stop}
+use Rattle.epc_query.specs.declared.answer.Stop.TheVariants.{Memory as NoMemory, Read as NoRead}
+use Rattle.epc_query.specs.declared.reply.Reply.{Reply}
+use Rattle.epc_query.specs.declared.reply.Reply.TheVariants.{Mean, Dist, Play, Loss, Moves, Rank, Refused}
+use Rattle.epc_query.specs.declared.reply.Refusal.TheVariants.{OverBound as IsOverBound, Finished as IsFinishedOne, NotLegal as IsNotLegal}
+use Rattle.epc_query.specs.Texts.{why}
+
+-- a database of this bound answers the query
+pub record IsAnswerable (bound : ℕ) (q : Query) : Type 0 where
+  pub within : pips (subject q) ≤ bound
+  pub unfinished : ¬ AsksOfFinished q
+  pub result : HasResult q
+
+-- the query asks for a list of moves
+abbrev pub AsksMoves : Query → Type 0
+AsksMoves (mean_query x) = ⊥
+AsksMoves (dist_query x) = ⊥
+AsksMoves (play_query x v) = ⊥
+AsksMoves (loss_query x v y) = ⊥
+AsksMoves (moves_query x v) = Unit {0}
+AsksMoves (rank_query x) = ⊥
+
+-- the query is refused so: the first cause that applies, in this order; want of memory and of a read come only to a
+-- query that would be answered, and want of memory only to a list of moves
+abbrev pub IsFaultOf : ℕ → Query → QueryFault → Type 0
+IsFaultOf bound q OverBound = bound < pips (subject q)
+IsFaultOf bound q Finished = (pips (subject q) ≤ bound) × AsksOfFinished q
+IsFaultOf bound q NotLegal = (pips (subject q) ≤ bound) × (¬ AsksOfFinished q) × (¬ HasResult q)
+IsFaultOf bound q Memory = IsAnswerable bound q × AsksMoves q
+IsFaultOf bound q Read = IsAnswerable bound q
+
+-- a refused query as the answer to its line: a reply, or a stop for want of memory or of a read
+abbrev pub stop_of : QueryFault → Result Reply Stop
+stop_of OverBound = Ok (Refused IsOverBound)
+stop_of Finished = Ok (Refused IsFinishedOne)
+stop_of NotLegal = Ok (Refused IsNotLegal)
+stop_of Memory = Err NoMemory
+stop_of Read = Err NoRead
+
+-- the reply says why the line is refused, or the line asks a query that is accepted
+abbrev pub IsHeard : ℕ → List ℕ → Reply → Type 0
+IsHeard bound line (Refused refusal) = IsRefused bound line (why refusal)
+IsHeard bound line (Mean rolls pips) = (q : Query) × IsAccepted bound line q
+IsHeard bound line (Dist shares) = (q : Query) × IsAccepted bound line q
+IsHeard bound line (Play play to) = (q : Query) × IsAccepted bound line q
+IsHeard bound line (Loss lost) = (q : Query) × IsAccepted bound line q
+IsHeard bound line (Moves choices) = (q : Query) × IsAccepted bound line q
+IsHeard bound line (Rank number) = (q : Query) × IsAccepted bound line q
+
+-- a line is stopped only where it is accepted, and for want of memory only where it asks for a list of moves
+abbrev pub IsStopOf : ℕ → List ℕ → Stop → Type 0
+IsStopOf bound line NoMemory = (q : Query) × IsAccepted bound line q × AsksMoves q
+IsStopOf bound line NoRead = (q : Query) × IsAccepted bound line q
+
+-- the read fault is answered exactly where the count of failures rose
+abbrev pub StopCounted : {T : Type 0} → ℕ → ℕ → Result T Stop → Type 0
+StopCounted before now (Ok x) = now ≡ before
+StopCounted before now (Err NoMemory) = now ≡ before
+StopCounted before now (Err NoRead) = before < now

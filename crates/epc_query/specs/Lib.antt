@@ -1,0 +1,7 @@
+pub mod Readings
+pub mod Texts
+pub mod Held
+pub mod Answers
+pub mod Faults
+pub mod Costs
+pub mod Runs

@@ -1,0 +1,126 @@
+//! The answer to a line.
+ghost use Rattle.std.specs.Prelude.{◌≡◌, ℕ, ◌<◌, ◌≤◌, List, IfOk, IfErr, OnOk};
+ghost use Rattle.race_model.specs.Positions.{pips};
+ghost use Rattle.race_model.specs.Ranks.{rank as rank_of};
+ghost use Rattle.race_model.specs.Files.{bound_of};
+ghost use Rattle.race_model.specs.Queries.{IsAccepted};
+ghost use Rattle.db_reader.specs.Telling.{WhereTold};
+ghost use Rattle.certificate.specs.Accepted.{bound_in};
+ghost use Rattle.certificate.specs.QueryFaults.{QueryCounted};
+ghost use Rattle.epc_query.specs.Readings.{asked};
+ghost use Rattle.epc_query.specs.Answers.{IsReplyTo};
+ghost use Rattle.epc_query.specs.Faults.{IsAnswerable, IsFaultOf, stop_of, IsHeard, IsStopOf, StopCounted};
+
+use crate::losses::loss;
+use crate::move_list::moves;
+use crate::query::{LineFault, Query, read_query};
+use crate::reply::{Refusal, Reply};
+use certificate::{Checked, QueryFault};
+use db_reader::Table;
+use fixed_fraction::{epc, mean};
+use home_board::Position;
+use ranking::Ranks;
+use std::alloc::Global;
+
+/// Why a line is not answered.
+#[derive(Clone, Copy, Debug, PartialEq, Eq)]
+pub enum Stop {
+    /// There was no memory for a list of moves.
+    Memory,
+
+    /// A record could not be read.
+    Read,
+}
+
+/// A refused query as the answer to its line.
+fn refused(fault: QueryFault) -> Result<Reply, Stop>
+    ensures { result ≡ stop_of fault }
+{
+    match fault {
+        QueryFault::OverBound => Ok(Reply::Refused(Refusal::OverBound)),
+        QueryFault::Finished => Ok(Reply::Refused(Refusal::Finished)),
+        QueryFault::NotLegal => Ok(Reply::Refused(Refusal::NotLegal)),
+        QueryFault::Memory => Err(Stop::Memory),
+        QueryFault::Read => Err(Stop::Read),
+    }
+}
+/// What a query is answered with.
+fn ask<T: Table>(alloc: Global, checked: &mut Checked<T>, query: Query) -> Result<Reply, QueryFault>
+    ensures answerable { OnOk result (IsAnswerable (bound_in (T.accepted checked.old)) (asked query)) }
+    ensures told { WhereTold (T.tells checked.old) (λ file. IfOk result (λ reply. (line : List ℕ)
+        → IsAccepted (bound_of file) line (asked query) → IsReplyTo file line reply)) }
+    ensures heard { IfOk result (λ reply. (bound : ℕ) (line : List ℕ)
+        → IsAccepted bound line (asked query) → IsHeard bound line reply) }
+    ensures fault { IfErr result (IsFaultOf (bound_in (T.accepted checked.old)) (asked query)) }
+    ensures stays { T.tells checked.new ≡ T.tells checked.old }
+    ensures accepted { T.accepted checked.new ≡ T.accepted checked.old }
+    ensures cause { WhereTold (T.tells checked.old)
+        (λ _. QueryCounted (T.failures checked.old) (T.failures checked.new) result) }
+{
+    match query {
+        Query::Mean(position) => {
+            let rolls = checked.scaled(&position)?;
+            Ok(Reply::Mean {
+                mean: mean(rolls),
+                epc: epc(rolls),
+            })
+        }
+        Query::Dist(position) => Ok(Reply::Dist(checked.spread(&position)?)),
+        Query::Play(position, roll) => {
+            let (play, to) = checked.play(&position, roll)?;
+            Ok(Reply::Play { play, to })
+        }
+        Query::Loss(position, roll, to) => {
+            let lost = loss(checked, &position, roll, &to)?;
+            Ok(Reply::Loss(lost))
+        }
+        Query::Moves(position, roll) => {
+            let choices = moves(alloc, checked, &position, roll)?;
+            Ok(Reply::Moves(choices))
+        }
+        Query::Rank(position) => {
+            let rank = rank(checked, &position)?;
+            Ok(Reply::Rank(rank))
+        }
+    }
+}
+
+/// The rank of a position of at most the bound.
+fn rank<T: Table>(checked: &Checked<T>, position: &Position) -> Result<u16, QueryFault>
+    ensures value { IfOk result (λ rank. rank ≡ rank_of position.now) }
+    ensures answerable { OnOk result (pips position.now ≤ bound_in (T.accepted checked.now)) }
+    ensures fault { IfErr result (λ fault.
+        (fault ≡ QueryFault.OverBound) × (bound_in (T.accepted checked.now) < pips position.now)) }
+{
+    if position.pips() > checked.bound() {
+        return Err(QueryFault::OverBound);
+    }
+    Ok(Ranks::new().rank(position))
+}
+
+/// Answers a line, which comes without its line feed: with what the database says, or why it is refused. It is stopped as
+/// `Memory` only at a line that asks for a list of moves and has no refusal, and as `Read` where a record could not be read.
+/// The database stays as it was.
+pub fn answer_line<T: Table>(
+    alloc: Global,
+    checked: &mut Checked<T>,
+    line: &[u8],
+) -> Result<Reply, Stop>
+    ensures reply { WhereTold (T.tells checked.old) (λ file. IfOk result (IsReplyTo file line.now)) }
+    ensures heard { IfOk result (IsHeard (bound_in (T.accepted checked.old)) line.now) }
+    ensures stop { IfErr result (IsStopOf (bound_in (T.accepted checked.old)) line.now) }
+    ensures stays { T.tells checked.new ≡ T.tells checked.old }
+    ensures accepted { T.accepted checked.new ≡ T.accepted checked.old }
+    ensures cause { WhereTold (T.tells checked.old)
+        (λ _. StopCounted (T.failures checked.old) (T.failures checked.new) result) }
+{
+    let _bound = checked.bound();
+    match read_query(line) {
+        Ok(query) => match ask(alloc, checked, query) {
+            Ok(reply) => Ok(reply),
+            Err(fault) => refused(fault),
+        },
+        Err(LineFault::BadLine) => Ok(Reply::Refused(Refusal::BadLine)),
+        Err(LineFault::TooMany) => Ok(Reply::Refused(Refusal::TooMany)),
+    }
+}

@@ -1,0 +1,71 @@
+//! The line that is being read.
+ghost use Rattle.std.specs.Prelude.{◌≡◌, ℕ, ◌≤◌, List, [], ◌∷◌, ◌++◌, take, length};
+ghost use Rattle.race_model.specs.InputLines.{without_return};
+
+use arrayvec::ArrayVec;
+use std::marker::Model;
+
+/// How many bytes of a line are kept: those of the longest line that is looked at, 128, of a carriage return after them, and
+/// one more, by which a longer line is told from it (this project's profile).
+const KEPT: usize = 130;
+
+/// The bytes that were read after the last line feed, of which the first 130 are kept: a line of more than 128 bytes is
+/// no query, whatever its other bytes are.
+#[derive(Drop)]
+pub(crate) struct LineBuffer {
+    bytes: ArrayVec<u8, KEPT>,
+}
+
+// Clauses see the bytes that are kept.
+impl Model for LineBuffer {
+    ghost use Rattle.std.specs.Prelude.{List, ℕ};
+
+    ghost Value = { List ℕ };
+
+    ghost view = { λ buffer. buffer.bytes.items };
+}
+
+impl LineBuffer {
+    /// No bytes.
+    pub(crate) fn new() -> Self
+        ensures { result ≡ [] }
+    {
+        LineBuffer {
+            bytes: ArrayVec::new(),
+        }
+    }
+
+    /// Adds a byte, which is kept where there are fewer than 130.
+    pub(crate) fn add(&mut self, byte: u8)
+        ensures { self.new ≡ take 130 (self.old ++ byte ∷ []) }
+    {
+        if self.bytes.is_full() {
+            return;
+        }
+        self.bytes.push(byte);
+    }
+
+    /// Forgets the bytes.
+    pub(crate) fn clear(&mut self)
+        ensures { self.new ≡ [] }
+    {
+        self.bytes.clear();
+    }
+
+    /// The bytes that are kept.
+    pub(crate) fn rest(&self) -> &[u8]
+        ensures { result.now ≡ self.now }
+    {
+        self.bytes.as_slice()
+    }
+
+    /// The bytes that are kept, without the carriage return at their end, if there is one.
+    pub(crate) fn line(&self) -> &[u8]
+        ensures { result.now ≡ without_return self.now }
+    {
+        match self.bytes.as_slice() {
+            [line @ .., b'\r'] => line,
+            line => line,
+        }
+    }
+}

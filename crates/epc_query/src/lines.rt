@@ -1,0 +1,132 @@
+//! The lines of an input, answered as soon as they are whole.
+ghost use Rattle.std.specs.Prelude.{◌≡◌, ℕ, ◌+◌, ◌^◌, ◌<◌, ◌≤◌, List, [], ◌∷◌, ◌++◌, length, Option, Some, MatchResult, IfOk};
+ghost use Rattle.std.specs.Io.KnownBytes.{Keeps};
+ghost use Rattle.race_model.specs.InputLines.{whole_lines, lines_of};
+ghost use Rattle.db_reader.specs.Telling.{WhereTold};
+ghost use Rattle.epc_query.specs.Runs.{HasReplies, IsStoppedAt, IsAnswered, RunCounted};
+
+use crate::answer::{Stop, answer_line};
+use crate::line_buffer::LineBuffer;
+use crate::run_fault::RunFault;
+use crate::writing::write_reply;
+use certificate::Checked;
+use db_layout::WriteFault;
+use db_reader::Table;
+use race_model::laws;
+use std::alloc::Global;
+use std::io::Write;
+
+/// Writes the reply to a line.
+fn answer<T: Table, W: Write>(
+    alloc: Global,
+    checked: &mut Checked<T>,
+    line: &[u8],
+    writer: &mut W,
+) -> Result<(), RunFault>
+    ensures answered { WhereTold (T.tells checked.old) (λ file. MatchResult result
+        (λ _. HasReplies file (line.now ∷ []) (W.contents writer.old) (W.contents writer.new))
+        (IsStoppedAt file (line.now ∷ []) (W.contents writer.old) (W.contents writer.new))) }
+    ensures stays { T.tells checked.new ≡ T.tells checked.old }
+    ensures accepted { T.accepted checked.new ≡ T.accepted checked.old }
+    ensures cause { WhereTold (T.tells checked.old)
+        (λ _. RunCounted (T.failures checked.old) (T.failures checked.new) result) }
+{
+    laws::law_lines();
+    crate::laws::law_reply_text();
+    let _bound = checked.bound();
+    match answer_line(alloc, checked, line) {
+        Ok(reply) => match write_reply(&reply, writer) {
+            Ok(()) => Ok(()),
+            Err(WriteFault) => Err(RunFault::Write),
+        },
+        Err(Stop::Memory) => Err(RunFault::Memory),
+        Err(Stop::Read) => Err(RunFault::Table),
+    }
+}
+
+/// Takes one byte of the input: a line feed ends a line, which is answered, and any other byte is kept. It gives how
+/// many lines were answered.
+fn answer_byte<T: Table, W: Write>(
+    alloc: Global,
+    checked: &mut Checked<T>,
+    held: &mut LineBuffer,
+    byte: u8,
+    writer: &mut W,
+) -> Result<u64, RunFault>
+    ensures answered { WhereTold (T.tells checked.old) (λ file. (done : List ℕ) (start : Option (List ℕ))
+        → IsAnswered file done start (W.contents writer.old) held.old → MatchResult result
+        (λ n. IsAnswered file (done ++ byte ∷ []) start (W.contents writer.new) held.new
+        × (length (whole_lines (done ++ byte ∷ [])) ≡ length (whole_lines done) + n))
+        (IsStoppedAt file (whole_lines (done ++ byte ∷ [])) start (W.contents writer.new))) }
+    ensures few { IfOk result (λ n. n ≤ 1) }
+    ensures stays { T.tells checked.new ≡ T.tells checked.old }
+    ensures accepted { T.accepted checked.new ≡ T.accepted checked.old }
+    ensures cause { WhereTold (T.tells checked.old)
+        (λ _. RunCounted (T.failures checked.old) (T.failures checked.new) result) }
+{
+    laws::law_lines();
+    laws::law_input_lines();
+    if byte != b'\n' {
+        held.add(byte);
+        return Ok(0);
+    }
+    answer(alloc, checked, held.line(), writer)?;
+    held.clear();
+    Ok(1)
+}
+
+/// Takes the next bytes of the input, and gives how many lines were answered.
+pub(crate) fn answer_chunk<T: Table, W: Write>(
+    alloc: Global,
+    checked: &mut Checked<T>,
+    held: &mut LineBuffer,
+    chunk: &[u8],
+    writer: &mut W,
+) -> Result<u64, RunFault>
+    requires { length chunk.now < 2 ^ 32 }
+    ensures answered { WhereTold (T.tells checked.old) (λ file. (done : List ℕ) (start : Option (List ℕ))
+        → IsAnswered file done start (W.contents writer.old) held.old → MatchResult result
+        (λ n. IsAnswered file (done ++ chunk.now) start (W.contents writer.new) held.new
+        × (length (whole_lines (done ++ chunk.now)) ≡ length (whole_lines done) + n))
+        (IsStoppedAt file (whole_lines (done ++ chunk.now)) start (W.contents writer.new))) }
+    ensures few { IfOk result (λ n. n ≤ length chunk.now) }
+    ensures stays { T.tells checked.new ≡ T.tells checked.old }
+    ensures accepted { T.accepted checked.new ≡ T.accepted checked.old }
+    ensures cause { WhereTold (T.tells checked.old)
+        (λ _. RunCounted (T.failures checked.old) (T.failures checked.new) result) }
+{
+    laws::law_input_lines();
+    let mut count = 0;
+    for byte in chunk {
+        count += answer_byte(alloc, checked, held, *byte, writer)?;
+    }
+    Ok(count)
+}
+
+/// Answers the line that stands after the last line feed, at the end of the input, unless it is empty. It gives how
+/// many lines were answered, 0 or 1.
+pub(crate) fn answer_last<T: Table, W: Write>(
+    alloc: Global,
+    checked: &mut Checked<T>,
+    held: &LineBuffer,
+    writer: &mut W,
+) -> Result<u64, RunFault>
+    ensures answered { WhereTold (T.tells checked.old) (λ file. (done : List ℕ) (start : Option (List ℕ))
+        → IsAnswered file done start (W.contents writer.old) held.now → MatchResult result
+        (λ n. HasReplies file (lines_of done) start (W.contents writer.new)
+        × (length (lines_of done) ≡ length (whole_lines done) + n))
+        (IsStoppedAt file (lines_of done) start (W.contents writer.new))) }
+    ensures few { IfOk result (λ n. n ≤ 1) }
+    ensures stays { T.tells checked.new ≡ T.tells checked.old }
+    ensures accepted { T.accepted checked.new ≡ T.accepted checked.old }
+    ensures cause { WhereTold (T.tells checked.old)
+        (λ _. RunCounted (T.failures checked.old) (T.failures checked.new) result) }
+{
+    laws::law_lines();
+    let line = held.rest();
+    if line.is_empty() {
+        return Ok(0);
+    }
+    answer(alloc, checked, line, writer)?;
+    Ok(1)
+}

@@ -1,0 +1,133 @@
+//! What a play costs against the best one.
+ghost use Rattle.std.specs.Prelude.{◌≡◌, ℕ, ◌≤◌, List, IfOk, IfErr, OnOk, OnErr};
+ghost use Rattle.race_model.specs.Positions.{IsPosition, IsFinished, pips};
+ghost use Rattle.race_model.specs.Plays.{Legal};
+ghost use Rattle.race_model.specs.Files.{mean as mean_of, mean_at, play};
+ghost use Rattle.race_model.specs.LocalEquations.{whole};
+ghost use Rattle.race_model.specs.Fractions.{IsFraction};
+ghost use Rattle.race_model.specs.Losses.{loss, IsLoss};
+ghost use Rattle.race_model.specs.Queries.{loss_query, moves_query, play_query};
+ghost use Rattle.db_reader.specs.Telling.{WhereTold};
+ghost use Rattle.certificate.specs.Accepted.{bound_in};
+ghost use Rattle.certificate.specs.QueryFaults.{QueryCounted};
+ghost use Rattle.epc_query.specs.Answers.{AreChoices};
+ghost use Rattle.epc_query.specs.Faults.{IsAnswerable, IsFaultOf};
+
+use crate::reply::Choice;
+use certificate::{Checked, QueryFault};
+use db_reader::Table;
+use fixed_fraction::{Fraction, Scaled, mean};
+use home_board::Position;
+use legal_plays::{Roll, play_to};
+use race_model::laws;
+use std::alloc::Global;
+
+/// What a result of a roll costs: the mean number of rolls after it less the least such mean among all results, in
+/// lowest terms. Refused as `OverBound` where the first position has more pips than the bound, else as `Finished`
+/// where no checker is left there, else as `NotLegal` where the roll doesn't lead to the second position, and as
+/// `Read` where a record could not be read.
+pub fn loss<T: Table>(
+    checked: &mut Checked<T>,
+    position: &Position,
+    roll: Roll,
+    to: &Position,
+) -> Result<Fraction, QueryFault>
+    ensures answerable { OnOk result
+        (IsAnswerable (bound_in (T.accepted checked.old)) (loss_query position.now roll to.now)) }
+    ensures fault { IfErr result
+        (IsFaultOf (bound_in (T.accepted checked.old)) (loss_query position.now roll to.now)) }
+    ensures recorded { WhereTold (T.tells checked.old) (λ file. IfOk result (λ lost.
+        IsFraction (loss file position.now roll to.now) whole lost.numerator lost.denominator)) }
+    ensures lost { WhereTold (T.tells checked.old) (λ file. OnOk result
+        (IsLoss position.now roll to.now (loss file position.now roll to.now))) }
+    ensures stays { T.tells checked.new ≡ T.tells checked.old }
+    ensures accepted { T.accepted checked.new ≡ T.accepted checked.old }
+    ensures cause { WhereTold (T.tells checked.old)
+        (λ _. QueryCounted (T.failures checked.old) (T.failures checked.new) result) }
+{
+    laws::law_loss();
+    if position.pips() > checked.bound() {
+        return Err(QueryFault::OverBound);
+    }
+    if position.is_finished() {
+        return Err(QueryFault::Finished);
+    }
+    if play_to(position, roll, to).is_none() {
+        return Err(QueryFault::NotLegal);
+    }
+    lost(checked, position, roll, to)
+}
+
+/// What a result of a roll costs that it leads to from an unfinished position of at most the bound.
+fn lost<T: Table>(
+    checked: &mut Checked<T>,
+    position: &Position,
+    roll: Roll,
+    to: &Position,
+) -> Result<Fraction, QueryFault>
+    requires within { pips position.now ≤ bound_in (T.accepted checked.old) }
+    requires position { IsPosition position.now }
+    requires unfinished { ¬ IsFinished position.now }
+    requires legal { Legal position.now roll to.now }
+    ensures fault { OnErr result (result ≡ Err QueryFault.Read) }
+    ensures recorded { WhereTold (T.tells checked.old) (λ file. IfOk result (λ lost.
+        IsFraction (loss file position.now roll to.now) whole lost.numerator lost.denominator)) }
+    ensures stays { T.tells checked.new ≡ T.tells checked.old }
+    ensures accepted { T.accepted checked.new ≡ T.accepted checked.old }
+    ensures cause { WhereTold (T.tells checked.old)
+        (λ _. QueryCounted (T.failures checked.old) (T.failures checked.new) result) }
+{
+    laws::law_loss();
+    laws::law_results();
+    let _bound = checked.bound();
+    let least = least_mean(checked, position, roll)?;
+    let after = recorded_mean(checked, to)?;
+    match after.minus(least) {
+        Some(difference) => Ok(mean(difference)),
+        None => Err(QueryFault::Read),
+    }
+}
+
+/// The least mean after a roll from an unfinished position of at most the bound: that after the recorded play.
+pub(crate) fn least_mean<T: Table>(
+    checked: &mut Checked<T>,
+    position: &Position,
+    roll: Roll,
+) -> Result<Scaled, QueryFault>
+    requires within { pips position.now ≤ bound_in (T.accepted checked.old) }
+    requires position { IsPosition position.now }
+    requires unfinished { ¬ IsFinished position.now }
+    ensures fault { OnErr result (result ≡ Err QueryFault.Read) }
+    ensures recorded { WhereTold (T.tells checked.old)
+        (λ file. IfOk result (λ least. least ≡ mean_at file (play file position.now roll))) }
+    ensures stays { T.tells checked.new ≡ T.tells checked.old }
+    ensures accepted { T.accepted checked.new ≡ T.accepted checked.old }
+    ensures cause { WhereTold (T.tells checked.old)
+        (λ _. QueryCounted (T.failures checked.old) (T.failures checked.new) result) }
+{
+    laws::law_results();
+    let _bound = checked.bound();
+    match checked.play(position, roll) {
+        Ok(answer) => recorded_mean(checked, &answer.1),
+        Err(_) => Err(QueryFault::Read),
+    }
+}
+
+/// The recorded mean of a position of at most the bound.
+pub(crate) fn recorded_mean<T: Table>(
+    checked: &mut Checked<T>,
+    position: &Position,
+) -> Result<Scaled, QueryFault>
+    requires { pips position.now ≤ bound_in (T.accepted checked.old) }
+    ensures fault { OnErr result (result ≡ Err QueryFault.Read) }
+    ensures recorded { WhereTold (T.tells checked.old) (λ file. IfOk result (λ mean. mean ≡ mean_of file position.now)) }
+    ensures stays { T.tells checked.new ≡ T.tells checked.old }
+    ensures accepted { T.accepted checked.new ≡ T.accepted checked.old }
+    ensures cause { WhereTold (T.tells checked.old)
+        (λ _. QueryCounted (T.failures checked.old) (T.failures checked.new) result) }
+{
+    match checked.scaled(position) {
+        Ok(mean) => Ok(mean),
+        Err(_) => Err(QueryFault::Read),
+    }
+}

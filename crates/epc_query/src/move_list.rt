@@ -1,0 +1,137 @@
+//! All results of a roll, by what they cost.
+ghost use Rattle.std.specs.Prelude.{◌≡◌, ℕ, ◌+◌, ◌*◌, ◌-◌, ◌<◌, ◌≤◌, ◌↔◌, ◌⊎◌, List, [], length, All, Contains, vec_len, vec_capacity, slice_index_or, IfOk, IfErr, OnOk, OnErr};
+ghost use Rattle.arrayvec.specs.ArrayVec.{array_vec_len};
+ghost use Rattle.race_model.specs.Positions.{Board, pips};
+ghost use Rattle.race_model.specs.Ranks.{rank, at_rank};
+ghost use Rattle.race_model.specs.Files.{mean as mean_of};
+ghost use Rattle.race_model.specs.LocalEquations.{whole};
+ghost use Rattle.race_model.specs.Fractions.{IsFraction};
+ghost use Rattle.race_model.specs.Queries.{moves_query};
+ghost use Rattle.db_reader.specs.Telling.{WhereTold};
+ghost use Rattle.certificate.specs.Accepted.{bound_in};
+ghost use Rattle.certificate.specs.QueryFaults.{QueryCounted};
+ghost use Rattle.epc_query.specs.Answers.{AreChoices};
+ghost use Rattle.epc_query.specs.Costs.{IsByCost, IsCost, IsPriced, ArePriced};
+ghost use Rattle.epc_query.specs.Faults.{IsAnswerable, IsFaultOf};
+
+use crate::losses::recorded_mean;
+use crate::reply::Choice;
+use arrayvec::ArrayVec;
+use certificate::{Checked, QueryFault};
+use db_reader::Table;
+use fixed_fraction::{Scaled, mean};
+use home_board::Position;
+use legal_plays::{Roll, results};
+use race_model::laws;
+use ranking::Ranks;
+use std::alloc::Global;
+
+/// A result of a roll as it is put in order: its mean as a numerator over 36 ^ 22, and its rank.
+type Cost = (u128, u16);
+
+/// Every result of a roll once, by rising loss and then by rising rank. Refused as `OverBound` where the position has
+/// more pips than the bound, else as `Finished` where no checker is left, and else as `Memory` where the list can't be
+/// had, or as `Read` where a record could not be read. The memory of the list is taken before the first read.
+pub fn moves<T: Table>(
+    alloc: Global,
+    checked: &mut Checked<T>,
+    position: &Position,
+    roll: Roll,
+) -> Result<Vec<Choice>, QueryFault>
+    ensures answerable { OnOk result
+        (IsAnswerable (bound_in (T.accepted checked.old)) (moves_query position.now roll)) }
+    ensures fault { IfErr result
+        (IsFaultOf (bound_in (T.accepted checked.old)) (moves_query position.now roll)) }
+    ensures choices { WhereTold (T.tells checked.old)
+        (λ file. IfOk result (λ choices. AreChoices file position.now roll choices.items)) }
+    ensures stays { T.tells checked.new ≡ T.tells checked.old }
+    ensures accepted { T.accepted checked.new ≡ T.accepted checked.old }
+    ensures cause { WhereTold (T.tells checked.old)
+        (λ _. QueryCounted (T.failures checked.old) (T.failures checked.new) result) }
+{
+    laws::law_loss();
+    laws::law_results();
+    laws::law_rank();
+    if position.pips() > checked.bound() {
+        return Err(QueryFault::OverBound);
+    }
+    if position.is_finished() {
+        return Err(QueryFault::Finished);
+    }
+    let found = results(position, roll);
+    let Ok(choices) = Vec::with_capacity(alloc, found.len()) else {
+        return Err(QueryFault::Memory);
+    };
+    let costs = costs_of(checked, found.as_slice())?;
+    Ok(priced(choices, costs.as_slice()))
+}
+
+/// The results in order: the smaller mean first, and of equal means the lower rank.
+fn costs_of<T: Table>(
+    checked: &mut Checked<T>,
+    found: &[Position],
+) -> Result<ArrayVec<Cost, 1296>, QueryFault>
+    requires few { length found.now ≤ 1296 }
+    requires within { All (λ y. pips y ≤ bound_in (T.accepted checked.old)) found.now }
+    ensures fault { OnErr result (result ≡ Err QueryFault.Read) }
+    ensures ordered { IfOk result (λ costs. IsByCost costs.items) }
+    ensures bounded { IfOk result (λ costs. All IsCost costs.items) }
+    ensures len { IfOk result (λ costs. array_vec_len costs ≤ length found.now) }
+    ensures members { WhereTold (T.tells checked.old) (λ file. IfOk result (λ costs. (cost : ℕ × ℕ)
+        → Contains costs.items cost ↔ ((y : Board) × Contains found.now y × (cost ≡ (mean_of file y, rank y))))) }
+    ensures stays { T.tells checked.new ≡ T.tells checked.old }
+    ensures accepted { T.accepted checked.new ≡ T.accepted checked.old }
+    ensures cause { WhereTold (T.tells checked.old)
+        (λ _. QueryCounted (T.failures checked.old) (T.failures checked.new) result) }
+{
+    let ranks = Ranks::new();
+    let mut costs = ArrayVec::new();
+    for to in found {
+        let mean = recorded_mean(checked, to)?;
+        include(&mut costs, (mean.numerator(), ranks.rank(to)));
+    }
+    Ok(costs)
+}
+
+/// Adds a result to those in order, unless it is there.
+fn include(costs: &mut ArrayVec<Cost, 1296>, cost: Cost)
+    requires room { array_vec_len costs.old < 1296 }
+    requires ordered { IsByCost costs.old.items }
+    ensures members { (other : ℕ × ℕ)
+        → Contains costs.new.items other ↔ (Contains costs.old.items other ⊎ (other ≡ cost)) }
+    ensures ordered { IsByCost costs.new.items }
+    ensures len { array_vec_len costs.new ≤ array_vec_len costs.old + 1 }
+{
+    if let Err(place) = costs.as_slice().binary_search(&cost) {
+        costs.insert(place, cost);
+    }
+}
+
+/// The results with what each costs against the first.
+fn priced(choices: Vec<Choice>, costs: &[Cost]) -> Vec<Choice>
+    requires none { choices.items ≡ [] }
+    requires room { length costs.now ≤ vec_capacity choices }
+    requires ordered { IsByCost costs.now }
+    requires bounded { All IsCost costs.now }
+    ensures { ArePriced costs.now result.items }
+{
+    let ranks = Ranks::new();
+    let mut choices = choices;
+    for cost in costs {
+        let choice = price(&ranks, *cost, costs[0]);
+        choices.push(choice).unwrap();
+    }
+    choices
+}
+
+/// A result with what it costs against the first.
+fn price(ranks: &Ranks, cost: Cost, first: Cost) -> Choice
+    requires bounded { IsCost cost }
+    requires first { first.0 ≤ cost.0 }
+    ensures { IsPriced first cost result }
+{
+    Choice {
+        to: ranks.unrank(cost.1).unwrap(),
+        loss: mean(Scaled::new(cost.0 - first.0).unwrap()),
+    }
+}

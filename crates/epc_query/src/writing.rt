@@ -1,0 +1,103 @@
+//! Replies and levels as lines, written.
+ghost use Rattle.std.specs.Prelude.{◌≡◌, ℕ, ◌+◌, ◌≤◌, List, [], ◌∷◌, ◌++◌, flat_map, codes, OnOk, OnErr};
+ghost use Rattle.std.specs.Io.KnownBytes.{Appends};
+ghost use Rattle.arrayvec.specs.ArrayString.{array_string_len};
+ghost use Rattle.db_layout.specs.Writes.{AppendsPart};
+ghost use Rattle.epc_query.specs.Texts.{choice_text, level_text, IsTextOf};
+ghost use Rattle.epc_query.specs.Held.{Takes};
+
+use crate::reply::{Choice, Level, Reply};
+use crate::text::{
+    Text, dist_text, level_text, loss_text, mean_text, play_text, push_choice, rank_text,
+    refusal_text,
+};
+use db_layout::{WriteFault, write_bytes};
+use std::io::Write;
+
+/// Writes a reply and a line feed, in one call of the writer's `write` where it takes all that it is given, but for a
+/// long list of moves. Refused only where a `write` fails or takes no byte; then a prefix of the line was written.
+pub fn write_reply<W: Write>(reply: &Reply, writer: &mut W) -> Result<(), WriteFault>
+    ensures all { OnOk result ((text : List ℕ) × IsTextOf reply.now text
+        × Appends (W.contents writer.old) (W.contents writer.new) (text ++ 10 ∷ [])) }
+    ensures part { OnErr result ((text : List ℕ) × IsTextOf reply.now text
+        × AppendsPart (W.contents writer.old) (W.contents writer.new) (text ++ 10 ∷ [])) }
+{
+    let text = match reply {
+        Reply::Mean { mean, epc } => mean_text(*mean, *epc),
+        Reply::Dist(spread) => dist_text(spread),
+        Reply::Play { play, to } => play_text(play, to),
+        Reply::Loss(loss) => loss_text(*loss),
+        Reply::Moves(choices) => return write_moves(choices.as_slice(), writer),
+        Reply::Rank(rank) => rank_text(*rank),
+        Reply::Refused(refusal) => refusal_text(*refusal),
+    };
+    write_line(text, writer)
+}
+
+/// Writes the line of a level and a line feed. Refused as `write_reply` is.
+pub fn write_level<W: Write>(level: &Level, writer: &mut W) -> Result<(), WriteFault>
+    ensures all { OnOk result
+        (Appends (W.contents writer.old) (W.contents writer.new) (level_text level.now ++ 10 ∷ [])) }
+    ensures part { OnErr result
+        (AppendsPart (W.contents writer.old) (W.contents writer.new) (level_text level.now ++ 10 ∷ [])) }
+{
+    write_line(level_text(level), writer)
+}
+
+/// Writes a text and a line feed.
+fn write_line<W: Write>(text: Text, writer: &mut W) -> Result<(), WriteFault>
+    requires { array_string_len text + 1 ≤ 4096 }
+    ensures all { OnOk result
+        (Appends (W.contents writer.old) (W.contents writer.new) (text.bytes ++ 10 ∷ [])) }
+    ensures part { OnErr result
+        (AppendsPart (W.contents writer.old) (W.contents writer.new) (text.bytes ++ 10 ∷ [])) }
+{
+    let mut line = text;
+    line.push_str("\n");
+    write_bytes(line.as_str().as_bytes(), writer)
+}
+
+/// Writes a list of moves and a line feed.
+fn write_moves<W: Write>(choices: &[Choice], writer: &mut W) -> Result<(), WriteFault>
+    ensures all { OnOk result (Appends (W.contents writer.old) (W.contents writer.new)
+        (codes "moves" ++ flat_map choice_text choices.now ++ 10 ∷ [])) }
+    ensures part { OnErr result (AppendsPart (W.contents writer.old) (W.contents writer.new)
+        (codes "moves" ++ flat_map choice_text choices.now ++ 10 ∷ [])) }
+{
+    let mut text = Text::new();
+    text.push_str("moves");
+    for choice in choices {
+        write_choice(&mut text, choice, writer)?;
+    }
+    write_line(text, writer)
+}
+
+/// Adds a choice to the text that waits to be written, and writes that one first where there is no room.
+fn write_choice<W: Write>(
+    text: &mut Text,
+    choice: &Choice,
+    writer: &mut W,
+) -> Result<(), WriteFault>
+    ensures all { OnOk result (Takes (W.contents writer.old) (W.contents writer.new)
+        text.old.bytes text.new.bytes (choice_text choice.now)) }
+    ensures len { OnOk result (array_string_len text.new ≤ 4000) }
+    ensures part { OnErr result (AppendsPart (W.contents writer.old) (W.contents writer.new) text.old.bytes) }
+{
+    make_room(text, writer)?;
+    push_choice(text, choice);
+    Ok(())
+}
+
+/// Writes the text that waits where it leaves no room for another choice.
+fn make_room<W: Write>(text: &mut Text, writer: &mut W) -> Result<(), WriteFault>
+    ensures all { OnOk result (Takes (W.contents writer.old) (W.contents writer.new) text.old.bytes text.new.bytes []) }
+    ensures len { OnOk result (array_string_len text.new + 95 ≤ 4000) }
+    ensures part { OnErr result (AppendsPart (W.contents writer.old) (W.contents writer.new) text.old.bytes) }
+{
+    if text.len() + 95 <= 4000 {
+        return Ok(());
+    }
+    write_bytes(text.as_str().as_bytes(), writer)?;
+    text.clear();
+    Ok(())
+}
