@@ -5,7 +5,7 @@ use Rattle.race_model.specs.Positions.{Board, checkers, pips}
 use Rattle.race_model.specs.PositionText.{IsPositionText}
 use Rattle.race_model.specs.Strategies.{IsLeast}
 use Rattle.home_board.specs.declared.text.PositionFault.TheVariants.{BadText, TooMany}
-use Rattle.certificate.specs.declared.checked.QueryFault.TheVariants.{OverBound}
+use Rattle.certificate.specs.declared.query_fault.QueryFault.TheVariants.{OverBound, Finished, NotLegal, Memory, Read as ReadTable}
 use Rattle.bearoff_cli.specs.declared.answer.AnswerFault.{AnswerFault}
 use Rattle.bearoff_cli.specs.declared.answer.AnswerFault.TheVariants.{Read, Position, Query, Write}
 
@@ -34,3 +34,7 @@ Refuses before after bound Write = Unit {0}
 Refuses before after bound (Position BadText) = (bytes : List ℕ) × ReadsLine before after bytes × ((x : Board) → ¬ IsPositionText (without_line_feed bytes) x)
 Refuses before after bound (Position TooMany) = (bytes : List ℕ) × (x : Board) × ReadsLine before after bytes × IsPositionText (without_line_feed bytes) x × (15 < checkers x)
 Refuses before after bound (Query OverBound) = (bytes : List ℕ) × (x : Board) × ReadsLine before after bytes × IsPositionText (without_line_feed bytes) x × (bound < pips x)
+Refuses before after bound (Query ReadTable) = Unit {0}
+Refuses before after bound (Query Finished) = ⊥
+Refuses before after bound (Query NotLegal) = ⊥
+Refuses before after bound (Query Memory) = ⊥

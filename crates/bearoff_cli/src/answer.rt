@@ -2,12 +2,14 @@
 ghost use Rattle.std.specs.Prelude.{◌≡◌, ◌≢◌, ℕ, List, [], ◌∷◌, ◌++◌, decimal, IfOk, IfErr, OnOk};
 ghost use Rattle.std.specs.Io.KnownBytes.{Appends, Keeps};
 ghost use Rattle.race_model.specs.Positions.{Board};
-ghost use Rattle.race_model.specs.Files.{bound_of};
+ghost use Rattle.db_reader.specs.Telling.{WhereTold};
+ghost use Rattle.certificate.specs.Accepted.{bound_in};
 ghost use Rattle.bearoff_cli.specs.Answers.{without_line_feed, ReadsLine, Answers, Refuses};
 
 use arrayvec::ArrayVec;
 use certificate::{Checked, QueryFault};
-use db_layout::{WriteFault, write_bytes};
+use db_layout::write_bytes;
+use db_reader::Table;
 use home_board::{PositionFault, parse_position};
 use itoa::Buffer;
 use std::io::{Read, Write};
@@ -78,15 +80,15 @@ fn write_number<W: Write>(number: u128, output: &mut W) -> Result<(), AnswerFaul
 /// Reads a position, of at most 64 bytes with an optional line feed at the end, and writes the numerator over
 /// 36 ^ 22 of its least mean number of rolls, with a line feed. At every fault but a write's nothing is written,
 /// and the database stays as it was.
-pub fn answer<R: Read, W: Write>(
-    checked: &mut Checked<'_>,
+pub fn answer<T: Table, R: Read, W: Write>(
+    checked: &mut Checked<T>,
     input: &mut R,
     output: &mut W,
 ) -> Result<(), AnswerFault>
-    ensures answered { OnOk result ((bytes : List ℕ) × (x : Board) × (t : ℕ) × Answers (R.remaining input.old) (R.remaining input.new) (W.contents output.old) (W.contents output.new) x t bytes) }
-    ensures refused { IfErr result (Refuses (R.remaining input.old) (R.remaining input.new) (bound_of checked.old)) }
+    ensures answered { WhereTold (T.tells checked.old) (λ _. OnOk result ((bytes : List ℕ) × (x : Board) × (t : ℕ) × Answers (R.remaining input.old) (R.remaining input.new) (W.contents output.old) (W.contents output.new) x t bytes)) }
+    ensures refused { IfErr result (Refuses (R.remaining input.old) (R.remaining input.new) (bound_in (T.accepted checked.old))) }
     ensures silent { IfErr result (λ fault. fault ≢ AnswerFault.Write → Keeps (W.contents output.old) (W.contents output.new)) }
-    ensures stays { checked.new ≡ checked.old }
+    ensures stays { T.tells checked.new ≡ T.tells checked.old }
 {
     let line = read_line(input)?;
     let text = without_line_feed(line.as_slice());

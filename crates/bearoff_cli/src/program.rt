@@ -5,7 +5,8 @@ ghost use Rattle.race_model.specs.Positions.{Board};
 ghost use Rattle.bearoff_cli.specs.Answers.{Answers};
 
 use crate::answer::{AnswerFault, answer};
-use certificate::{Whole, check};
+use certificate::check;
+use db_reader::Whole;
 use retrograde::build;
 use std::alloc::Global;
 use std::io::{Read, Write};

@@ -1,29 +1,45 @@
 -- What an accepted file records of a position of at most its bound.
-use Rattle.std.proofs.Common.{◌≡◌, ℕ, ◌*◌, ◌<◌, ◌≤◌, List, map, length, get_or, sum, sym, ◌∙◌, arith}
+use Rattle.std.proofs.Common.{◌≡◌, ℕ, ◌*◌, ◌<◌, ◌≤◌, List, sum, ap, subst, ◌∙◌, arith, le_trans}
 use Rattle.std.specs.List.{range_with_len}
-use Rattle.std.proofs.lemmas.Grind.{same_number_lists}
-use Rattle.std.proofs.lemmas.List.{length-map}
-use Rattle.std.proofs.lemmas.List.FromFn.{get_or-map-range_with_len}
 use Rattle.std.proofs.lemmas.List.Sums.{sum-map}
 use Rattle.race_model.specs.Positions.{Board, IsPosition, pips}
-use Rattle.race_model.specs.Ranks.{rank}
-use Rattle.race_model.specs.Files.{bound_of, mean, spread}
-use Rattle.race_model.specs.LocalEquations.{whole, IsLocal, IsLocalAt}
+use Rattle.race_model.specs.Dice.{Throw, roll_index}
+use Rattle.race_model.specs.Ranks.{rank, count_to}
+use Rattle.race_model.specs.Files.{bound_of, record_at, mean_of, play_of, share_of, mean, mean_at, play, play_at, spread, spread_at}
+use Rattle.race_model.specs.LocalEquations.{whole, recorded, IsPlayed, IsLocal, IsLocalAt}
 use Rattle.race_model.specs.Strategies.{IsLeast, count_of}
-use Rattle.race_model.specs.RightFiles.{follow}
+use Rattle.race_model.specs.RightFiles.{follow, IsRightAt}
 use Rattle.race_model.proofs.RightFiles.RightFacts.{shares_add_up}
 use Rattle.race_model.proofs.Strategies.Horizons.{ends_in_22}
 use Rattle.race_model.proofs.RightFiles.Bounded.{mean_at_most}
 use Rattle.race_model.proofs.Ranks.RankOrder.{rank_bound}
+use Rattle.race_model.proofs.Plays.Results.{legal_position, legal_pips}
 use Rattle.race_model.proofs.RightFiles.Right.{right_of_local}
-use Rattle.certificate.specs.RecordedPlays.{HasRecord}
-use Rattle.certificate.proofs.PlayTests.{record-of_position}
-use Rattle.certificate.proofs.RecordTests.{file-records}
+use Rattle.certificate.specs.RecordNumbers.{shares_of}
+use Rattle.certificate.proofs.RecordBytes.{mean-of_record, share-of_record, play-of_record}
 
-module _ (f : List ℕ) (local : IsLocal 44 f) (x : Board) (at : IsPosition x) (low : pips x ≤ bound_of f) where
-  -- it has a record
-  pub accepted-record : HasRecord f (rank x)
-  accepted-record = record-of_position f x (file-records f local.file) at low
+-- the bytes that were lent for a position are its record
+module _ (f bytes : List ℕ) (x : Board) (r : ℕ) (lent : bytes ≡ record_at f r) (ranked : r ≡ rank x) where
+  pub mean-of_lent : mean_of bytes ≡ mean f x
+  mean-of_lent = ap mean_of lent ∙ (mean-of_record f r ∙ ap (mean_at f) ranked)
+
+  pub share-of_lent : (k : ℕ) → share_of bytes k ≡ spread f x k
+  share-of_lent k =
+      ap (λ b. share_of b k) lent ∙ (share-of_record f r k ∙ ap (λ n. spread_at f n k) ranked)
+
+  pub play-of_lent : (v : Throw) → play_of bytes (roll_index v) ≡ play f x v
+  play-of_lent v =
+      ap (λ b. play_of b (roll_index v)) lent
+      ∙ (play-of_record f r (roll_index v) ∙ ap (λ n. play_at f n (roll_index v)) ranked)
+
+  pub total-of_lent : sum (shares_of bytes) ≡ sum (shares_of (record_at f (rank x)))
+  total-of_lent = ap (λ b. sum (shares_of b)) (lent ∙ ap (record_at f) ranked)
+
+module _ (f : List ℕ) (local : IsLocal 44 f) (x : Board) (at : IsPosition x)
+    (low : pips x ≤ bound_of f) where
+  -- what is recorded of it is right
+  pub accepted-right : IsRightAt f x
+  accepted-right = (right_of_local 44 f (omega arith) local).at_each x at low
 
   -- positions of no higher rank meet the equations
   accepted-lower : (z : Board) → IsPosition z → rank z ≤ rank x → IsLocalAt f z
@@ -33,19 +49,25 @@ module _ (f : List ℕ) (local : IsLocal 44 f) (x : Board) (at : IsPosition x) (
 
   -- the recorded mean is within 22 rolls
   pub accepted-mean : mean f x ≤ 22 * whole
-  accepted-mean = mean_at_most f 22 x (ends_in_22 x at (omega (arith, local.file.bounded))) at (λ z is le. (accepted-lower z is le).means)
-
-  -- and is the least of all strategies
-  pub accepted-least : IsLeast x (mean f x)
-  accepted-least = ((right_of_local 44 f (omega arith) local).at_each x at low).least
+  accepted-mean =
+      mean_at_most f 22 x (ends_in_22 x at (omega (arith, local.file.bounded))) at
+      (λ z is le. (accepted-lower z is le).means)
 
   -- the recorded shares add up to the whole
-  pub accepted-shares : (shares : List ℕ) → length shares ≡ 23 → ((j : ℕ) → j < 23 → get_or shares j 0 ≡ spread f x j) → sum shares ≡ whole
-  accepted-shares shares len each =
-      let same : shares ≡ map (spread f x) (range_with_len 0 23) = same_number_lists shares (map (spread f x) (range_with_len 0 23)) (len ∙ sym (length-map (range_with_len 0 23) (spread f x)))
-      (λ k lt. each k (omega arith) ∙ sym (get_or-map-range_with_len (spread f x) 0 23 k k 0 (omega arith) (omega arith))) in
-      rw same (sum-map (spread f x) (range_with_len 0 23) ∙ shares_add_up 44 f (omega arith) (right_of_local 44 f (omega arith) local) x at low)
+  pub accepted-total : sum (shares_of (record_at f (rank x))) ≡ whole
+  unfolding shares_of spread_at
+  accepted-total =
+      sum-map (share_of (record_at f (rank x))) (range_with_len 0 23)
+      ∙ shares_add_up 44 f (omega arith) (right_of_local 44 f (omega arith) local) x at low
 
-  -- and are those of the recorded plays
-  pub accepted-spread : (k : ℕ) → k ≤ 22 → spread f x k ≡ count_of (follow f 22 x) k
-  accepted-spread = ((right_of_local 44 f (omega arith) local).at_each x at low).spread_is
+  -- the recorded rank of a roll is under the count, and its position is a result
+  pub accepted-play : (v : Throw) → IsPlayed f x v
+  accepted-play = accepted-right.played
+
+  pub accepted-under : (v : Throw) → play f x v < count_to (bound_of f)
+  accepted-under v =
+      let played = accepted-play v in
+      let y = recorded f x v in
+      let is = legal_position x v y at played.legal in
+      subst (λ r. r < count_to (bound_of f)) played.ranked
+      ((rank_bound y (bound_of f) is).1 (le_trans (legal_pips x v y played.legal) low))

@@ -6,20 +6,20 @@ use Rattle.race_model.specs.Ranks.{rank, at_rank, count_to}
 use Rattle.race_model.specs.Files.{IsFileTo, bound_of}
 use Rattle.race_model.specs.LocalEquations.{IsLocalAt, IsLocal}
 use Rattle.race_model.specs.FirstFault.{Test, play_test, least_test, mean_test, spread_test, rank_of, Holds, Asks, IsFirstFault}
+use Rattle.race_model.specs.RightFiles.{IsRight}
 use Rattle.race_model.proofs.Dice.Throws.{roll_of_index}
 use Rattle.race_model.proofs.Ranks.RankOrder.{rank_bound, at_rank-rank, at_rank_position}
 use Rattle.race_model.proofs.Ranks.PositionTotals.{rank-at_rank, count_to-most}
-use Rattle.race_model.specs.RightFiles.{IsRight}
 use Rattle.race_model.proofs.FirstFaults.HeaderFacts.{header_fault_refuses}
 use Rattle.race_model.proofs.FirstFaults.Questions.{fault_refuses}
 use Rattle.race_model.proofs.RightFiles.Right.{local_of_right}
 use Rattle.db_layout.specs.HeaderFaults.{test_of}
-use Rattle.certificate.specs.RecordFaults.{IsFirstInRecord, test_of_record}
-use Rattle.certificate.specs.CheckFaults.{IsFirst, of_record_at}
+use Rattle.certificate.specs.RecordFaults.{IsFirstInRecord, IsFirstFaultAt, RecordCauses}
+use Rattle.certificate.specs.CheckFaults.{IsFirst, CheckCauses, of_record_at}
 use Rattle.certificate.specs.declared.check_fault.CheckFault.{CheckFault}
-use Rattle.certificate.specs.declared.check_fault.CheckFault.TheVariants.{Header, Play as PlayAt, NotLeast as NotLeastAt, Mean as MeanAt, Spread as SpreadAt}
+use Rattle.certificate.specs.declared.check_fault.CheckFault.TheVariants.{Header, Play as PlayAt, NotLeast as NotLeastAt, Mean as MeanAt, Spread as SpreadAt, Read as ReadAt}
 use Rattle.certificate.specs.declared.record_check.RecordFault.{RecordFault}
-use Rattle.certificate.specs.declared.record_check.RecordFault.TheVariants.{Play, NotLeast, Mean, Spread}
+use Rattle.certificate.specs.declared.record_check.RecordFault.TheVariants.{Play, NotLeast, Mean, Spread, Read}
 
 -- where the equations of a position hold, the questions about its record are answered yes
 local-answers : (f : List ℕ) (u : Test) → IsLocalAt f (at_rank (rank_of u)) → Asks f u → Holds f u
@@ -36,27 +36,46 @@ asked-rank f (mean_test r) asks = asks
 asked-rank f (spread_test r k) asks = asks.0
 
 -- the first fault of a record is the first of the file where the records of lower rank are accepted
-first-of_file : (f : List ℕ) (r : ℕ) (t : Test) → ((z : Board) → IsPosition z → rank z < r → IsLocalAt f z) → IsFirstInRecord f r t → IsFirstFault (Asks f) f t
+first-of_file : (f : List ℕ) (r : ℕ) (t : Test)
+    → ((z : Board) → IsPosition z → rank z < r → IsLocalAt f z) → IsFirstInRecord f r t
+    → IsFirstFault (Asks f) f t
 first-of_file f r t accepted first = record {
   is_asked = first.is_asked;
   fails = first.fails;
   earlier = λ u asks before. ⊎_elim
       (λ lower.
       let there = rank-at_rank (rank_of u) (omega (arith, asked-rank f u asks, count_to-most (bound_of f))) in
-      local-answers f u (accepted (at_rank (rank_of u)) (at_rank_position (rank_of u)) (omega (arith, first.of_rank))) asks)
+      let low : rank (at_rank (rank_of u)) < r = omega (arith, first.of_rank) in
+      local-answers f u (accepted (at_rank (rank_of u)) (at_rank_position (rank_of u)) low) asks)
       (λ here. first.earlier u (here.0 ∙ first.of_rank) here.1 asks)
       before;
 }
 
 -- the same in the checker's words
-pub fault-of_file : (f : List ℕ) (r : ℕ) (fault : RecordFault) → IsFileTo 44 f → ((z : Board) → IsPosition z → rank z < r → IsLocalAt f z) → IsFirstInRecord f r (test_of_record r fault) → IsFirst f (of_record_at r fault)
-fault-of_file f r (Play roll) file accepted first = (file, first-of_file f r (play_test r roll) accepted first)
-fault-of_file f r (NotLeast roll) file accepted first = (file, first-of_file f r (least_test r roll) accepted first)
+pub fault-of_file : (f : List ℕ) (r : ℕ) (fault : RecordFault) → IsFileTo 44 f
+    → ((z : Board) → IsPosition z → rank z < r → IsLocalAt f z) → IsFirstFaultAt f r fault
+    → IsFirst f (of_record_at r fault)
+fault-of_file f r (Play roll) file accepted first =
+    (file, first-of_file f r (play_test r roll) accepted first)
+fault-of_file f r (NotLeast roll) file accepted first =
+    (file, first-of_file f r (least_test r roll) accepted first)
 fault-of_file f r Mean file accepted first = (file, first-of_file f r (mean_test r) accepted first)
-fault-of_file f r (Spread k) file accepted first = (file, first-of_file f r (spread_test r k) accepted first)
+fault-of_file f r (Spread k) file accepted first =
+    (file, first-of_file f r (spread_test r k) accepted first)
+fault-of_file f r Read file accepted first = tt
+
+-- a fault of a record has its cause as one of the file
+pub fault-cause : (r : ℕ) (fault : RecordFault) (before now : ℕ) → RecordCauses before now fault
+    → CheckCauses before now (of_record_at r fault)
+fault-cause r (Play roll) before now cause = cause
+fault-cause r (NotLeast roll) before now cause = cause
+fault-cause r Mean before now cause = cause
+fault-cause r (Spread k) before now cause = cause
+fault-cause r Read before now cause = cause
 
 -- one record more is accepted
-pub accepted-more : (f : List ℕ) (r : ℕ) → ((z : Board) → IsPosition z → rank z < r → IsLocalAt f z) → IsLocalAt f (at_rank r) → (z : Board) → IsPosition z → rank z < r + 1 → IsLocalAt f z
+pub accepted-more : (f : List ℕ) (r : ℕ) → ((z : Board) → IsPosition z → rank z < r → IsLocalAt f z)
+    → IsLocalAt f (at_rank r) → (z : Board) → IsPosition z → rank z < r + 1 → IsLocalAt f z
 accepted-more f r accepted here z at low = ⊎_elim
     (λ less. accepted z at less)
     (λ more.
@@ -66,16 +85,24 @@ accepted-more f r accepted here z at low = ⊎_elim
     (cases_lt (rank z) r)
 
 -- where all are accepted the file is locally right
-pub accepted-all : (f : List ℕ) (r : ℕ) → IsFileTo 44 f → count_to (bound_of f) ≤ r → ((z : Board) → IsPosition z → rank z < r → IsLocalAt f z) → IsLocal 44 f
+pub accepted-all : (f : List ℕ) (r : ℕ) → IsFileTo 44 f → count_to (bound_of f) ≤ r
+    → ((z : Board) → IsPosition z → rank z < r → IsLocalAt f z) → IsLocal 44 f
 accepted-all f r file all accepted = record {
   file = file;
   at_each = λ x at low. let lt = (rank_bound x (bound_of f) at).1 low in accepted x at (omega arith);
 }
 
--- a file with a first fault is not right
-pub first-refuses : (f : List ℕ) (fault : CheckFault) → IsFirst f fault → ¬ IsRight 44 f
-first-refuses f (Header fault) first = λ right. header_fault_refuses 44 f (test_of fault) first right.file
-first-refuses f (PlayAt rank roll) first = λ right. fault_refuses 44 f (play_test rank roll) first.1 (local_of_right 44 f (omega arith) right)
-first-refuses f (NotLeastAt rank roll) first = λ right. fault_refuses 44 f (least_test rank roll) first.1 (local_of_right 44 f (omega arith) right)
-first-refuses f (MeanAt rank) first = λ right. fault_refuses 44 f (mean_test rank) first.1 (local_of_right 44 f (omega arith) right)
-first-refuses f (SpreadAt rank k) first = λ right. fault_refuses 44 f (spread_test rank k) first.1 (local_of_right 44 f (omega arith) right)
+-- a right file is refused by no fault but one of reading, and by that only where the count of failures rose
+pub none-of_right : (f : List ℕ) (before now : ℕ) (fault : CheckFault) → IsFirst f fault
+    → CheckCauses before now fault → now ≡ before → ¬ IsRight 44 f
+none-of_right f before now (Header fault) first cause same = λ right.
+    header_fault_refuses 44 f (test_of fault) first right.file
+none-of_right f before now (PlayAt rank roll) first cause same = λ right.
+    fault_refuses 44 f (play_test rank roll) first.1 (local_of_right 44 f (omega arith) right)
+none-of_right f before now (NotLeastAt rank roll) first cause same = λ right.
+    fault_refuses 44 f (least_test rank roll) first.1 (local_of_right 44 f (omega arith) right)
+none-of_right f before now (MeanAt rank) first cause same = λ right.
+    fault_refuses 44 f (mean_test rank) first.1 (local_of_right 44 f (omega arith) right)
+none-of_right f before now (SpreadAt rank k) first cause same = λ right.
+    fault_refuses 44 f (spread_test rank k) first.1 (local_of_right 44 f (omega arith) right)
+none-of_right f before now ReadAt first cause same = absurd (omega arith)

@@ -1,7 +1,9 @@
-pub mod Pulled
+pub mod RecordBytes
 pub mod EquationTests
 pub mod PlayTests
-pub mod RecordTests
-pub mod Fronts
-pub mod FileTests
 pub mod Accepted
+pub mod Lower
+pub mod PlayNumbers
+pub mod NumberTests
+pub mod RecordTests
+pub mod FileTests

@@ -1,4 +1,6 @@
-pub mod RecordedPlays
 pub mod PlayFaults
+pub mod RecordNumbers
 pub mod RecordFaults
 pub mod CheckFaults
+pub mod Accepted
+pub mod QueryFaults

@@ -1,18 +1,29 @@
 -- What a refused play means.
-use Rattle.std.specs.Prelude.{List, ℕ, ◌<◌}
+use Rattle.std.specs.Prelude.{◌≡◌, ℕ, ◌<◌, List, Result, Ok, Err}
 use Rattle.race_model.specs.Positions.{Board}
 use Rattle.race_model.specs.Dice.{Throw, roll_at}
 use Rattle.race_model.specs.LocalEquations.{IsPlayed, IsBest}
 use Rattle.certificate.specs.declared.plays.PlayFault.{PlayFault}
-use Rattle.certificate.specs.declared.plays.PlayFault.TheVariants.{NotLegal, NotLeast}
+use Rattle.certificate.specs.declared.plays.PlayFault.TheVariants.{NotLegal, NotLeast, Read}
 
--- the play equation fails, or it holds and the least equation fails
+-- the play equation fails, or it holds and the least equation fails; nothing is said where a read failed
 abbrev pub Applies : List ℕ → Board → Throw → PlayFault → Type 0
 Applies f x v NotLegal = ¬ IsPlayed f x v
 Applies f x v NotLeast = IsPlayed f x v × (¬ IsBest f x v)
+Applies f x v Read = Unit {0}
 
 -- the plays of the rolls before one are played and least, and that of the roll is refused
 pub record FirstOfPlays (f : List ℕ) (x : Board) (roll : ℕ) (fault : PlayFault) : Type 0 where
   pub is_roll : roll < 21
   pub applies : Applies f x (roll_at roll) fault
   pub earlier : (i : ℕ) → i < roll → IsPlayed f x (roll_at i) × IsBest f x (roll_at i)
+
+-- the read fault is answered exactly where the count of failures rose
+abbrev pub PlayCauses : ℕ → ℕ → PlayFault → Type 0
+PlayCauses before now NotLegal = now ≡ before
+PlayCauses before now NotLeast = now ≡ before
+PlayCauses before now Read = before < now
+
+abbrev pub PlayCounted : {T : Type 0} → ℕ → ℕ → Result T PlayFault → Type 0
+PlayCounted before now (Ok x) = now ≡ before
+PlayCounted before now (Err fault) = PlayCauses before now fault

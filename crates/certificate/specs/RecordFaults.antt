@@ -1,17 +1,12 @@
 -- What a fault of a record means.
-use Rattle.std.specs.Prelude.{◌≡◌, ℕ, ◌<◌, List}
+use Rattle.std.specs.Prelude.{◌≡◌, ℕ, ◌<◌, List, Result, Ok, Err}
 use Rattle.race_model.specs.FirstFault.{Test, play_test, least_test, mean_test, spread_test, rank_of, place_of, Holds, Asks}
+use Rattle.certificate.specs.PlayFaults.{PlayCauses}
 use Rattle.certificate.specs.declared.plays.PlayFault.{PlayFault}
-use Rattle.certificate.specs.declared.plays.PlayFault.TheVariants.{NotLegal, NotLeast as NotLeastPlay}
+use Rattle.certificate.specs.declared.plays.PlayFault.TheVariants.{NotLegal, NotLeast as NotLeastPlay, Read as ReadPlay}
+use Rattle.certificate.specs.declared.record_check.RefusedPlay.{RefusedPlay}
 use Rattle.certificate.specs.declared.record_check.RecordFault.{RecordFault}
-use Rattle.certificate.specs.declared.record_check.RecordFault.TheVariants.{Play, NotLeast, Mean, Spread}
-
--- the question about the record of a rank that a fault answers with no
-abbrev pub test_of_record : ℕ → RecordFault → Test
-test_of_record rank (Play roll) = play_test rank roll
-test_of_record rank (NotLeast roll) = least_test rank roll
-test_of_record rank Mean = mean_test rank
-test_of_record rank (Spread k) = spread_test rank k
+use Rattle.certificate.specs.declared.record_check.RecordFault.TheVariants.{Play, NotLeast, Mean, Spread, Read}
 
 -- of the questions about the record of a rank, this is the first whose answer is no
 pub record IsFirstInRecord (f : List ℕ) (rank : ℕ) (t : Test) : Type 0 where
@@ -20,7 +15,32 @@ pub record IsFirstInRecord (f : List ℕ) (rank : ℕ) (t : Test) : Type 0 where
   pub fails : ¬ Holds f t
   pub earlier : (u : Test) → rank_of u ≡ rank → place_of u < place_of t → Asks f u → Holds f u
 
+-- the fault is the first of the record of a rank; nothing is said where a read failed
+abbrev pub IsFirstFaultAt : List ℕ → ℕ → RecordFault → Type 0
+IsFirstFaultAt f rank (Play roll) = IsFirstInRecord f rank (play_test rank roll)
+IsFirstFaultAt f rank (NotLeast roll) = IsFirstInRecord f rank (least_test rank roll)
+IsFirstFaultAt f rank Mean = IsFirstInRecord f rank (mean_test rank)
+IsFirstFaultAt f rank (Spread k) = IsFirstInRecord f rank (spread_test rank k)
+IsFirstFaultAt f rank Read = Unit {0}
+
 -- a refused play of a roll, as a fault of the record
 abbrev pub of_record : ℕ → PlayFault → RecordFault
 of_record roll NotLegal = Play roll
 of_record roll NotLeastPlay = NotLeast roll
+of_record roll ReadPlay = Read
+
+-- the read fault is answered exactly where the count of failures rose
+abbrev pub RecordCauses : ℕ → ℕ → RecordFault → Type 0
+RecordCauses before now (Play roll) = now ≡ before
+RecordCauses before now (NotLeast roll) = now ≡ before
+RecordCauses before now Mean = now ≡ before
+RecordCauses before now (Spread k) = now ≡ before
+RecordCauses before now Read = before < now
+
+abbrev pub RecordCounted : {T : Type 0} → ℕ → ℕ → Result T RecordFault → Type 0
+RecordCounted before now (Ok x) = now ≡ before
+RecordCounted before now (Err fault) = RecordCauses before now fault
+
+abbrev pub SumsCounted : {T : Type 0} → ℕ → ℕ → Result T RefusedPlay → Type 0
+SumsCounted before now (Ok x) = now ≡ before
+SumsCounted before now (Err refused) = PlayCauses before now refused.fault

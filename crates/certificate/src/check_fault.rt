@@ -26,6 +26,10 @@ pub enum CheckFault {
     /// The recorded share of exactly `k` rolls is not that of what is recorded, one roll later.
     #[error("rank {rank}, {k} rolls: the share")]
     Spread { rank: u16, k: u8 },
+
+    /// The table could not be read, or a record that is read again holds what no accepted record can hold.
+    #[error("the table could not be read")]
+    Read,
 }
 
 ghost use Rattle.std.specs.Prelude.{◌≡◌};
@@ -40,5 +44,6 @@ pub(crate) fn fault_at(rank: u16, fault: RecordFault) -> CheckFault
         RecordFault::NotLeast { roll } => CheckFault::NotLeast { rank, roll },
         RecordFault::Mean => CheckFault::Mean { rank },
         RecordFault::Spread { k } => CheckFault::Spread { rank, k },
+        RecordFault::Read => CheckFault::Read,
     }
 }

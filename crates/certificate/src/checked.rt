@@ -1,76 +1,80 @@
-ghost use Rattle.std.specs.Prelude.{◌≡◌, ℕ, ◌<◌, ◌≤◌, ◌↔◌, List, slice_index, IsOk, IfOk, IfErr, OnOk};
-ghost use Rattle.race_model.specs.Positions.{Board, IsPosition, pips};
-ghost use Rattle.race_model.specs.Ranks.{rank as rank_of, at_rank, count_to};
-ghost use Rattle.race_model.specs.Files.{bound_of, mean as mean_at_position};
-ghost use Rattle.race_model.specs.LocalEquations.{IsLocal, IsLocalAt};
+ghost use Rattle.std.specs.Prelude.{◌≡◌, ℕ, ◌<◌, ◌≤◌, ◌↔◌, Err, slice_index, IsOk, IfOk, IfErr, OnOk};
+ghost use Rattle.race_model.specs.Positions.{IsPosition, IsFinished, pips};
+ghost use Rattle.race_model.specs.Plays.{Legal};
+ghost use Rattle.race_model.specs.Ranks.{rank as rank_of, count_to};
+ghost use Rattle.race_model.specs.Files.{bound_of, mean as mean_of, spread as share_of};
+ghost use Rattle.race_model.specs.LocalEquations.{recorded, IsLocal};
 ghost use Rattle.race_model.specs.RightFiles.{IsRight, follow};
 ghost use Rattle.race_model.specs.Fractions.{IsMean, IsEffectivePips};
 ghost use Rattle.race_model.specs.Strategies.{IsLeast, count_of};
-ghost use Rattle.certificate.specs.CheckFaults.{IsFirst};
+ghost use Rattle.race_model.specs.FirstPlays.{IsFirstPlay};
+ghost use Rattle.legal_plays.specs.MoveLists.{moves_of};
+ghost use Rattle.db_reader.specs.Telling.{WhereTold};
+ghost use Rattle.certificate.specs.Accepted.{bound_in};
+ghost use Rattle.certificate.specs.CheckFaults.{IsFirst, CheckCauses};
+ghost use Rattle.certificate.specs.QueryFaults.{RefusesNumbers, RefusesPlays, QueryCounted};
 
-use crate::check_fault::{CheckFault, fault_at};
-use crate::record_check::check_record;
-use crate::table::Whole;
+use crate::check_fault::CheckFault;
+use crate::checker::check_records;
+use crate::numbers::{mean_in, spread_in};
+use crate::query_fault::QueryFault;
 use db_layout::Header;
+use db_reader::{Record, Table};
 use fixed_fraction::{Fraction, Scaled, Spread, epc, mean};
 use home_board::Position;
+use legal_plays::{Play, Roll, play_to};
 use race_model::laws;
 use ranking::Ranks;
 use std::marker::Model;
-use thiserror::Error;
 
-/// The header of a table whose records meet the local equations, or the first fault.
-fn check_records(table: &Whole, ranks: &Ranks) -> Result<Header, CheckFault>
-    ensures local { OnOk result (IsLocal 44 table.now) }
-    ensures bound { IfOk result (λ header. header.bound ≡ bound_of table.now) }
-    ensures first { IfErr result (IsFirst table.now) }
-{
-    let header = match table.header() {
-        Ok(header) => header,
-        Err(fault) => return Err(CheckFault::Header(fault)),
-    };
-    for rank in 0..header.count {
-        if let Err(fault) = check_record(table, ranks, rank) {
-            return Err(fault_at(rank, fault));
-        }
-    }
-    Ok(header)
-}
-
-/// A database that was accepted: for each position of at most its bound the recorded mean is the least mean
-/// number of rolls over all strategies, also those that look at the history; the recorded plays are legal and
-/// reach it; and the recorded shares are those of these plays. It is made by `check` alone.
+/// A table that was accepted. Where it tells its bytes they are a right database: for each position of at most
+/// its bound the recorded mean is the least mean number of rolls over all strategies, also those that look at the
+/// history; the recorded plays are legal and reach it; and the recorded shares are those of these plays. It is made
+/// by `check` alone.
+///
+/// Each query keeps the bytes that the table tells and the header that it accepted. A query answers `Read` where a
+/// record could not be read, or holds what no accepted record can hold, so that it was changed since the check;
+/// where the table tells its bytes, that is exactly where a read failed in this call.
 #[derive(Drop)]
-pub struct Checked<'a> {
-    table: Whole<'a>,
+pub struct Checked<T: Table> {
+    table: T,
     header: Header,
     ranks: Ranks,
 }
 
-// Clauses see the bytes of the table.
-impl<'a> Model for Checked<'a> {
-    ghost use Rattle.std.specs.Prelude.{◌≡◌, List, ℕ};
-    ghost use Rattle.race_model.specs.Files.{bound_of};
-    ghost use Rattle.race_model.specs.LocalEquations.{IsLocal};
+// Clauses see the table.
+impl<T: Table> Model for Checked<T> {
+    ghost use Rattle.certificate.specs.Accepted.{IsAccepted};
 
-    ghost Value = { List ℕ };
+    ghost Value = { T };
 
     ghost view = { λ checked. checked.table };
 
-    ghost invariant = { λ checked. IsLocal 44 checked.table × (checked.header.bound ≡ bound_of checked.table) };
+    ghost invariant = { λ checked.
+        IsAccepted (T.tells checked.table) (T.accepted checked.table) checked.header };
 }
 
-/// Checks a table: accepted exactly where its bytes are a right database of at most 44 pips, and else refused
-/// with its first fault. The table is handed back with the fault. It takes no memory, copies no record, and adds
-/// a stored number to others only where it was accepted before.
-pub fn check(table: Whole<'_>) -> Result<Checked<'_>, (Whole<'_>, CheckFault)>
-    ensures exactly { IsOk result ↔ IsRight 44 table.entry }
-    ensures told { IfOk result (λ checked. checked ≡ table.entry) }
-    ensures back { IfErr result (λ refused. refused.0 ≡ table.entry) }
-    ensures first { IfErr result (λ refused. IsFirst table.entry refused.1) }
+/// Checks a table. Where it tells its bytes and no read fails, it is accepted exactly where they are a right
+/// database of at most 44 pips, and else refused with the first fault of the bytes; it is refused as `Read` exactly
+/// where a read failed. The table is handed back with the fault and tells the same bytes. It takes no memory, and
+/// adds a stored number to others only where it was accepted before.
+pub fn check<T: Table>(mut table: T) -> Result<Checked<T>, (T, CheckFault)>
+    ensures told { IfOk result (λ checked. T.tells checked ≡ T.tells table) }
+    ensures back { IfErr result (λ refused. T.tells refused.0 ≡ T.tells table) }
+    ensures right { WhereTold (T.tells table) (λ file. OnOk result (IsRight 44 file)) }
+    ensures exactly { WhereTold (T.tells table) (λ file.
+        IfErr result (λ refused. T.failures refused.0 ≡ T.failures table) →
+        IsOk result ↔ IsRight 44 file) }
+    ensures first { WhereTold (T.tells table)
+        (λ file. IfErr result (λ refused. IsFirst file refused.1)) }
+    ensures ok_cause { WhereTold (T.tells table)
+        (λ _. IfOk result (λ checked. T.failures checked ≡ T.failures table)) }
+    ensures err_cause { WhereTold (T.tells table) (λ _. IfErr result
+        (λ refused. CheckCauses (T.failures table) (T.failures refused.0) refused.1)) }
 {
+    laws::law_right();
     let ranks = Ranks::new();
-    match check_records(&table, &ranks) {
+    match check_records(&mut table, &ranks) {
         Ok(header) => Ok(Checked {
             table,
             header,
@@ -80,11 +84,14 @@ pub fn check(table: Whole<'_>) -> Result<Checked<'_>, (Whole<'_>, CheckFault)>
     }
 }
 
-impl<'a> Checked<'a> {
-    /// The pip bound, 0 to 44.
+impl<T: Table> Checked<T> {
+    /// The pip bound of the accepted header, 0 to 44. Where the table tells its bytes, they are a right database and
+    /// it is their bound.
     pub fn bound(&self) -> u8
-        ensures bound { result ≡ bound_of self.now }
-        ensures right { IsRight 44 self.now }
+        ensures bound { result ≡ bound_in (T.accepted self.now) }
+        ensures right { WhereTold (T.tells self.now)
+            (λ file. IsRight 44 file × (bound_in (T.accepted self.now) ≡ bound_of file)) }
+        ensures range { result ≤ 44 }
     {
         laws::law_right();
         self.header.bound
@@ -92,80 +99,157 @@ impl<'a> Checked<'a> {
 
     /// How many positions the database has: those of at most the bound.
     pub fn positions(&self) -> u16
-        ensures { result ≡ count_to (bound_of self.now) }
+        ensures { result ≡ count_to (bound_in (T.accepted self.now)) }
     {
         self.header.count
     }
 
     /// The table again, with the same bytes.
-    pub fn into_table(self) -> Whole<'a>
-        ensures { result ≡ self.entry }
+    pub fn into_table(self) -> T
+        ensures { result ≡ self }
     {
         let Checked { table, .. } = self;
         table
     }
 
-    /// The least mean number of rolls of a position over all strategies, also those that look at the history,
-    /// as a numerator over 36 ^ 22. Refused as `OverBound` exactly where the position has more pips than the
-    /// bound; the database stays as it was.
-    pub fn scaled(&mut self, position: &Position) -> Result<Scaled, QueryFault>
-        ensures over_bound { (result ≡ Err QueryFault.OverBound) ↔ (bound_of self.old < pips position.now) }
-        ensures least { IfOk result (IsLeast position.now) }
-        ensures recorded { IfOk result (λ t. t ≡ mean_at_position self.old position.now) }
-        ensures stays { self.new ≡ self.old }
+    /// Makes the record of a position ready to be lent with this room.
+    fn load(&mut self, position: &Position, room: &mut Record) -> Result<u16, QueryFault>
+        ensures over_bound { (result ≡ Err QueryFault.OverBound) ↔
+            (bound_in (T.accepted self.old) < pips position.now) }
+        ensures position { IsPosition position.now }
+        ensures rank { IfOk result (λ rank. rank ≡ rank_of position.now) }
+        ensures ready { IfOk result (λ rank. T.ready self.new room.new rank) }
+        ensures local { WhereTold (T.tells self.old) (λ file. OnOk result
+            (IsLocal 44 file × (pips position.now ≤ bound_of file))) }
+        ensures stays { T.tells self.new ≡ T.tells self.old }
+        ensures accepted { T.accepted self.new ≡ T.accepted self.old }
+        ensures fault { IfErr result RefusesNumbers }
+        ensures cause { WhereTold (T.tells self.old)
+            (λ _. QueryCounted (T.failures self.old) (T.failures self.new) result) }
     {
         if position.pips() > self.header.bound {
             return Err(QueryFault::OverBound);
         }
         let rank = self.ranks.rank(position);
-        Ok(Scaled::new(self.table.record(rank).mean()).unwrap())
+        match self.table.load(rank, room) {
+            Ok(()) => Ok(rank),
+            Err(_) => Err(QueryFault::Read),
+        }
     }
 
-    /// The least mean number of rolls of a position over all strategies, as a fraction in lowest terms.
-    /// Refused as `OverBound` exactly where the position has more pips than the bound; the database stays as it
-    /// was.
+    /// The least mean number of rolls of a position over all strategies, also those that look at the history,
+    /// as a numerator over 36 ^ 22. Refused as `OverBound` exactly where the position has more pips than the
+    /// bound, or as `Read`.
+    pub fn scaled(&mut self, position: &Position) -> Result<Scaled, QueryFault>
+        ensures over_bound { (result ≡ Err QueryFault.OverBound) ↔
+            (bound_in (T.accepted self.old) < pips position.now) }
+        ensures least { WhereTold (T.tells self.old) (λ _. IfOk result (IsLeast position.now)) }
+        ensures recorded { WhereTold (T.tells self.old)
+            (λ file. IfOk result (λ t. t ≡ mean_of file position.now)) }
+        ensures stays { T.tells self.new ≡ T.tells self.old }
+        ensures accepted { T.accepted self.new ≡ T.accepted self.old }
+        ensures fault { IfErr result RefusesNumbers }
+        ensures cause { WhereTold (T.tells self.old)
+            (λ _. QueryCounted (T.failures self.old) (T.failures self.new) result) }
+    {
+        let mut room = Record::new();
+        let rank = self.load(position, &mut room)?;
+        let Some(mean) = mean_in(&self.table.lend(rank, &room)) else {
+            return Err(QueryFault::Read);
+        };
+        Ok(mean)
+    }
+
+    /// The least mean number of rolls of a position over all strategies, as a fraction in lowest terms. Refused as
+    /// `scaled` is.
     pub fn mean(&mut self, position: &Position) -> Result<Fraction, QueryFault>
-        ensures over_bound { (result ≡ Err QueryFault.OverBound) ↔ (bound_of self.old < pips position.now) }
-        ensures least { IfOk result (λ fraction. (t : ℕ) × IsLeast position.now t × IsMean t fraction.numerator fraction.denominator) }
-        ensures stays { self.new ≡ self.old }
+        ensures over_bound { (result ≡ Err QueryFault.OverBound) ↔
+            (bound_in (T.accepted self.old) < pips position.now) }
+        ensures least { WhereTold (T.tells self.old) (λ file. IfOk result (λ fraction.
+            IsLeast position.now (mean_of file position.now)
+            × IsMean (mean_of file position.now) fraction.numerator fraction.denominator)) }
+        ensures stays { T.tells self.new ≡ T.tells self.old }
+        ensures accepted { T.accepted self.new ≡ T.accepted self.old }
+        ensures fault { IfErr result RefusesNumbers }
+        ensures cause { WhereTold (T.tells self.old)
+            (λ _. QueryCounted (T.failures self.old) (T.failures self.new) result) }
     {
         let rolls = self.scaled(position)?;
         Ok(mean(rolls))
     }
 
     /// The effective pip count of a position: 49/6 of the least mean number of rolls, in lowest terms (the GNU
-    /// Backgammon manual). Refused as `mean` is.
+    /// Backgammon manual). Refused as `scaled` is.
     pub fn epc(&mut self, position: &Position) -> Result<Fraction, QueryFault>
-        ensures over_bound { (result ≡ Err QueryFault.OverBound) ↔ (bound_of self.old < pips position.now) }
-        ensures pips { IfOk result (λ fraction. (t : ℕ) × IsLeast position.now t × IsEffectivePips t fraction.numerator fraction.denominator) }
-        ensures stays { self.new ≡ self.old }
+        ensures over_bound { (result ≡ Err QueryFault.OverBound) ↔
+            (bound_in (T.accepted self.old) < pips position.now) }
+        ensures pips { WhereTold (T.tells self.old) (λ file. IfOk result (λ fraction.
+            IsLeast position.now (mean_of file position.now)
+            × IsEffectivePips (mean_of file position.now) fraction.numerator fraction.denominator)) }
+        ensures stays { T.tells self.new ≡ T.tells self.old }
+        ensures accepted { T.accepted self.new ≡ T.accepted self.old }
+        ensures fault { IfErr result RefusesNumbers }
+        ensures cause { WhereTold (T.tells self.old)
+            (λ _. QueryCounted (T.failures self.old) (T.failures self.new) result) }
     {
         let rolls = self.scaled(position)?;
         Ok(epc(rolls))
     }
 
-    /// How the number of rolls is spread where each play is the recorded one. Refused as `mean` is.
+    /// How the number of rolls is spread where each play is the recorded one. Refused as `scaled` is.
     pub fn spread(&mut self, position: &Position) -> Result<Spread, QueryFault>
-        ensures over_bound { (result ≡ Err QueryFault.OverBound) ↔ (bound_of self.old < pips position.now) }
-        ensures shares { IfOk result (λ spread. (k : ℕ) → k ≤ 22 → slice_index spread k ≡ count_of (follow self.old 22 position.now) k) }
-        ensures stays { self.new ≡ self.old }
+        ensures over_bound { (result ≡ Err QueryFault.OverBound) ↔
+            (bound_in (T.accepted self.old) < pips position.now) }
+        ensures shares { WhereTold (T.tells self.old) (λ file. IfOk result (λ spread. (k : ℕ) → k ≤ 22 →
+            slice_index spread k ≡ count_of (follow file 22 position.now) k)) }
+        ensures recorded { WhereTold (T.tells self.old) (λ file. IfOk result (λ spread. (k : ℕ) → k ≤ 22 →
+            slice_index spread k ≡ share_of file position.now k)) }
+        ensures stays { T.tells self.new ≡ T.tells self.old }
+        ensures accepted { T.accepted self.new ≡ T.accepted self.old }
+        ensures fault { IfErr result RefusesNumbers }
+        ensures cause { WhereTold (T.tells self.old)
+            (λ _. QueryCounted (T.failures self.old) (T.failures self.new) result) }
     {
-        if position.pips() > self.header.bound {
-            return Err(QueryFault::OverBound);
-        }
-        let record = self.table.record(self.ranks.rank(position));
-        let mut shares = [0; 23];
-        for k in 0..23 {
-            shares[usize::from(k)] = record.spread(k);
-        }
-        Ok(Spread::new(shares).unwrap())
+        let mut room = Record::new();
+        let rank = self.load(position, &mut room)?;
+        let Some(spread) = spread_in(&self.table.lend(rank, &room)) else {
+            return Err(QueryFault::Read);
+        };
+        Ok(spread)
     }
-}
 
-/// Why a query is refused, in the order of the tests.
-#[derive(Clone, Copy, Debug, PartialEq, Eq, Error)]
-pub enum QueryFault {
-    /// The position has more pips than the bound.
-    #[error("more pips than the bound")]
-    OverBound,
+    /// The recorded play of a roll: the position that it leads to, and the first play to it. Refused as `OverBound`
+    /// exactly where the position has more pips than the bound, else as `Finished` exactly where no checker is left,
+    /// or as `Read`.
+    pub fn play(&mut self, position: &Position, roll: Roll) -> Result<(Play, Position), QueryFault>
+        ensures over_bound { (result ≡ Err QueryFault.OverBound) ↔
+            (bound_in (T.accepted self.old) < pips position.now) }
+        ensures finished { (result ≡ Err QueryFault.Finished) ↔
+            ((pips position.now ≤ bound_in (T.accepted self.old)) × IsFinished position.now) }
+        ensures recorded { WhereTold (T.tells self.old)
+            (λ file. IfOk result (λ answer. answer.1 ≡ recorded file position.now roll)) }
+        ensures first { IfOk result
+            (λ answer. IsFirstPlay position.now roll answer.1 (moves_of answer.0.items)) }
+        ensures legal { IfOk result (λ answer. Legal position.now roll answer.1) }
+        ensures stays { T.tells self.new ≡ T.tells self.old }
+        ensures accepted { T.accepted self.new ≡ T.accepted self.old }
+        ensures fault { IfErr result RefusesPlays }
+        ensures cause { WhereTold (T.tells self.old)
+            (λ _. QueryCounted (T.failures self.old) (T.failures self.new) result) }
+    {
+        if position.pips() <= self.header.bound && position.is_finished() {
+            return Err(QueryFault::Finished);
+        }
+        let mut room = Record::new();
+        let rank = self.load(position, &mut room)?;
+        let recorded = self.table.lend(rank, &room).play(roll);
+        if recorded >= self.header.count {
+            return Err(QueryFault::Read);
+        }
+        let to = self.ranks.unrank(recorded).unwrap();
+        let Some(play) = play_to(position, roll, &to) else {
+            return Err(QueryFault::Read);
+        };
+        Ok((play, to))
+    }
 }

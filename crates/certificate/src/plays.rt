@@ -1,14 +1,15 @@
 //! The play equation and the least equation of a record, tested with records of lower rank.
-ghost use Rattle.std.specs.Prelude.{◌≡◌, ℕ, ◌+◌, ◌*◌, ◌<◌, ◌≤◌, ◌↔◌, ◌≢◌, false, List, All, Any, IsTrue, IfOk, IfErr};
-ghost use Rattle.race_model.specs.Positions.{IsPosition, pips};
-ghost use Rattle.race_model.specs.Ranks.{rank as rank_of, count_to};
-ghost use Rattle.race_model.specs.Files.{bound_of, mean, mean_at, play};
+ghost use Rattle.std.specs.Prelude.{◌≡◌, ◌≢◌, ℕ, ◌<◌, ◌≤◌, false, List, All, Any, IsTrue, IfOk, IfErr, OnOk};
+ghost use Rattle.race_model.specs.Positions.{Board, IsPosition};
+ghost use Rattle.race_model.specs.Ranks.{rank as rank_of};
+ghost use Rattle.race_model.specs.Files.{mean, mean_at, play};
 ghost use Rattle.race_model.specs.Plays.{Legal};
 ghost use Rattle.race_model.specs.LocalEquations.{IsPlayed, IsBest};
-ghost use Rattle.certificate.specs.RecordedPlays.{HasRecord};
-ghost use Rattle.certificate.specs.PlayFaults.{Applies};
+ghost use Rattle.db_reader.specs.Telling.{WhereTold, Counted};
+ghost use Rattle.db_reader.specs.Reads.{HasRecord};
+ghost use Rattle.certificate.specs.PlayFaults.{Applies, PlayCounted};
 
-use crate::table::Whole;
+use db_reader::{ReadFault, Record, Table};
 use home_board::Position;
 use legal_plays::{Roll, results};
 use ranking::Ranks;
@@ -21,6 +22,9 @@ pub enum PlayFault {
 
     /// Another result has a smaller recorded mean.
     NotLeast,
+
+    /// A record could not be read.
+    Read,
 }
 
 /// What the results of a roll tell about what is recorded.
@@ -33,48 +37,94 @@ struct Seen {
     least: u128,
 }
 
+/// The mean that is recorded for a rank.
+fn mean_at<T: Table>(table: &mut T, rank: u16, room: &mut Record) -> Result<u128, ReadFault>
+    requires { HasRecord (T.accepted table.old) rank }
+    ensures stays { T.tells table.new ≡ T.tells table.old }
+    ensures accepted { T.accepted table.new ≡ T.accepted table.old }
+    ensures ready { OnOk result (T.ready table.new room.new rank) }
+    ensures others { (bytes : List ℕ) (other : ℕ) →
+        T.ready table.old bytes other → T.ready table.new bytes other }
+    ensures told { WhereTold (T.tells table.old)
+        (λ file. IfOk result (λ mean. mean ≡ mean_at file rank)) }
+    ensures cause { WhereTold (T.tells table.old)
+        (λ _. Counted (T.failures table.old) (T.failures table.new) result) }
+{
+    table.load(rank, room)?;
+    Ok(table.lend(rank, room).mean())
+}
+
 /// Looks over the results of a roll.
-fn look_over(table: &Whole, ranks: &Ranks, found: &[Position], recorded: u16) -> Seen
-    requires { All (λ y. HasRecord table.now (rank_of y)) found.now }
-    ensures is_legal { IsTrue result.is_legal → Any (λ y. rank_of y ≡ recorded) found.now }
-    ensures not_legal { result.is_legal ≡ false → All (λ y. rank_of y ≢ recorded) found.now }
-    ensures no_less { All (λ y. result.least ≤ mean table.now y) found.now }
-    ensures least { result.least < u128.MAX → Any (λ y. mean table.now y ≡ result.least) found.now }
+fn look_over<T: Table>(
+    table: &mut T,
+    ranks: &Ranks,
+    found: &[Position],
+    recorded: u16,
+    room: &mut Record,
+) -> Result<Seen, ReadFault>
+    requires { All (λ y. HasRecord (T.accepted table.old) (rank_of y)) found.now }
+    ensures stays { T.tells table.new ≡ T.tells table.old }
+    ensures accepted { T.accepted table.new ≡ T.accepted table.old }
+    ensures others { (bytes : List ℕ) (other : ℕ) →
+        T.ready table.old bytes other → T.ready table.new bytes other }
+    ensures is_legal { IfOk result
+        (λ seen. IsTrue seen.is_legal → Any (λ y. rank_of y ≡ recorded) found.now) }
+    ensures not_legal { IfOk result
+        (λ seen. seen.is_legal ≡ false → All (λ y. rank_of y ≢ recorded) found.now) }
+    ensures no_less { WhereTold (T.tells table.old)
+        (λ file. IfOk result (λ seen. All (λ y. seen.least ≤ mean file y) found.now)) }
+    ensures least { WhereTold (T.tells table.old)
+        (λ file. IfOk result
+        (λ seen. seen.least < u128.MAX → Any (λ y. mean file y ≡ seen.least) found.now)) }
+    ensures cause { WhereTold (T.tells table.old)
+        (λ _. Counted (T.failures table.old) (T.failures table.new) result) }
 {
     let mut is_legal = false;
     let mut least = u128::MAX;
     for position in found {
         let rank = ranks.rank(position);
-        if rank == recorded {
-            is_legal = true;
-        }
-        least = least.min(table.record(rank).mean());
+        is_legal = is_legal || rank == recorded;
+        least = least.min(mean_at(table, rank, room)?);
     }
-    Seen { is_legal, least }
+    Ok(Seen { is_legal, least })
 }
 
-/// The rank that is recorded for a roll, where it is that of a result with the least recorded mean.
-pub fn best_recorded(
-    table: &Whole,
+/// Whether what is recorded for a roll is the rank of a result with the least recorded mean. Its record is then
+/// ready to be lent.
+pub fn check_play<T: Table>(
+    table: &mut T,
     ranks: &Ranks,
     position: &Position,
     roll: Roll,
-) -> Result<u16, PlayFault>
-    requires records { (r : ℕ) → r < count_to (bound_of table.now) → HasRecord table.now r }
+    recorded: u16,
+    room: &mut Record,
+) -> Result<(), PlayFault>
+    requires records { (y : Board) → Legal position.now roll y →
+        HasRecord (T.accepted table.old) (rank_of y) }
     requires position { IsPosition position.now }
-    requires low { pips position.now ≤ bound_of table.now }
-    ensures recorded { IfOk result (λ recorded. recorded ≡ play table.now position.now roll) }
-    ensures played { IfOk result (λ _. IsPlayed table.now position.now roll) }
-    ensures best { IfOk result (λ _. IsBest table.now position.now roll) }
-    ensures fault { IfErr result (Applies table.now position.now roll) }
+    ensures stays { T.tells table.new ≡ T.tells table.old }
+    ensures accepted { T.accepted table.new ≡ T.accepted table.old }
+    ensures others { (bytes : List ℕ) (other : ℕ) →
+        T.ready table.old bytes other → T.ready table.new bytes other }
+    ensures ready { OnOk result (T.ready table.new room.new recorded) }
+    ensures right { WhereTold (T.tells table.old) (λ file. recorded ≡ play file position.now roll →
+        OnOk result (IsPlayed file position.now roll × IsBest file position.now roll)) }
+    ensures fault { WhereTold (T.tells table.old) (λ file. recorded ≡ play file position.now roll →
+        IfErr result (Applies file position.now roll)) }
+    ensures cause { WhereTold (T.tells table.old)
+        (λ _. PlayCounted (T.failures table.old) (T.failures table.new) result) }
 {
-    let recorded = table.record(ranks.rank(position)).play(roll);
-    let seen = look_over(table, ranks, results(position, roll).as_slice(), recorded);
+    let found = results(position, roll);
+    let seen = match look_over(table, ranks, found.as_slice(), recorded, room) {
+        Ok(seen) => seen,
+        Err(_) => return Err(PlayFault::Read),
+    };
     if !seen.is_legal {
         return Err(PlayFault::NotLegal);
     }
-    if seen.least < table.record(recorded).mean() {
-        return Err(PlayFault::NotLeast);
+    match mean_at(table, recorded, room) {
+        Ok(mean) if seen.least < mean => Err(PlayFault::NotLeast),
+        Ok(_) => Ok(()),
+        Err(_) => Err(PlayFault::Read),
     }
-    Ok(recorded)
 }

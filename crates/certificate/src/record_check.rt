@@ -1,17 +1,23 @@
 //! The check of one record, with records of lower rank that were accepted.
-ghost use Rattle.std.specs.Prelude.{◌≡◌, ℕ, ◌+◌, ◌*◌, ◌<◌, ◌≤◌, ◌↔◌, List, slice_index, IfOk, IfErr, OnOk};
-ghost use Rattle.race_model.specs.Positions.{Board, IsPosition, pips};
-ghost use Rattle.race_model.specs.Dice.{roll_at};
-ghost use Rattle.race_model.specs.Ranks.{rank as rank_of, at_rank, count_to};
-ghost use Rattle.race_model.specs.Files.{IsFileTo, bound_of};
-ghost use Rattle.race_model.specs.LocalEquations.{IsPlayed, IsBest, IsLocalAt};
-ghost use Rattle.certificate.specs.RecordedPlays.{ArePlays, HasRecord};
+ghost use Rattle.std.specs.Prelude.{◌≡◌, ℕ, ◌+◌, ◌*◌, ◌<◌, ◌≤◌, List, Some, sum, IfOk, IfErr, OnOk, OnErr};
+ghost use Rattle.race_model.specs.Positions.{Board, IsPosition, IsFinished, pips};
+ghost use Rattle.race_model.specs.Dice.{roll_at, weight};
+ghost use Rattle.race_model.specs.Ranks.{rank as rank_of, at_rank};
+ghost use Rattle.race_model.specs.Files.{IsFileTo, bound_of, mean_of};
+ghost use Rattle.race_model.specs.LocalEquations.{whole, IsPlayed, IsBest, IsLocalAt};
+ghost use Rattle.fixed_fraction.specs.Totals.{IsAdded};
+ghost use Rattle.db_reader.specs.Telling.{WhereTold};
+ghost use Rattle.db_reader.specs.Reads.{HasRecord};
 ghost use Rattle.certificate.specs.PlayFaults.{FirstOfPlays};
-ghost use Rattle.certificate.specs.RecordFaults.{test_of_record, IsFirstInRecord, of_record};
+ghost use Rattle.certificate.specs.RecordNumbers.{shares_of, AreSumsOf};
+ghost use Rattle.certificate.specs.RecordFaults.{IsFirstFaultAt, of_record, SumsCounted, RecordCounted};
 
-use crate::equations::{has_mean, has_share};
-use crate::plays::{PlayFault, best_recorded};
-use crate::table::Whole;
+use crate::equations::{has_mean, wrong_share};
+use crate::numbers::{mean_in, spread_in};
+use crate::plays::{PlayFault, check_play};
+use db_layout::{Header, RecordView};
+use db_reader::{ReadFault, Record, Table};
+use fixed_fraction::{Sums, law_sums};
 use home_board::Position;
 use legal_plays::Roll;
 use race_model::laws;
@@ -32,6 +38,7 @@ impl RefusedPlay {
         match self.fault {
             PlayFault::NotLegal => RecordFault::Play { roll: self.roll },
             PlayFault::NotLeast => RecordFault::NotLeast { roll: self.roll },
+            PlayFault::Read => RecordFault::Read,
         }
     }
 }
@@ -50,50 +57,118 @@ pub enum RecordFault {
 
     /// The share of exactly `k` rolls is not the expected one.
     Spread { k: u8 },
+
+    /// A record could not be read.
+    Read,
 }
 
-/// The ranks that are recorded for the 21 rolls, where each is that of a result with the least recorded mean.
-fn best_plays(table: &Whole, ranks: &Ranks, position: &Position) -> Result<[u16; 21], RefusedPlay>
-    requires records { (r : ℕ) → r < count_to (bound_of table.now) → HasRecord table.now r }
-    requires position { IsPosition position.now }
-    requires low { pips position.now ≤ bound_of table.now }
-    ensures plays { IfOk result (ArePlays table.now (rank_of position.now)) }
-    ensures played { IfOk result (λ _. (i : ℕ) → i < 21 → IsPlayed table.now position.now (roll_at i)) }
-    ensures best { IfOk result (λ _. (i : ℕ) → i < 21 → IsBest table.now position.now (roll_at i)) }
-    ensures fault { IfErr result (λ refused. FirstOfPlays table.now position.now refused.roll refused.fault) }
+/// Adds the numbers of a record with the weight of a roll, where an accepted record can hold them.
+fn add_numbers(sums: &mut Sums, roll: Roll, view: &RecordView<'_>) -> Result<(), ReadFault>
+    requires { sums.old.weight + weight roll ≤ 36 }
+    ensures added { OnOk result
+        (IsAdded sums.old (weight roll) (mean_of view.now) (shares_of view.now) sums.new) }
+    ensures refused { OnErr result
+        (¬ ((mean_of view.now ≤ 22 * whole) × (sum (shares_of view.now) ≡ whole))) }
 {
-    let mut plays = [0; 21];
+    let mean = mean_in(view).ok_or(ReadFault)?;
+    let spread = spread_in(view).ok_or(ReadFault)?;
+    sums.add(roll.weight(), mean, &spread);
+    Ok(())
+}
+
+/// The sums of what is recorded for the 21 rolls, where each is the rank of a result with the least recorded mean;
+/// of the finished position, which has no lower records, the sums of nothing.
+fn sum_plays<T: Table>(
+    table: &mut T,
+    ranks: &Ranks,
+    position: &Position,
+    rank: u16,
+    own: &Record,
+    room: &mut Record,
+) -> Result<Sums, RefusedPlay>
+    requires position { IsPosition position.now }
+    requires short { pips position.now ≤ 44 }
+    requires rank { rank ≡ rank_of position.now }
+    requires own { T.ready table.old own.now rank }
+    requires records { (y : Board) → IsPosition y → pips y ≤ pips position.now →
+        HasRecord (T.accepted table.old) (rank_of y) }
+    requires lower { WhereTold (T.tells table.old)
+        (λ file. (z : Board) → IsPosition z → rank_of z < rank → IsLocalAt file z) }
+    ensures stays { T.tells table.new ≡ T.tells table.old }
+    ensures accepted { T.accepted table.new ≡ T.accepted table.old }
+    ensures others { (bytes : List ℕ) (other : ℕ) →
+        T.ready table.old bytes other → T.ready table.new bytes other }
+    ensures right { WhereTold (T.tells table.old) (λ file. OnOk result ((i : ℕ) → i < 21 →
+        IsPlayed file position.now (roll_at i) × IsBest file position.now (roll_at i))) }
+    ensures totals { WhereTold (T.tells table.old) (λ file. IfOk result (λ sums.
+        ¬ IsFinished position.now → AreSumsOf file position.now sums)) }
+    ensures fault { WhereTold (T.tells table.old) (λ file. IfErr result
+        (λ refused. FirstOfPlays file position.now refused.roll refused.fault)) }
+    ensures cause { WhereTold (T.tells table.old)
+        (λ _. SumsCounted (T.failures table.old) (T.failures table.new) result) }
+{
+    law_sums();
+    let mut sums = Sums::new();
     for index in 0..21 {
         let roll = Roll::from_index(index).unwrap();
-        match best_recorded(table, ranks, position, roll) {
-            Ok(recorded) => plays[usize::from(index)] = recorded,
-            Err(fault) => return Err(RefusedPlay { roll: index, fault }),
+        let recorded = table.lend(rank, own).play(roll);
+        if let Err(fault) = check_play(table, ranks, position, roll, recorded, room) {
+            return Err(RefusedPlay { roll: index, fault });
+        }
+        if position.is_finished() {
+            continue;
+        }
+        if let Err(_) = add_numbers(&mut sums, roll, &table.lend(recorded, room)) {
+            return Err(RefusedPlay {
+                roll: index,
+                fault: PlayFault::Read,
+            });
         }
     }
-    Ok(plays)
+    Ok(sums)
 }
 
-/// Tests the record of a rank of a file in which each record of lower rank was accepted.
-pub fn check_record(table: &Whole, ranks: &Ranks, rank: u16) -> Result<(), RecordFault>
-    requires file { IsFileTo 44 table.now }
-    requires rank { rank < count_to (bound_of table.now) }
-    requires accepted { (z : Board) → IsPosition z → rank_of z < rank → IsLocalAt table.now z }
-    ensures local { OnOk result (IsLocalAt table.now (at_rank rank)) }
-    ensures first { IfErr result (λ fault. IsFirstInRecord table.now rank (test_of_record rank fault)) }
+/// Tests the record of a rank of a table in which each record of lower rank was accepted.
+pub fn check_record<T: Table>(
+    table: &mut T,
+    ranks: &Ranks,
+    header: Header,
+    rank: u16,
+    own: &mut Record,
+    room: &mut Record,
+) -> Result<(), RecordFault>
+    requires header { T.accepted table.old ≡ Some header }
+    requires rank { rank < header.count }
+    requires file { WhereTold (T.tells table.old)
+        (λ file. IsFileTo 44 file × (header.bound ≡ bound_of file)) }
+    requires lower { WhereTold (T.tells table.old)
+        (λ file. (z : Board) → IsPosition z → rank_of z < rank → IsLocalAt file z) }
+    ensures stays { T.tells table.new ≡ T.tells table.old }
+    ensures accepted { T.accepted table.new ≡ T.accepted table.old }
+    ensures local { WhereTold (T.tells table.old)
+        (λ file. OnOk result (IsLocalAt file (at_rank rank))) }
+    ensures first { WhereTold (T.tells table.old)
+        (λ file. IfErr result (IsFirstFaultAt file rank)) }
+    ensures cause { WhereTold (T.tells table.old)
+        (λ _. RecordCounted (T.failures table.old) (T.failures table.new) result) }
 {
     laws::law_counts();
+    laws::law_rank();
+    laws::law_at_rank();
+    if let Err(_) = table.load(rank, own) {
+        return Err(RecordFault::Read);
+    }
     let position = ranks.unrank(rank).unwrap();
-    let plays = match best_plays(table, ranks, &position) {
-        Ok(plays) => plays,
+    let sums = match sum_plays(table, ranks, &position, rank, own, room) {
+        Ok(sums) => sums,
         Err(refused) => return Err(refused.of_record()),
     };
-    if !has_mean(table, &position, rank, &plays) {
+    let view = table.lend(rank, own);
+    if !has_mean(&position, &view, &sums) {
         return Err(RecordFault::Mean);
     }
-    for k in 0..23 {
-        if !has_share(table, &position, rank, &plays, k) {
-            return Err(RecordFault::Spread { k });
-        }
+    match wrong_share(&position, &view, &sums) {
+        Some(k) => Err(RecordFault::Spread { k }),
+        None => Ok(()),
     }
-    Ok(())
 }

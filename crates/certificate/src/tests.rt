@@ -3,10 +3,10 @@ ghost use Rattle.std.specs.Prelude.{◌≡◌, length};
 
 use super::*;
 use db_layout::HeaderFault;
-use fixed_fraction::WHOLE;
+use db_reader::trial::FailOnce;
+use db_reader::{Table, Whole};
 use home_board::Position;
-use retrograde::build;
-use std::alloc::Global;
+use legal_plays::{Roll, write_play};
 use std::test::Fail;
 
 /// 36 ^ 22 in 16 bytes.
@@ -27,13 +27,7 @@ fn bound_one() -> [u8; 884]
     file
 }
 
-/// The fault of the file of bound 1 with one byte changed.
-fn fault_with(place: usize, byte: u8) -> Option<CheckFault> {
-    let mut file = bound_one();
-    file[place.min(883)] = byte;
-    fault_of(&file)
-}
-
+/// The fault of a table, and none where it is accepted.
 fn fault_of(file: &[u8]) -> Option<CheckFault> {
     match check(Whole::new(file)) {
         Ok(_) => None,
@@ -41,10 +35,22 @@ fn fault_of(file: &[u8]) -> Option<CheckFault> {
     }
 }
 
+/// The fault of the file of bound 1 with one byte changed.
+fn fault_with(place: usize, byte: u8) -> Option<CheckFault> {
+    let mut file = bound_one();
+    file[place.min(883)] = byte;
+    fault_of(&file)
+}
+
 /// The fault of the file of bound 1 cut down to a number of bytes.
 fn fault_of_front(count: usize) -> Option<CheckFault> {
     let file = bound_one();
     fault_of(&file[..count.min(884)])
+}
+
+/// The ace point, with so many checkers there.
+fn aces(count: u8) -> Result<Position, Fail> {
+    Ok(Position::new([count, 0, 0, 0, 0, 0])?)
 }
 
 #[test]
@@ -58,155 +64,153 @@ fn damaged_files(rt: HostRuntime) {
     ] {
         assert_eq!(rt; fault_of_front(count), fault, "{count} bytes");
     }
-    for (place, byte, fault) in [
-        (0, 0, CheckFault::Header(HeaderFault::BadMagic)),
-        (9, 2, CheckFault::Header(HeaderFault::BadVersion)),
-        (11, 45, CheckFault::Header(HeaderFault::BadBound)),
-        (15, 3, CheckFault::Header(HeaderFault::BadCount)),
-        (19, 0xab, CheckFault::Header(HeaderFault::BadRecordBytes)),
-        (31, 1, CheckFault::Header(HeaderFault::BadReserved)),
-        (473, 1, CheckFault::Mean { rank: 1 }),
-        (475, 1, CheckFault::Play { rank: 1, roll: 0 }),
-        (474, 0xff, CheckFault::Play { rank: 1, roll: 0 }),
-        (515, 1, CheckFault::Play { rank: 1, roll: 20 }),
-        (883, 1, CheckFault::Spread { rank: 1, k: 22 }),
-        (105, 1, CheckFault::Spread { rank: 0, k: 0 }),
-        (47, 1, CheckFault::Mean { rank: 0 }),
+    for (place, byte, fault, line) in [
+        (
+            0,
+            0,
+            CheckFault::Header(HeaderFault::BadMagic),
+            "header bad-magic",
+        ),
+        (
+            9,
+            2,
+            CheckFault::Header(HeaderFault::BadVersion),
+            "header bad-version",
+        ),
+        (
+            11,
+            45,
+            CheckFault::Header(HeaderFault::BadBound),
+            "header bad-bound",
+        ),
+        (
+            15,
+            3,
+            CheckFault::Header(HeaderFault::BadCount),
+            "header bad-count",
+        ),
+        (
+            19,
+            0xab,
+            CheckFault::Header(HeaderFault::BadRecordBytes),
+            "header bad-record-bytes",
+        ),
+        (
+            31,
+            1,
+            CheckFault::Header(HeaderFault::BadReserved),
+            "header bad-reserved",
+        ),
+        (473, 1, CheckFault::Mean { rank: 1 }, "mean rank 1"),
+        (
+            475,
+            1,
+            CheckFault::Play { rank: 1, roll: 0 },
+            "play rank 1 roll 0",
+        ),
+        (
+            474,
+            0xff,
+            CheckFault::Play { rank: 1, roll: 0 },
+            "play rank 1 roll 0",
+        ),
+        (
+            515,
+            1,
+            CheckFault::Play { rank: 1, roll: 20 },
+            "play rank 1 roll 20",
+        ),
+        (
+            883,
+            1,
+            CheckFault::Spread { rank: 1, k: 22 },
+            "spread rank 1 k 22",
+        ),
+        (
+            105,
+            1,
+            CheckFault::Spread { rank: 0, k: 0 },
+            "spread rank 0 k 0",
+        ),
+        (47, 1, CheckFault::Mean { rank: 0 }, "mean rank 0"),
     ] {
         assert_eq!(rt; fault_with(place, byte), Some(fault), "byte {place}");
+        assert_eq!(rt; fault_line(&fault).as_str(), line);
     }
+    assert_eq!(rt; fault_line(&CheckFault::Read).as_str(), "read");
+    assert_eq!(rt;
+        fault_line(&CheckFault::NotLeast {
+            rank: 65535,
+            roll: 255
+        })
+        .as_str(),
+        "not-least rank 65535 roll 255"
+    );
 }
 
 #[test]
-fn a_record_of_ones(rt: HostRuntime) -> Result<(), Fail> {
-    let file = bound_one();
-    let mut filled = Vec::from_slice(rt.alloc(), &file)?;
-    filled.truncate(458);
-    filled.extend_from_slice(&[0xff; 426])?;
-    let fault = fault_of(&filled);
-    assert_eq!(rt; fault, Some(CheckFault::Play { rank: 1, roll: 0 }));
-    Ok(())
+fn a_record_of_ones(rt: HostRuntime) {
+    let mut file = bound_one();
+    file[458..].copy_from_slice(&[0xff; 426]);
+    assert_eq!(rt;
+        fault_of(&file),
+        Some(CheckFault::Play { rank: 1, roll: 0 })
+    );
 }
 
 #[test]
-fn answers_of_bound_one(rt: HostRuntime) {
+fn answers_of_bound_one(rt: HostRuntime) -> Result<(), Fail> {
     let file = bound_one();
-    let Ok(mut checked) = check(Whole::new(&file)) else {
-        panic!(rt; "refused");
-    };
+    let mut checked = check(Whole::new(&file)).ok().ok_or("refused")?;
     assert_eq!(rt; (checked.bound(), checked.positions()), (1, 2));
-    let ace = Position::new([1, 0, 0, 0, 0, 0])
-        .ok()
-        .expect(&rt, "a position");
-    let deuce = Position::new([0, 1, 0, 0, 0, 0])
-        .ok()
-        .expect(&rt, "a position");
-    assert_eq!(rt;
-        checked.scaled(&ace).map(|mean| mean.numerator()),
-        Ok(17324272922341479351919144385642496)
-    );
-    assert_eq!(rt;
-        checked
-            .mean(&ace)
-            .map(|mean| (mean.numerator(), mean.denominator())),
-        Ok((1, 1))
-    );
-    assert_eq!(rt;
-        checked
-            .epc(&ace)
-            .map(|mean| (mean.numerator(), mean.denominator())),
-        Ok((49, 6))
-    );
-    assert_eq!(rt;
-        checked.spread(&ace).map(|spread| spread.at(1)),
-        Ok(17324272922341479351919144385642496)
-    );
-    assert_eq!(rt; checked.scaled(&deuce).err(), Some(QueryFault::OverBound));
-    assert_eq!(rt;
-        checked.into_table().header().map(|header| header.bound),
-        Ok(1)
-    );
-}
-
-/// The database that the builder makes of a bound.
-fn built(alloc: Global, bound: u8) -> Result<Vec<u8>, Fail> {
-    let mut file = Vec::new(alloc);
-    build(alloc, bound, &mut file)?;
-    Ok(file)
-}
-
-/// Writes these bytes into a file, as far as it reaches.
-fn put(file: &mut [u8], place: usize, bytes: &[u8]) {
-    for (byte, new) in file.iter_mut().skip(place).zip(bytes) {
-        *byte = *new;
-    }
-}
-
-/// Where a field of the record of a rank stands.
-fn place_of(rank: u16, offset: u16) -> usize {
-    32 + 426 * usize::from(rank) + usize::from(offset)
-}
-
-#[test]
-fn built_files(rt: HostRuntime) -> Result<(), Fail> {
-    for (bound, positions) in [(0, 1), (1, 2), (8, 64)] {
-        let file = built(rt.alloc(), bound)?;
-        let accepted = check(Whole::new(file.as_slice()))
-            .ok()
-            .map(|checked| (checked.bound(), checked.positions()));
-        assert_eq!(rt; accepted, Some((bound, positions)));
-    }
+    let (end, ace, two) = (aces(0)?, aces(1)?, aces(2)?);
+    let roll = Roll::from_index(4).ok_or("no roll")?;
+    assert_eq!(rt; checked.scaled(&ace)?.numerator(), fixed_fraction::WHOLE);
+    let mean = checked.mean(&ace)?;
+    assert_eq!(rt; (mean.numerator(), mean.denominator()), (1, 1));
+    let pips = checked.epc(&ace)?;
+    assert_eq!(rt; (pips.numerator(), pips.denominator()), (49, 6));
+    assert_eq!(rt; checked.spread(&ace)?.at(1), fixed_fraction::WHOLE);
+    let (play, to) = checked.play(&ace, roll)?;
+    assert_eq!(rt; (write_play(&play).as_str(), to), ("1/off", end));
+    assert_eq!(rt; checked.play(&end, roll).err(), Some(QueryFault::Finished));
+    assert_eq!(rt; checked.play(&two, roll).err(), Some(QueryFault::OverBound));
+    assert_eq!(rt; checked.scaled(&two).err(), Some(QueryFault::OverBound));
+    let mut table = checked.into_table();
+    assert_eq!(rt; table.header().map(|header| header.bound), Ok(1));
     Ok(())
 }
 
 #[test]
-fn tied_plays_are_accepted(rt: HostRuntime) -> Result<(), Fail> {
-    let mut file = built(rt.alloc(), 6)?;
-    put(&mut file, place_of(21, 18), &5u16.to_be_bytes());
-    assert_eq!(rt; fault_of(file.as_slice()), None);
-    Ok(())
-}
-
-#[test]
-fn worse_plays_are_refused(rt: HostRuntime) -> Result<(), Fail> {
-    let file = built(rt.alloc(), 8)?;
-    let Ok(mut checked) = check(Whole::new(file.as_slice())) else {
-        panic!(rt; "refused");
-    };
-    let two_fours = Position::new([0, 0, 0, 2, 0, 0])?;
-    let two_and_three = Position::new([0, 1, 1, 0, 0, 0])?;
-    let one_and_four = Position::new([1, 0, 0, 1, 0, 0])?;
-    let mean = checked.scaled(&two_fours)?.numerator();
-    let spread = checked.spread(&two_fours)?;
-    let worse = checked.spread(&two_and_three)?;
-    let better = checked.spread(&one_and_four)?;
-    assert_eq!(rt;
-        checked.scaled(&Position::new([0, 0, 0, 1, 1, 0])?).err(),
-        Some(QueryFault::OverBound)
-    );
-
-    let worse_play = Some(CheckFault::NotLeast { rank: 44, roll: 1 });
-    let mut file = built(rt.alloc(), 8)?;
-    put(&mut file, place_of(44, 18), &13u16.to_be_bytes());
-    assert_eq!(rt; fault_of(file.as_slice()), worse_play);
-
-    // 21 is two of 36 throws, and its result has 1/9 of a roll more
-    let agreeing = mean.wrapping_add(WHOLE / 162);
-    put(&mut file, place_of(44, 0), &agreeing.to_be_bytes());
-    assert_eq!(rt; fault_of(file.as_slice()), worse_play);
-    for k in 0..22 {
-        let share = spread
-            .at(k + 1)
-            .wrapping_mul(18)
-            .wrapping_add(worse.at(k))
-            .wrapping_sub(better.at(k))
-            / 18;
-        put(
-            &mut file,
-            place_of(44, 74 + 16 * u16::from(k)),
-            &share.to_be_bytes(),
-        );
+fn each_read_failing_once(rt: HostRuntime) -> Result<(), Fail> {
+    let file = bound_one();
+    let mut reads = 0;
+    for call in 1..200 {
+        let Err((table, fault)) = check(FailOnce::new(Whole::new(&file), call)) else {
+            break;
+        };
+        assert_eq!(rt; fault, CheckFault::Read, "call {call}");
+        assert!(rt; check(table).is_ok(), "call {call}");
+        reads = call;
     }
-    assert_eq!(rt; fault_of(file.as_slice()), worse_play);
+    // the header, and for each of two records itself, and for each roll its one result and the recorded one
+    assert_eq!(rt; reads, 1 + 2 * (1 + 21 * 2));
+
+    let (ace, roll) = (aces(1)?, Roll::from_index(0).ok_or("no roll")?);
+    for query in 1..=4 {
+        let trial = FailOnce::new(Whole::new(&file), reads + query);
+        let mut checked = check(trial).ok().ok_or("refused")?;
+        let faults = [
+            checked.scaled(&ace).err(),
+            checked.spread(&ace).err(),
+            checked.play(&ace, roll).err(),
+            checked.mean(&ace).err(),
+            checked.scaled(&ace).err(),
+        ];
+        for (index, fault) in faults.into_iter().enumerate() {
+            let expected = (index as u64 + 1 == query).then_some(QueryFault::Read);
+            assert_eq!(rt; fault, expected, "query {query}");
+        }
+    }
     Ok(())
 }

@@ -1,3 +1,4 @@
 pub mod Fractions
 pub mod Pulls
 pub mod Shares
+pub mod RollSums

@@ -1,2 +1,3 @@
 pub mod Ratios
 pub mod Shares
+pub mod Totals

@@ -8,7 +8,9 @@
 pub use fraction::{Fraction, epc, mean, share, thousandths};
 pub use scaled::{MOST, Scaled, WHOLE, pull};
 pub use spread::Spread;
+pub use sums::{Sums, law_sums};
 
 pub mod fraction;
 pub mod scaled;
 pub mod spread;
+pub mod sums;

@@ -46,6 +46,15 @@ impl Spread {
         }
     }
 
+    /// The 23 shares, that of 0 rolls first, as numerators over 36 ^ 22.
+    pub fn shares(&self) -> &[u128; 23]
+        ensures value { result.now ≡ self.now }
+        ensures total { sum self.now ≡ whole }
+        ensures len { length self.now ≡ 23 }
+    {
+        &self.shares
+    }
+
     /// The share of exactly `k` rolls, as a numerator over 36 ^ 22; 0 from 23 rolls on.
     pub fn at(&self, k: u8) -> u128
         ensures value { result ≡ slice_index self.now k }

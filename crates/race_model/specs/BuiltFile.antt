@@ -6,7 +6,7 @@ use Rattle.race_model.specs.Positions.{Board, IsPosition, pips}
 use Rattle.race_model.specs.Dice.{Throw, IsRoll}
 use Rattle.race_model.specs.Plays.{Legal}
 use Rattle.race_model.specs.Ranks.{rank}
-use Rattle.race_model.specs.Files.{bound_of, mean, mean_at, play}
+use Rattle.race_model.specs.Files.{IsBytes, bound_of, mean, mean_at, play}
 use Rattle.race_model.specs.LocalEquations.{IsLocal}
 
 -- no result of the throw with the recorded mean has a lower rank than the recorded one
@@ -14,8 +14,10 @@ abbrev pub IsLowest : List ℕ → Board → Throw → Type 0
 IsLowest f x v =
     (z : Board) → Legal x v z → mean f z ≡ mean_at f (play f x v) → play f x v ≤ rank z
 
--- the built file of a bound
+-- the built file of a bound. That it is one of bytes leaves
+-- one list alone: its numbers fix its bytes
 pub record IsBuilt (limit bound : ℕ) (f : List ℕ) : Type 0 where
+  pub bytes : IsBytes f
   pub bound_is : bound_of f ≡ bound
   pub local : IsLocal limit f
   pub lowest : (x : Board) → IsPosition x → pips x ≤ bound → (v : Throw) → IsRoll v →

@@ -1,5 +1,5 @@
 -- The database file: a header, then a record for each rank. Source: this project's profile.
-use Rattle.std.specs.Prelude.{◌≡◌, ℕ, ◌+◌, ◌*◌, ◌≤◌, List, ◌++◌, length, take, drop, replicate, codes}
+use Rattle.std.specs.Prelude.{◌≡◌, ℕ, ◌+◌, ◌*◌, ◌<◌, ◌≤◌, List, ◌++◌, length, take, drop, replicate, slice_index, codes}
 use Rattle.std.specs.Int.{w16, w32, w128, from_be_bytes, to_be_bytes}
 use Rattle.race_model.specs.Positions.{Board}
 use Rattle.race_model.specs.Dice.{Throw, roll_index}
@@ -11,6 +11,10 @@ abbrev pub header : ℕ → List ℕ
 header bound =
     codes "EPCTABLE" ++ to_be_bytes w16 1 ++ to_be_bytes w16 bound
     ++ to_be_bytes w32 (count_to bound) ++ to_be_bytes w32 426 ++ replicate 12 0
+
+-- a list of bytes: each of its numbers is under 256, as is what one reads beyond its end
+abbrev pub IsBytes : List ℕ → Type 0
+IsBytes f = (i : ℕ) → slice_index f i < 256
 
 -- the bytes of a file from a place on
 abbrev pub bytes_at : List ℕ → ℕ → ℕ → List ℕ

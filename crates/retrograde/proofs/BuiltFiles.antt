@@ -5,58 +5,74 @@ use Rattle.race_model.specs.Positions.{Board, IsPosition, pips}
 use Rattle.race_model.specs.Dice.{Throw, IsRoll, all_rolls, roll_at, roll_index, weight}
 use Rattle.race_model.specs.Plays.{Legal}
 use Rattle.race_model.specs.Ranks.{rank, at_rank, count_to}
-use Rattle.race_model.specs.Files.{header, bound_of, record_at, IsFileTo, mean_of, play_of, share_of, mean_at, play_at, spread_at, play}
+use Rattle.race_model.specs.Files.{IsBytes, header, bound_of, record_at, IsFileTo, mean_of, play_of, share_of, mean_at, play_at, spread_at, play}
 use Rattle.race_model.specs.LocalEquations.{whole, weighted, IsPlayed, IsBest, HasMean, HasShare, IsLocalAt}
 use Rattle.race_model.specs.BuiltFile.{IsLowest, IsBuilt}
 use Rattle.race_model.proofs.Plays.Results.{legal_position, legal_pips}
-use Rattle.race_model.proofs.Ranks.RankOrder.{rank_bound, at_rank-rank}
+use Rattle.race_model.proofs.Ranks.RankOrder.{rank_bound, at_rank-rank, count_to-rises}
 use Rattle.race_model.proofs.Numbers.Sums.{sum_by-equal}
 use Rattle.race_model.proofs.Dice.Throws.{index_of_roll}
 use Rattle.race_model.proofs.Dice.RollSums.{roll_index-range}
 use Rattle.retrograde.specs.BestPlays.{IsBestPlay}
-use Rattle.retrograde.specs.BuiltRecords.{shares_of, sum_of_means, sum_of_shares, IsMade, AreMade}
-use Rattle.retrograde.specs.BuiltBytes.{bytes_of, built_file}
-use Rattle.retrograde.proofs.Files.{file-front, file-length, file-record, file-bound}
+use Rattle.retrograde.specs.BuiltRecords.{shares_of, sum_of_means, sum_of_shares, IsMade}
+use Rattle.retrograde.specs.AllRecords.{AllRecords, bytes_of_rank}
+use Rattle.retrograde.specs.BuiltBytes.{built_file}
+use Rattle.retrograde.proofs.Files.{file-front, file-length, file-record, file-bound, file-bytes}
+use Rattle.db_layout.proofs.Bytes.{small_record}
 use Rattle.retrograde.proofs.Next.{best-legal}
 
 -- the records of a bound
-module _ (bound : ℕ) (low : bound ≤ 44) (means : List ℕ) (plays spreads : List (List ℕ)) (are : AreMade (count_to bound) means plays spreads) where
+module _ (full : AllRecords) (bound : ℕ) (low : bound ≤ 44) where
+  abbrev means : List ℕ
+  means = full.means
+
+  abbrev plays : List (List ℕ)
+  plays = full.plays
+
+  abbrev spreads : List (List ℕ)
+  spreads = full.spreads
+
   -- the file that holds them
   abbrev built : List ℕ
-  built = built_file bound means plays spreads
+  built = built_file full bound
+
+  -- a rank of the file is one of all
+  all-have : (r : ℕ) → r < count_to bound → r < count_to 44
+  all-have r lt = omega (arith, count_to-rises bound 44 low)
 
   -- each record has 426 bytes
-  pub each-length : (r : ℕ) → r < count_to bound → length (bytes_of means plays spreads r) ≡ 426
-  each-length r lt = (are.reads r lt).len
+  pub each-length : (r : ℕ) → r < count_to bound → length (bytes_of_rank full r) ≡ 426
+  each-length r lt = (full.made.reads r (all-have r lt)).len
 
-  pub built-record : (r : ℕ) → r < count_to bound → record_at built r ≡ bytes_of means plays spreads r
-  unfolding built_file
-  built-record r lt = file-record bound (bytes_of means plays spreads) (count_to bound) each-length r lt
+  pub built-record : (r : ℕ) → r < count_to bound → record_at built r ≡ bytes_of_rank full r
+  built-record r lt = file-record bound (bytes_of_rank full) (count_to bound) each-length r lt
 
   -- what one reads in the file
   mean-read : (r : ℕ) → r < count_to bound → mean_at built r ≡ slice_index means r
   unfolding mean_at
-  mean-read r lt = ap mean_of (built-record r lt) ∙ (are.reads r lt).mean_is
+  mean-read r lt = ap mean_of (built-record r lt) ∙ (full.made.reads r (all-have r lt)).mean_is
 
   play-read : (r i : ℕ) → r < count_to bound → i < 21 → play_at built r i ≡ slice_index (slice_index_or plays r []) i
   unfolding play_at
-  play-read r i lt few = ap (λ (bs : List ℕ). play_of bs i) (built-record r lt) ∙ (are.reads r lt).play_is i few
+  play-read r i lt few = ap (λ (bs : List ℕ). play_of bs i) (built-record r lt) ∙ (full.made.reads r (all-have r lt)).play_is i few
 
   share-read : (r k : ℕ) → r < count_to bound → k ≤ 22 → spread_at built r k ≡ slice_index (shares_of spreads r) k
   unfolding spread_at
-  share-read r k lt few = ap (λ (bs : List ℕ). share_of bs k) (built-record r lt) ∙ (are.reads r lt).share_is k few
+  share-read r k lt few = ap (λ (bs : List ℕ). share_of bs k) (built-record r lt) ∙ (full.made.reads r (all-have r lt)).share_is k few
 
   built-bound : bound_of built ≡ bound
-  unfolding built_file
-  built-bound = file-bound bound (bytes_of means plays spreads) (count_to bound) each-length low
+  built-bound = file-bound bound (bytes_of_rank full) (count_to bound) each-length low
 
   pub built-front : take 32 built ≡ header bound
-  unfolding built_file
-  built-front = file-front bound (bytes_of means plays spreads) (count_to bound) each-length
+  built-front = file-front bound (bytes_of_rank full) (count_to bound) each-length
 
   pub built-length : length built ≡ 32 + 426 * count_to bound
-  unfolding built_file
-  built-length = file-length bound (bytes_of means plays spreads) (count_to bound) each-length
+  built-length = file-length bound (bytes_of_rank full) (count_to bound) each-length
+
+  built-bytes : IsBytes built
+  built-bytes =
+      file-bytes bound (bytes_of_rank full) (count_to bound) each-length
+      (λ r. small_record (slice_index means r) (slice_index_or plays r []) (slice_index_or spreads r []))
 
   built-is_file : IsFileTo 44 built
   built-is_file = record {
@@ -78,7 +94,7 @@ module _ (bound : ℕ) (low : bound ≤ 44) (means : List ℕ) (plays spreads : 
     number v = slice_index (slice_index_or plays (rank x) []) (roll_index v)
 
     here : IsMade means spreads x (slice_index means (rank x)) (slice_index_or plays (rank x) []) (shares_of spreads (rank x))
-    here = subst (λ (y : Board). IsMade means spreads y (slice_index means (rank x)) (slice_index_or plays (rank x) []) (shares_of spreads (rank x))) (at_rank-rank x at) (are.made (rank x) ranked)
+    here = subst (λ (y : Board). IsMade means spreads y (slice_index means (rank x)) (slice_index_or plays (rank x) []) (shares_of spreads (rank x))) (at_rank-rank x at) (full.made.made (rank x) (all-have (rank x) ranked))
 
     number-is : (v : Throw) → play built x v ≡ number v
     unfolding number
@@ -150,6 +166,7 @@ module _ (bound : ℕ) (low : bound ≤ 44) (means : List ℕ) (plays spreads : 
   -- the file is the built file of the bound
   pub is-built : IsBuilt 44 bound built
   is-built = record {
+    bytes = built-bytes;
     bound_is = built-bound;
     local = record { file = built-is_file; at_each = λ x at under. is-local_at x at (omega (arith, built-bound)) };
     lowest = λ x at under v is. is-lowest x at under v is;

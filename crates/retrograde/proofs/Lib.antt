@@ -1,7 +1,11 @@
 pub mod Best
 pub mod BuiltFiles
+pub mod Existence
 pub mod Files
 pub mod Grown
+pub mod Kept
+pub mod Levels
 pub mod Next
 pub mod Prefixes
 pub mod Turns
+pub mod Unique

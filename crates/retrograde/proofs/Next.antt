@@ -11,7 +11,7 @@ use Rattle.race_model.proofs.Ranks.RankOrder.{rank-fewer, at_rank-rank}
 use Rattle.race_model.proofs.Dice.Throws.{roll_of_index}
 use Rattle.race_model.proofs.Dice.RollSums.{roll_index-range}
 use Rattle.retrograde.specs.BestPlays.{IsBestPlay}
-use Rattle.retrograde.specs.BuiltRecords.{shares_of, sum_of_means, sum_of_shares, IsMade, IsReached, AreMade}
+use Rattle.retrograde.specs.BuiltRecords.{shares_of, sum_of_means, sum_of_shares, IsMade, IsReached}
 use Rattle.retrograde.proofs.Best.{best-at_end}
 use Rattle.retrograde.proofs.Turns.{mean-exact, shares-exact, no-last, pulled-reached}
 
@@ -27,8 +27,14 @@ best-legal means x v r at best =
     let found : at_rank r ≡ z = ap at_rank (sym best.legal.2) ∙ at_rank-rank z (legal_position x v z at leads) in
     (subst (λ (y : Board). Legal x v y) (sym found) leads, ap rank found ∙ best.legal.2)
 
+-- strategies have the means and the shares of the ranks below one
+abbrev pub ReachedBelow : ℕ → List ℕ → List (List ℕ) → Type 0
+ReachedBelow n means spreads = (r : ℕ) → r < n → IsReached (at_rank r) (slice_index means r) (shares_of spreads r)
+
 -- an unfinished position, the records of lower rank, and the best plays
-module _ (x : Board) (at : IsPosition x) (unfinished : ¬ IsFinished x) (low : pips x ≤ 44) (means : List ℕ) (played spreads : List (List ℕ)) (made : AreMade (rank x) means played spreads) (plays : List ℕ) (best : (i : ℕ) → i < 21 → IsBestPlay means x (roll_at i) (slice_index plays i)) where
+module _ (x : Board) (at : IsPosition x) (unfinished : ¬ IsFinished x) (low : pips x ≤ 44) (means : List ℕ)
+    (spreads : List (List ℕ)) (reached : ReachedBelow (rank x) means spreads) (plays : List ℕ)
+    (best : (i : ℕ) → i < 21 → IsBestPlay means x (roll_at i) (slice_index plays i)) where
   goes : (i : ℕ) → i < 21 → Legal x (roll_at i) (at_rank (slice_index plays i))
   goes i lt = (best-legal means x (roll_at i) (slice_index plays i) at (best i lt)).0
 
@@ -39,15 +45,9 @@ module _ (x : Board) (at : IsPosition x) (unfinished : ¬ IsFinished x) (low : p
       let is = (best i lt).legal.2 in
       omega arith
 
-  pub play-held : (i : ℕ) → i < 21 → slice_index plays i < length means
-  play-held i lt = omega (arith, play-lower i lt, made.means_len)
-
-  pub play-has_shares : (i : ℕ) → i < 21 → slice_index plays i < length spreads
-  play-has_shares i lt = omega (arith, play-lower i lt, made.spreads_len)
-
   -- where strategies go on
   next-reached : (v : Throw) → IsReached (at_rank (slice_index plays (roll_index v))) (slice_index means (slice_index plays (roll_index v))) (shares_of spreads (slice_index plays (roll_index v)))
-  next-reached v = made.reached (slice_index plays (roll_index v)) (play-lower (roll_index v) (roll_index-range v))
+  next-reached v = reached (slice_index plays (roll_index v)) (play-lower (roll_index v) (roll_index-range v))
 
   -- the mean can be pulled
   pub can-pull_mean : (mean : ℕ) × ((mean ≤ 22 * whole) × (36 * mean ≡ 36 * whole + sum_of_means means plays))

@@ -1,75 +1,152 @@
 -- What was written of the built file, part by part.
-use Rattle.std.proofs.Common.{◌≡◌, ℕ, zero, suc, ◌+◌, ◌*◌, ◌<◌, ◌≤◌, List, [], ◌∷◌, Option, length, take, drop, refl, sym, ap, subst, ◌∙◌, arith}
-use Rattle.std.proofs.lemmas.List.{take_all, get_or_default}
-use Rattle.std.specs.Prelude.{Result, Ok, Err, IfErr, slice_index, slice_index_or}
+use Rattle.std.proofs.Common.{◌≡◌, ℕ, zero, suc, ◌+◌, ◌-◌, ◌<◌, ◌≤◌, List, [], ◌∷◌, ◌++◌, Option, length, take, refl, sym, ap, subst, ◌∙◌, arith, append_assoc}
+use Rattle.std.specs.Prelude.{Result, Ok, Err, IfErr}
 use Rattle.std.specs.Result.{IsErrAnd}
 use Rattle.std.specs.Io.KnownBytes.{Appends}
+use Rattle.std.proofs.lemmas.List.{append-nil}
+use Rattle.std.proofs.Math.Seq.{take-append_seam}
 use Rattle.race_model.specs.Ranks.{count_to}
 use Rattle.race_model.specs.Files.{header}
-use Rattle.db_layout.specs.Records.{record_of}
 use Rattle.db_layout.specs.Writes.{AppendsPart}
-use Rattle.db_layout.proofs.Known.{appends_more}
-use Rattle.retrograde.specs.BuiltRecords.{AreMade}
-use Rattle.retrograde.specs.BuiltBytes.{bytes_of, built_file, WritesBuilt, IsRefusedBy}
-use Rattle.retrograde.specs.declared.build_fault.BuildFault.TheVariants.{Write}
-use Rattle.retrograde.proofs.BuiltFiles.{built-front, built-length, built-record, is-built}
+use Rattle.db_layout.proofs.Known.{appends_twice}
+use Rattle.retrograde.specs.AllRecords.{AllRecords, bytes_of_rank}
+use Rattle.retrograde.specs.BuiltBytes.{records_from, built_to, built_file, WritesBuilt, WritesPart, IsRefusedBy}
+use Rattle.retrograde.specs.declared.build_fault.BuildFault.TheVariants.{Memory, Write}
+use Rattle.retrograde.proofs.Files.{records-split, records-one}
+use Rattle.retrograde.proofs.BuiltFiles.{is-built}
 
--- a prefix of a prefix is a prefix
-take-take : {X : Type 0} (k n : ℕ) (xs : List X) → (m : ℕ) × (take k (take n xs) ≡ take m xs)
-take-take zero n xs = (0, refl)
-take-take (suc k) zero xs = (0, refl)
-take-take (suc k) (suc n) [] = (0, refl)
-take-take (suc k) (suc n) (x ∷ xs) =
-    let rest = take-take k n xs in
-    (suc rest.0, ap (λ ys. x ∷ ys) rest.1)
+-- a prefix of a front of bytes is one of these bytes
+take-front : {X : Type 0} (k : ℕ) (xs ys : List X) → (m : ℕ) × (take k xs ≡ take m (xs ++ ys))
+take-front zero xs ys = (0, refl)
+take-front (suc k) [] ys = (0, refl)
+take-front (suc k) (x ∷ xs) ys =
+    let rest = take-front k xs ys in
+    (suc rest.0, ap (λ zs. x ∷ zs) rest.1)
 
--- the records of a bound, and a writer before and after
-module _ (bound : ℕ) (low : bound ≤ 44) (means : List ℕ) (plays spreads : List (List ℕ)) (are : AreMade (count_to bound) means plays spreads) (old mid new : Option (List ℕ)) where
-  abbrev built : List ℕ
-  built = built_file bound means plays spreads
+-- a prefix after a front
+take-behind : {X : Type 0} (k : ℕ) (xs ys : List X) → (m : ℕ) × (xs ++ take k ys ≡ take m (xs ++ ys))
+take-behind k [] ys = (k, refl)
+take-behind k (x ∷ xs) ys =
+    let rest = take-behind k xs ys in
+    (suc rest.0, ap (λ zs. x ∷ zs) rest.1)
 
-  -- a prefix of the header is one of the file
-  pub header-part : AppendsPart old new (header bound) → IsRefusedBy bound old new Write
-  header-part part =
-      let shorter = take-take part.0 32 built in
-      let same : take part.0 (header bound) ≡ take shorter.0 built = ap (take part.0) (sym (built-front bound low means plays spreads are)) ∙ shorter.1 in
-      (low, (built, is-built bound low means plays spreads are, (shorter.0, subst (λ (bs : List ℕ). Appends old new bs) same part.1)))
+-- bytes that grow by a front and then by a prefix of what comes next have grown by a prefix of all
+pub flat_map-take_more : (old mid new : Option (List ℕ)) (front next rest : List ℕ) → Appends old mid front
+    → AppendsPart mid new next → AppendsPart old new (front ++ (next ++ rest))
+flat_map-take_more old mid new front next rest before part =
+    let first = take-front part.0 next rest in
+    let all = take-behind first.0 front (next ++ rest) in
+    let both = appends_twice old mid new front (take part.0 next) before part.1 in
+    (all.0, subst (λ (bs : List ℕ). Appends old new bs) (ap (λ (bs : List ℕ). front ++ bs) first.1 ∙ all.1) both)
 
-  -- .. and the header is one
-  pub header-whole : Appends old new (header bound) → Appends old new (take (32 + 426 * 0) built)
-  header-whole all = subst (λ (bs : List ℕ). Appends old new bs) (sym (built-front bound low means plays spreads are)) all
+-- .. and so have bytes that grow by a front alone
+pub front-part : (old new : Option (List ℕ)) (front rest : List ℕ) → Appends old new front
+    → AppendsPart old new (front ++ rest)
+front-part old new front rest all =
+    (length front, subst (λ (bs : List ℕ). Appends old new bs) (sym (take-append_seam front rest)) all)
 
-  -- a prefix of a record, after those before it
-  pub record-part : (r : ℕ) → r < count_to bound → Appends old mid (take (32 + 426 * r) built) → AppendsPart mid new (bytes_of means plays spreads r) → IsRefusedBy bound old new Write
-  record-part r lt before part =
-      let shorter = take-take part.0 426 (drop (32 + 426 * r) built) in
-      let same : take part.0 (bytes_of means plays spreads r) ≡ take shorter.0 (drop (32 + 426 * r) built) = ap (take part.0) (sym (built-record bound low means plays spreads are r lt)) ∙ shorter.1 in
-      (low, (built, is-built bound low means plays spreads are, (32 + 426 * r + shorter.0, appends_more old mid new built (32 + 426 * r) shorter.0 before (subst (λ (bs : List ℕ). Appends mid new bs) same part.1))))
+-- no byte is a prefix of any
+pub nothing-part : (old new : Option (List ℕ)) (bytes : List ℕ) → Appends old new [] → AppendsPart old new bytes
+nothing-part old new bytes none = (0, none)
 
-  -- .. and a whole record
-  pub record-whole : (r : ℕ) → r < count_to bound → Appends old mid (take (32 + 426 * r) built) → Appends mid new (bytes_of means plays spreads r) → Appends old new (take (32 + 426 * (r + 1)) built)
-  record-whole r lt before all =
-      let next : 32 + 426 * r + 426 ≡ 32 + 426 * (r + 1) = omega arith in
-      subst (λ (n : ℕ). Appends old new (take n built)) next
-      (appends_more old mid new built (32 + 426 * r) 426 before (subst (λ (bs : List ℕ). Appends mid new bs) (sym (built-record bound low means plays spreads are r lt)) all))
+-- the records of n ranks from a rank on, up to one of them and after it
+pub records-apart : (full : AllRecords) (r i n : ℕ) → i < n → records_from (bytes_of_rank full) r n
+    ≡ records_from (bytes_of_rank full) r i ++ (bytes_of_rank full (r + i) ++ records_from (bytes_of_rank full) (r + i + 1) (n - i - 1))
+records-apart full r i n lt =
+    let all : n ≡ i + (1 + (n - i - 1)) = omega arith in
+    ap (records_from (bytes_of_rank full) r) all
+    ∙ (records-split (bytes_of_rank full) r i (1 + (n - i - 1))
+    ∙ ap (λ (bs : List ℕ). records_from (bytes_of_rank full) r i ++ bs)
+        (records-split (bytes_of_rank full) (r + i) 1 (n - i - 1)
+        ∙ ap (λ (bs : List ℕ). bs ++ records_from (bytes_of_rank full) (r + i + 1) (n - i - 1))
+            (records-one (bytes_of_rank full) (r + i))))
 
-  -- all records, and nothing else
-  pub all-written : (n : ℕ) → count_to bound ≤ n → Appends old new (take (32 + 426 * n) built) → WritesBuilt bound old new
-  all-written n le all =
-      let size = built-length bound low means plays spreads are in
-      let every : take (32 + 426 * n) built ≡ built = take_all (32 + 426 * n) built (omega arith) in
-      (built, is-built bound low means plays spreads are, subst (λ (bs : List ℕ). Appends old new bs) every all)
+-- one record more
+pub records-next : (full : AllRecords) (r i : ℕ) → records_from (bytes_of_rank full) r (i + 1)
+    ≡ records_from (bytes_of_rank full) r i ++ bytes_of_rank full (r + i)
+records-next full r i =
+    records-split (bytes_of_rank full) r i 1
+    ∙ ap (λ (bs : List ℕ). records_from (bytes_of_rank full) r i ++ bs) (records-one (bytes_of_rank full) (r + i))
+
+-- the built file of a bound
+module _ (full : AllRecords) (bound : ℕ) (low : bound ≤ 44) where
+  -- up to a rank, the records of more ranks, and the rest
+  pub built-split : (n m : ℕ) → n + m ≤ count_to bound → built_file full bound
+      ≡ built_to full bound n ++ (records_from (bytes_of_rank full) n m ++ records_from (bytes_of_rank full) (n + m) (count_to bound - (n + m)))
+  built-split n m le =
+      let all : count_to bound ≡ n + (m + (count_to bound - (n + m))) = omega arith in
+      let here : 0 + n ≡ n = omega arith in
+      ap (built_to full bound) all
+      ∙ (ap (λ (bs : List ℕ). header bound ++ bs)
+          (records-split (bytes_of_rank full) 0 n (m + (count_to bound - (n + m)))
+          ∙ ap (λ (r : ℕ). records_from (bytes_of_rank full) 0 n ++ records_from (bytes_of_rank full) r (m + (count_to bound - (n + m)))) here
+          ∙ ap (λ (bs : List ℕ). records_from (bytes_of_rank full) 0 n ++ bs)
+              (records-split (bytes_of_rank full) n m (count_to bound - (n + m))))
+      ∙ sym (append_assoc (header bound) (records_from (bytes_of_rank full) 0 n)
+          (records_from (bytes_of_rank full) n m ++ records_from (bytes_of_rank full) (n + m) (count_to bound - (n + m)))))
+
+  -- up to more ranks
+  pub built-more : (n m : ℕ) → built_to full bound n ++ records_from (bytes_of_rank full) n m ≡ built_to full bound (n + m)
+  built-more n m =
+      let here : 0 + n ≡ n = omega arith in
+      append_assoc (header bound) (records_from (bytes_of_rank full) 0 n) (records_from (bytes_of_rank full) n m)
+      ∙ ap (λ (bs : List ℕ). header bound ++ bs)
+          (sym (records-split (bytes_of_rank full) 0 n m
+          ∙ ap (λ (r : ℕ). records_from (bytes_of_rank full) 0 n ++ records_from (bytes_of_rank full) r m) here))
+
+  -- a prefix of the built file
+  pub part-refused : (old new : Option (List ℕ)) → AppendsPart old new (built_file full bound) → WritesPart bound old new
+  part-refused old new part = (built_file full bound, is-built full bound low, part)
+
+  -- nothing was written
+  pub nothing-written : (old new : Option (List ℕ)) → Appends old new [] → WritesPart bound old new
+  nothing-written old new none = part-refused old new (nothing-part old new (built_file full bound) none)
+
+  -- a prefix of the header
+  pub header-written : (old new : Option (List ℕ)) → AppendsPart old new (header bound) → WritesPart bound old new
+  header-written old new part =
+      part-refused old new
+      (let first = take-front part.0 (header bound) (records_from (bytes_of_rank full) 0 (count_to bound)) in
+      (first.0, subst (λ (bs : List ℕ). Appends old new bs) first.1 part.1))
+
+  -- the header and no record
+  pub header-first : (old new : Option (List ℕ)) → Appends old new (header bound) → Appends old new (built_to full bound 0)
+  unfolding records_from
+  header-first old new all = subst (λ (bs : List ℕ). Appends old new bs) (sym (append-nil (header bound))) all
+
+  -- the file up to a rank
+  pub ranks-written : (old new : Option (List ℕ)) (n : ℕ) → n ≤ count_to bound → Appends old new (built_to full bound n)
+      → WritesPart bound old new
+  ranks-written old new n le all =
+      part-refused old new
+      (subst (λ (bs : List ℕ). AppendsPart old new bs) (sym (built-split n 0 (omega arith)))
+      (front-part old new (built_to full bound n)
+          (records_from (bytes_of_rank full) n 0 ++ records_from (bytes_of_rank full) (n + 0) (count_to bound - (n + 0))) all))
+
+  -- .. and a prefix of more ranks
+  pub more-written : (old mid new : Option (List ℕ)) (n m : ℕ) → n + m ≤ count_to bound
+      → Appends old mid (built_to full bound n) → AppendsPart mid new (records_from (bytes_of_rank full) n m)
+      → WritesPart bound old new
+  more-written old mid new n m le before part =
+      part-refused old new
+      (subst (λ (bs : List ℕ). AppendsPart old new bs) (sym (built-split n m le))
+      (flat_map-take_more old mid new (built_to full bound n) (records_from (bytes_of_rank full) n m)
+          (records_from (bytes_of_rank full) (n + m) (count_to bound - (n + m))) before part))
+
+  -- .. and all of them
+  pub level-written : (old mid new : Option (List ℕ)) (n m : ℕ) → Appends old mid (built_to full bound n)
+      → Appends mid new (records_from (bytes_of_rank full) n m) → Appends old new (built_to full bound (n + m))
+  level-written old mid new n m before all =
+      subst (λ (bs : List ℕ). Appends old new bs) (built-more n m)
+      (appends_twice old mid new (built_to full bound n) (records_from (bytes_of_rank full) n m) before all)
+
+  -- the whole file, and nothing else
+  pub all-written : (old new : Option (List ℕ)) (n : ℕ) → n ≡ count_to bound → Appends old new (built_to full bound n)
+      → WritesBuilt bound old new
+  all-written old new n e all =
+      (built_file full bound, is-built full bound low, subst (λ (m : ℕ). Appends old new (built_to full bound m)) e all)
 
 -- what holds of the one error that there can be
 pub one-error : {T E : Type 0} (r : Result T E) (e : E) (P : E → Type 0) → IsErrAnd r (λ y. y ≡ e) → P e → IfErr r P
 one-error (Ok x) e P h p = tt
 one-error (Err y) e P h p = subst P (sym h) p
-
--- the bytes of the record that the code reads at the place of a rank
-pub same-bytes : (means : List ℕ) (plays spreads : List (List ℕ)) (mean : ℕ) (played shares : List ℕ) (r place : ℕ) → place ≡ r → mean ≡ slice_index means r → played ≡ slice_index_or plays place played → shares ≡ slice_index_or spreads place shares → r < length plays → r < length spreads → record_of mean played shares ≡ bytes_of means plays spreads r
-same-bytes means plays spreads mean played shares r place e mean_is played_is shares_is lt lt' =
-    let p : played ≡ slice_index_or plays r [] = (rw e at played_is) ∙ get_or_default plays r played [] lt in
-    let s : shares ≡ slice_index_or spreads r [] = (rw e at shares_is) ∙ get_or_default spreads r shares [] lt' in
-    ap (λ m. record_of m played shares) mean_is
-    ∙ (ap (λ (p : List ℕ). record_of (slice_index means r) p shares) p
-    ∙ ap (λ (s : List ℕ). record_of (slice_index means r) (slice_index_or plays r []) s) s)

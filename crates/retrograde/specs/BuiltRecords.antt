@@ -47,3 +47,12 @@ pub record AreMade (n : ℕ) (means : List ℕ) (plays spreads : List (List ℕ)
   pub made : (r : ℕ) → r < n → IsMade means spreads (at_rank r) (slice_index means r) (slice_index_or plays r []) (shares_of spreads r)
   pub reached : (r : ℕ) → r < n → IsReached (at_rank r) (slice_index means r) (shares_of spreads r)
   pub reads : (r : ℕ) → r < n → IsRecordOf (record_of (slice_index means r) (slice_index_or plays r []) (shares_of spreads r)) (slice_index means r) (slice_index_or plays r []) (shares_of spreads r)
+
+-- the records of the first n ranks, as three lists
+pub record HasRecords (n : ℕ) : Type 0 where
+  pub means : List ℕ
+  pub plays : List (List ℕ)
+  pub spreads : List (List ℕ)
+  pub made : AreMade n means plays spreads
+  pub plays_len : (r : ℕ) → r < n → length (slice_index_or plays r []) ≡ 21
+  pub shares_len : (r : ℕ) → r < n → length (shares_of spreads r) ≡ 23

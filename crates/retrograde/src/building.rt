@@ -1,25 +1,32 @@
-//! All records of a bound, and the file that holds them.
-ghost use Rattle.std.specs.Prelude.{◌≡◌, ℕ, ◌+◌, ◌*◌, ◌<◌, ◌≤◌, List, length, OnOk, IfOk, IfErr};
-ghost use Rattle.race_model.specs.Ranks.{count_to};
-ghost use Rattle.retrograde.specs.BuiltRecords.{AreMade};
-ghost use Rattle.retrograde.specs.BuiltBytes.{WritesBuilt, IsRefusedBy};
+//! The records of a bound, made and written level by level: a level is the positions of one pip count.
+ghost use Rattle.std.specs.Prelude.{◌≡◌, ℕ, ◌+◌, ◌-◌, ◌<◌, ◌≤◌, List, length, OnOk, OnErr, IfErr};
+ghost use Rattle.std.specs.Io.KnownBytes.{Appends};
+ghost use Rattle.race_model.specs.Ranks.{first_of, count_to};
+ghost use Rattle.db_layout.specs.Writes.{AppendsPart};
+ghost use Rattle.retrograde.specs.AllRecords.{AllRecords, bytes_of_rank};
+ghost use Rattle.retrograde.specs.KeptRecords.{AreKept};
+ghost use Rattle.retrograde.specs.BuiltBytes.{records_from, WritesBuilt, IsRefusedBy};
 ghost use Rattle.retrograde.specs.declared.build_fault.BuildFault.TheVariants.{Memory};
 
 use crate::build_fault::BuildFault;
 use crate::pulling::next_record;
 use crate::records::Records;
 use db_layout::header::VERSION;
-use db_layout::{Header, write_header, write_record};
+use db_layout::{Header, WriteFault, write_header, write_record};
 use ranking::Ranks;
 use std::alloc::Global;
 use std::io::Write;
 
+/// The most pips that a roll takes: a double six, played four times (the rules of backgammon).
+const MOST_PIPS_OF_A_ROLL: u8 = 24;
+
 /// Writes the database of a pip bound: for each position of at most so many pips the least mean number of
-/// rolls, for each roll the lowest rank of the results that reach it, and how the number of rolls is spread.
-/// `OverBound` where the bound is over 44, and `Memory` for want of memory, both before anything was written;
-/// `Write` where a `write` failed or took no byte, and then a prefix of the database was written. (What is
-/// counted is that of a one-sided database of the GNU Backgammon manual; the exact numbers, the file and the
-/// tie rule are this project's profile.)
+/// rolls, for each roll the lowest rank of the results that reach it, and how the number of rolls is spread. Each
+/// level of pips is written as soon as it is made, and the growths of memory for it come before its first byte.
+/// `OverBound` where the bound is over 44: nothing was written. `Memory` where a growth was refused, and `Write`
+/// where a `write` failed or took no byte: a prefix of the database was written. (What is counted is that of a
+/// one-sided database of the GNU Backgammon manual; the exact numbers, the file and the tie rule are this
+/// project's profile.)
 pub fn build<W: Write>(alloc: Global, bound: u8, writer: &mut W) -> Result<(), BuildFault>
     ensures built { OnOk result (WritesBuilt bound (W.contents writer.old) (W.contents writer.new)) }
     ensures refused { IfErr result (IsRefusedBy bound (W.contents writer.old) (W.contents writer.new)) }
@@ -27,43 +34,64 @@ pub fn build<W: Write>(alloc: Global, bound: u8, writer: &mut W) -> Result<(), B
     let Some(header) = Header::new(VERSION, bound) else {
         return Err(BuildFault::OverBound);
     };
-    let records = records_to(alloc, bound)?;
-    write_file(&header, &records, writer)
-}
-
-/// The records of the positions of at most a number of pips.
-pub(crate) fn records_to(alloc: Global, bound: u8) -> Result<Records, BuildFault>
-    requires { bound ≤ 44 }
-    ensures made { IfOk result (λ records. AreMade (count_to bound) records.means records.plays.items records.spreads.items) }
-    ensures memory { IfErr result (λ fault. fault ≡ Memory) }
-{
     let ranks = Ranks::new();
     let mut records = Records::new(alloc);
-    for rank in 0..ranks.count_to(bound) {
-        let position = ranks.unrank(rank).unwrap();
-        let made = next_record(&ranks, &position, &records);
-        records.push(made)?;
+    add_level(&mut records, &ranks, 0)?;
+    write_header(&header, writer)?;
+    write_level(&records, writer)?;
+    for below in 0..bound {
+        add_level(&mut records, &ranks, below + 1)?;
+        write_level(&records, writer)?;
     }
-    Ok(records)
+    Ok(())
 }
 
-/// Writes a header and the records of its bound.
-fn write_file<W: Write>(
-    header: &Header,
-    records: &Records,
-    writer: &mut W,
-) -> Result<(), BuildFault>
-    requires { AreMade (count_to header.now.bound) records.now.means records.now.plays.items records.now.spreads.items }
-    ensures built { OnOk result (WritesBuilt header.now.bound (W.contents writer.old) (W.contents writer.new)) }
-    ensures refused { IfErr result (IsRefusedBy header.now.bound (W.contents writer.old) (W.contents writer.new)) }
+/// Makes the records of the positions of a pip count, where those of fewer pips are made. Of the shares only those
+/// of the last 24 levels are kept, since a roll takes no more pips. Refused only for want of memory.
+fn add_level(records: &mut Records, ranks: &Ranks, pips: u8) -> Result<(), BuildFault>
+    ghost full: { AllRecords }
+    requires low { pips ≤ 44 }
+    requires kept { AreKept full records.old.means records.old.spreads.items records.old.plays.items }
+    requires next { length records.old.means ≡ first_of pips }
+    requires recent { length records.old.means
+        ≤ first_of (pips - 24) + length records.old.spreads.items }
+    ensures kept { OnOk result
+        (AreKept full records.new.means records.new.spreads.items records.new.plays.items) }
+    ensures made { OnOk result (length records.new.means ≡ count_to pips) }
+    ensures recent { OnOk result
+        (length records.new.means ≤ first_of (pips - 24) + length records.new.spreads.items) }
+    ensures level { OnOk result
+        (first_of pips + length records.new.plays.items ≡ length records.new.means) }
+    ensures few { OnOk result
+        (length records.new.plays.items ≤ length records.new.spreads.items) }
+    ensures memory { IfErr result (λ fault. fault ≡ Memory) }
 {
-    write_header(header, writer)?;
-    for rank in 0..header.count {
-        let place = usize::from(rank);
+    records.forget_before(ranks.first_of(pips.saturating_sub(MOST_PIPS_OF_A_ROLL)));
+    for rank in ranks.first_of(pips)..ranks.count_to(pips) {
+        let position = ranks.unrank(rank).unwrap();
+        let made = next_record(ranks, &position, records);
+        records.push(made)?;
+    }
+    Ok(())
+}
+
+/// Writes the records whose plays are kept: those of the last level.
+fn write_level<W: Write>(records: &Records, writer: &mut W) -> Result<(), WriteFault>
+    ghost full: { AllRecords }
+    requires kept { AreKept full records.now.means records.now.spreads.items records.now.plays.items }
+    requires few { length records.now.plays.items ≤ length records.now.spreads.items }
+    ensures all { OnOk result (Appends (W.contents writer.old) (W.contents writer.new)
+        (records_from (bytes_of_rank full) (length records.now.means - length records.now.plays.items)
+            (length records.now.plays.items))) }
+    ensures part { OnErr result (AppendsPart (W.contents writer.old) (W.contents writer.new)
+        (records_from (bytes_of_rank full) (length records.now.means - length records.now.plays.items)
+            (length records.now.plays.items))) }
+{
+    let first = records.means.len() - records.plays.len() as u16;
+    for (index, plays) in records.plays.iter().enumerate() {
+        let rank = first + index as u16;
         let mean = records.means.get(rank).unwrap();
-        let plays = &records.plays[place];
-        let spread = &records.spreads[place];
-        write_record(mean, plays, spread, writer)?;
+        write_record(mean, plays, records.spread(rank), writer)?;
     }
     Ok(())
 }
@@ -72,7 +100,8 @@ fn write_file<W: Write>(
 #[cfg(test)]
 mod tests {
     use super::*;
-    use fixed_fraction::{Scaled, WHOLE};
+    use db_layout::RecordView;
+    use fixed_fraction::WHOLE;
     use home_board::Position;
     use std::alloc::AllocError;
     use std::io;
@@ -208,10 +237,18 @@ mod tests {
         }
     }
 
+    /// The recorded mean of a rank, in a database of version 1.
+    fn mean_at(file: &[u8], rank: u16) -> Option<u128> {
+        let place = 32 + 426 * usize::from(rank);
+        let bytes = file.get(place..place + 426)?;
+        RecordView::of(bytes).map(|record| record.mean())
+    }
+
     #[test]
     fn means_to_6_pips(rt: HostRuntime) -> Result<(), Fail> {
-        let means = records_to(rt.alloc(), 6)?.means;
-        assert_eq!(rt; means.len(), 30);
+        let mut file = Vec::new(rt.alloc());
+        build(rt.alloc(), 6, &mut file)?;
+        assert_eq!(rt; file.len(), 12812);
         for (rank, numerator, denominator) in [
             (0, 0u8, 1),
             (1, 1, 1),
@@ -244,7 +281,7 @@ mod tests {
             (28, 97, 36),
             (29, 97, 36),
         ] {
-            let mean = means.get(rank).map_or(0, Scaled::numerator);
+            let mean = mean_at(file.as_slice(), rank).ok_or("no record")?;
             let expected = u128::from(numerator) * WHOLE;
             assert_eq!(rt;
                 mean.checked_mul(denominator),
@@ -257,9 +294,10 @@ mod tests {
 
     #[test]
     fn fifteen_checkers_on_point_1(rt: HostRuntime) -> Result<(), Fail> {
-        let means = records_to(rt.alloc(), 15)?.means;
+        let mut file = Vec::new(rt.alloc());
+        build(rt.alloc(), 15, &mut file)?;
         let rank = Ranks::new().rank(&Position::new([15, 0, 0, 0, 0, 0])?);
-        let mean = means.get(rank).map(Scaled::numerator);
+        let mean = mean_at(file.as_slice(), rank);
         assert_eq!(rt; mean, Some(WHOLE / 279936 * 1953839));
         Ok(())
     }

@@ -1,9 +1,9 @@
-ghost use Rattle.std.specs.Prelude.{◌≡◌, ℕ, ◌+◌, ◌*◌, ◌<◌, ◌≤◌, List, slice_index, sum_by};
+ghost use Rattle.std.specs.Prelude.{◌≡◌, ℕ, ◌+◌, ◌*◌, ◌<◌, ◌≤◌, List, sum_by};
 ghost use Rattle.std.specs.List.{range_with_len};
 ghost use Rattle.race_model.specs.Positions.{Board, IsPosition, IsFinished, pips};
 ghost use Rattle.race_model.specs.Dice.{Throw};
 ghost use Rattle.race_model.specs.Ranks.{rank, count_to};
-ghost use Rattle.race_model.specs.Files.{IsFileTo, bound_of, mean, play, spread};
+ghost use Rattle.race_model.specs.Files.{IsBytes, IsFileTo, bound_of, mean, play, spread};
 ghost use Rattle.race_model.specs.LocalEquations.{whole, recorded, IsPlayed, IsLocal, IsLocalAt};
 ghost use Rattle.race_model.specs.Strategies.{Strategy, Fits, total, count_of};
 ghost use Rattle.race_model.specs.RightFiles.{IsRight, IsRightAt};
@@ -52,12 +52,10 @@ pub fn law_agree()
         IsPosition x → pips x ≤ bound_of f → pips x ≤ bound_of g → mean f x ≡ mean g x }
     ensures built { (limit bound : ℕ) (f g : List ℕ) → limit ≤ 58 → IsBuilt limit bound f →
         IsBuilt limit bound g → HasSameNumbers f g }
-    ensures same_bytes { (limit : ℕ) (f g : List ℕ) → ((i : ℕ) → slice_index f i < 256) →
-        ((i : ℕ) → slice_index g i < 256) → IsFileTo limit f → IsFileTo limit g →
-        HasSameNumbers f g → f ≡ g }
-    ensures one_built { (limit bound : ℕ) (f g : List ℕ) → limit ≤ 58 →
-        ((i : ℕ) → slice_index f i < 256) → ((i : ℕ) → slice_index g i < 256) →
-        IsBuilt limit bound f → IsBuilt limit bound g → f ≡ g }
+    ensures same_bytes { (limit : ℕ) (f g : List ℕ) → IsBytes f → IsBytes g → IsFileTo limit f →
+        IsFileTo limit g → HasSameNumbers f g → f ≡ g }
+    ensures one_built { (limit bound : ℕ) (f g : List ℕ) → limit ≤ 58 → IsBuilt limit bound f →
+        IsBuilt limit bound g → f ≡ g }
 {}
 
 /// The shares of a position. Those of a strategy from at most 58 pips add up to the whole, and

@@ -1,11 +1,32 @@
-use Rattle.std.proofs.Common.{refl, arith}
-use Rattle.race_model.proofs.RightFiles.Right.{right_of_local}
-use Rattle.certificate.proofs.FileTests.{first-refuses}
+use Rattle.std.proofs.Common.{refl, sym, ◌∙◌, arith}
+use Rattle.std.proofs.lemmas.Bool.{false≢true}
+use Rattle.certificate.proofs.FileTests.{none-of_right}
 use Rattle.certificate.proofs.checked.check.Goals as goal
 
+pub invariant_of-result : goal.invariant_of-result
+invariant_of-result g c =
+    let said = c.in-Ok.ensures {u = tt} in
+    record {
+      header_is = said.accepted;
+      local = λ file told. said.local file (sym said.stays ∙ told);
+      bound_is = λ file told. said.bound file (sym said.stays ∙ told);
+    }
+
+pub returns-in-Ok-clause-right : goal.returns-in-Ok-clause-right
+returns-in-Ok-clause-right g c file told =
+    c.law_right.ensures.right 44 file (omega arith) ((c.in-Ok.ensures {u = tt}).local file told)
+
 pub returns-in-Ok-clause-exactly : goal.returns-in-Ok-clause-exactly
-returns-in-Ok-clause-exactly c = (λ _. right_of_local 44 c.args.table (omega arith) (c.in-Ok.ensures {u = tt}).local, λ _. refl)
+returns-in-Ok-clause-exactly g c file told none = (
+  λ _. c.law_right.ensures.right 44 file (omega arith) ((c.in-Ok.ensures {u = tt}).local file told),
+  λ _. refl,
+)
 
 pub returns-in-Err-clause-exactly : goal.returns-in-Err-clause-exactly
-returns-in-Err-clause-exactly c =
-    (λ is. cc, λ right. absurd (first-refuses c.args.table c.in-Err.fault (c.in-Err.ensures {u = tt}).first right))
+returns-in-Err-clause-exactly g c file told same =
+    let said = c.in-Err.ensures {u = tt} in (
+      λ is. absurd (false≢true is),
+      λ right. absurd (none-of_right file (g.T.Table.failures c.args.table)
+          (g.T.Table.failures c.check_records.new.table) c.in-Err.fault (said.first file told)
+          (said.cause file told) same right),
+    )

@@ -1,107 +1,102 @@
-use Rattle.std.proofs.Common.{◌≡◌, ℕ, ◌*◌, ◌<◌, ◌≤◌, true, false, sym, subst, arith, rules, tests, below_more}
-use Rattle.race_model.specs.Positions.{Board, IsFinished, pips}
-use Rattle.race_model.specs.Dice.{roll_at}
-use Rattle.race_model.specs.Ranks.{rank}
-use Rattle.race_model.specs.Files.{bound_of, mean}
-use Rattle.race_model.specs.LocalEquations.{whole, IsPlayed, IsBest, HasMean, HasShare}
-use Rattle.certificate.specs.RecordedPlays.{ArePlays, HaveMeans, HaveShares}
-use Rattle.certificate.specs.PlayFaults.{FirstOfPlays}
-use Rattle.certificate.specs.RecordFaults.{IsFirstInRecord, test_of_record}
+use Rattle.std.proofs.Common.{◌≡◌, ℕ, ◌<◌, ◌≤◌, true, false, List, Some, refl, sym, ap, subst, ◌∙◌, arith, rules, tests}
+use Rattle.race_model.specs.Positions.{Board, IsPosition, pips}
+use Rattle.race_model.specs.Ranks.{rank, at_rank, count_to}
+use Rattle.race_model.specs.Files.{bound_of, mean_of, share_of}
+use Rattle.race_model.specs.LocalEquations.{IsLocalAt}
+use Rattle.certificate.specs.PlayFaults.{FirstOfPlays, PlayCauses}
+use Rattle.certificate.specs.declared.plays.PlayFault.{PlayFault}
+use Rattle.certificate.specs.declared.plays.PlayFault.TheVariants.{NotLegal, NotLeast, Read}
+use Rattle.std.proofs.lemmas.Bool.{false≢true}
+use Rattle.certificate.specs.RecordNumbers.{IsMeanOf, IsShareOf}
+use Rattle.certificate.specs.RecordFaults.{IsFirstFaultAt, RecordCauses, of_record}
 use Rattle.certificate.specs.declared.record_check.RecordFault.{RecordFault}
-use Rattle.certificate.proofs.RecordTests.{position-low, first-refused, first-mean, first-share, local-at, play-records, play-means, play-shares, mean-bounded}
+use Rattle.certificate.proofs.RecordTests.{IsSummed, first-refused, wrong-mean, wrong-share, right-numbers}
 use Rattle.certificate.proofs.record_check.check_record.Goals as goal
 
-pub best_plays-requires-clause-low : goal.best_plays-requires-clause-low
-best_plays-requires-clause-low c =
-    let same = rw c.unwrap-position.ensures at c.unrank.ensures.value in
-    subst (λ (x : Board). pips x ≤ bound_of c.args.table.now) (sym same) (position-low c.args.table.now c.args.rank c.requires.file c.requires.rank)
+pub sum_plays-requires-clause-lower : goal.sum_plays-requires-clause-lower
+sum_plays-requires-clause-lower g c file told = c.requires.lower file (sym (c.in_default.ensures {u = tt}).stays ∙ told)
 
-pub returns-in-Err-clause-first : goal.returns-in-Err-clause-first
-returns-in-Err-clause-first c =
-    let same = rw c.unwrap-position.ensures at c.unrank.ensures.value in
-    let refused = c.in-Err.refused in
-    let first = subst (λ (x : Board). FirstOfPlays c.args.table.now x refused.roll refused.fault) same (c.in-Err.ensures {u = tt}).fault in
-    subst (λ (fault : RecordFault). IsFirstInRecord c.args.table.now c.args.rank (test_of_record c.args.rank fault)) (sym c.of_record.ensures) (first-refused c.args.table.now c.args.rank c.requires.file c.requires.rank refused.roll refused.fault first)
+-- the fault of a play, as a fault of the record, has its cause
+play-cause : (roll : ℕ) (fault : PlayFault) (before now : ℕ) → PlayCauses before now fault
+    → RecordCauses before now (of_record roll fault)
+play-cause roll NotLegal before now cause = cause
+play-cause roll NotLeast before now cause = cause
+play-cause roll Read before now cause = cause
 
-pub has_mean-requires-clause-records : goal.has_mean-requires-clause-records
-has_mean-requires-clause-records c =
+pub returns-in-Err-sum_plays-clause-first : goal.returns-in-Err-sum_plays-clause-first
+returns-in-Err-sum_plays-clause-first g c file told =
     let same = rw c.unwrap-position.ensures at c.unrank.ensures.value in
-    let fine = c.in-Ok.ensures {u = tt} in
-    let played = subst (λ (x : Board). (i : ℕ) → i < 21 → IsPlayed c.args.table.now x (roll_at i)) same fine.played in
-    let best = subst (λ (x : Board). (i : ℕ) → i < 21 → IsBest c.args.table.now x (roll_at i)) same fine.best in
-    let are = subst (λ (x : Board). ArePlays c.args.table.now (rank x) c.in-Ok.plays) same fine.plays in
-    play-records c.args.table.now c.args.rank c.requires.file c.requires.rank played best c.in-Ok.plays are
+    let whole = c.requires.file file told in
+    let lt : c.args.rank < count_to (bound_of file) =
+    let count = ap count_to whole.1 in omega (arith, c.requires.rank, c.args.header.counted, count) in
+    let refused = c.in-Err-sum_plays.refused in
+    let first = (c.in-Err-sum_plays.ensures {u = tt}).fault file ((c.in_default.ensures {u = tt}).stays ∙ told) in
+    subst (IsFirstFaultAt file c.args.rank) (sym c.of_record.ensures)
+    (first-refused file c.args.rank lt refused.roll refused.fault
+    (subst (λ (x : Board). FirstOfPlays file x refused.roll refused.fault) same first))
 
-pub has_mean-requires-clause-means : goal.has_mean-requires-clause-means
-has_mean-requires-clause-means c =
-    let same = rw c.unwrap-position.ensures at c.unrank.ensures.value in
-    let fine = c.in-Ok.ensures {u = tt} in
-    let played = subst (λ (x : Board). (i : ℕ) → i < 21 → IsPlayed c.args.table.now x (roll_at i)) same fine.played in
-    let best = subst (λ (x : Board). (i : ℕ) → i < 21 → IsBest c.args.table.now x (roll_at i)) same fine.best in
-    let are = subst (λ (x : Board). ArePlays c.args.table.now (rank x) c.in-Ok.plays) same fine.plays in
-    subst (λ (x : Board). ¬ IsFinished x → HaveMeans c.args.table.now c.in-Ok.plays) (sym same) (play-means c.args.table.now c.args.rank c.requires.file c.requires.rank played best c.requires.accepted c.in-Ok.plays are)
-
-pub has_mean-requires-clause-bounded : goal.has_mean-requires-clause-bounded
-has_mean-requires-clause-bounded c =
-    let same = rw c.unwrap-position.ensures at c.unrank.ensures.value in
-    let fine = c.in-Ok.ensures {u = tt} in
-    let played = subst (λ (x : Board). (i : ℕ) → i < 21 → IsPlayed c.args.table.now x (roll_at i)) same fine.played in
-    let best = subst (λ (x : Board). (i : ℕ) → i < 21 → IsBest c.args.table.now x (roll_at i)) same fine.best in
-    subst (λ (x : Board). HasMean c.args.table.now x → mean c.args.table.now x ≤ 22 * whole) (sym same) (mean-bounded c.args.table.now c.args.rank c.requires.file c.requires.rank played best c.requires.accepted)
+pub returns-in-Err-sum_plays-clause-cause : goal.returns-in-Err-sum_plays-clause-cause
+returns-in-Err-sum_plays-clause-cause g c file told =
+    let loaded = c.in_default.ensures {u = tt} in
+    let before = loaded.cause file told in
+    let refused = c.in-Err-sum_plays.refused in
+    let cause = (c.in-Err-sum_plays.ensures {u = tt}).cause file (loaded.stays ∙ told) in
+    subst (RecordCauses (g.T.Table.failures c.args.table.now) (g.T.Table.failures c.sum_plays.new.table)) (sym c.of_record.ensures)
+    (play-cause refused.roll refused.fault (g.T.Table.failures c.args.table.now) (g.T.Table.failures c.sum_plays.new.table)
+    (subst (λ n. PlayCauses n (g.T.Table.failures c.sum_plays.new.table) refused.fault) before cause))
 
 pub returns-then-not-has_mean-clause-first : goal.returns-then-not-has_mean-clause-first
-returns-then-not-has_mean-clause-first c =
+returns-then-not-has_mean-clause-first g c file told =
+    let x = c.unwrap-position.result in
     let same = rw c.unwrap-position.ensures at c.unrank.ensures.value in
+    let now = (c.in_default.ensures {u = tt}).stays ∙ told in
+    let whole = c.requires.file file told in
+    let lt : c.args.rank < count_to (bound_of file) =
+    let count = ap count_to whole.1 in omega (arith, c.requires.rank, c.args.header.counted, count) in
     let fine = c.in-Ok.ensures {u = tt} in
-    let played = subst (λ (x : Board). (i : ℕ) → i < 21 → IsPlayed c.args.table.now x (roll_at i)) same fine.played in
-    let best = subst (λ (x : Board). (i : ℕ) → i < 21 → IsBest c.args.table.now x (roll_at i)) same fine.best in
+    let known : IsSummed file x c.in-Ok.sums = record { held = fine.right file now; are = fine.totals file now } in
     let refused : c.has_mean.result ≡ false = search (rules, tests) in
-    let fails : ¬ HasMean c.args.table.now c.unwrap-position.result = λ has. let is = c.has_mean.ensures.1 has in cc in
-    first-mean c.args.table.now c.args.rank c.requires.file c.requires.rank played best (subst (λ (x : Board). ¬ HasMean c.args.table.now x) same fails)
+    let fails : ¬ IsMeanOf x (mean_of c.lend-view.result) c.in-Ok.sums = λ is.
+    false≢true (sym refused ∙ c.has_mean.ensures.1 is) in
+    wrong-mean file c.lend-view.result c.args.rank c.in-Ok.sums lt whole.0.bounded (c.requires.lower file told)
+    (c.lend-view.ensures file (fine.stays ∙ now)) (subst (λ (x : Board). IsSummed file x c.in-Ok.sums) same known)
+    (subst (λ (x : Board). ¬ IsMeanOf x (mean_of c.lend-view.result) c.in-Ok.sums) same fails)
 
-pub has_share-requires-clause-records : goal.has_share-requires-clause-records
-has_share-requires-clause-records c =
+pub returns-in-Some-clause-first : goal.returns-in-Some-clause-first
+returns-in-Some-clause-first g c file told =
+    let x = c.unwrap-position.result in
     let same = rw c.unwrap-position.ensures at c.unrank.ensures.value in
+    let now = (c.in_default.ensures {u = tt}).stays ∙ told in
+    let whole = c.requires.file file told in
+    let lt : c.args.rank < count_to (bound_of file) =
+    let count = ap count_to whole.1 in omega (arith, c.requires.rank, c.args.header.counted, count) in
     let fine = c.in-Ok.ensures {u = tt} in
-    let played = subst (λ (x : Board). (i : ℕ) → i < 21 → IsPlayed c.args.table.now x (roll_at i)) same fine.played in
-    let best = subst (λ (x : Board). (i : ℕ) → i < 21 → IsBest c.args.table.now x (roll_at i)) same fine.best in
-    let are = subst (λ (x : Board). ArePlays c.args.table.now (rank x) c.in-Ok.plays) same fine.plays in
-    play-records c.args.table.now c.args.rank c.requires.file c.requires.rank played best c.in-Ok.plays are
-
-pub has_share-requires-clause-shares : goal.has_share-requires-clause-shares
-has_share-requires-clause-shares c =
-    let same = rw c.unwrap-position.ensures at c.unrank.ensures.value in
-    let fine = c.in-Ok.ensures {u = tt} in
-    let played = subst (λ (x : Board). (i : ℕ) → i < 21 → IsPlayed c.args.table.now x (roll_at i)) same fine.played in
-    let best = subst (λ (x : Board). (i : ℕ) → i < 21 → IsBest c.args.table.now x (roll_at i)) same fine.best in
-    let are = subst (λ (x : Board). ArePlays c.args.table.now (rank x) c.in-Ok.plays) same fine.plays in
-    subst (λ (x : Board). ¬ IsFinished x → (j : ℕ) → j ≤ 22 → HaveShares c.args.table.now c.in-Ok.plays j) (sym same) (play-shares c.args.table.now c.args.rank c.requires.file c.requires.rank played best c.requires.accepted c.in-Ok.plays are)
-
-pub returns-then-not-has_share-clause-first : goal.returns-then-not-has_share-clause-first
-returns-then-not-has_share-clause-first c =
-    let same = rw c.unwrap-position.ensures at c.unrank.ensures.value in
-    let fine = c.in-Ok.ensures {u = tt} in
-    let played = subst (λ (x : Board). (i : ℕ) → i < 21 → IsPlayed c.args.table.now x (roll_at i)) same fine.played in
-    let best = subst (λ (x : Board). (i : ℕ) → i < 21 → IsBest c.args.table.now x (roll_at i)) same fine.best in
+    let known : IsSummed file x c.in-Ok.sums = record { held = fine.right file now; are = fine.totals file now } in
     let accepted : c.has_mean.result ≡ true = search (rules, tests) in
-    let mean = subst (λ (x : Board). HasMean c.args.table.now x) same (c.has_mean.ensures.0 accepted) in
-    let refused : c.has_share.result ≡ false = search (rules, tests) in
-    let fails : ¬ HasShare c.args.table.now c.unwrap-position.result c.loop-k.k = λ has. let is = c.has_share.ensures.1 has in cc in
-    first-share c.args.table.now c.args.rank c.requires.file c.requires.rank played best c.loop-k.k (omega (arith, c.loop-k-test.true)) mean
-    (subst (λ (x : Board). (j : ℕ) → j < c.loop-k.k → HasShare c.args.table.now x j) same c.loop-k.invariant) (subst (λ (x : Board). ¬ HasShare c.args.table.now x c.loop-k.k) same fails)
+    let mean = c.has_mean.ensures.0 accepted in
+    let wrong = c.in-Some.ensures {u = tt} in
+    let bytes = c.lend-view.result in
+    wrong-share file bytes c.args.rank c.in-Ok.sums lt whole.0.bounded (c.requires.lower file told)
+    (c.lend-view.ensures file (fine.stays ∙ now)) (subst (λ (x : Board). IsSummed file x c.in-Ok.sums) same known)
+    c.in-Some.k wrong.few
+    (subst (λ (x : Board). IsMeanOf x (mean_of bytes) c.in-Ok.sums) same mean)
+    (subst (λ (x : Board). (j : ℕ) → j < c.in-Some.k → IsShareOf x (share_of bytes) c.in-Ok.sums j) same wrong.earlier)
+    (subst (λ (x : Board). ¬ IsShareOf x (share_of bytes) c.in-Ok.sums c.in-Some.k) same wrong.wrong)
 
-pub loop-k-preserved : goal.loop-k-preserved
-loop-k-preserved c =
-    let accepted : c.has_share.result ≡ true = search (rules, tests) in
-    below_more (λ j. HasShare c.args.table.now c.unwrap-position.result j) c.loop-k.k c.loop-k.invariant (c.has_share.ensures.0 accepted)
-
-pub returns-clause-local : goal.returns-clause-local
-returns-clause-local c =
+pub returns-in-None-clause-local : goal.returns-in-None-clause-local
+returns-in-None-clause-local g c file told =
+    let x = c.unwrap-position.result in
     let same = rw c.unwrap-position.ensures at c.unrank.ensures.value in
+    let now = (c.in_default.ensures {u = tt}).stays ∙ told in
+    let whole = c.requires.file file told in
+    let lt : c.args.rank < count_to (bound_of file) =
+    let count = ap count_to whole.1 in omega (arith, c.requires.rank, c.args.header.counted, count) in
     let fine = c.in-Ok.ensures {u = tt} in
-    let played = subst (λ (x : Board). (i : ℕ) → i < 21 → IsPlayed c.args.table.now x (roll_at i)) same fine.played in
-    let best = subst (λ (x : Board). (i : ℕ) → i < 21 → IsBest c.args.table.now x (roll_at i)) same fine.best in
+    let known : IsSummed file x c.in-Ok.sums = record { held = fine.right file now; are = fine.totals file now } in
     let accepted : c.has_mean.result ≡ true = search (rules, tests) in
-    let mean = subst (λ (x : Board). HasMean c.args.table.now x) same (c.has_mean.ensures.0 accepted) in
-    let shares = subst (λ (x : Board). (j : ℕ) → j < c.loop-k.k → HasShare c.args.table.now x j) same c.loop-k.invariant in
-    local-at c.args.table.now c.args.rank c.requires.file c.requires.rank played best mean (λ k few. shares k (omega (arith, c.loop-k-test.false)))
+    let mean = c.has_mean.ensures.0 accepted in
+    let bytes = c.lend-view.result in
+    right-numbers file bytes c.args.rank c.in-Ok.sums lt whole.0.bounded (c.requires.lower file told)
+    (c.lend-view.ensures file (fine.stays ∙ now)) (subst (λ (x : Board). IsSummed file x c.in-Ok.sums) same known)
+    (subst (λ (x : Board). IsMeanOf x (mean_of bytes) c.in-Ok.sums) same mean)
+    (subst (λ (x : Board). (k : ℕ) → k ≤ 22 → IsShareOf x (share_of bytes) c.in-Ok.sums k) same (c.in-None.ensures {u = tt}).right)

@@ -15,5 +15,5 @@ loop-index-preserved c =
       best = set_next (λ j play. IsBestPlay means x (roll_at j) play) c.loop-index.plays c.loop-index.index c.from.result r 0 c.from.ensures (omega (arith, c.loop-index.invariant.len)) c.loop-index.invariant.best (subst (λ (v : Throw). IsBestPlay means x v r) roll c.best_result.ensures);
     }
 
-pub returns : goal.returns
-returns c = λ i lt. c.loop-index.invariant.best i (omega arith)
+pub returns-clause-best : goal.returns-clause-best
+returns-clause-best c = λ i lt. c.loop-index.invariant.best i (omega arith)

@@ -1,36 +1,77 @@
-use Rattle.std.proofs.Common.{sym, subst}
+use Rattle.std.proofs.Common.{◌≡◌, ℕ, suc, ◌+◌, ◌*◌, ◌%◌, ◌<◌, ◌≤◌, List, length, sym, ap, ◌∙◌, arith}
+use Rattle.std.specs.Prelude.{slice_index}
 use Rattle.race_model.specs.Positions.{IsFinished}
-use Rattle.retrograde.specs.BuiltRecords.{IsMade, IsReached}
-use Rattle.retrograde.specs.declared.record.Record.{Record}
-use Rattle.retrograde.proofs.Next.{made-at_end, made-before}
-use Rattle.retrograde.proofs.Turns.{stop-reached}
+use Rattle.race_model.specs.LocalEquations.{whole}
+use Rattle.retrograde.specs.BuiltRecords.{sum_of_means, sum_of_shares}
+use Rattle.retrograde.proofs.Next.{legal-lower}
+use Rattle.retrograde.proofs.Unique.{record-at_end, plays-held, plays-recent, mean-exact, shares-exact, no-last, record-before}
 use Rattle.retrograde.proofs.pulling.next_record.Goals as goal
-use Rattle.retrograde.proofs.pulling.next_record.Goals.{then-is_finished, else-is_finished}
 
-pub returns-clause-made : goal.returns-clause-made
-returns-clause-made c = elim c.if-is_finished.branch [
-  | then-is_finished w ↦
-      let made = w.finished_record-made.result in
-      let is = w.finished_record-made.ensures in
-      let none : IsFinished c.args.position.now = c.is_finished.ensures.value.0 w.if-is_finished.true in
-      subst (λ (made : Record). IsMade c.args.records.now.means c.args.records.now.spreads.items c.args.position.now made.mean made.plays made.spread) (sym w.made-is)
-      (made-at_end c.args.records.now.means c.args.records.now.spreads.items c.args.position.now made.mean made.plays made.spread c.requires.position none is.mean is.plays is.start is.shares)
-  | else-is_finished w ↦
-      let made = w.pulled_record-made.result in
-      let is = w.pulled_record-made.ensures in
-      let unfinished : ¬ IsFinished c.args.position.now = λ none. let yes = c.is_finished.ensures.value.1 none in let not = w.if-is_finished.false in cc in
-      subst (λ (made : Record). IsMade c.args.records.now.means c.args.records.now.spreads.items c.args.position.now made.mean made.plays made.spread) (sym w.made-is)
-      (made-before c.args.records.now.means c.args.records.now.spreads.items c.args.position.now made.mean made.plays made.spread unfinished is.plays is.mean is.start is.moved)
-]
+pub returns-then-is_finished : goal.returns-then-is_finished
+returns-then-is_finished g c =
+    let none : IsFinished c.args.position.now = c.is_finished.ensures.value.0 c.if-is_finished.true in
+    let is = c.finished_record.ensures in
+    let made = c.finished_record.result in
+    record-at_end g.full c.args.position.now c.requires.0 c.requires.1.0 none made.mean made.plays made.spread
+    is.mean is.plays is.plays_len is.start is.shares is.shares_len
 
-pub returns-clause-reached : goal.returns-clause-reached
-returns-clause-reached c = elim c.if-is_finished.branch [
-  | then-is_finished w ↦
-      let made = w.finished_record-made.result in
-      let is = w.finished_record-made.ensures in
-      let none : IsFinished c.args.position.now = c.is_finished.ensures.value.0 w.if-is_finished.true in
-      subst (λ (made : Record). IsReached c.args.position.now made.mean made.spread) (sym w.made-is)
-      (stop-reached c.args.position.now made.mean made.spread none is.mean is.start is.shares)
-  | else-is_finished w ↦
-      subst (λ (made : Record). IsReached c.args.position.now made.mean made.spread) (sym w.made-is) w.pulled_record-made.ensures.reached
-]
+pub best_plays-plays-requires : goal.best_plays-plays-requires
+best_plays-plays-requires g c = λ v z legal.
+    let unfinished : ¬ IsFinished c.args.position.now =
+        λ none. let yes = c.is_finished.ensures.value.1 none in let not = c.if-is_finished.false in cc in
+    let next = c.requires.1.1.1.0 in
+    omega (arith, legal-lower c.args.position.now v z c.requires.0 unfinished legal, next)
+
+pub sums_of-sums-requires : goal.sums_of-sums-requires
+sums_of-sums-requires g c =
+    let x = c.args.position.now in
+    let unfinished : ¬ IsFinished x =
+        λ none. let yes = c.is_finished.ensures.value.1 none in let not = c.if-is_finished.false in cc in
+    let agree = c.requires.1.1.0.means_are in
+    let next = c.requires.1.1.1.0 in
+    let recent = c.requires.1.1.1.1 in
+    let best = c.best_plays-plays.ensures in
+    (c.requires.1.1.0,
+    (plays-held g.full x c.requires.0 c.requires.1.0 unfinished c.args.records.now.means agree next
+        c.best_plays-plays.result best.len best.best,
+    λ i lt. omega (arith, recent, plays-recent g.full x c.requires.0 c.requires.1.0 unfinished c.args.records.now.means agree
+        next c.best_plays-plays.result best.len best.best i lt)))
+
+pub unwrap-mean-requires : goal.unwrap-mean-requires
+unwrap-mean-requires g c =
+    let x = c.args.position.now in
+    let unfinished : ¬ IsFinished x =
+        λ none. let yes = c.is_finished.ensures.value.1 none in let not = c.if-is_finished.false in cc in
+    let best = c.best_plays-plays.ensures in
+    let exact = mean-exact g.full x c.requires.0 c.requires.1.0 unfinished c.args.records.now.means
+        c.requires.1.1.0.means_are c.requires.1.1.1.0 c.best_plays-plays.result best.len best.best in
+    c.mean.ensures.some.1 (exact.0, exact.1.0, exact.1.1 ∙ ap (λ n. 36 * whole + n) (sym c.sums_of-sums.ensures.mean))
+
+pub unwrap-spread-requires : goal.unwrap-spread-requires
+unwrap-spread-requires g c =
+    let x = c.args.position.now in
+    let unfinished : ¬ IsFinished x =
+        λ none. let yes = c.is_finished.ensures.value.1 none in let not = c.if-is_finished.false in cc in
+    let best = c.best_plays-plays.ensures in
+    let sums = c.sums_of-sums.ensures.shares in
+    let last = no-last g.full x c.requires.0 c.requires.1.0 unfinished c.args.records.now.means
+        c.requires.1.1.0.means_are c.requires.1.1.1.0 c.best_plays-plays.result best.len best.best in
+    let exact = shares-exact g.full x c.requires.0 c.requires.1.0 unfinished c.args.records.now.means
+        c.requires.1.1.0.means_are c.requires.1.1.1.0 c.best_plays-plays.result best.len best.best in
+    c.spread.ensures.some.1
+    (sums 22 (omega arith) ∙ last, λ k lt. ap (λ n. n % 36) (sums k (omega arith)) ∙ exact k lt)
+
+pub returns : goal.returns
+returns g c =
+    let x = c.args.position.now in
+    let unfinished : ¬ IsFinished x =
+        λ none. let yes = c.is_finished.ensures.value.1 none in let not = c.if-is_finished.false in cc in
+    let best = c.best_plays-plays.ensures in
+    let sums = c.sums_of-sums.ensures in
+    let mean = (rw c.unwrap-mean.ensures at c.mean.ensures.value) ∙ ap (λ n. 36 * whole + n) sums.mean in
+    let start = rw c.unwrap-spread.ensures at c.spread.ensures.start in
+    let moved = rw c.unwrap-spread.ensures at c.spread.ensures.moved in
+    record-before g.full x c.requires.0 c.requires.1.0 unfinished c.args.records.now.means
+    c.requires.1.1.0.means_are c.requires.1.1.1.0 c.best_plays-plays.result best.len best.best
+    c.unwrap-mean.result c.unwrap-spread.result mean start
+    (λ k lt. moved k lt ∙ sums.shares k (omega arith)) c.at-start.ensures.len

@@ -1,42 +1,35 @@
-use Rattle.std.proofs.Common.{◌≡◌, ◌≢◌, ℕ, ◌<◌, ◌≤◌, length, get_or, set, ap, ◌∙◌, arith, get_or-set_other, get_or-set_same, length-set, below_more}
-use Rattle.race_model.specs.Positions.{pips}
-use Rattle.race_model.specs.Files.{bound_of, spread, share_of, spread_at}
-use Rattle.race_model.specs.Strategies.{count_of}
-use Rattle.race_model.specs.RightFiles.{follow}
-use Rattle.certificate.proofs.Accepted.{accepted-record, accepted-shares, accepted-spread}
-use Rattle.certificate.proofs.Pulled.{share-of_record}
+use Rattle.std.proofs.Common.{◌≡◌, ℕ, ◌≤◌, get_or, ap, ◌∙◌, arith}
+use Rattle.certificate.proofs.RecordBytes.{get_or-shares_of}
+use Rattle.std.proofs.lemmas.Bool.{false≢true}
+use Rattle.certificate.proofs.Lower.{count_of-beyond}
+use Rattle.certificate.proofs.Accepted.{share-of_lent, total-of_lent, accepted-right, accepted-total}
 use Rattle.certificate.proofs.checked.Checked.spread.Goals as goal
 
-pub record-record-requires : goal.record-record-requires
-record-record-requires c =
-    let low : pips c.args.position.now ≤ bound_of c.self.inside.table = omega (arith, c.pips.ensures.value, c.if-pips-self.false, c.self.invariant.1) in
-    rw c.rank.ensures.value (accepted-record c.self.inside.table c.self.invariant.0 c.args.position.now c.pips.ensures.position low)
-
-pub loop-k-preserved : goal.loop-k-preserved
-loop-k-preserved c =
-    let here = c.spread.ensures.share (omega (arith, c.loop-k-test.true)) in
-    record {
-      len = length-set c.loop-k.shares c.from.result c.spread.result ∙ c.loop-k.invariant.len;
-      read = below_more (λ j. get_or (set c.loop-k.shares c.from.result c.spread.result) j 0 ≡ share_of c.record-record.result j) c.loop-k.k
-          (λ j lt. let other : j ≢ c.from.result = omega (arith, c.from.ensures) in rw get_or-set_other (c.loop-k.invariant.read j lt))
-          (let lt : c.from.result < length c.loop-k.shares = omega (arith, c.from.ensures, c.loop-k.invariant.len, c.loop-k-test.true) in rw (← c.from.ensures) (rw get_or-set_same (rw c.from.ensures here)));
-    }
-
-pub unwrap-requires : goal.unwrap-requires
-unwrap-requires c =
-    let low : pips c.args.position.now ≤ bound_of c.self.inside.table = omega (arith, c.pips.ensures.value, c.if-pips-self.false, c.self.invariant.1) in
-    let each : (j : ℕ) → j < 23 → get_or c.loop-k.shares j 0 ≡ spread c.self.inside.table c.args.position.now j = λ j lt.
-    c.loop-k.invariant.read j (omega (arith, c.loop-k-test.false)) ∙ (ap (λ bytes. share_of bytes j) c.record-record.ensures ∙ (share-of_record c.self.inside.table c.rank.result j ∙ ap (λ r. spread_at c.self.inside.table r j) c.rank.ensures.value)) in
-    c.new.ensures.some.1 (accepted-shares c.self.inside.table c.self.invariant.0 c.args.position.now c.pips.ensures.position low c.loop-k.shares c.loop-k.invariant.len each)
+pub returns-in_default-clause-cause : goal.returns-in_default-clause-cause
+returns-in_default-clause-cause g c file told =
+    let x = c.args.position.now in
+    let ok = c.in_ok-rank.ensures {u = tt} in
+    let accepted = ok.local file told in
+    let lent = c.lend.ensures file (ap g.T.Table.tells c.self.view_is ∙ (ok.stays ∙ told)) in
+    let read = total-of_lent file c.lend.result x c.in_ok-rank.rank lent ok.rank in
+    let whole = read ∙ accepted-total file accepted.0 x ok.position accepted.1 in
+    absurd (false≢true ((c.in_default.ensures {u = tt}).some.1 whole))
 
 pub returns-clause-shares : goal.returns-clause-shares
-returns-clause-shares c =
-    let low : pips c.args.position.now ≤ bound_of c.self.inside.table = omega (arith, c.pips.ensures.value, c.if-pips-self.false, c.self.invariant.1) in
-    let each : (j : ℕ) → j < 23 → get_or c.loop-k.shares j 0 ≡ spread c.self.inside.table c.args.position.now j = λ j lt.
-    c.loop-k.invariant.read j (omega (arith, c.loop-k-test.false)) ∙ (ap (λ bytes. share_of bytes j) c.record-record.ensures ∙ (share-of_record c.self.inside.table c.rank.result j ∙ ap (λ r. spread_at c.self.inside.table r j) c.rank.ensures.value)) in
-    let value = rw c.unwrap.ensures at c.new.ensures.value in
-    λ k few.
-    ap (λ shares. get_or shares k 0) value
-    ∙ (each k (omega arith)
-    ∙ (accepted-spread c.self.inside.table c.self.invariant.0 c.args.position.now c.pips.ensures.position low k few
-    ∙ ap (λ f. count_of (follow f 22 c.args.position.now) k) c.self.view_is))
+returns-clause-shares g c file told k few =
+    let x = c.args.position.now in
+    let ok = c.in_ok-rank.ensures {u = tt} in
+    let accepted = ok.local file told in
+    let lent = c.lend.ensures file (ap g.T.Table.tells c.self.view_is ∙ (ok.stays ∙ told)) in
+    ap (λ xs. get_or xs k 0) (c.in-Some.ensures {u = tt}).value
+    ∙ (get_or-shares_of c.lend.result k (omega arith)
+    ∙ (share-of_lent file c.lend.result x c.in_ok-rank.rank lent ok.rank k
+    ∙ (accepted-right file accepted.0 x ok.position accepted.1).spread_is k few))
+
+pub returns-clause-recorded : goal.returns-clause-recorded
+returns-clause-recorded g c file told k few =
+    let ok = c.in_ok-rank.ensures {u = tt} in
+    let lent = c.lend.ensures file (ap g.T.Table.tells c.self.view_is ∙ (ok.stays ∙ told)) in
+    ap (λ xs. get_or xs k 0) (c.in-Some.ensures {u = tt}).value
+    ∙ (get_or-shares_of c.lend.result k (omega arith)
+    ∙ share-of_lent file c.lend.result c.args.position.now c.in_ok-rank.rank lent ok.rank k)

@@ -11,7 +11,7 @@ returns c = record {
   built = built_same;
   same_bytes = one_file;
   one_built =
-      λ limit bound f g low small_f small_g built_f built_g.
-      one_file limit f g small_f small_g built_f.local.file built_g.local.file
+      λ limit bound f g low built_f built_g.
+      one_file limit f g built_f.bytes built_g.bytes built_f.local.file built_g.local.file
       (built_same limit bound f g low built_f built_g);
 }

@@ -1,0 +1,37 @@
+use Rattle.std.proofs.Common.{◌≡◌, sym, ap, subst, ◌∙◌, arith}
+use Rattle.race_model.specs.Ranks.{count_to}
+use Rattle.certificate.specs.CheckFaults.{IsFirst, CheckCauses}
+use Rattle.certificate.specs.RecordFaults.{RecordCauses}
+use Rattle.certificate.proofs.FileTests.{fault-of_file, fault-cause, accepted-more, accepted-all}
+use Rattle.certificate.proofs.checker.check_records.Goals as goal
+
+pub check_record-requires-clause-lower : goal.check_record-requires-clause-lower
+check_record-requires-clause-lower g c file told =
+    c.loop-rank.invariant.lower file (sym c.loop-rank.invariant.stays ∙ told)
+
+pub returns-in-Err-clause-first : goal.returns-in-Err-clause-first
+returns-in-Err-clause-first g c file told =
+    let before = c.loop-rank.invariant in
+    let whole = ((c.in-Ok.ensures {u = tt}).told file told).0 in
+    let first = (c.in-Err.ensures {u = tt}).first file (before.stays ∙ told) in
+    subst (IsFirst file) (sym c.fault_at.ensures)
+    (fault-of_file file c.loop-rank.rank c.in-Err.fault whole (before.lower file told) first)
+
+pub loop-rank-preserved : goal.loop-rank-preserved
+loop-rank-preserved g c =
+    let before = c.loop-rank.invariant in
+    let fine = c.in_default.ensures {u = tt} in
+    record {
+      stays = fine.stays ∙ before.stays;
+      header = fine.accepted ∙ before.header;
+      cause = λ file told. fine.cause file (before.stays ∙ told) ∙ before.cause file told;
+      lower = λ file told. accepted-more file c.loop-rank.rank (before.lower file told)
+          (fine.local file (before.stays ∙ told));
+    }
+
+pub returns-clause-local : goal.returns-clause-local
+returns-clause-local g c file told =
+    let said = (c.in-Ok.ensures {u = tt}).told file told in
+    let count = c.in-Ok.header.counted ∙ ap count_to said.1 in
+    accepted-all file c.loop-rank.rank said.0 (omega (arith, count, c.loop-rank-test.false))
+    (c.loop-rank.invariant.lower file told)

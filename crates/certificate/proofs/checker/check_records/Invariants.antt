@@ -1,0 +1,17 @@
+use Rattle.std.proofs.Common.{◌≡◌, ◌<◌, Some}
+use Rattle.race_model.specs.Positions.{Board, IsPosition}
+use Rattle.race_model.specs.Ranks.{rank}
+use Rattle.race_model.specs.LocalEquations.{IsLocalAt}
+use Rattle.db_reader.specs.Telling.{WhereTold}
+use Rattle.certificate.proofs.checker.check_records.Given as goal
+
+-- the records of lower rank are accepted, and no read failed
+abbrev pub invariant-loop-rank : goal.invariant-loop-rank
+invariant-loop-rank g l = record {
+  stays : g.T.Table.tells l.table ≡ g.T.Table.tells l.fn.table;
+  header : g.T.Table.accepted l.table ≡ Some l.header;
+  cause : WhereTold (g.T.Table.tells l.fn.table)
+      (λ _. g.T.Table.failures l.table ≡ g.T.Table.failures l.fn.table);
+  lower : WhereTold (g.T.Table.tells l.fn.table)
+      (λ file. (z : Board) → IsPosition z → rank z < l.rank → IsLocalAt file z);
+}

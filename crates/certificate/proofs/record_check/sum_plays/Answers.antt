@@ -1,0 +1,131 @@
+use Rattle.std.proofs.Common.{◌≡◌, ℕ, ◌+◌, ◌<◌, ◌≤◌, refl, sym, ap, subst, ◌∙◌, arith, le_trans, below_more}
+use Rattle.race_model.specs.Positions.{Board, IsPosition, IsFinished}
+use Rattle.race_model.specs.Dice.{Throw, roll_at, weight}
+use Rattle.race_model.specs.LocalEquations.{IsPlayed, IsBest, IsLocalAt}
+use Rattle.race_model.specs.Ranks.{rank}
+use Rattle.race_model.proofs.Plays.Results.{legal_position, legal_pips}
+use Rattle.fixed_fraction.specs.Totals.{IsAdded, AreTotals}
+use Rattle.db_reader.specs.Reads.{HasRecord}
+use Rattle.std.proofs.Common.{List}
+use Rattle.std.specs.Prelude.{IsTrue}
+use Rattle.race_model.specs.Files.{mean_of}
+use Rattle.certificate.specs.PlayFaults.{Applies}
+use Rattle.certificate.specs.RecordNumbers.{shares_of, recorded_mean, recorded_share}
+use Rattle.certificate.proofs.Accepted.{play-of_lent}
+use Rattle.certificate.proofs.PlayNumbers.{play-lent, lent-mean, lent-share}
+use Rattle.certificate.proofs.record_check.sum_plays.Goals as goal
+
+pub check_play-requires-clause-records : goal.check_play-requires-clause-records
+check_play-requires-clause-records g c y legal =
+    let x = c.args.position.now in
+    let is = legal_position x c.unwrap-roll.result y c.requires.position legal in
+    rw c.loop-index.invariant.accepted
+    (c.requires.records y is (legal_pips x c.unwrap-roll.result y legal))
+
+pub returns-in-Err-clause-fault : goal.returns-in-Err-clause-fault
+returns-in-Err-clause-fault g c file told =
+    let x = c.args.position.now in
+    let now = c.loop-index.invariant.stays ∙ told in
+    let roll = rw c.unwrap-roll.ensures at c.from_index.ensures.value in
+    let read = c.play-recorded.ensures
+    ∙ play-of_lent file c.lend.result x c.args.rank (c.lend.ensures file now) c.requires.rank c.unwrap-roll.result in
+    record {
+      is_roll = c.loop-index-test.true;
+      applies = subst (λ v. Applies file x v c.in-Err.fault) roll ((c.in-Err.ensures {u = tt}).fault file now read);
+      earlier = c.loop-index.invariant.held file told;
+    }
+
+pub loop-index-preserved-then-is_finished : goal.loop-index-preserved-then-is_finished
+loop-index-preserved-then-is_finished g c =
+    let x = c.args.position.now in
+    let before = c.loop-index.invariant in
+    let fine = c.in_default.ensures {u = tt} in
+    let i = c.loop-index.index in
+    let roll = rw c.unwrap-roll.ensures at c.from_index.ensures.value in
+    let within = c.law_sums.ensures.within i c.loop-index.sums.weight c.loop-index-test.true before.light in
+    record {
+      stays = fine.stays ∙ before.stays;
+      accepted = fine.accepted ∙ before.accepted;
+      others = λ bytes other ready. fine.others bytes other (before.others bytes other ready);
+      cause = λ file told. fine.cause file (before.stays ∙ told) ∙ before.cause file told;
+      held = λ file told.
+          let now = before.stays ∙ told in
+          let read = c.play-recorded.ensures
+          ∙ play-of_lent file c.lend.result x c.args.rank (c.lend.ensures file now) c.requires.rank c.unwrap-roll.result in
+          below_more (λ j. IsPlayed file x (roll_at j) × IsBest file x (roll_at j)) i (before.held file told)
+          (subst (λ v. IsPlayed file x v × IsBest file x v) roll (fine.right file now read));
+      light = omega (arith, within.1);
+      totals = λ file told unfinished.
+          absurd (unfinished ((c.if-is_finished.ensures {u = tt}).value.0 refl));
+    }
+
+pub returns-in-Err-add_numbers-clause-cause : goal.returns-in-Err-add_numbers-clause-cause
+returns-in-Err-add_numbers-clause-cause g c file told =
+    let x = c.args.position.now in
+    let v = c.unwrap-roll.result in
+    let before = c.loop-index.invariant in
+    let fine = c.in_default.ensures {u = tt} in
+    let now = before.stays ∙ told in
+    let read = c.play-recorded.ensures
+    ∙ play-of_lent file c.lend.result x c.args.rank (c.lend.ensures file now) c.requires.rank v in
+    let unfinished : ¬ IsFinished x = λ end.
+    let is = (c.if-is_finished.ensures {u = tt}).value.1 end in cc in
+    let lent = c.lend-in-loop-index.ensures file (fine.stays ∙ now) in
+    let lower = subst (λ r. (z : Board) → IsPosition z → rank z < r → IsLocalAt file z) c.requires.rank
+    (c.requires.lower file told) in
+    absurd ((c.in-Err-add_numbers.ensures {u = tt}).refused
+    (play-lent file x c.requires.position c.requires.short lower unfinished v (fine.right file now read).0
+    c.lend-in-loop-index.result c.play-recorded.result lent read))
+
+pub loop-index-preserved : goal.loop-index-preserved
+loop-index-preserved g c =
+    let x = c.args.position.now in
+    let v = c.unwrap-roll.result in
+    let before = c.loop-index.invariant in
+    let fine = c.in_default.ensures {u = tt} in
+    let i = c.loop-index.index in
+    let roll = rw c.unwrap-roll.ensures at c.from_index.ensures.value in
+    let within = c.law_sums.ensures.within i c.loop-index.sums.weight c.loop-index-test.true before.light in
+    let added = (c.in_default-add_numbers.ensures {u = tt}).added in
+    let bytes = c.lend-in-loop-index.result in
+    record {
+      stays = fine.stays ∙ before.stays;
+      accepted = fine.accepted ∙ before.accepted;
+      others = λ bytes other ready. fine.others bytes other (before.others bytes other ready);
+      cause = λ file told. fine.cause file (before.stays ∙ told) ∙ before.cause file told;
+      held = λ file told.
+          let now = before.stays ∙ told in
+          let read = c.play-recorded.ensures
+          ∙ play-of_lent file c.lend.result x c.args.rank (c.lend.ensures file now) c.requires.rank v in
+          below_more (λ j. IsPlayed file x (roll_at j) × IsBest file x (roll_at j)) i (before.held file told)
+          (subst (λ v. IsPlayed file x v × IsBest file x v) roll (fine.right file now read));
+      light =
+          let more = added.weights ∙ ap (λ v. c.loop-index.sums.weight + weight v) roll in
+          omega (arith, within.1, more);
+      totals = λ file told unfinished.
+          let now = before.stays ∙ told in
+          let read = c.play-recorded.ensures
+          ∙ play-of_lent file c.lend.result x c.args.rank (c.lend.ensures file now) c.requires.rank v in
+          let lent = c.lend-in-loop-index.ensures file (fine.stays ∙ now) in
+          let mean = lent-mean file bytes x v c.play-recorded.result lent read in
+          let numbers = subst (λ m. IsAdded c.loop-index.sums (weight v) m (shares_of bytes) c.add_numbers.new.sums)
+          mean added in
+          let here = subst (λ v. IsAdded c.loop-index.sums (weight v) (recorded_mean file x v) (shares_of bytes) c.add_numbers.new.sums)
+          roll numbers in
+          c.law_sums.ensures.next (recorded_mean file x) (recorded_share file x) i c.loop-index.sums
+          c.add_numbers.new.sums (shares_of bytes) c.loop-index-test.true (before.totals file told unfinished)
+          (λ k few. lent-share file bytes x v c.play-recorded.result k few lent read
+          ∙ ap (λ v. recorded_share file x v k) roll)
+          here;
+    }
+
+pub returns-clause-totals : goal.returns-clause-totals
+returns-clause-totals g c file told unfinished =
+    let x = c.args.position.now in
+    let all : c.loop-index.index ≡ 21 = omega (arith, c.loop-index-test.false, c.loop-index.auto.index-end) in
+    let are = subst (λ i. AreTotals (recorded_mean file x) (recorded_share file x) i c.loop-index.sums) all
+    (c.loop-index.invariant.totals file told unfinished) in
+    record {
+      means = c.law_sums.ensures.mean (recorded_mean file x) (recorded_share file x) c.loop-index.sums are;
+      each = λ k few. c.law_sums.ensures.shares (recorded_mean file x) (recorded_share file x) c.loop-index.sums k few are;
+    }

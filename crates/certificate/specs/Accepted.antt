@@ -1,0 +1,18 @@
+-- What is kept of a table that was accepted.
+use Rattle.std.specs.Prelude.{◌≡◌, ℕ, List, Option, Some, None}
+use Rattle.race_model.specs.Files.{bound_of}
+use Rattle.race_model.specs.LocalEquations.{IsLocal}
+use Rattle.db_layout.specs.declared.header.Header.{Header}
+use Rattle.db_reader.specs.Telling.{WhereTold}
+
+-- the pip bound of an accepted header
+abbrev pub bound_in : Option Header → ℕ
+bound_in None = 0
+bound_in (Some header) = header.bound
+
+-- the table has accepted this header, and the bytes that it tells meet the local equations and have its bound
+pub record IsAccepted (told : Option (List ℕ)) (accepted : Option Header) (header : Header) :
+    Type 0 where
+  pub header_is : accepted ≡ Some header
+  pub local : WhereTold told (IsLocal 44)
+  pub bound_is : WhereTold told (λ file. header.bound ≡ bound_of file)

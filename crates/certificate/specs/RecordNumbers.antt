@@ -1,0 +1,38 @@
+-- The numbers of a record, and the mean and spread equations over sums of what is recorded for the rolls.
+use Rattle.std.specs.Prelude.{◌≡◌, ℕ, zero, suc, ◌+◌, ◌*◌, ◌<◌, ◌≤◌, List, map, slice_index}
+use Rattle.std.specs.List.{range_with_len}
+use Rattle.race_model.specs.Positions.{Board, IsFinished}
+use Rattle.race_model.specs.Dice.{Throw}
+use Rattle.race_model.specs.Files.{share_of, mean_at, spread_at, play}
+use Rattle.race_model.specs.LocalEquations.{whole, weighted}
+use Rattle.fixed_fraction.specs.Totals.{Totals}
+
+-- the shares of 0 to 22 rolls in the bytes of a record
+unfoldable pub shares_of : List ℕ → List ℕ
+shares_of bytes = map (share_of bytes) (range_with_len 0 23)
+
+-- the mean of a record is that of these sums
+pub record IsMeanOf (x : Board) (mean : ℕ) (sums : Totals) : Type 0 where
+  pub at_end : IsFinished x → mean ≡ 0
+  pub before : ¬ IsFinished x → (mean ≤ 22 * whole) × (36 * mean ≡ 36 * whole + sums.mean)
+
+-- the share of exactly k rolls is that of these sums
+abbrev pub IsShareOf : Board → (ℕ → ℕ) → Totals → ℕ → Type 0
+IsShareOf x share sums zero =
+    (IsFinished x → share 0 ≡ whole) × (¬ IsFinished x → share 0 ≡ 0)
+IsShareOf x share sums (suc k) =
+    (IsFinished x → share (suc k) ≡ 0)
+    × (¬ IsFinished x → 36 * share (suc k) ≡ slice_index sums.shares k)
+
+-- what is recorded for a throw: the mean, and the share of exactly k rolls
+abbrev pub recorded_mean : List ℕ → Board → Throw → ℕ
+recorded_mean f x v = mean_at f (play f x v)
+
+abbrev pub recorded_share : List ℕ → Board → Throw → ℕ → ℕ
+recorded_share f x v k = spread_at f (play f x v) k
+
+-- the sums of what is recorded for the 36 throws
+pub record AreSumsOf (f : List ℕ) (x : Board) (sums : Totals) : Type 0 where
+  pub means : sums.mean ≡ weighted (recorded_mean f x)
+  pub each : (k : ℕ) → k < 23 →
+      slice_index sums.shares k ≡ weighted (λ v. recorded_share f x v k)

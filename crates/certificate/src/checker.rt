@@ -1,0 +1,39 @@
+//! The check of all records of a table, by rising rank.
+ghost use Rattle.std.specs.Prelude.{◌≡◌, ℕ, List, Some, IfOk, IfErr, OnOk};
+ghost use Rattle.race_model.specs.Files.{bound_of};
+ghost use Rattle.race_model.specs.LocalEquations.{IsLocal};
+ghost use Rattle.db_reader.specs.Telling.{WhereTold};
+ghost use Rattle.certificate.specs.CheckFaults.{IsFirst, CheckCounted};
+
+use crate::check_fault::{CheckFault, fault_at};
+use crate::record_check::check_record;
+use db_layout::Header;
+use db_reader::{Record, Table, TableFault};
+use ranking::Ranks;
+
+/// The header of a table whose records meet the local equations, or the first fault. It takes no memory, and adds
+/// a stored number to others only where it was accepted before.
+pub fn check_records<T: Table>(table: &mut T, ranks: &Ranks) -> Result<Header, CheckFault>
+    ensures stays { T.tells table.new ≡ T.tells table.old }
+    ensures accepted { IfOk result (λ header. T.accepted table.new ≡ Some header) }
+    ensures local { WhereTold (T.tells table.old) (λ file. OnOk result (IsLocal 44 file)) }
+    ensures bound { WhereTold (T.tells table.old)
+        (λ file. IfOk result (λ header. header.bound ≡ bound_of file)) }
+    ensures first { WhereTold (T.tells table.old) (λ file. IfErr result (IsFirst file)) }
+    ensures cause { WhereTold (T.tells table.old)
+        (λ _. CheckCounted (T.failures table.old) (T.failures table.new) result) }
+{
+    let header = match table.header() {
+        Ok(header) => header,
+        Err(TableFault::Bad(fault)) => return Err(CheckFault::Header(fault)),
+        Err(TableFault::Read) => return Err(CheckFault::Read),
+    };
+    let mut own = Record::new();
+    let mut room = Record::new();
+    for rank in 0..header.count {
+        if let Err(fault) = check_record(table, ranks, header, rank, &mut own, &mut room) {
+            return Err(fault_at(rank, fault));
+        }
+    }
+    Ok(header)
+}

@@ -1,0 +1,35 @@
+//! The numbers of a record, where an accepted record can hold them.
+ghost use Rattle.std.specs.Prelude.{◌≡◌, ℕ, ◌*◌, ◌≤◌, ◌↔◌, IsSome, IfSome, sum};
+ghost use Rattle.race_model.specs.Files.{mean_of};
+ghost use Rattle.race_model.specs.LocalEquations.{whole};
+ghost use Rattle.certificate.specs.RecordNumbers.{shares_of};
+
+use db_layout::RecordView;
+use fixed_fraction::{Scaled, Spread};
+
+/// The mean of a record; none exactly where it is over 22 rolls.
+pub fn mean_in(view: &RecordView<'_>) -> Option<Scaled>
+    ensures some { IsSome result ↔ (mean_of view.now ≤ 22 * whole) }
+    ensures value { IfSome result (λ mean. mean ≡ mean_of view.now) }
+{
+    Scaled::new(view.mean())
+}
+
+/// The shares of a record; none exactly where they don't add up to the whole.
+pub fn spread_in(view: &RecordView<'_>) -> Option<Spread>
+    ensures some { IsSome result ↔ (sum (shares_of view.now) ≡ whole) }
+    ensures value { IfSome result (λ spread. spread ≡ shares_of view.now) }
+{
+    Spread::new(shares_in(view))
+}
+
+/// What stands in a record for the shares of 0 to 22 rolls.
+fn shares_in(view: &RecordView<'_>) -> [u128; 23]
+    ensures { result ≡ shares_of view.now }
+{
+    let mut shares = [0; 23];
+    for k in 0..23 {
+        shares[usize::from(k)] = view.spread(k);
+    }
+    shares
+}

@@ -1,0 +1,31 @@
+-- What a table answers.
+use Rattle.std.specs.Prelude.{◌≡◌, ℕ, ◌<◌, List, length, take, Option, Some, None, Result, Ok, Err}
+use Rattle.std.specs.Option.{IsSomeAnd}
+use Rattle.race_model.specs.Files.{IsFileTo, bound_of}
+use Rattle.race_model.specs.Headers.{IsFirstHeaderFault}
+use Rattle.db_layout.specs.HeaderFaults.{test_of}
+use Rattle.db_layout.specs.declared.header.Header.{Header}
+use Rattle.db_reader.specs.declared.table.TableFault.{TableFault}
+use Rattle.db_reader.specs.declared.table.TableFault.TheVariants.{Bad, Read}
+
+-- the answer about the header of these bytes: with a header they are a database of at most 44 pips
+-- by their length and places, and the bound is theirs; else the first fault of the header
+abbrev pub IsHeaderOf : List ℕ → Result Header TableFault → Type 0
+IsHeaderOf file (Ok header) = IsFileTo 44 file × (header.bound ≡ bound_of file)
+IsHeaderOf file (Err (Bad fault)) = IsFirstHeaderFault 44 (take 32 file) (length file) (test_of fault)
+IsHeaderOf file (Err Read) = Unit {0}
+
+-- the header that a table has accepted by this answer
+abbrev pub accepted_by : Result Header TableFault → Option Header
+accepted_by (Ok header) = Some header
+accepted_by (Err fault) = None
+
+-- the header could not be read exactly where the count of failures rose
+abbrev pub HeaderCounted : ℕ → ℕ → Result Header TableFault → Type 0
+HeaderCounted before now (Ok header) = now ≡ before
+HeaderCounted before now (Err (Bad fault)) = now ≡ before
+HeaderCounted before now (Err Read) = before < now
+
+-- a rank under the count of the accepted header
+abbrev pub HasRecord : Option Header → ℕ → Type 0
+HasRecord accepted rank = IsSomeAnd accepted (λ header. rank < header.count)

@@ -1,0 +1,65 @@
+ghost use Rattle.std.specs.Prelude.{◌≡◌, ℕ, ◌+◌, ◌*◌, ◌<◌, ◌≤◌, Some, None, List, length, take, IfOk, IfErr, OnOk};
+ghost use Rattle.db_layout.specs.declared.header.Header.{Header as HeaderValue};
+ghost use Rattle.race_model.specs.Files.{IsFileTo, bound_of};
+ghost use Rattle.race_model.specs.Headers.{IsFirstHeaderFault};
+ghost use Rattle.db_layout.specs.HeaderFaults.{test_of};
+ghost use Rattle.db_reader.specs.Reads.{HasRecord};
+
+use crate::front::header_of;
+use crate::record::Record;
+use crate::table::{ReadFault, Table, TableFault};
+use db_layout::{HEADER_BYTES, Header, RECORD_BYTES, RecordView};
+
+/// The table over the bytes of a whole database, in memory that it borrows. It tells these bytes, lends each
+/// record from them and copies none, and never fails.
+#[derive(Drop)]
+pub struct Whole<'a> {
+    bytes: &'a [u8],
+    header: Option<Header>,
+    ghost fits: { (accepted : HeaderValue) → header ≡ Some accepted →
+        32 + 426 * accepted.count ≤ length bytes.now },
+}
+
+impl<'a> Whole<'a> {
+    /// The table over these bytes, whatever they are. It has accepted no header.
+    pub fn new(bytes: &'a [u8]) -> Self
+        ensures tells { ⟦<Whole<'a> as Table>⟧.tells result ≡ Some bytes.now }
+        ensures accepted { ⟦<Whole<'a> as Table>⟧.accepted result ≡ None }
+    {
+        Whole {
+            bytes,
+            header: None,
+        }
+    }
+}
+
+impl<'a> Table for Whole<'a> {
+    ghost tells = { λ table. Some table.bytes.now };
+
+    ghost failures = { λ table. 0 };
+
+    ghost accepted = { λ table. table.header };
+
+    ghost ready = { λ table bytes rank. HasRecord table.header rank };
+
+    fn header(&mut self) -> Result<Header, TableFault> {
+        self.header = None;
+        let front = &self.bytes[..self.bytes.len().min(HEADER_BYTES)];
+        match header_of(front, self.bytes.len() as u64) {
+            Ok(header) => {
+                self.header = Some(header);
+                Ok(header)
+            }
+            Err(fault) => Err(fault),
+        }
+    }
+
+    fn load(&mut self, _rank: u16, _room: &mut Record) -> Result<(), ReadFault> {
+        Ok(())
+    }
+
+    fn lend<'b>(&'b self, rank: u16, _room: &'b Record) -> RecordView<'b> {
+        let place = HEADER_BYTES + RECORD_BYTES * usize::from(rank);
+        RecordView::of(&self.bytes[place..place + RECORD_BYTES]).unwrap()
+    }
+}

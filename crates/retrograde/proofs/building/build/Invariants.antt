@@ -1,0 +1,26 @@
+use Rattle.std.proofs.Common.{◌≡◌, ◌+◌, ◌-◌, ◌≤◌, length}
+use Rattle.std.specs.Io.KnownBytes.{Appends}
+use Rattle.race_model.specs.Ranks.{first_of}
+use Rattle.retrograde.specs.KeptRecords.{AreKept}
+use Rattle.retrograde.specs.BuiltBytes.{built_to}
+use Rattle.retrograde.proofs.Existence.{all-records}
+use Rattle.retrograde.proofs.building.build.Given as goal
+
+abbrev pub ghost-new : goal.ghost-new
+ghost-new g a = all-records
+
+abbrev pub ghost-add_level : goal.ghost-add_level
+ghost-add_level g a = all-records
+
+abbrev pub ghost-write_level : goal.ghost-write_level
+ghost-write_level g a = all-records
+
+-- the levels so far are made and written
+abbrev pub invariant-loop-below : goal.invariant-loop-below
+invariant-loop-below g l = record {
+  kept : AreKept all-records l.records.means l.records.spreads.items l.records.plays.items;
+  made : length l.records.means ≡ first_of (l.below + 1);
+  recent : length l.records.means ≤ first_of (l.below - 24) + length l.records.spreads.items;
+  written : Appends (g.W.Write.contents l.fn.writer) (g.W.Write.contents l.writer)
+      (built_to all-records l.bound (length l.records.means));
+}

@@ -1,0 +1,62 @@
+use Rattle.std.proofs.Common.{◌≡◌, ℕ, ◌+◌, ◌-◌, ◌<◌, List, length, subst, sym, ap, ◌∙◌, arith}
+use Rattle.std.specs.Prelude.{Result, Ok, Err}
+use Rattle.std.specs.Result.{OnErr}
+use Rattle.std.specs.Io.KnownBytes.{Appends}
+use Rattle.db_layout.specs.Writes.{AppendsPart}
+use Rattle.db_layout.proofs.Known.{appends_twice}
+use Rattle.std.proofs.KnownBytes.{Appends-nil}
+use Rattle.retrograde.specs.AllRecords.{bytes_of_rank}
+use Rattle.retrograde.specs.BuiltBytes.{records_from}
+use Rattle.retrograde.proofs.Kept.{kept-bytes}
+use Rattle.retrograde.proofs.Prefixes.{records-apart, records-next, flat_map-take_more}
+use Rattle.retrograde.proofs.building.write_level.Goals as goal
+
+-- what holds at an error holds on an error
+on-error : {T E P : Type 0} (r : Result T E) → P → OnErr r P
+on-error (Ok x) p = tt
+on-error (Err e) p = p
+
+pub loop-index-init : goal.loop-index-init
+unfolding records_from
+loop-index-init g c = Appends-nil (g.W.Write.contents c.args.writer.now)
+
+pub returns-in_err-write_record-clause-part : goal.returns-in_err-write_record-clause-part
+returns-in_err-write_record-clause-part g c =
+    let records = c.args.records.now in
+    let first : ℕ = length records.means - length records.plays.items in
+    let index = c.loop-index.index in
+    let count : ℕ = length records.plays.items in
+    let old = g.W.Write.contents c.args.writer.now in
+    let mid = g.W.Write.contents c.loop-index.writer in
+    let new = g.W.Write.contents c.write_record.new.writer in
+    let lt : index < count = omega (arith, c.deref-plays-items.ensures.len) in
+    let place : c.len.result - c.len-2.result + index ≡ first + index = omega arith in
+    let bytes = kept-bytes g.full records.means records.spreads.items records.plays.items c.requires.1.0 index
+        (c.len.result - c.len-2.result + index) c.unwrap-mean.result c.spread.result.now lt place
+        (rw c.unwrap-mean.ensures at c.get.ensures.value) c.spread.ensures in
+    let written = rw c.deref-plays-items.ensures.value at c.in_err-write_record.ensures.part in
+    let part : AppendsPart mid new (bytes_of_rank g.full (first + index)) =
+        subst (λ (bs : List ℕ). AppendsPart mid new bs) bytes written in
+    let rest : List ℕ = records_from (bytes_of_rank g.full) (first + index + 1) (count - index - 1) in
+    on-error c.from_residual.result
+    (subst (λ (bs : List ℕ). AppendsPart old new bs) (sym (records-apart g.full first index count lt))
+    (flat_map-take_more old mid new (records_from (bytes_of_rank g.full) first index) (bytes_of_rank g.full (first + index)) rest
+        c.loop-index.invariant part))
+
+pub loop-index-preserved : goal.loop-index-preserved
+loop-index-preserved g c =
+    let records = c.args.records.now in
+    let first : ℕ = length records.means - length records.plays.items in
+    let index = c.loop-index.index in
+    let old = g.W.Write.contents c.args.writer.now in
+    let mid = g.W.Write.contents c.loop-index.writer in
+    let new = g.W.Write.contents c.write_record.new.writer in
+    let lt : index < length records.plays.items = omega (arith, c.deref-plays-items.ensures.len) in
+    let place : c.len.result - c.len-2.result + index ≡ first + index = omega arith in
+    let bytes = kept-bytes g.full records.means records.spreads.items records.plays.items c.requires.1.0 index
+        (c.len.result - c.len-2.result + index) c.unwrap-mean.result c.spread.result.now lt place
+        (rw c.unwrap-mean.ensures at c.get.ensures.value) c.spread.ensures in
+    let written = rw c.deref-plays-items.ensures.value at c.in_ok-write_record.ensures.all in
+    subst (λ (bs : List ℕ). Appends old new bs) (sym (records-next g.full first index))
+    (appends_twice old mid new (records_from (bytes_of_rank g.full) first index) (bytes_of_rank g.full (first + index))
+        c.loop-index.invariant (subst (λ (bs : List ℕ). Appends mid new bs) bytes written))

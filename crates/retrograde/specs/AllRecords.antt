@@ -1,0 +1,26 @@
+-- The records of all positions of at most 44 pips, by rank. There is one list of them, since each record follows from
+-- those of lower rank: whatever the builder makes stands in it. Source: this project's profile.
+use Rattle.std.specs.Prelude.{ℕ, List, [], slice_index, slice_index_or}
+use Rattle.race_model.specs.Ranks.{count_to}
+use Rattle.db_layout.specs.Records.{record_of}
+use Rattle.retrograde.specs.BuiltRecords.{HasRecords, shares_of}
+
+-- all records
+abbrev pub AllRecords : Type 0
+AllRecords = HasRecords (count_to 44)
+
+-- the mean of a rank
+abbrev pub mean_of_rank : AllRecords → ℕ → ℕ
+mean_of_rank full r = slice_index full.means r
+
+-- .. its plays with the 21 rolls
+abbrev pub plays_of_rank : AllRecords → ℕ → List ℕ
+plays_of_rank full r = slice_index_or full.plays r []
+
+-- .. and its shares of 0 to 22 rolls
+abbrev pub shares_of_rank : AllRecords → ℕ → List ℕ
+shares_of_rank full r = shares_of full.spreads r
+
+-- the bytes of its record
+abbrev pub bytes_of_rank : AllRecords → ℕ → List ℕ
+bytes_of_rank full r = record_of (mean_of_rank full r) (plays_of_rank full r) (shares_of_rank full r)
