@@ -19,16 +19,21 @@ take-within f n k is = ⊎_elim
     (cases_lt (length f) n)
 
 -- what an answer about the first 32 bytes says of the file
-pub front-file : (f : List ℕ) (r : Result Header HeaderFault) → ((i : ℕ) → get_or f i 0 < 256) → IfOk r (λ header. IsHeader 44 (take 32 f) (length f) × (header.bound ≡ bound_of (take 32 f))) → OnOk r (IsFileTo 44 f)
+pub front-file : (f : List ℕ) (r : Result Header HeaderFault) → ((i : ℕ) → get_or f i 0 < 256)
+    → IfOk r (λ header. IsHeader 44 (take 32 f) (length f) × (header.bound ≡ bound_of (take 32 f)))
+    → OnOk r (IsFileTo 44 f)
 front-file f (Ok header) small is = file_of_header 44 f small is.0
 front-file f (Err fault) small is = is
 
-pub front-bound : (f : List ℕ) (r : Result Header HeaderFault) → IfOk r (λ header. IsHeader 44 (take 32 f) (length f) × (header.bound ≡ bound_of (take 32 f))) → IfOk r (λ header. header.bound ≡ bound_of f)
+pub front-bound : (f : List ℕ) (r : Result Header HeaderFault)
+    → IfOk r (λ header. IsHeader 44 (take 32 f) (length f) × (header.bound ≡ bound_of (take 32 f)))
+    → IfOk r (λ header. header.bound ≡ bound_of f)
 front-bound f (Ok header) is = is.1 ∙ bound_of-front f
 front-bound f (Err fault) is = is
 
 -- a file whose first bytes are under 256 and state its header: what follows them is not looked at
-pub front-is_file : (f : List ℕ) → ((i : ℕ) → get_or (take 32 f) i 0 < 256) → IsHeader 44 (take 32 f) (length f)
+pub front-is_file : (f : List ℕ) → ((i : ℕ) → get_or (take 32 f) i 0 < 256) →
+    IsHeader 44 (take 32 f) (length f)
     → IsFileTo 44 f
 front-is_file f small is = record {
   bounded = omega (arith, same-bound, padded-file.bounded);
@@ -45,12 +50,15 @@ front-is_file f small is = record {
   padded = take 32 f ++ rest
 
   same-front : take 32 padded ≡ take 32 f
-  same-front = subst (λ (n : ℕ). take n (take 32 f ++ rest) ≡ take 32 f) long (take-append_seam (take 32 f) rest)
+  same-front =
+      subst (λ (n : ℕ). take n (take 32 f ++ rest) ≡ take 32 f) long
+      (take-append_seam (take 32 f) rest)
 
   same-length : length padded ≡ length f
   same-length =
       let le = (is long_enough).1 in
-      omega (arith, length-append (take 32 f) rest, long, length-replicate {A = ℕ} (length f - 32) 0)
+      omega
+      (arith, length-append (take 32 f) rest, long, length-replicate {A = ℕ} (length f - 32) 0)
 
   zeros : (m i : ℕ) → get_or (replicate m 0) i 0 < 256
   zeros zero i = omega arith
@@ -63,7 +71,9 @@ front-is_file f small is = record {
       (subst (λ (n : ℕ). IsHeader 44 (take 32 f) n) (sym same-length) is)
 
   padded-file : IsFileTo 44 padded
-  padded-file = file_of_header 44 padded (small_append (take 32 f) rest small (zeros (length f - 32))) padded-header
+  padded-file =
+      file_of_header 44 padded
+      (small-append (take 32 f) rest small (zeros (length f - 32))) padded-header
 
   same-bound : bound_of padded ≡ bound_of f
   same-bound = sym (bound_of-front padded) ∙ (ap bound_of same-front ∙ bound_of-front f)

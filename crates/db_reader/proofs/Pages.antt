@@ -11,15 +11,18 @@ use Rattle.race_model.specs.Files.{record_at}
 
 -- each is the record of its rank
 abbrev pub AreRecords : List ℕ → List (ℕ × List ℕ) → Type 0
-AreRecords file entries = (rank : ℕ) (bytes : List ℕ) → Contains entries (rank, bytes) → bytes ≡ record_at file rank
+AreRecords file entries =
+    (rank : ℕ) (bytes : List ℕ) → Contains entries (rank, bytes) → bytes ≡ record_at file rank
 
 -- a look-up moves one to the front
 pub looked_up : (file : List ℕ) (entries : List (ℕ × List ℕ)) (rank : ℕ) → AreRecords file entries
     → AreRecords file (promoted (eqb rank) entries)
-looked_up file entries rank are other bytes has = are other bytes (Contains-promoted (eqb rank) entries (other, bytes) has)
+looked_up file entries rank are other bytes has =
+    are other bytes (Contains-promoted (eqb rank) entries (other, bytes) has)
 
 -- what is found is the record
-pub found : (file : List ℕ) (entries : List (ℕ × List ℕ)) (rank : ℕ) (bytes : List ℕ) → AreRecords file entries
+pub found : (file : List ℕ) (entries : List (ℕ × List ℕ)) (rank : ℕ) (bytes : List ℕ) →
+    AreRecords file entries
     → lookup (eqb rank) entries ≡ Some bytes → bytes ≡ record_at file rank
 found file entries rank bytes are is =
     let entry = Contains-lookup (eqb rank) entries bytes is in
@@ -27,27 +30,32 @@ found file entries rank bytes are is =
 
 -- the record is put there
 put_there : (file : List ℕ) (cache : LruCache ℕ (List ℕ)) (rank : ℕ) (bytes : List ℕ)
-    → AreRecords file cache.entries → bytes ≡ record_at file rank → AreRecords file (put_entries eqb cache rank bytes)
+    → AreRecords file cache.entries → bytes ≡ record_at file rank →
+    AreRecords file (put_entries eqb cache rank bytes)
 put_there file cache rank bytes are is other others has = ⊎_elim
     (λ was. are other others was)
     (λ new. new.0 ∙ (is ∙ ap (record_at file) (⊎_elim
-        (λ same. sym same)
-        (λ equal. eqb-true rank other equal.2)
-        new.1)))
+    (λ same. sym same)
+    (λ equal. eqb-true rank other equal.2)
+    new.1)))
     (Contains-put_entries eqb cache rank bytes (other, others) has)
 
 -- .. or is not, where the growth for it is refused
-pub after_put : {T E : Type 0} (file : List ℕ) (cache after : LruCache ℕ (List ℕ)) (rank : ℕ) (bytes : List ℕ)
-    (result : Result T E) → OnOk result (after ≡ lru_cache (put_entries eqb cache rank bytes) cache.cap)
+pub after_put : {T E : Type 0} (file : List ℕ) (cache after : LruCache ℕ (List ℕ)) (rank : ℕ)
+    (bytes : List ℕ)
+    (result : Result T E) →
+    OnOk result (after ≡ lru_cache (put_entries eqb cache rank bytes) cache.cap)
     → OnErr result (after ≡ cache) → AreRecords file cache.entries → bytes ≡ record_at file rank
     → AreRecords file after.entries
 after_put file cache after rank bytes (Ok old) put kept are is =
-    subst (λ (c : LruCache ℕ (List ℕ)). AreRecords file c.entries) (sym put) (put_there file cache rank bytes are is)
+    subst (λ (c : LruCache ℕ (List ℕ)). AreRecords file c.entries) (sym put)
+    (put_there file cache rank bytes are is)
 after_put file cache after rank bytes (Err e) put kept are is =
     subst (λ (c : LruCache ℕ (List ℕ)). AreRecords file c.entries) (sym kept) are
 
 -- a value of which something holds is there
-pub some_and : {T : Type 0} (P : T → Type 0) (o : Option T) → IsSomeAnd o P → (x : T) × (o ≡ Some x) × P x
+pub some_and : {T : Type 0} (P : T → Type 0) (o : Option T) → IsSomeAnd o P →
+    (x : T) × (o ≡ Some x) × P x
 some_and P None none = absurd none
 some_and P (Some x) holds = (x, refl, holds)
 

@@ -12,7 +12,8 @@ use Rattle.db_reader.specs.declared.table.TableFault.TheVariants.{Bad, Read}
 -- by their length and places, and the bound is theirs; else the first fault of the header
 abbrev pub IsHeaderOf : List ℕ → Result Header TableFault → Type 0
 IsHeaderOf file (Ok header) = IsFileTo 44 file × (header.bound ≡ bound_of file)
-IsHeaderOf file (Err (Bad fault)) = IsFirstHeaderFault 44 (take 32 file) (length file) (test_of fault)
+IsHeaderOf file (Err (Bad fault)) = IsFirstHeaderFault 44 (take 32 file) (length file)
+    (test_of fault)
 IsHeaderOf file (Err Read) = Unit {0}
 
 -- the header that a table has accepted by this answer

@@ -1,4 +1,5 @@
--- What is said of bytes that are told. A list of bytes in memory tells them; a file of the system tells nothing.
+-- What is said of bytes that are told. A list of bytes in memory tells them; a file of the system
+-- tells nothing.
 use Rattle.std.specs.Prelude.{◌≡◌, ℕ, ◌<◌, List, Option, Some, Result, Ok, Err}
 
 -- where bytes are told, this holds of them

@@ -3,8 +3,9 @@ ghost use Rattle.std.specs.Prelude.{None};
 use crate::source::{Source, SourceFault};
 use std::io::{Read, Seek, SeekFrom};
 
-/// The source of an opened file. No contract can say what a file holds, so it tells nothing: that it answers the
-/// file's length and bytes is tested. A file that ends before the bytes that are asked for is a fault.
+/// The source of an opened file. No contract can say what a file holds, so it tells nothing: that
+/// it answers the file's length and bytes is tested. A file that ends before the bytes that are
+/// asked for is a fault.
 #[derive(Drop)]
 pub struct FileSource<F> {
     file: F,

@@ -1,8 +1,8 @@
-//! Tables: where the header and the records of a database are read. It rests on `db_layout` for the bytes of a
-//! header and of a record, and on `race_model` for what a database file is. The crates above read by the trait
-//! `Table` alone, and may use that a table which tells its bytes answers the header and the records of these bytes,
-//! and fails only where it says so. `Whole` is the table over bytes in memory; a table over a file would be one
-//! more.
+//! Tables: where the header and the records of a database are read. It rests on `db_layout` for
+//! the bytes of a header and of a record, and on `race_model` for what a database file is. The
+//! crates above read by the trait `Table` alone, and may use that a table which tells its bytes
+//! answers the header and the records of these bytes, and fails only where it says so. `Whole` is
+//! the table over bytes in memory; a table over a file would be one more.
 #![tactic(auto)]
 
 pub use file_source::FileSource;
@@ -20,5 +20,7 @@ pub mod record;
 pub mod slice_source;
 pub mod source;
 pub mod table;
+#[cfg(test)]
+mod tests;
 pub mod trial;
 pub mod whole;

@@ -26,10 +26,10 @@ pub enum PagedFault {
     Memory,
 }
 
-/// The table over a source of bytes that keeps the records that were used last, at most so many of them (this
-/// project's profile). A record that is wanted and not there is read in one read, and kept unless a growth of
-/// memory for it is refused: then the answer stands all the same. It tells the bytes that the source tells, and
-/// fails where the source does.
+/// The table over a source of bytes that keeps the records that were used last, at most so many
+/// of them (this project's profile). A record that is wanted and not there is read in one read,
+/// and kept unless a growth of memory for it is refused: then the answer stands all the same. It
+/// tells the bytes that the source tells, and fails where the source does.
 #[derive(Drop)]
 pub struct Paged<S: Source, A: Allocator = Global> {
     source: S,
@@ -42,10 +42,12 @@ pub struct Paged<S: Source, A: Allocator = Global> {
 }
 
 impl<S: Source, A: Allocator + Clone> Paged<S, A> {
-    /// The table over a source, with room for so many records. It has accepted no header. Refused as `NoCapacity`
-    /// exactly where that is none, and else as `Memory` for want of memory alone; the source is handed back.
+    /// The table over a source, with room for so many records. It has accepted no header. Refused
+    /// as `NoCapacity` exactly where that is none, and else as `Memory` for want of memory alone;
+    /// the source is handed back.
     pub fn new(alloc: A, source: S, capacity: u16) -> Result<Self, (S, PagedFault)>
-        ensures tells { IfOk result (λ table. ⟦<Paged<S, A> as Table>⟧.tells table ≡ S.tells source) }
+        ensures tells { IfOk result
+            (λ table. ⟦<Paged<S, A> as Table>⟧.tells table ≡ S.tells source) }
         ensures failures { IfOk result
             (λ table. ⟦<Paged<S, A> as Table>⟧.failures table ≡ S.failures source) }
         ensures accepted { IfOk result (λ table. ⟦<Paged<S, A> as Table>⟧.accepted table ≡ None) }

@@ -6,8 +6,8 @@ use crate::source::{Source, SourceFault};
 use db_layout::{RECORD_BYTES, RecordView};
 use std::marker::Model;
 
-/// Room for the bytes of one record, which a table that copies records loads into. A table that lends records from
-/// its own bytes leaves it alone.
+/// Room for the bytes of one record, which a table that copies records loads into. A table that
+/// lends records from its own bytes leaves it alone.
 #[derive(Drop)]
 pub struct Record {
     bytes: [u8; RECORD_BYTES],
@@ -34,7 +34,8 @@ impl Record {
         }
     }
 
-    /// Fills the room with the bytes of a source from an offset on, in one read. At a fault it may hold any bytes.
+    /// Fills the room with the bytes of a source from an offset on, in one read. At a fault it
+    /// may hold any bytes.
     pub(crate) fn read_from<S: Source>(
         &mut self,
         source: &mut S,

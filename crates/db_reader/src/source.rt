@@ -10,8 +10,9 @@ pub struct SourceFault;
 
 /// Bytes that are read by their offset (this project's profile).
 ///
-/// A source that tells its bytes answers their number and what stands there, and a call is refused exactly where
-/// the count of failures rose in it. Of a source that tells nothing, as one over a file, no answer is promised.
+/// A source that tells its bytes answers their number and what stands there, and a call is
+/// refused exactly where the count of failures rose in it. Of a source that tells nothing, as one
+/// over a file, no answer is promised.
 pub trait Source {
     // the bytes, where the source tells them; no call changes them
     ghost tells: { Self → Option (List ℕ) };
@@ -22,12 +23,13 @@ pub trait Source {
     /// How many bytes there are.
     fn length(&mut self) -> Result<u64, SourceFault>
         ensures stays { tells self.new ≡ tells self.old }
-        ensures told { WhereTold (tells self.old) (λ file. IfOk result (λ count. count ≡ length file)) }
+        ensures told { WhereTold (tells self.old)
+            (λ file. IfOk result (λ count. count ≡ length file)) }
         ensures cause { WhereTold (tells self.old)
             (λ _. Counted (failures self.old) (failures self.new) result) };
 
-    /// Fills `into` with the bytes from an offset on, which have to be there where the source tells its bytes. At a
-    /// fault `into` may hold any bytes.
+    /// Fills `into` with the bytes from an offset on, which have to be there where the source
+    /// tells its bytes. At a fault `into` may hold any bytes.
     fn read_at(&mut self, offset: u64, into: &mut [u8]) -> Result<(), SourceFault>
         requires { WhereTold (tells self.old) (λ file. offset + length into.old ≤ length file) }
         ensures stays { tells self.new ≡ tells self.old }

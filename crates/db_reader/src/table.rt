@@ -27,9 +27,10 @@ pub struct ReadFault;
 
 /// Where the header and the records of a database are read (this project's profile).
 ///
-/// A table that tells its bytes answers the header and the records of these bytes, and a call answers that it
-/// could not be read exactly where the count of failures rose in it. Of a table that tells nothing, as one over a
-/// file, no answer is promised. A new table has accepted no header.
+/// A table that tells its bytes answers the header and the records of these bytes, and a call
+/// answers that it could not be read exactly where the count of failures rose in it. Of a table
+/// that tells nothing, as one over a file, no answer is promised. A new table has accepted no
+/// header.
 pub trait Table {
     // the bytes, where the table tells them; no call changes them
     ghost tells: { Self → Option (List ℕ) };
@@ -51,8 +52,9 @@ pub trait Table {
         ensures cause { WhereTold (tells self.old)
             (λ _. HeaderCounted (failures self.old) (failures self.new) result) };
 
-    /// Makes the record of a rank under the count of the accepted header ready to be lent with this room. What
-    /// was ready with another room stays so. At a fault the table is as it was, but for the count of failures.
+    /// Makes the record of a rank under the count of the accepted header ready to be lent with
+    /// this room. What was ready with another room stays so. At a fault the table is as it was,
+    /// but for the count of failures.
     fn load(&mut self, rank: u16, room: &mut Record) -> Result<(), ReadFault>
         requires { HasRecord (accepted self.old) rank }
         ensures stays { tells self.new ≡ tells self.old }

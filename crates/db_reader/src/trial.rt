@@ -5,8 +5,8 @@ use crate::record::Record;
 use crate::table::{ReadFault, Table, TableFault};
 use db_layout::{Header, RecordView};
 
-/// Another table, which fails once, at a certain call of `header` or `load`, and else answers as it does. It tells
-/// the bytes that the other table tells.
+/// Another table, which fails once, at a certain call of `header` or `load`, and else answers as
+/// it does. It tells the bytes that the other table tells.
 #[derive(Drop)]
 pub struct FailOnce<T> {
     table: T,
@@ -17,7 +17,8 @@ pub struct FailOnce<T> {
 }
 
 impl<T: Table> FailOnce<T> {
-    /// A table over another that fails at its `call`th call, counted from 1, and never where that is 0.
+    /// A table over another that fails at its `call`th call, counted from 1, and never where that
+    /// is 0.
     pub fn new(table: T, call: u64) -> Self
         ensures tells { ⟦<FailOnce<T> as Table>⟧.tells result ≡ T.tells table }
         ensures accepted { ⟦<FailOnce<T> as Table>⟧.accepted result ≡ T.accepted table }

@@ -10,8 +10,8 @@ use crate::record::Record;
 use crate::table::{ReadFault, Table, TableFault};
 use db_layout::{HEADER_BYTES, Header, RECORD_BYTES, RecordView};
 
-/// The table over the bytes of a whole database, in memory that it borrows. It tells these bytes, lends each
-/// record from them and copies none, and never fails.
+/// The table over the bytes of a whole database, in memory that it borrows. It tells these bytes,
+/// lends each record from them and copies none, and never fails.
 #[derive(Drop)]
 pub struct Whole<'a> {
     bytes: &'a [u8],

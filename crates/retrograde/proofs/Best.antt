@@ -12,17 +12,28 @@ use Rattle.race_model.proofs.Ranks.PositionTotals.{rank-finished}
 use Rattle.retrograde.specs.BestPlays.{IsBestPlay}
 
 -- the best of the results is the best play
-pub best-of_results : (means : List ℕ) (x : Board) (v : Throw) (r : ℕ) (found : List Board) → ((y : List ℕ) → Contains found y ↔ Legal x v y) → Any (λ z. rank z ≡ r) found → All (λ z. slice_index means r ≤ slice_index means (rank z)) found → All (λ z. slice_index means (rank z) ≡ slice_index means r → r ≤ rank z) found → IsBestPlay means x v r
+pub best-of_results : (means : List ℕ) (x : Board) (v : Throw) (r : ℕ) (found : List Board) →
+    ((y : List ℕ) → Contains found y ↔ Legal x v y) → Any (λ z. rank z ≡ r) found →
+    All (λ z. slice_index means r ≤ slice_index means (rank z)) found →
+    All (λ z. slice_index means (rank z) ≡ slice_index means r → r ≤ rank z) found →
+    IsBestPlay means x v r
 best-of_results means x v r found members some least lowest =
     let best = some_member (λ z. rank z ≡ r) found some in
     record {
       legal = (best.0, (members best.0).0 best.1, best.2);
-      least = λ z legal. member_of_all (λ z. slice_index means r ≤ slice_index means (rank z)) found z least ((members z).1 legal);
-      lowest = λ z legal. member_of_all (λ z. slice_index means (rank z) ≡ slice_index means r → r ≤ rank z) found z lowest ((members z).1 legal);
+      least =
+          λ z legal.
+          member_of_all (λ z. slice_index means r ≤ slice_index means (rank z)) found z least
+          ((members z).1 legal);
+      lowest =
+          λ z legal.
+          member_of_all (λ z. slice_index means (rank z) ≡ slice_index means r → r ≤ rank z) found
+          z lowest ((members z).1 legal);
     }
 
 -- the results from an unfinished position have the ranks of fewer pips
-pub legal-below : (x : Board) (v : Throw) (z : Board) → IsPosition x → ¬ IsFinished x → Legal x v z → rank z < first_of (pips x)
+pub legal-below : (x : Board) (v : Throw) (z : Board) → IsPosition x → ¬ IsFinished x →
+    Legal x v z → rank z < first_of (pips x)
 legal-below x v z at unfinished legal =
     let fewer = legal_fewer_pips x v z unfinished legal in
     let within = (rank_within z (legal_position x v z at legal)).1 in
@@ -33,10 +44,13 @@ legal-below x v z at unfinished legal =
 pub finished-rank : (x : Board) → IsPosition x → IsFinished x → rank x ≡ 0
 finished-rank x at none = ap rank (only_finished x at none) ∙ rank-finished
 
-pub finished-stays : (x : Board) (v : Throw) (z : Board) → IsPosition x → IsFinished x → Legal x v z → rank z ≡ 0
-finished-stays x v z at none legal = ap rank (legal_finished x v z none legal) ∙ finished-rank x at none
+pub finished-stays : (x : Board) (v : Throw) (z : Board) → IsPosition x → IsFinished x →
+    Legal x v z → rank z ≡ 0
+finished-stays x v z at none legal =
+    ap rank (legal_finished x v z none legal) ∙ finished-rank x at none
 
-pub best-at_end : (means : List ℕ) (x : Board) (v : Throw) → IsPosition x → IsFinished x → IsBestPlay means x v 0
+pub best-at_end : (means : List ℕ) (x : Board) (v : Throw) → IsPosition x → IsFinished x →
+    IsBestPlay means x v 0
 best-at_end means x v at none = record {
   legal = (x, legal_stays x v none, finished-rank x at none);
   least = λ z legal. le_of_eq (ap (slice_index means) (sym (finished-stays x v z at none legal)));

@@ -52,13 +52,19 @@ module _ (full : AllRecords) (bound : ℕ) (low : bound ≤ 44) where
   unfolding mean_at
   mean-read r lt = ap mean_of (built-record r lt) ∙ (full.made.reads r (all-have r lt)).mean_is
 
-  play-read : (r i : ℕ) → r < count_to bound → i < 21 → play_at built r i ≡ slice_index (slice_index_or plays r []) i
+  play-read : (r i : ℕ) → r < count_to bound → i < 21 →
+      play_at built r i ≡ slice_index (slice_index_or plays r []) i
   unfolding play_at
-  play-read r i lt few = ap (λ (bs : List ℕ). play_of bs i) (built-record r lt) ∙ (full.made.reads r (all-have r lt)).play_is i few
+  play-read r i lt few =
+      ap (λ (bs : List ℕ). play_of bs i) (built-record r lt)
+      ∙ (full.made.reads r (all-have r lt)).play_is i few
 
-  share-read : (r k : ℕ) → r < count_to bound → k ≤ 22 → spread_at built r k ≡ slice_index (shares_of spreads r) k
+  share-read : (r k : ℕ) → r < count_to bound → k ≤ 22 →
+      spread_at built r k ≡ slice_index (shares_of spreads r) k
   unfolding spread_at
-  share-read r k lt few = ap (λ (bs : List ℕ). share_of bs k) (built-record r lt) ∙ (full.made.reads r (all-have r lt)).share_is k few
+  share-read r k lt few =
+      ap (λ (bs : List ℕ). share_of bs k) (built-record r lt)
+      ∙ (full.made.reads r (all-have r lt)).share_is k few
 
   built-bound : bound_of built ≡ bound
   built-bound = file-bound bound (bytes_of_rank full) (count_to bound) each-length low
@@ -72,7 +78,9 @@ module _ (full : AllRecords) (bound : ℕ) (low : bound ≤ 44) where
   built-bytes : IsBytes built
   built-bytes =
       file-bytes bound (bytes_of_rank full) (count_to bound) each-length
-      (λ r. small_record (slice_index means r) (slice_index_or plays r []) (slice_index_or spreads r []))
+      (λ r.
+      small-record (slice_index means r) (slice_index_or plays r [])
+      (slice_index_or spreads r []))
 
   built-is_file : IsFileTo 44 built
   built-is_file = record {
@@ -87,14 +95,22 @@ module _ (full : AllRecords) (bound : ℕ) (low : bound ≤ 44) where
     ranked = (rank_bound x bound at).1 under
 
     result-ranked : (v : Throw) (z : Board) → Legal x v z → rank z < count_to bound
-    result-ranked v z legal = (rank_bound z bound (legal_position x v z at legal)).1 (le_trans (legal_pips x v z legal) under)
+    result-ranked v z legal =
+        (rank_bound z bound (legal_position x v z at legal)).1
+        (le_trans (legal_pips x v z legal) under)
 
     -- what is recorded for a roll
     number : Throw → ℕ
     number v = slice_index (slice_index_or plays (rank x) []) (roll_index v)
 
-    here : IsMade means spreads x (slice_index means (rank x)) (slice_index_or plays (rank x) []) (shares_of spreads (rank x))
-    here = subst (λ (y : Board). IsMade means spreads y (slice_index means (rank x)) (slice_index_or plays (rank x) []) (shares_of spreads (rank x))) (at_rank-rank x at) (full.made.made (rank x) (all-have (rank x) ranked))
+    here : IsMade means spreads x (slice_index means (rank x)) (slice_index_or plays (rank x) [])
+        (shares_of spreads (rank x))
+    here =
+        subst
+        (λ (y : Board).
+        IsMade means spreads y (slice_index means (rank x))
+        (slice_index_or plays (rank x) []) (shares_of spreads (rank x)))
+        (at_rank-rank x at) (full.made.made (rank x) (all-have (rank x) ranked))
 
     number-is : (v : Throw) → play built x v ≡ number v
     unfolding number
@@ -112,13 +128,17 @@ module _ (full : AllRecords) (bound : ℕ) (low : bound ≤ 44) where
         omega arith
 
     best-of_roll : (v : Throw) → IsRoll v → IsBestPlay means x v (number v)
-    best-of_roll v is = subst (λ (u : Throw). IsBestPlay means x u (number v)) (index_of_roll v is).1 (best-by_index v)
+    best-of_roll v is =
+        subst (λ (u : Throw). IsBestPlay means x u (number v)) (index_of_roll v is).1
+        (best-by_index v)
 
     played-mean : (v : Throw) → mean_at built (play built x v) ≡ slice_index means (number v)
     played-mean v = ap (mean_at built) (number-is v) ∙ mean-read (number v) (number-ranked v)
 
-    played-share : (v : Throw) (k : ℕ) → k ≤ 22 → spread_at built (play built x v) k ≡ slice_index (shares_of spreads (number v)) k
-    played-share v k few = ap (λ r. spread_at built r k) (number-is v) ∙ share-read (number v) k (number-ranked v) few
+    played-share : (v : Throw) (k : ℕ) → k ≤ 22 →
+        spread_at built (play built x v) k ≡ slice_index (shares_of spreads (number v)) k
+    played-share v k few =
+        ap (λ r. spread_at built r k) (number-is v) ∙ share-read (number v) k (number-ranked v) few
 
     is-played : (v : Throw) → IsRoll v → IsPlayed built x v
     is-played v is =
@@ -139,35 +159,58 @@ module _ (full : AllRecords) (bound : ℕ) (low : bound ≤ 44) where
         let lowest = (best-of_roll v is).lowest z legal same in
         omega (arith, number-is v, lowest)
 
-    means-same : weighted (λ v. mean_at built (play built x v)) ≡ sum_of_means means (slice_index_or plays (rank x) [])
+    means-same : weighted (λ v. mean_at built (play built x v))
+        ≡ sum_of_means means (slice_index_or plays (rank x) [])
     unfolding number
-    means-same = sum_by-equal (λ v. weight v * mean_at built (play built x v)) (λ v. weight v * slice_index means (number v)) all_rolls (λ v. ap (λ n. weight v * n) (played-mean v))
+    means-same =
+        sum_by-equal (λ v. weight v * mean_at built (play built x v))
+        (λ v. weight v * slice_index means (number v)) all_rolls
+        (λ v. ap (λ n. weight v * n) (played-mean v))
 
-    shares-same : (k : ℕ) → k ≤ 22 → weighted (λ v. spread_at built (play built x v) k) ≡ sum_of_shares spreads (slice_index_or plays (rank x) []) k
+    shares-same : (k : ℕ) → k ≤ 22 →
+        weighted (λ v. spread_at built (play built x v) k)
+        ≡ sum_of_shares spreads (slice_index_or plays (rank x) []) k
     unfolding number
-    shares-same k few = sum_by-equal (λ v. weight v * spread_at built (play built x v) k) (λ v. weight v * slice_index (shares_of spreads (number v)) k) all_rolls (λ v. ap (λ n. weight v * n) (played-share v k few))
+    shares-same k few =
+        sum_by-equal (λ v. weight v * spread_at built (play built x v) k)
+        (λ v. weight v * slice_index (shares_of spreads (number v)) k) all_rolls
+        (λ v. ap (λ n. weight v * n) (played-share v k few))
 
     has-mean : HasMean built x
     has-mean = record {
       at_end = λ none. mean-read (rank x) ranked ∙ here.mean_at_end none;
-      before = λ unfinished. ap (λ n. 36 * n) (mean-read (rank x) ranked) ∙ (here.mean_before unfinished ∙ ap (λ n. 36 * whole + n) (sym means-same));
+      before =
+          λ unfinished.
+          ap (λ n. 36 * n) (mean-read (rank x) ranked)
+          ∙ (here.mean_before unfinished ∙ ap (λ n. 36 * whole + n) (sym means-same));
     }
 
     has-share : (k : ℕ) → k ≤ 22 → HasShare built x k
-    has-share zero few = (λ none. share-read (rank x) 0 ranked few ∙ here.start_at_end none, λ unfinished. share-read (rank x) 0 ranked few ∙ here.start_before unfinished)
+    has-share zero few = (
+      λ none. share-read (rank x) 0 ranked few ∙ here.start_at_end none,
+      λ unfinished. share-read (rank x) 0 ranked few ∙ here.start_before unfinished,
+    )
     has-share (suc k) few = (
       λ none. share-read (rank x) (suc k) ranked few ∙ here.share_at_end none k,
-      λ unfinished. ap (λ n. 36 * n) (share-read (rank x) (suc k) ranked few) ∙ (here.share_before unfinished k few ∙ sym (shares-same k (omega arith))),
+      λ unfinished.
+          ap (λ n. 36 * n) (share-read (rank x) (suc k) ranked few)
+          ∙ (here.share_before unfinished k few ∙ sym (shares-same k (omega arith))),
     )
 
     is-local_at : IsLocalAt built x
-    is-local_at = record { means = record { played = is-played; best = is-best; mean_is = has-mean }; shares = has-share }
+    is-local_at = record {
+      means = record { played = is-played; best = is-best; mean_is = has-mean };
+      shares = has-share;
+    }
 
   -- the file is the built file of the bound
   pub is-built : IsBuilt 44 bound built
   is-built = record {
     bytes = built-bytes;
     bound_is = built-bound;
-    local = record { file = built-is_file; at_each = λ x at under. is-local_at x at (omega (arith, built-bound)) };
+    local = record {
+      file = built-is_file;
+      at_each = λ x at under. is-local_at x at (omega (arith, built-bound));
+    };
     lowest = λ x at under v is. is-lowest x at under v is;
   }

@@ -1,5 +1,5 @@
--- The records of the positions to 44 pips exist, whether or not anybody has made them: for each roll one of the
--- results is the best, and what is pulled from the records of lower rank is exact.
+-- The records of the positions to 44 pips exist, whether or not anybody has made them: for each
+-- roll one of the results is the best, and what is pulled from the records of lower rank is exact.
 use Rattle.std.proofs.Common.{◌≡◌, ◌⊎◌, inl, inr, ⊎_elim, ℕ, zero, suc, ◌+◌, ◌*◌, ◌/◌, ◌%◌, ◌^◌, ◌<◌, ◌≤◌, List, [], ◌∷◌, ◌++◌, length, get_or, map, replicate, sum_by, refl, sym, ap, subst, ◌∙◌, arith}
 use Rattle.std.specs.Prelude.{slice_index, slice_index_or}
 use Rattle.std.specs.List.{range_with_len}
@@ -33,16 +33,18 @@ use Rattle.retrograde.proofs.Grown.{one-more}
 
 -- a mean and a rank are no worse than others: a smaller mean, or as great a one and no higher rank
 abbrev NoWorse : ℕ → ℕ → ℕ → ℕ → Type 0
-NoWorse mean rank other_mean other_rank = (mean < other_mean) ⊎ ((mean ≡ other_mean) × (rank ≤ other_rank))
+NoWorse mean rank other_mean other_rank =
+    (mean < other_mean) ⊎ ((mean ≡ other_mean) × (rank ≤ other_rank))
 
 -- one of two is no worse than the other
 no-worse_or : (m r n q : ℕ) → NoWorse m r n q ⊎ NoWorse n q m r
 no-worse_or m r n q = ⊎_elim
     (λ less. inl (inl less))
     (λ more. ⊎_elim
-        (λ same. ⊎_elim (λ low. inl (inr (same, low))) (λ high. inr (inr (sym same, high))) (two r q))
-        (λ greater. inr (inl greater))
-        more)
+    (λ same.
+    ⊎_elim (λ low. inl (inr (same, low))) (λ high. inr (inr (sym same, high))) (two r q))
+    (λ greater. inr (inl greater))
+    more)
     (three m n)
   where
     two : (a b : ℕ) → (a ≤ b) ⊎ (b ≤ a)
@@ -55,12 +57,13 @@ no-worse_trans : (m r n q o p : ℕ) → NoWorse m r n q → NoWorse n q o p →
 no-worse_trans m r n q o p first second = ⊎_elim
     (λ less. ⊎_elim (λ more. inl (omega arith)) (λ same. inl (omega (arith, same.0))) second)
     (λ same. ⊎_elim (λ less. inl (omega (arith, same.0)))
-        (λ again. inr (same.0 ∙ again.0, omega (arith, same.1, again.1))) second)
+    (λ again. inr (same.0 ∙ again.0, omega (arith, same.1, again.1))) second)
     first
 
 -- .. of positions, by their means and ranks
 abbrev IsNoWorse : List ℕ → Board → Board → Type 0
-IsNoWorse means a b = NoWorse (slice_index means (rank a)) (rank a) (slice_index means (rank b)) (rank b)
+IsNoWorse means a b =
+    NoWorse (slice_index means (rank a)) (rank a) (slice_index means (rank b)) (rank b)
 
 -- of the members of a list, one is no worse than any
 record IsBestIn (means : List ℕ) (xs : List Board) : Type 0 where
@@ -79,10 +82,12 @@ best_in means x [] = record {
 best_in means x (y ∷ ys) = choose (best_in means y ys)
   where
     same : (z : Board) → z ≡ x → IsNoWorse means x z
-    same z e = inr (ap (λ (y : Board). slice_index means (rank y)) (sym e), omega (arith, ap rank e))
+    same z e =
+        inr (ap (λ (y : Board). slice_index means (rank y)) (sym e), omega (arith, ap rank e))
 
     trans : (a b c : Board) → IsNoWorse means a b → IsNoWorse means b c → IsNoWorse means a c
-    trans a b c = no-worse_trans (slice_index means (rank a)) (rank a) (slice_index means (rank b)) (rank b)
+    trans a b c =
+        no-worse_trans (slice_index means (rank a)) (rank a) (slice_index means (rank b)) (rank b)
         (slice_index means (rank c)) (rank c)
 
     choose : IsBestIn means (y ∷ ys) → IsBestIn means (x ∷ y ∷ ys)
@@ -95,9 +100,11 @@ best_in means x (y ∷ ys) = choose (best_in means y ys)
         (λ later. record {
           best = rest.best;
           member = inr rest.member;
-          no_worse = λ z h. ⊎_elim (λ e. trans rest.best x z later (same z e)) (λ k. rest.no_worse z k) h;
+          no_worse =
+              λ z h. ⊎_elim (λ e. trans rest.best x z later (same z e)) (λ k. rest.no_worse z k) h;
         })
-        (no-worse_or (slice_index means (rank x)) (rank x) (slice_index means (rank rest.best)) (rank rest.best))
+        (no-worse_or (slice_index means (rank x)) (rank x) (slice_index means (rank rest.best))
+        (rank rest.best))
 
 -- .. where it has a member
 best_of_some : (means : List ℕ) (xs : List Board) (y : Board) → IsIn y xs → IsBestIn means xs
@@ -117,25 +124,38 @@ best-exists means x v =
     lowest m r n q h e = ⊎_elim (λ less. absurd (omega arith)) (λ same. same.1) h
 
     play : IsBestIn means (all_results x v) → (r : ℕ) × IsBestPlay means x v r
-    play is = (rank is.best, record {
-      legal = (is.best, results_listed x v is.best is.member, refl);
-      least = λ z legal. at_most (slice_index means (rank is.best)) (rank is.best) (slice_index means (rank z)) (rank z)
-          (is.no_worse z (listed_results x v z legal));
-      lowest = λ z legal e. lowest (slice_index means (rank is.best)) (rank is.best) (slice_index means (rank z)) (rank z)
-          (is.no_worse z (listed_results x v z legal)) e;
-    })
+    play is = (
+      rank is.best,
+      record {
+        legal = (is.best, results_listed x v is.best is.member, refl);
+        least =
+            λ z legal.
+            at_most (slice_index means (rank is.best)) (rank is.best) (slice_index means (rank z))
+            (rank z)
+            (is.no_worse z (listed_results x v z legal));
+        lowest =
+            λ z legal e.
+            lowest (slice_index means (rank is.best)) (rank is.best) (slice_index means (rank z))
+            (rank z)
+            (is.no_worse z (listed_results x v z legal)) e;
+      },
+    )
 
 -- no share of a strategy is over the whole
-shares-whole : (x : Board) (mean : ℕ) (shares : List ℕ) → IsPosition x → pips x ≤ 44 → length shares ≡ 23
+shares-whole : (x : Board) (mean : ℕ) (shares : List ℕ) → IsPosition x → pips x ≤ 44 →
+    length shares ≡ 23
     → IsReached x mean shares → (k : ℕ) → slice_index shares k ≤ whole
 shares-whole x mean shares at low len reached k = ⊎_elim
     (λ inside.
-        let all = counts_add_up reached.strategy (within_22 x reached.strategy at (omega arith) reached.fits) in
-        let one = get_or-le-sum_by (count_of reached.strategy) (range_with_len 0 23) k 0 (omega arith) in
-        let place = get_or-range_with_len 0 23 k 0 inside in
-        let is = reached.counts k (omega arith) in
-        let same = ap (count_of reached.strategy) (place ∙ zero-add k) in
-        omega (arith, all, one, same, is))
+    let all =
+    counts_add_up reached.strategy
+    (within_22 x reached.strategy at (omega arith) reached.fits) in
+    let one =
+    get_or-le-sum_by (count_of reached.strategy) (range_with_len 0 23) k 0 (omega arith) in
+    let place = get_or-range_with_len 0 23 k 0 inside in
+    let is = reached.counts k (omega arith) in
+    let same = ap (count_of reached.strategy) (place ∙ zero-add k) in
+    omega (arith, all, one, same, is))
     (λ past. omega (arith, get_or_past shares k 0 (omega arith)))
     (split k)
   where
@@ -182,9 +202,11 @@ next-of n means spreads mean played shares low small plays_len shares_len made r
   short : (i : ℕ) → get_or played i 0 < 2 ^ 16
   short i = ⊎_elim
       (λ inside.
-          let best = made.best i inside in
-          let at = legal_position (at_rank n) (roll_at i) best.legal.0 (at_rank_position n) best.legal.1 in
-          omega (arith, rank-range best.legal.0 at, best.legal.2))
+      let best = made.best i inside in
+      let at =
+      legal_position (at_rank n) (roll_at i) best.legal.0 (at_rank_position n)
+      best.legal.1 in
+      omega (arith, rank-range best.legal.0 at, best.legal.2))
       (λ past. omega (arith, get_or_past played i 0 (omega arith)))
       (split i)
 
@@ -198,17 +220,19 @@ zeros zero i = omega arith
 zeros (suc m) zero = refl
 zeros (suc m) (suc i) = zeros m i
 
-next-at_end : (n : ℕ) (means : List ℕ) (spreads : List (List ℕ)) → pips (at_rank n) ≤ 44 → IsFinished (at_rank n)
+next-at_end : (n : ℕ) (means : List ℕ) (spreads : List (List ℕ)) → pips (at_rank n) ≤ 44 →
+    IsFinished (at_rank n)
     → HasNext n means spreads
 next-at_end n means spreads low none =
     next-of n means spreads 0 (replicate 21 0) (whole ∷ replicate 22 0) low (omega arith) refl refl
     (made-at_end means spreads (at_rank n) 0 (replicate 21 0) (whole ∷ replicate 22 0) (at_rank_position n) none refl
-        (zeros 21) refl (zeros 22))
+    (zeros 21) refl (zeros 22))
     (stop-reached (at_rank n) 0 (whole ∷ replicate 22 0) none refl refl (zeros 22))
 
 -- .. and that of any other
 module _ (n : ℕ) (means : List ℕ) (spreads : List (List ℕ)) (low : pips (at_rank n) ≤ 44)
-    (unfinished : ¬ IsFinished (at_rank n)) (reached : ReachedBelow (rank (at_rank n)) means spreads) where
+    (unfinished : ¬ IsFinished (at_rank n))
+    (reached : ReachedBelow (rank (at_rank n)) means spreads) where
   play : ℕ → ℕ
   play i = (best-exists means (at_rank n) (roll_at i)).0
 
@@ -227,7 +251,9 @@ module _ (n : ℕ) (means : List ℕ) (spreads : List (List ℕ)) (low : pips (a
       (best-exists means (at_rank n) (roll_at i)).1
 
   mean : (mean : ℕ) × ((mean ≤ 22 * whole) × (36 * mean ≡ 36 * whole + sum_of_means means played))
-  mean = can-pull_mean (at_rank n) (at_rank_position n) unfinished low means spreads reached played best
+  mean =
+      can-pull_mean (at_rank n) (at_rank_position n) unfinished low means spreads reached played
+      best
 
   share : ℕ → ℕ
   share k = sum_of_shares spreads played k / 36
@@ -247,7 +273,9 @@ module _ (n : ℕ) (means : List ℕ) (spreads : List (List ℕ)) (low : pips (a
   unfolding share shares
   moved k lt =
       let here = get_or-map-range_with_len share 0 22 k k 0 lt (omega arith) in
-      let exact = can-pull_shares (at_rank n) (at_rank_position n) unfinished low means spreads reached played best k lt in
+      let exact =
+      can-pull_shares (at_rank n) (at_rank_position n) unfinished low means spreads reached
+      played best k lt in
       whole-part (sum_of_shares spreads played k) (slice_index shares (suc k)) here exact
     where
       whole-part : (m q : ℕ) → q ≡ m / 36 → m % 36 ≡ 0 → 36 * q ≡ m
@@ -256,9 +284,10 @@ module _ (n : ℕ) (means : List ℕ) (spreads : List (List ℕ)) (low : pips (a
   next-before : HasNext n means spreads
   next-before =
       next-of n means spreads mean.0 played shares low mean.1.0 played-len shares-len
-      (made-before means spreads (at_rank n) mean.0 played shares unfinished best mean.1.1 start moved)
+      (made-before means spreads (at_rank n) mean.0 played shares unfinished best mean.1.1 start
+      moved)
       (next-is_reached (at_rank n) (at_rank_position n) unfinished low means spreads reached played best mean.0 shares
-          mean.1.1 start moved)
+      mean.1.1 start moved)
 
 -- so each rank has one
 next-exists : (n : ℕ) (means : List ℕ) (plays spreads : List (List ℕ)) → n < count_to 44
@@ -268,7 +297,7 @@ next-exists n means plays spreads under are =
     ⊎_elim
     (next-at_end n means spreads place.1)
     (λ unfinished. next-before n means spreads place.1 unfinished
-        (λ r lt. are.reached r (omega (arith, place.0))))
+    (λ r lt. are.reached r (omega (arith, place.0))))
     (finished_or_not (at_rank n))
 
 -- lists of one length, and one more
@@ -278,7 +307,7 @@ all-of : (n : ℕ) (xs : List (List ℕ)) (y : List ℕ) (size : ℕ) → length
 all-of n xs y size len each last r lt = ⊎_elim
     (λ inside. ap length (get_or-append xs (y ∷ []) [] r (omega arith)) ∙ each r inside)
     (λ at. subst (λ (m : ℕ). length (get_or (xs ++ y ∷ []) m []) ≡ size) (len ∙ sym at)
-        (ap length (get_or-append_seam xs y [] []) ∙ last))
+    (ap length (get_or-append_seam xs y [] []) ∙ last))
     (split r n lt)
   where
     split : (a b : ℕ) → a < suc b → (a < b) ⊎ (a ≡ b)
@@ -298,12 +327,13 @@ records-more n under has = more (next-exists n has.means has.plays has.spreads u
       spreads = has.spreads ++ next.shares ∷ [];
       made = subst
           (λ (m : ℕ). AreMade m (has.means ++ next.mean ∷ []) (has.plays ++ next.played ∷ [])
-              (has.spreads ++ next.shares ∷ []))
+          (has.spreads ++ next.shares ∷ []))
           (omega arith)
           (one-more n has.means has.plays has.spreads next.mean next.played next.shares low has.made next.made
-              next.reached next.reads);
+          next.reached next.reads);
       plays_len = all-of n has.plays next.played 21 has.made.plays_len has.plays_len next.plays_len;
-      shares_len = all-of n has.spreads next.shares 23 has.made.spreads_len has.shares_len next.shares_len;
+      shares_len =
+          all-of n has.spreads next.shares 23 has.made.spreads_len has.shares_len next.shares_len;
     }
 
 -- the records of the first ranks

@@ -7,7 +7,8 @@ use Rattle.db_layout.specs.Records.{record_of}
 use Rattle.retrograde.specs.KeptRecords.{AreKept}
 
 -- the first shares are given up
-pub kept-fewer : (full : AllRecords) (means : List ℕ) (spreads others plays : List (List ℕ)) → others ≡ drop 1 spreads
+pub kept-fewer : (full : AllRecords) (means : List ℕ) (spreads others plays : List (List ℕ)) →
+    others ≡ drop 1 spreads
     → 0 < length spreads → AreKept full means spreads plays → AreKept full means others plays
 kept-fewer full means spreads others plays e some kept = record {
   means_are = kept.means_are;
@@ -27,10 +28,13 @@ kept-fewer full means spreads others plays e some kept = record {
   place i = omega (arith, fewer, kept.spreads_few)
 
 -- the bytes of a record whose plays are kept
-pub kept-bytes : (full : AllRecords) (means : List ℕ) (spreads plays : List (List ℕ)) → AreKept full means spreads plays
-    → (index place mean : ℕ) (shares : List ℕ) → index < length plays → place ≡ length means - length plays + index
+pub kept-bytes : (full : AllRecords) (means : List ℕ) (spreads plays : List (List ℕ)) →
+    AreKept full means spreads plays
+    → (index place mean : ℕ) (shares : List ℕ) → index < length plays →
+    place ≡ length means - length plays + index
     → mean ≡ slice_index means place → shares ≡ shares_of_rank full place
-    → record_of mean (get_or plays index []) shares ≡ bytes_of_rank full (length means - length plays + index)
+    → record_of mean (get_or plays index []) shares
+    ≡ bytes_of_rank full (length means - length plays + index)
 kept-bytes full means spreads plays kept index place mean shares lt e mean_is shares_is =
     let held : place < length means = omega (arith, kept.plays_few) in
     let m = mean_is ∙ (kept.means_are place held ∙ ap (mean_of_rank full) e) in
@@ -39,4 +43,4 @@ kept-bytes full means spreads plays kept index place mean shares lt e mean_is sh
     ap (λ m. record_of m (get_or plays index []) shares) m
     ∙ (ap (λ (p : List ℕ). record_of (mean_of_rank full (length means - length plays + index)) p shares) p
     ∙ ap (λ (s : List ℕ). record_of (mean_of_rank full (length means - length plays + index))
-        (plays_of_rank full (length means - length plays + index)) s) s)
+    (plays_of_rank full (length means - length plays + index)) s) s)

@@ -9,11 +9,11 @@ use Rattle.race_model.proofs.Ranks.PositionTotals.{at_rank_under}
 pub pips-at_rank : (p r : ℕ) → first_of p ≤ r → r < count_to p → pips (at_rank r) ≡ p
 pips-at_rank p r from under = ⊎_elim
     (λ less.
-        let place = at_rank_under p r under in
-        let within = rank_within (at_rank r) (at_rank_position r) in
-        let next = first_of-suc (pips (at_rank r)) in
-        let rises = first_of-rises (suc (pips (at_rank r))) p less in
-        absurd (omega (arith, place.0, within.1)))
+    let place = at_rank_under p r under in
+    let within = rank_within (at_rank r) (at_rank_position r) in
+    let next = first_of-suc (pips (at_rank r)) in
+    let rises = first_of-rises (suc (pips (at_rank r))) p less in
+    absurd (omega (arith, place.0, within.1)))
     (λ more. let place = at_rank_under p r under in omega (arith, place.1))
     (split (pips (at_rank r)) p)
   where

@@ -16,23 +16,29 @@ use Rattle.retrograde.proofs.Best.{best-at_end}
 use Rattle.retrograde.proofs.Turns.{mean-exact, shares-exact, no-last, pulled-reached}
 
 -- what a throw leads to from an unfinished position has a lower rank
-pub legal-lower : (x : Board) (v : Throw) (z : Board) → IsPosition x → ¬ IsFinished x → Legal x v z → rank z < rank x
-legal-lower x v z at unfinished legal = rank-fewer z x (legal_position x v z at legal) at (legal_fewer_pips x v z unfinished legal)
+pub legal-lower : (x : Board) (v : Throw) (z : Board) → IsPosition x → ¬ IsFinished x →
+    Legal x v z → rank z < rank x
+legal-lower x v z at unfinished legal =
+    rank-fewer z x (legal_position x v z at legal) at (legal_fewer_pips x v z unfinished legal)
 
 -- the best play leads to the position of its rank
-pub best-legal : (means : List ℕ) (x : Board) (v : Throw) (r : ℕ) → IsPosition x → IsBestPlay means x v r → (Legal x v (at_rank r)) × (rank (at_rank r) ≡ r)
+pub best-legal : (means : List ℕ) (x : Board) (v : Throw) (r : ℕ) → IsPosition x →
+    IsBestPlay means x v r → (Legal x v (at_rank r)) × (rank (at_rank r) ≡ r)
 best-legal means x v r at best =
     let z = best.legal.0 in
     let leads = best.legal.1 in
-    let found : at_rank r ≡ z = ap at_rank (sym best.legal.2) ∙ at_rank-rank z (legal_position x v z at leads) in
+    let found : at_rank r ≡ z =
+    ap at_rank (sym best.legal.2) ∙ at_rank-rank z (legal_position x v z at leads) in
     (subst (λ (y : Board). Legal x v y) (sym found) leads, ap rank found ∙ best.legal.2)
 
 -- strategies have the means and the shares of the ranks below one
 abbrev pub ReachedBelow : ℕ → List ℕ → List (List ℕ) → Type 0
-ReachedBelow n means spreads = (r : ℕ) → r < n → IsReached (at_rank r) (slice_index means r) (shares_of spreads r)
+ReachedBelow n means spreads =
+    (r : ℕ) → r < n → IsReached (at_rank r) (slice_index means r) (shares_of spreads r)
 
 -- an unfinished position, the records of lower rank, and the best plays
-module _ (x : Board) (at : IsPosition x) (unfinished : ¬ IsFinished x) (low : pips x ≤ 44) (means : List ℕ)
+module _ (x : Board) (at : IsPosition x) (unfinished : ¬ IsFinished x) (low : pips x ≤ 44)
+    (means : List ℕ)
     (spreads : List (List ℕ)) (reached : ReachedBelow (rank x) means spreads) (plays : List ℕ)
     (best : (i : ℕ) → i < 21 → IsBestPlay means x (roll_at i) (slice_index plays i)) where
   goes : (i : ℕ) → i < 21 → Legal x (roll_at i) (at_rank (slice_index plays i))
@@ -41,33 +47,54 @@ module _ (x : Board) (at : IsPosition x) (unfinished : ¬ IsFinished x) (low : p
   -- the plays lead to lower ranks
   pub play-lower : (i : ℕ) → i < 21 → slice_index plays i < rank x
   play-lower i lt =
-      let lower = legal-lower x (roll_at i) (best i lt).legal.0 at unfinished (best i lt).legal.1 in
+      let lower =
+      legal-lower x (roll_at i) (best i lt).legal.0 at unfinished (best i lt).legal.1 in
       let is = (best i lt).legal.2 in
       omega arith
 
   -- where strategies go on
-  next-reached : (v : Throw) → IsReached (at_rank (slice_index plays (roll_index v))) (slice_index means (slice_index plays (roll_index v))) (shares_of spreads (slice_index plays (roll_index v)))
-  next-reached v = reached (slice_index plays (roll_index v)) (play-lower (roll_index v) (roll_index-range v))
+  next-reached : (v : Throw) →
+      IsReached (at_rank (slice_index plays (roll_index v)))
+      (slice_index means (slice_index plays (roll_index v)))
+      (shares_of spreads (slice_index plays (roll_index v)))
+  next-reached v =
+      reached (slice_index plays (roll_index v)) (play-lower (roll_index v) (roll_index-range v))
 
   -- the mean can be pulled
-  pub can-pull_mean : (mean : ℕ) × ((mean ≤ 22 * whole) × (36 * mean ≡ 36 * whole + sum_of_means means plays))
+  pub can-pull_mean : (mean : ℕ)
+      × ((mean ≤ 22 * whole) × (36 * mean ≡ 36 * whole + sum_of_means means plays))
   can-pull_mean = mean-exact x at (omega arith) unfinished means spreads plays goes next-reached
 
   -- .. and the shares
   pub can-pull_shares : (k : ℕ) → k < 22 → sum_of_shares spreads plays k % 36 ≡ 0
-  can-pull_shares = shares-exact x at (omega arith) unfinished means spreads plays goes next-reached
+  can-pull_shares =
+      shares-exact x at (omega arith) unfinished means spreads plays goes next-reached
 
   pub has-room : (i : ℕ) → i < 21 → slice_index (shares_of spreads (slice_index plays i)) 22 ≡ 0
-  has-room i lt = subst (λ (j : ℕ). slice_index (shares_of spreads (slice_index plays j)) 22 ≡ 0) (roll_of_index i lt).1 (no-last x at (omega arith) unfinished means spreads plays goes next-reached (roll_at i))
+  has-room i lt =
+      subst (λ (j : ℕ). slice_index (shares_of spreads (slice_index plays j)) 22 ≡ 0)
+      (roll_of_index i lt).1
+      (no-last x at (omega arith) unfinished means spreads plays goes next-reached (roll_at i))
 
   -- and a strategy has them
-  pub next-is_reached : (mean : ℕ) (shares : List ℕ) → 36 * mean ≡ 36 * whole + sum_of_means means plays → slice_index shares 0 ≡ 0 → ((k : ℕ) → k < 22 → 36 * slice_index shares (suc k) ≡ sum_of_shares spreads plays k) → IsReached x mean shares
-  next-is_reached = pulled-reached x at (omega arith) unfinished means spreads plays goes next-reached
+  pub next-is_reached : (mean : ℕ) (shares : List ℕ) →
+      36 * mean ≡ 36 * whole + sum_of_means means plays → slice_index shares 0 ≡ 0 →
+      ((k : ℕ) → k < 22 → 36 * slice_index shares (suc k) ≡ sum_of_shares spreads plays k) →
+      IsReached x mean shares
+  next-is_reached =
+      pulled-reached x at (omega arith) unfinished means spreads plays goes next-reached
 
 -- the record of the finished position
-pub made-at_end : (means : List ℕ) (spreads : List (List ℕ)) (x : Board) (mean : ℕ) (plays shares : List ℕ) → IsPosition x → IsFinished x → mean ≡ 0 → ((i : ℕ) → slice_index plays i ≡ 0) → slice_index shares 0 ≡ whole → ((k : ℕ) → slice_index shares (suc k) ≡ 0) → IsMade means spreads x mean plays shares
+pub made-at_end :
+    (means : List ℕ) (spreads : List (List ℕ)) (x : Board) (mean : ℕ) (plays shares : List ℕ) →
+    IsPosition x → IsFinished x → mean ≡ 0 → ((i : ℕ) → slice_index plays i ≡ 0) →
+    slice_index shares 0 ≡ whole → ((k : ℕ) → slice_index shares (suc k) ≡ 0) →
+    IsMade means spreads x mean plays shares
 made-at_end means spreads x mean plays shares at none mean_is none_played start more = record {
-  best = λ i lt. subst (λ (r : ℕ). IsBestPlay means x (roll_at i) r) (sym (none_played i)) (best-at_end means x (roll_at i) at none);
+  best =
+      λ i lt.
+      subst (λ (r : ℕ). IsBestPlay means x (roll_at i) r) (sym (none_played i))
+      (best-at_end means x (roll_at i) at none);
   mean_at_end = λ _. mean_is;
   mean_before = λ unfinished. absurd (unfinished none);
   start_at_end = λ _. start;
@@ -77,7 +104,12 @@ made-at_end means spreads x mean plays shares at none mean_is none_played start 
 }
 
 -- .. and that of another one
-pub made-before : (means : List ℕ) (spreads : List (List ℕ)) (x : Board) (mean : ℕ) (plays shares : List ℕ) → ¬ IsFinished x → ((i : ℕ) → i < 21 → IsBestPlay means x (roll_at i) (slice_index plays i)) → 36 * mean ≡ 36 * whole + sum_of_means means plays → slice_index shares 0 ≡ 0 → ((k : ℕ) → k < 22 → 36 * slice_index shares (suc k) ≡ sum_of_shares spreads plays k) → IsMade means spreads x mean plays shares
+pub made-before :
+    (means : List ℕ) (spreads : List (List ℕ)) (x : Board) (mean : ℕ) (plays shares : List ℕ) →
+    ¬ IsFinished x → ((i : ℕ) → i < 21 → IsBestPlay means x (roll_at i) (slice_index plays i)) →
+    36 * mean ≡ 36 * whole + sum_of_means means plays → slice_index shares 0 ≡ 0 →
+    ((k : ℕ) → k < 22 → 36 * slice_index shares (suc k) ≡ sum_of_shares spreads plays k) →
+    IsMade means spreads x mean plays shares
 made-before means spreads x mean plays shares unfinished best mean_is start moved = record {
   best = best;
   mean_at_end = λ none. absurd (unfinished none);

@@ -24,129 +24,167 @@ take-front (suc k) (x ∷ xs) ys =
     (suc rest.0, ap (λ zs. x ∷ zs) rest.1)
 
 -- a prefix after a front
-take-behind : {X : Type 0} (k : ℕ) (xs ys : List X) → (m : ℕ) × (xs ++ take k ys ≡ take m (xs ++ ys))
+take-behind : {X : Type 0} (k : ℕ) (xs ys : List X) →
+    (m : ℕ) × (xs ++ take k ys ≡ take m (xs ++ ys))
 take-behind k [] ys = (k, refl)
 take-behind k (x ∷ xs) ys =
     let rest = take-behind k xs ys in
     (suc rest.0, ap (λ zs. x ∷ zs) rest.1)
 
 -- bytes that grow by a front and then by a prefix of what comes next have grown by a prefix of all
-pub flat_map-take_more : (old mid new : Option (List ℕ)) (front next rest : List ℕ) → Appends old mid front
+pub flat_map-take_more : (old mid new : Option (List ℕ)) (front next rest : List ℕ) →
+    Appends old mid front
     → AppendsPart mid new next → AppendsPart old new (front ++ (next ++ rest))
 flat_map-take_more old mid new front next rest before part =
     let first = take-front part.0 next rest in
     let all = take-behind first.0 front (next ++ rest) in
-    let both = appends_twice old mid new front (take part.0 next) before part.1 in
-    (all.0, subst (λ (bs : List ℕ). Appends old new bs) (ap (λ (bs : List ℕ). front ++ bs) first.1 ∙ all.1) both)
+    let both = appends_twice old mid new front (take part.0 next) before part.1 in (
+      all.0,
+      subst (λ (bs : List ℕ). Appends old new bs)
+          (ap (λ (bs : List ℕ). front ++ bs) first.1 ∙ all.1) both,
+    )
 
 -- .. and so have bytes that grow by a front alone
 pub front-part : (old new : Option (List ℕ)) (front rest : List ℕ) → Appends old new front
     → AppendsPart old new (front ++ rest)
-front-part old new front rest all =
-    (length front, subst (λ (bs : List ℕ). Appends old new bs) (sym (take-append_seam front rest)) all)
+front-part old new front rest all = (
+  length front,
+  subst (λ (bs : List ℕ). Appends old new bs) (sym (take-append_seam front rest)) all,
+)
 
 -- no byte is a prefix of any
-pub nothing-part : (old new : Option (List ℕ)) (bytes : List ℕ) → Appends old new [] → AppendsPart old new bytes
+pub nothing-part : (old new : Option (List ℕ)) (bytes : List ℕ) → Appends old new [] →
+    AppendsPart old new bytes
 nothing-part old new bytes none = (0, none)
 
 -- the records of n ranks from a rank on, up to one of them and after it
 pub records-apart : (full : AllRecords) (r i n : ℕ) → i < n → records_from (bytes_of_rank full) r n
-    ≡ records_from (bytes_of_rank full) r i ++ (bytes_of_rank full (r + i) ++ records_from (bytes_of_rank full) (r + i + 1) (n - i - 1))
+    ≡ records_from (bytes_of_rank full) r i
+    ++ (bytes_of_rank full (r + i)
+    ++ records_from (bytes_of_rank full) (r + i + 1) (n - i - 1))
 records-apart full r i n lt =
     let all : n ≡ i + (1 + (n - i - 1)) = omega arith in
     ap (records_from (bytes_of_rank full) r) all
     ∙ (records-split (bytes_of_rank full) r i (1 + (n - i - 1))
     ∙ ap (λ (bs : List ℕ). records_from (bytes_of_rank full) r i ++ bs)
-        (records-split (bytes_of_rank full) (r + i) 1 (n - i - 1)
-        ∙ ap (λ (bs : List ℕ). bs ++ records_from (bytes_of_rank full) (r + i + 1) (n - i - 1))
-            (records-one (bytes_of_rank full) (r + i))))
+    (records-split (bytes_of_rank full) (r + i) 1 (n - i - 1)
+    ∙ ap (λ (bs : List ℕ). bs ++ records_from (bytes_of_rank full) (r + i + 1) (n - i - 1))
+    (records-one (bytes_of_rank full) (r + i))))
 
 -- one record more
 pub records-next : (full : AllRecords) (r i : ℕ) → records_from (bytes_of_rank full) r (i + 1)
     ≡ records_from (bytes_of_rank full) r i ++ bytes_of_rank full (r + i)
 records-next full r i =
     records-split (bytes_of_rank full) r i 1
-    ∙ ap (λ (bs : List ℕ). records_from (bytes_of_rank full) r i ++ bs) (records-one (bytes_of_rank full) (r + i))
+    ∙ ap (λ (bs : List ℕ). records_from (bytes_of_rank full) r i ++ bs)
+    (records-one (bytes_of_rank full) (r + i))
 
 -- the built file of a bound
 module _ (full : AllRecords) (bound : ℕ) (low : bound ≤ 44) where
   -- up to a rank, the records of more ranks, and the rest
   pub built-split : (n m : ℕ) → n + m ≤ count_to bound → built_file full bound
-      ≡ built_to full bound n ++ (records_from (bytes_of_rank full) n m ++ records_from (bytes_of_rank full) (n + m) (count_to bound - (n + m)))
+      ≡ built_to full bound n
+      ++ (records_from (bytes_of_rank full) n m
+      ++ records_from (bytes_of_rank full) (n + m) (count_to bound - (n + m)))
   built-split n m le =
       let all : count_to bound ≡ n + (m + (count_to bound - (n + m))) = omega arith in
       let here : 0 + n ≡ n = omega arith in
       ap (built_to full bound) all
       ∙ (ap (λ (bs : List ℕ). header bound ++ bs)
-          (records-split (bytes_of_rank full) 0 n (m + (count_to bound - (n + m)))
-          ∙ ap (λ (r : ℕ). records_from (bytes_of_rank full) 0 n ++ records_from (bytes_of_rank full) r (m + (count_to bound - (n + m)))) here
-          ∙ ap (λ (bs : List ℕ). records_from (bytes_of_rank full) 0 n ++ bs)
-              (records-split (bytes_of_rank full) n m (count_to bound - (n + m))))
+      (records-split (bytes_of_rank full) 0 n (m + (count_to bound - (n + m)))
+      ∙ ap
+      (λ (r : ℕ).
+      records_from (bytes_of_rank full) 0 n
+      ++ records_from (bytes_of_rank full) r (m + (count_to bound - (n + m)))) here
+      ∙ ap (λ (bs : List ℕ). records_from (bytes_of_rank full) 0 n ++ bs)
+      (records-split (bytes_of_rank full) n m (count_to bound - (n + m))))
       ∙ sym (append_assoc (header bound) (records_from (bytes_of_rank full) 0 n)
-          (records_from (bytes_of_rank full) n m ++ records_from (bytes_of_rank full) (n + m) (count_to bound - (n + m)))))
+      (records_from (bytes_of_rank full) n m
+      ++ records_from (bytes_of_rank full) (n + m) (count_to bound - (n + m)))))
 
   -- up to more ranks
-  pub built-more : (n m : ℕ) → built_to full bound n ++ records_from (bytes_of_rank full) n m ≡ built_to full bound (n + m)
+  pub built-more : (n m : ℕ) →
+      built_to full bound n ++ records_from (bytes_of_rank full) n m ≡ built_to full bound (n + m)
   built-more n m =
       let here : 0 + n ≡ n = omega arith in
-      append_assoc (header bound) (records_from (bytes_of_rank full) 0 n) (records_from (bytes_of_rank full) n m)
+      append_assoc (header bound) (records_from (bytes_of_rank full) 0 n)
+      (records_from (bytes_of_rank full) n m)
       ∙ ap (λ (bs : List ℕ). header bound ++ bs)
-          (sym (records-split (bytes_of_rank full) 0 n m
-          ∙ ap (λ (r : ℕ). records_from (bytes_of_rank full) 0 n ++ records_from (bytes_of_rank full) r m) here))
+      (sym (records-split (bytes_of_rank full) 0 n m
+      ∙ ap
+      (λ (r : ℕ).
+      records_from (bytes_of_rank full) 0 n ++ records_from (bytes_of_rank full) r m)
+      here))
 
   -- a prefix of the built file
-  pub part-refused : (old new : Option (List ℕ)) → AppendsPart old new (built_file full bound) → WritesPart bound old new
+  pub part-refused : (old new : Option (List ℕ)) → AppendsPart old new (built_file full bound) →
+      WritesPart bound old new
   part-refused old new part = (built_file full bound, is-built full bound low, part)
 
   -- nothing was written
   pub nothing-written : (old new : Option (List ℕ)) → Appends old new [] → WritesPart bound old new
-  nothing-written old new none = part-refused old new (nothing-part old new (built_file full bound) none)
+  nothing-written old new none =
+      part-refused old new (nothing-part old new (built_file full bound) none)
 
   -- a prefix of the header
-  pub header-written : (old new : Option (List ℕ)) → AppendsPart old new (header bound) → WritesPart bound old new
+  pub header-written : (old new : Option (List ℕ)) → AppendsPart old new (header bound) →
+      WritesPart bound old new
   header-written old new part =
       part-refused old new
       (let first = take-front part.0 (header bound) (records_from (bytes_of_rank full) 0 (count_to bound)) in
       (first.0, subst (λ (bs : List ℕ). Appends old new bs) first.1 part.1))
 
   -- the header and no record
-  pub header-first : (old new : Option (List ℕ)) → Appends old new (header bound) → Appends old new (built_to full bound 0)
+  pub header-first : (old new : Option (List ℕ)) → Appends old new (header bound) →
+      Appends old new (built_to full bound 0)
   unfolding records_from
-  header-first old new all = subst (λ (bs : List ℕ). Appends old new bs) (sym (append-nil (header bound))) all
+  header-first old new all =
+      subst (λ (bs : List ℕ). Appends old new bs) (sym (append-nil (header bound))) all
 
   -- the file up to a rank
-  pub ranks-written : (old new : Option (List ℕ)) (n : ℕ) → n ≤ count_to bound → Appends old new (built_to full bound n)
+  pub ranks-written : (old new : Option (List ℕ)) (n : ℕ) → n ≤ count_to bound →
+      Appends old new (built_to full bound n)
       → WritesPart bound old new
   ranks-written old new n le all =
       part-refused old new
       (subst (λ (bs : List ℕ). AppendsPart old new bs) (sym (built-split n 0 (omega arith)))
       (front-part old new (built_to full bound n)
-          (records_from (bytes_of_rank full) n 0 ++ records_from (bytes_of_rank full) (n + 0) (count_to bound - (n + 0))) all))
+      (records_from (bytes_of_rank full) n 0
+      ++ records_from (bytes_of_rank full) (n + 0) (count_to bound - (n + 0))) all))
 
   -- .. and a prefix of more ranks
   pub more-written : (old mid new : Option (List ℕ)) (n m : ℕ) → n + m ≤ count_to bound
-      → Appends old mid (built_to full bound n) → AppendsPart mid new (records_from (bytes_of_rank full) n m)
+      → Appends old mid (built_to full bound n) →
+      AppendsPart mid new (records_from (bytes_of_rank full) n m)
       → WritesPart bound old new
   more-written old mid new n m le before part =
       part-refused old new
       (subst (λ (bs : List ℕ). AppendsPart old new bs) (sym (built-split n m le))
       (flat_map-take_more old mid new (built_to full bound n) (records_from (bytes_of_rank full) n m)
-          (records_from (bytes_of_rank full) (n + m) (count_to bound - (n + m))) before part))
+      (records_from (bytes_of_rank full) (n + m) (count_to bound - (n + m))) before part))
 
   -- .. and all of them
-  pub level-written : (old mid new : Option (List ℕ)) (n m : ℕ) → Appends old mid (built_to full bound n)
-      → Appends mid new (records_from (bytes_of_rank full) n m) → Appends old new (built_to full bound (n + m))
+  pub level-written : (old mid new : Option (List ℕ)) (n m : ℕ) →
+      Appends old mid (built_to full bound n)
+      → Appends mid new (records_from (bytes_of_rank full) n m) →
+      Appends old new (built_to full bound (n + m))
   level-written old mid new n m before all =
       subst (λ (bs : List ℕ). Appends old new bs) (built-more n m)
-      (appends_twice old mid new (built_to full bound n) (records_from (bytes_of_rank full) n m) before all)
+      (appends_twice old mid new (built_to full bound n) (records_from (bytes_of_rank full) n m)
+      before all)
 
   -- the whole file, and nothing else
-  pub all-written : (old new : Option (List ℕ)) (n : ℕ) → n ≡ count_to bound → Appends old new (built_to full bound n)
+  pub all-written : (old new : Option (List ℕ)) (n : ℕ) → n ≡ count_to bound →
+      Appends old new (built_to full bound n)
       → WritesBuilt bound old new
-  all-written old new n e all =
-      (built_file full bound, is-built full bound low, subst (λ (m : ℕ). Appends old new (built_to full bound m)) e all)
+  all-written old new n e all = (
+    built_file full bound,
+    is-built full bound low,
+    subst (λ (m : ℕ). Appends old new (built_to full bound m)) e all,
+  )
 
 -- what holds of the one error that there can be
-pub one-error : {T E : Type 0} (r : Result T E) (e : E) (P : E → Type 0) → IsErrAnd r (λ y. y ≡ e) → P e → IfErr r P
+pub one-error : {T E : Type 0} (r : Result T E) (e : E) (P : E → Type 0) →
+    IsErrAnd r (λ y. y ≡ e) → P e → IfErr r P
 one-error (Ok x) e P h p = tt
 one-error (Err y) e P h p = subst P (sym h) p

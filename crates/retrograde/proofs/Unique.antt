@@ -22,10 +22,13 @@ use Rattle.retrograde.proofs.Next.{ReachedBelow, legal-lower, can-pull_shares, h
 use Rattle.retrograde.proofs.Turns.{total-small}
 
 -- a throw has one best play
-best-one : (means : List ℕ) (x : Board) (v : Throw) (r q : ℕ) → IsBestPlay means x v r → IsBestPlay means x v q → r ≡ q
+best-one : (means : List ℕ) (x : Board) (v : Throw) (r q : ℕ) → IsBestPlay means x v r →
+    IsBestPlay means x v q → r ≡ q
 best-one means x v r q first second =
-    let there : slice_index means (rank second.legal.0) ≡ slice_index means q = ap (slice_index means) second.legal.2 in
-    let here : slice_index means (rank first.legal.0) ≡ slice_index means r = ap (slice_index means) first.legal.2 in
+    let there : slice_index means (rank second.legal.0) ≡ slice_index means q =
+    ap (slice_index means) second.legal.2 in
+    let here : slice_index means (rank first.legal.0) ≡ slice_index means r =
+    ap (slice_index means) first.legal.2 in
     let a = first.least second.legal.0 second.legal.1 in
     let b = second.least first.legal.0 first.legal.1 in
     let low = first.lowest second.legal.0 second.legal.1 (omega arith) in
@@ -37,7 +40,8 @@ best-one means x v r q first second =
 -- the best play by the means of the results is the best by all means
 best-by_all : (means others : List ℕ) (x : Board) (v : Throw) (r : ℕ)
     → ((q : ℕ) → q < length means → slice_index means q ≡ slice_index others q)
-    → ((z : Board) → Legal x v z → rank z < length means) → IsBestPlay means x v r → IsBestPlay others x v r
+    → ((z : Board) → Legal x v z → rank z < length means) → IsBestPlay means x v r →
+    IsBestPlay others x v r
 best-by_all means others x v r agree held best =
     let lt : r < length means = omega (arith, held best.legal.0 best.legal.1, best.legal.2) in
     let here = agree r lt in
@@ -61,13 +65,16 @@ module _ (full : AllRecords) (x : Board) (at : IsPosition x) (low : pips x ≤ 4
   under = (rank_bound x 44 at).1 low
 
   -- what is said of its record
-  made : IsMade full.means full.spreads x (mean_of_rank full (rank x)) (plays_of_rank full (rank x))
+  made : IsMade full.means full.spreads x (mean_of_rank full (rank x))
+      (plays_of_rank full (rank x))
       (shares_of_rank full (rank x))
   made = subst (λ (y : Board). IsMade full.means full.spreads y (mean_of_rank full (rank x)) (plays_of_rank full (rank x))
       (shares_of_rank full (rank x))) (at_rank-rank x at) (full.made.made (rank x) under)
 
   reached : IsReached x (mean_of_rank full (rank x)) (shares_of_rank full (rank x))
-  reached = subst (λ (y : Board). IsReached y (mean_of_rank full (rank x)) (shares_of_rank full (rank x)))
+  reached =
+      subst
+      (λ (y : Board). IsReached y (mean_of_rank full (rank x)) (shares_of_rank full (rank x)))
       (at_rank-rank x at) (full.made.reached (rank x) under)
 
   reached-below : ReachedBelow (rank x) full.means full.spreads
@@ -92,7 +99,8 @@ module _ (full : AllRecords) (x : Board) (at : IsPosition x) (low : pips x ≤ 4
       → ((k : ℕ) → k < 23 → slice_index shares k ≡ slice_index (shares_of_rank full (rank x)) k)
       → shares ≡ shares_of_rank full (rank x)
   shares-are shares len each =
-      ext_get_or 0 shares (shares_of_rank full (rank x)) (len ∙ sym (full.shares_len (rank x) under))
+      ext_get_or 0 shares (shares_of_rank full (rank x))
+      (len ∙ sym (full.shares_len (rank x) under))
       (λ k lt. each k (omega arith))
 
   -- the record of the finished position
@@ -116,7 +124,8 @@ module _ (full : AllRecords) (x : Board) (at : IsPosition x) (low : pips x ≤ 4
 
   -- .. and that of another one, with the best plays by the means of lower rank
   module _ (unfinished : ¬ IsFinished x) (means : List ℕ)
-      (agree : (r : ℕ) → r < length means → slice_index means r ≡ mean_of_rank full r) (next : rank x ≡ length means)
+      (agree : (r : ℕ) → r < length means → slice_index means r ≡ mean_of_rank full r)
+      (next : rank x ≡ length means)
       (plays : List ℕ) (len : length plays ≡ 21)
       (best : (i : ℕ) → i < 21 → IsBestPlay means x (roll_at i) (slice_index plays i)) where
     pub results-held : (v : Throw) (z : Board) → Legal x v z → rank z < length means
@@ -124,7 +133,9 @@ module _ (full : AllRecords) (x : Board) (at : IsPosition x) (low : pips x ≤ 4
 
     -- they are the best by all means
     best-all : (i : ℕ) → i < 21 → IsBestPlay full.means x (roll_at i) (slice_index plays i)
-    best-all i lt = best-by_all means full.means x (roll_at i) (slice_index plays i) agree (results-held (roll_at i)) (best i lt)
+    best-all i lt =
+        best-by_all means full.means x (roll_at i) (slice_index plays i) agree
+        (results-held (roll_at i)) (best i lt)
 
     pub plays-same : plays ≡ plays_of_rank full (rank x)
     plays-same = plays-are plays len (λ i lt. best-one full.means x (roll_at i) (slice_index plays i)
@@ -150,34 +161,46 @@ module _ (full : AllRecords) (x : Board) (at : IsPosition x) (low : pips x ≤ 4
     -- the mean can be pulled, and is that of the rank
     mean-is : 36 * mean_of_rank full (rank x) ≡ 36 * whole + sum_of_means full.means plays
     mean-is =
-        made.mean_before unfinished ∙ ap (λ (ps : List ℕ). 36 * whole + sum_of_means full.means ps) (sym plays-same)
+        made.mean_before unfinished
+        ∙ ap (λ (ps : List ℕ). 36 * whole + sum_of_means full.means ps) (sym plays-same)
 
-    pub mean-exact : (mean : ℕ) × ((mean ≤ 22 * whole) × (36 * mean ≡ 36 * whole + sum_of_means full.means plays))
+    pub mean-exact : (mean : ℕ)
+        × ((mean ≤ 22 * whole) × (36 * mean ≡ 36 * whole + sum_of_means full.means plays))
     mean-exact = (mean_of_rank full (rank x), (mean-small, mean-is))
 
-    mean-same : (mean : ℕ) → 36 * mean ≡ 36 * whole + sum_of_means full.means plays → mean ≡ mean_of_rank full (rank x)
+    mean-same : (mean : ℕ) → 36 * mean ≡ 36 * whole + sum_of_means full.means plays →
+        mean ≡ mean_of_rank full (rank x)
     mean-same mean e = let is = mean-is in omega arith
 
     -- the shares can be pulled
     pub shares-exact : (k : ℕ) → k < 22 → sum_of_shares full.spreads plays k % 36 ≡ 0
-    shares-exact = can-pull_shares x at unfinished low full.means full.spreads reached-below plays best-all
+    shares-exact =
+        can-pull_shares x at unfinished low full.means full.spreads reached-below plays best-all
 
     pub no-last : sum_of_shares full.spreads plays 22 ≡ 0
     no-last =
-        sum_by-equal (λ v. weight v * slice_index (shares_of full.spreads (slice_index plays (roll_index v))) 22) (λ v. 0) all_rolls
+        sum_by-equal
         (λ v.
-            let room = has-room x at unfinished low full.means full.spreads reached-below plays best-all (roll_index v)
-                (roll_index-range v) in
-            ap (λ n. weight v * n) room ∙ times-none (weight v))
+        weight v
+        * slice_index (shares_of full.spreads (slice_index plays (roll_index v))) 22)
+        (λ v. 0) all_rolls
+        (λ v.
+        let room = has-room x at unfinished low full.means full.spreads reached-below plays best-all (
+        roll_index v)
+        (roll_index-range v) in
+        ap (λ n. weight v * n) room ∙ times-none (weight v))
         ∙ none-sum
       where
         times-none : (n : ℕ) → n * 0 ≡ 0
         times-none n = omega arith
 
     -- and are those of the rank
-    pub record-before : (mean : ℕ) (shares : List ℕ) → 36 * mean ≡ 36 * whole + sum_of_means full.means plays
+    pub record-before : (mean : ℕ) (shares : List ℕ) →
+        36 * mean ≡ 36 * whole + sum_of_means full.means plays
         → slice_index shares 0 ≡ 0
-        → ((k : ℕ) → k < 22 → 36 * slice_index shares (suc k) ≡ sum_of_shares full.spreads plays k) → length shares ≡ 23
+        → ((k : ℕ) → k < 22 →
+        36 * slice_index shares (suc k) ≡ sum_of_shares full.spreads plays k) →
+        length shares ≡ 23
         → IsRecordOfRank full (rank x) mean plays shares
     record-before mean shares mean_is start moved shares_len = record {
       mean_is = mean-same mean mean_is;

@@ -1,5 +1,6 @@
--- The records of all positions of at most 44 pips, by rank. There is one list of them, since each record follows from
--- those of lower rank: whatever the builder makes stands in it. Source: this project's profile.
+-- The records of all positions of at most 44 pips, by rank. There is one list of them, since each
+-- record follows from those of lower rank: whatever the builder makes stands in it. Source: this
+-- project's profile.
 use Rattle.std.specs.Prelude.{ℕ, List, [], slice_index, slice_index_or}
 use Rattle.race_model.specs.Ranks.{count_to}
 use Rattle.db_layout.specs.Records.{record_of}
@@ -23,4 +24,5 @@ shares_of_rank full r = shares_of full.spreads r
 
 -- the bytes of its record
 abbrev pub bytes_of_rank : AllRecords → ℕ → List ℕ
-bytes_of_rank full r = record_of (mean_of_rank full r) (plays_of_rank full r) (shares_of_rank full r)
+bytes_of_rank full r =
+    record_of (mean_of_rank full r) (plays_of_rank full r) (shares_of_rank full r)

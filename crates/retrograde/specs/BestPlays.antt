@@ -5,8 +5,10 @@ use Rattle.race_model.specs.Dice.{Throw}
 use Rattle.race_model.specs.Plays.{Legal}
 use Rattle.race_model.specs.Ranks.{rank}
 
--- r is the rank of a result of the throw, none has a smaller mean, and none of as great a mean a lower rank
+-- r is the rank of a result of the throw, none has a
+-- smaller mean, and none of as great a mean a lower rank
 pub record IsBestPlay (means : List ℕ) (x : Board) (v : Throw) (r : ℕ) : Type 0 where
   pub legal : (z : Board) × (Legal x v z) × (rank z ≡ r)
   pub least : (z : Board) → Legal x v z → slice_index means r ≤ slice_index means (rank z)
-  pub lowest : (z : Board) → Legal x v z → slice_index means (rank z) ≡ slice_index means r → r ≤ rank z
+  pub lowest : (z : Board) → Legal x v z → slice_index means (rank z) ≡ slice_index means r →
+      r ≤ rank z

@@ -1,4 +1,5 @@
-//! The records of a bound, made and written level by level: a level is the positions of one pip count.
+//! The records of a bound, made and written level by level: a level is the positions of one pip
+//! count.
 ghost use Rattle.std.specs.Prelude.{◌≡◌, ℕ, ◌+◌, ◌-◌, ◌<◌, ◌≤◌, List, length, OnOk, OnErr, IfErr};
 ghost use Rattle.std.specs.Io.KnownBytes.{Appends};
 ghost use Rattle.race_model.specs.Ranks.{first_of, count_to};
@@ -20,16 +21,19 @@ use std::io::Write;
 /// The most pips that a roll takes: a double six, played four times (the rules of backgammon).
 const MOST_PIPS_OF_A_ROLL: u8 = 24;
 
-/// Writes the database of a pip bound: for each position of at most so many pips the least mean number of
-/// rolls, for each roll the lowest rank of the results that reach it, and how the number of rolls is spread. Each
-/// level of pips is written as soon as it is made, and the growths of memory for it come before its first byte.
-/// `OverBound` where the bound is over 44: nothing was written. `Memory` where a growth was refused, and `Write`
-/// where a `write` failed or took no byte: a prefix of the database was written. (What is counted is that of a
-/// one-sided database of the GNU Backgammon manual; the exact numbers, the file and the tie rule are this
+/// Writes the database of a pip bound: for each position of at most so many pips the least mean
+/// number of rolls, for each roll the lowest rank of the results that reach it, and how the
+/// number of rolls is spread. Each level of pips is written as soon as it is made, and the
+/// growths of memory for it come before its first byte. `OverBound` where the bound is over 44:
+/// nothing was written. `Memory` where a growth was refused, and `Write` where a `write` failed
+/// or took no byte: a prefix of the database was written. (What is counted is that of a one-sided
+/// database of the GNU Backgammon manual; the exact numbers, the file and the tie rule are this
 /// project's profile.)
 pub fn build<W: Write>(alloc: Global, bound: u8, writer: &mut W) -> Result<(), BuildFault>
-    ensures built { OnOk result (WritesBuilt bound (W.contents writer.old) (W.contents writer.new)) }
-    ensures refused { IfErr result (IsRefusedBy bound (W.contents writer.old) (W.contents writer.new)) }
+    ensures built { OnOk result
+        (WritesBuilt bound (W.contents writer.old) (W.contents writer.new)) }
+    ensures refused { IfErr result
+        (IsRefusedBy bound (W.contents writer.old) (W.contents writer.new)) }
 {
     let Some(header) = Header::new(VERSION, bound) else {
         return Err(BuildFault::OverBound);
@@ -46,12 +50,14 @@ pub fn build<W: Write>(alloc: Global, bound: u8, writer: &mut W) -> Result<(), B
     Ok(())
 }
 
-/// Makes the records of the positions of a pip count, where those of fewer pips are made. Of the shares only those
-/// of the last 24 levels are kept, since a roll takes no more pips. Refused only for want of memory.
+/// Makes the records of the positions of a pip count, where those of fewer pips are made. Of the
+/// shares only those of the last 24 levels are kept, since a roll takes no more pips. Refused
+/// only for want of memory.
 fn add_level(records: &mut Records, ranks: &Ranks, pips: u8) -> Result<(), BuildFault>
     ghost full: { AllRecords }
     requires low { pips ≤ 44 }
-    requires kept { AreKept full records.old.means records.old.spreads.items records.old.plays.items }
+    requires kept { AreKept full records.old.means records.old.spreads.items
+        records.old.plays.items }
     requires next { length records.old.means ≡ first_of pips }
     requires recent { length records.old.means
         ≤ first_of (pips - 24) + length records.old.spreads.items }
@@ -78,14 +84,15 @@ fn add_level(records: &mut Records, ranks: &Ranks, pips: u8) -> Result<(), Build
 /// Writes the records whose plays are kept: those of the last level.
 fn write_level<W: Write>(records: &Records, writer: &mut W) -> Result<(), WriteFault>
     ghost full: { AllRecords }
-    requires kept { AreKept full records.now.means records.now.spreads.items records.now.plays.items }
+    requires kept { AreKept full records.now.means records.now.spreads.items
+        records.now.plays.items }
     requires few { length records.now.plays.items ≤ length records.now.spreads.items }
     ensures all { OnOk result (Appends (W.contents writer.old) (W.contents writer.new)
         (records_from (bytes_of_rank full) (length records.now.means - length records.now.plays.items)
-            (length records.now.plays.items))) }
+        (length records.now.plays.items))) }
     ensures part { OnErr result (AppendsPart (W.contents writer.old) (W.contents writer.new)
         (records_from (bytes_of_rank full) (length records.now.means - length records.now.plays.items)
-            (length records.now.plays.items))) }
+        (length records.now.plays.items))) }
 {
     let first = records.means.len() - records.plays.len() as u16;
     for (index, plays) in records.plays.iter().enumerate() {

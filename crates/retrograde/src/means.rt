@@ -6,7 +6,8 @@ use fixed_fraction::Scaled;
 use std::alloc::Global;
 use std::marker::Model;
 
-/// The means of the positions of the first ranks, from rank 0 on: for each the least mean number of rolls.
+/// The means of the positions of the first ranks, from rank 0 on: for each the least mean number
+/// of rolls.
 #[derive(Drop)]
 pub struct Means {
     means: Vec<Scaled>,
@@ -31,7 +32,8 @@ impl Means {
         }
     }
 
-    /// Adds the mean of the next rank. Refused only for want of memory, and then nothing is added.
+    /// Adds the mean of the next rank. Refused only for want of memory, and then nothing is
+    /// added.
     pub fn push(&mut self, mean: Scaled) -> Result<(), BuildFault>
         requires { length self.old < 54264 }
         ensures added { OnOk result (self.new ≡ self.old ++ mean ∷ []) }

@@ -9,8 +9,9 @@ use home_board::Position;
 use legal_plays::{Roll, results};
 use ranking::Ranks;
 
-/// The rank of the result of a roll with the least mean and, of equal means, the lowest rank. The means hold
-/// every rank of fewer pips than the position has. (The tie rule is this project's profile.)
+/// The rank of the result of a roll with the least mean and, of equal means, the lowest rank. The
+/// means hold every rank of fewer pips than the position has. (The tie rule is this project's
+/// profile.)
 pub fn best_play(position: &Position, roll: Roll, means: &Means) -> u16
     requires { first_of (pips position.now) ≤ length means.now }
     ensures { IsBestPlay means.now position.now roll result }
@@ -34,8 +35,12 @@ fn best_of(ranks: &Ranks, found: &[Position], means: &Means) -> u16
     requires some { 0 < length found.now }
     requires held { All (λ z. rank_of z < length means.now) found.now }
     ensures found { Any (λ z. rank_of z ≡ result) found.now }
-    ensures least { All (λ z. slice_index means.now result ≤ slice_index means.now (rank_of z)) found.now }
-    ensures lowest { All (λ z. slice_index means.now (rank_of z) ≡ slice_index means.now result → result ≤ rank_of z) found.now }
+    ensures least { All (λ z. slice_index means.now result ≤ slice_index means.now (rank_of z))
+        found.now }
+    ensures lowest { All
+        (λ z.
+        slice_index means.now (rank_of z) ≡ slice_index means.now result → result ≤ rank_of z)
+        found.now }
 {
     let mut best = ranks.rank(&found[0]);
     let mut least = means.get(best).unwrap().numerator();

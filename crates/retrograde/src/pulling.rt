@@ -25,7 +25,8 @@ pub(crate) fn next_record(ranks: &Ranks, position: &Position, records: &Records)
     ghost full: { AllRecords }
     requires position { IsPosition position.now }
     requires low { pips position.now ≤ 44 }
-    requires kept { AreKept full records.now.means records.now.spreads.items records.now.plays.items }
+    requires kept { AreKept full records.now.means records.now.spreads.items
+        records.now.plays.items }
     requires next { rank_of position.now ≡ length records.now.means }
     requires recent { length records.now.means
         ≤ first_of (pips position.now - 24) + length records.now.spreads.items }
@@ -65,7 +66,8 @@ fn finished_record() -> Record
 /// The best plays with the 21 rolls.
 fn best_plays(ranks: &Ranks, position: &Position, means: &Means) -> [u16; 21]
     requires { (v : Throw) (z : List ℕ) → Legal position.now v z → rank_of z < length means.now }
-    ensures best { (i : ℕ) → i < 21 → IsBestPlay means.now position.now (roll_at i) (slice_index result i) }
+    ensures best { (i : ℕ) → i < 21 →
+        IsBestPlay means.now position.now (roll_at i) (slice_index result i) }
     ensures len { length result ≡ 21 }
 {
     let mut plays = [0; 21];
@@ -79,7 +81,8 @@ fn best_plays(ranks: &Ranks, position: &Position, means: &Means) -> [u16; 21]
 /// The means and the shares that the rolls play to, added up with the weights of the rolls.
 fn sums_of(records: &Records, plays: &[u16; 21]) -> Sums
     ghost full: { AllRecords }
-    requires kept { AreKept full records.now.means records.now.spreads.items records.now.plays.items }
+    requires kept { AreKept full records.now.means records.now.spreads.items
+        records.now.plays.items }
     requires made { (i : ℕ) → i < 21 → slice_index plays.now i < length records.now.means }
     requires recent { (i : ℕ) → i < 21 →
         length records.now.means ≤ slice_index plays.now i + length records.now.spreads.items }

@@ -10,8 +10,8 @@ use fixed_fraction::Spread;
 use std::alloc::Global;
 use std::collections::VecDeque;
 
-/// What a build keeps of the records that it has made, by rank: all means, the shares of the last ranks, and the
-/// plays of those that are not written yet.
+/// What a build keeps of the records that it has made, by rank: all means, the shares of the last
+/// ranks, and the plays of those that are not written yet.
 #[derive(Drop)]
 pub(crate) struct Records {
     pub means: Means,
@@ -69,7 +69,8 @@ impl Records {
         ghost full: { AllRecords }
         requires room { length self.old.means < 54264 }
         requires kept { AreKept full self.old.means self.old.spreads.items self.old.plays.items }
-        requires next { IsRecordOfRank full (length self.old.means) made.mean made.plays made.spread }
+        requires next { IsRecordOfRank full (length self.old.means) made.mean made.plays
+            made.spread }
         ensures kept { OnOk result
             (AreKept full self.new.means self.new.spreads.items self.new.plays.items) }
         ensures means { OnOk result (length self.new.means ≡ length self.old.means + 1) }

@@ -11,9 +11,13 @@ pub returns-in-Ok-clause-told : goal.returns-in-Ok-clause-told
 returns-in-Ok-clause-told c = λ file front long.
     let is = c.in-Ok.ensures.header in
     let h : IsHeader 44 (take 32 file) (length file) =
-        subst (λ n. IsHeader 44 (take 32 file) n) long (subst (λ f. IsHeader 44 f c.args.size) front is.0) in
-    (front-is_file file (subst (λ f. (i : ℕ) → slice_index f i < 256) front (λ i. let fits = c.type_inv.front i in omega arith)) h,
-    is.1 ∙ (ap bound_of front ∙ bound_of-front file))
+    subst (λ n. IsHeader 44 (take 32 file) n) long
+    (subst (λ f. IsHeader 44 f c.args.size) front is.0) in (
+      front-is_file file
+          (subst (λ f. (i : ℕ) → slice_index f i < 256) front
+          (λ i. let fits = c.type_inv.front i in omega arith)) h,
+      is.1 ∙ (ap bound_of front ∙ bound_of-front file),
+    )
 
 pub returns-in-Err-clause-told : goal.returns-in-Err-clause-told
 returns-in-Err-clause-told c = λ file front long.

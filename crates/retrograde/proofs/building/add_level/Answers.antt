@@ -15,19 +15,41 @@ next_record-made-requires g c =
     let is = rw c.unwrap-position.ensures at c.unrank.ensures.value in
     let ranked = rw c.unwrap-position.ensures at c.unrank.ensures.ranked in
     let position = rw c.unwrap-position.ensures at c.unrank.ensures.position in
-    let under : c.loop-rank.rank < count_to c.args.pips = omega (arith, c.count_to-rank-end.ensures) in
-    let from : first_of c.args.pips ≤ c.loop-rank.rank = omega (arith, c.loop-rank.invariant.level) in
+    let under : c.loop-rank.rank < count_to c.args.pips =
+    omega (arith, c.count_to-rank-end.ensures) in
+    let from : first_of c.args.pips ≤ c.loop-rank.rank =
+    omega (arith, c.loop-rank.invariant.level) in
     let level : pips c.unwrap-position.result ≡ c.args.pips =
-        ap pips is ∙ pips-at_rank c.args.pips c.loop-rank.rank from under in
-    (position, (omega (arith, level, c.requires.0), (c.loop-rank.invariant.kept, (ranked ∙ sym c.loop-rank.invariant.made,
-    rw level (omega (arith, c.loop-rank.invariant.recent, c.loop-rank.invariant.made))))))
+    ap pips is ∙ pips-at_rank c.args.pips c.loop-rank.rank from under in (
+      position,
+      (
+        omega (arith, level, c.requires.0),
+        (
+          c.loop-rank.invariant.kept,
+          (
+            ranked ∙ sym c.loop-rank.invariant.made,
+            rw level (omega (arith, c.loop-rank.invariant.recent, c.loop-rank.invariant.made)),
+          ),
+        ),
+      ),
+    )
 
 pub returns-clause-made : goal.returns-clause-made
 returns-clause-made g c =
-    omega (arith, c.loop-rank.invariant.made, c.loop-rank.invariant.level, c.count_to-rank-end.ensures,
-        c.first_of-rank.ensures, level-end c.args.pips)
+    omega (
+      arith,
+      c.loop-rank.invariant.made,
+      c.loop-rank.invariant.level,
+      c.count_to-rank-end.ensures,
+      c.first_of-rank.ensures,
+      level-end c.args.pips,
+    )
 
 pub returns-clause-few : goal.returns-clause-few
 returns-clause-few g c =
-    omega (arith, c.loop-rank.invariant.recent, c.loop-rank.invariant.level,
-        first_of-rises (c.args.pips - 24) c.args.pips (omega arith))
+    omega (
+      arith,
+      c.loop-rank.invariant.recent,
+      c.loop-rank.invariant.level,
+      first_of-rises (c.args.pips - 24) c.args.pips (omega arith),
+    )

@@ -25,20 +25,25 @@ add_level-requires g c =
 pub returns-in_err-add_level-clause-refused : goal.returns-in_err-add_level-clause-refused
 returns-in_err-add_level-clause-refused g c =
     let writer = g.W.Write.contents c.args.writer.now in
-    let low : c.args.bound ≤ 44 = omega (arith, c.in-Some.header.bounded, c.in-Some.ensures.bound) in
+    let low : c.args.bound ≤ 44 =
+    omega (arith, c.in-Some.header.bounded, c.in-Some.ensures.bound) in
     let refused : IsRefusedBy c.args.bound writer writer Memory =
-        (low, nothing-written all-records c.args.bound low writer writer (Appends-nil writer)) in
-    one-error c.from_residual.result c.in_err-add_level.field-0.0 (IsRefusedBy c.args.bound writer writer)
+    (low, nothing-written all-records c.args.bound low writer writer (Appends-nil writer)) in
+    one-error c.from_residual.result c.in_err-add_level.field-0.0
+    (IsRefusedBy c.args.bound writer writer)
     c.from_residual.ensures.1
-    (subst (IsRefusedBy c.args.bound writer writer) (sym c.in_err-add_level.ensures.memory) refused)
+    (subst (IsRefusedBy c.args.bound writer writer) (sym c.in_err-add_level.ensures.memory)
+    refused)
 
 pub returns-in_err-write_header-clause-refused : goal.returns-in_err-write_header-clause-refused
 returns-in_err-write_header-clause-refused g c =
     let old = g.W.Write.contents c.args.writer.now in
     let new = g.W.Write.contents c.write_header.new.writer in
-    let low : c.args.bound ≤ 44 = omega (arith, c.in-Some.header.bounded, c.in-Some.ensures.bound) in
-    let part : AppendsPart old new (header c.args.bound) = subst (λ (b : ℕ). AppendsPart old new (header b))
-        c.in-Some.ensures.bound c.in_err-write_header.ensures.part in
+    let low : c.args.bound ≤ 44 =
+    omega (arith, c.in-Some.header.bounded, c.in-Some.ensures.bound) in
+    let part : AppendsPart old new (header
+    c.args.bound) = subst (λ (b : ℕ). AppendsPart old new (header b))
+    c.in-Some.ensures.bound c.in_err-write_header.ensures.part in
     one-error c.from_residual-in_err-write_header.result Write (IsRefusedBy c.args.bound old new)
     c.from_residual-in_err-write_header.ensures.1
     (low, header-written all-records c.args.bound low old new part)
@@ -54,15 +59,19 @@ returns-in_err-write_level-clause-refused g c =
     let level = c.in_ok-add_level.ensures in
     let first : ℕ = length records.means - length records.plays.items in
     let start : 0 ≡ first = omega (arith, level.level, first_of-zero) in
-    let headed : Appends old mid (header bound) = subst (λ (b : ℕ). Appends old mid (header b)) c.in-Some.ensures.bound
-        c.in_ok-write_header.ensures.all in
+    let headed : Appends old mid (header
+    bound) = subst (λ (b : ℕ). Appends old mid (header b)) c.in-Some.ensures.bound
+    c.in_ok-write_header.ensures.all in
     let before : Appends old mid (built_to all-records bound first) =
-        subst (λ (n : ℕ). Appends old mid (built_to all-records bound n)) start
-        (header-first all-records bound low old mid headed) in
+    subst (λ (n : ℕ). Appends old mid (built_to all-records bound n)) start
+    (header-first all-records bound low old mid headed) in
     one-error c.from_residual-in_err-write_level.result Write (IsRefusedBy bound old new)
-    c.from_residual-in_err-write_level.ensures.1
-    (low, more-written all-records bound low old mid new first (length records.plays.items)
-        (omega (arith, level.made, level.level, count_to-rises 0 bound (omega arith))) before c.in_err-write_level.ensures.part)
+    c.from_residual-in_err-write_level.ensures.1 (
+      low,
+      more-written all-records bound low old mid new first (length records.plays.items)
+          (omega (arith, level.made, level.level, count_to-rises 0 bound (omega arith))) before
+          c.in_err-write_level.ensures.part,
+    )
 
 pub loop-below-init : goal.loop-below-init
 loop-below-init g c =
@@ -75,12 +84,14 @@ loop-below-init g c =
     let level = c.in_ok-add_level.ensures in
     let first : ℕ = length records.means - length records.plays.items in
     let start : 0 ≡ first = omega (arith, level.level, first_of-zero) in
-    let all : first + length records.plays.items ≡ length records.means = omega (arith, level.level) in
-    let headed : Appends old mid (header bound) = subst (λ (b : ℕ). Appends old mid (header b)) c.in-Some.ensures.bound
-        c.in_ok-write_header.ensures.all in
+    let all : first + length records.plays.items ≡ length records.means =
+    omega (arith, level.level) in
+    let headed : Appends old mid (header
+    bound) = subst (λ (b : ℕ). Appends old mid (header b)) c.in-Some.ensures.bound
+    c.in_ok-write_header.ensures.all in
     let before : Appends old mid (built_to all-records bound first) =
-        subst (λ (n : ℕ). Appends old mid (built_to all-records bound n)) start
-        (header-first all-records bound low old mid headed) in
+    subst (λ (n : ℕ). Appends old mid (built_to all-records bound n)) start
+    (header-first all-records bound low old mid headed) in
     record {
       kept = level.kept;
       made = level.made ∙ sym (first_of-suc 0);
@@ -93,9 +104,16 @@ loop-below-init g c =
 pub add_level-requires-in-loop-below : goal.add_level-requires-in-loop-below
 add_level-requires-in-loop-below g c =
     let is = c.loop-below.invariant in
-    let below = c.loop-below.below in
-    (omega (arith, c.in-Some.header.bounded, c.in-Some.ensures.bound), (is.kept, (is.made,
-    omega (arith, is.recent, first_of-rises (below - 24) (below + 1 - 24) (omega arith)))))
+    let below = c.loop-below.below in (
+      omega (arith, c.in-Some.header.bounded, c.in-Some.ensures.bound),
+      (
+        is.kept,
+        (
+          is.made,
+          omega (arith, is.recent, first_of-rises (below - 24) (below + 1 - 24) (omega arith)),
+        ),
+      ),
+    )
 
 pub returns-in_err-add_level-2-clause-refused : goal.returns-in_err-add_level-2-clause-refused
 returns-in_err-add_level-2-clause-refused g c =
@@ -106,10 +124,14 @@ returns-in_err-add_level-2-clause-refused g c =
     let is = c.loop-below.invariant in
     let low : bound ≤ 44 = omega (arith, c.in-Some.header.bounded, c.in-Some.ensures.bound) in
     let few : length c.loop-below.records.means ≤ count_to bound =
-        omega (arith, is.made, first_of-one below, count_to-rises below bound (omega arith)) in
-    let refused : IsRefusedBy bound old new Memory =
-        (low, ranks-written all-records bound low old new (length c.loop-below.records.means) few is.written) in
-    one-error c.from_residual-in_err-add_level-2.result c.in_err-add_level-2.field-0.0 (IsRefusedBy bound old new)
+    omega (arith, is.made, first_of-one below, count_to-rises below bound (omega arith)) in
+    let refused : IsRefusedBy bound old new Memory = (
+      low,
+      ranks-written all-records bound low old new (length c.loop-below.records.means) few
+          is.written,
+    ) in
+    one-error c.from_residual-in_err-add_level-2.result c.in_err-add_level-2.field-0.0
+    (IsRefusedBy bound old new)
     c.from_residual-in_err-add_level-2.ensures.1
     (subst (IsRefusedBy bound old new) (sym c.in_err-add_level-2.ensures.memory) refused)
 
@@ -127,12 +149,15 @@ returns-in_err-write_level-2-clause-refused g c =
     let first : ℕ = length records.means - length records.plays.items in
     let start : length c.loop-below.records.means ≡ first = omega (arith, level.level, is.made) in
     let before : Appends old mid (built_to all-records bound first) =
-        subst (λ (n : ℕ). Appends old mid (built_to all-records bound n)) start is.written in
+    subst (λ (n : ℕ). Appends old mid (built_to all-records bound n)) start is.written in
     one-error c.from_residual-in_err-write_level-2.result Write (IsRefusedBy bound old new)
-    c.from_residual-in_err-write_level-2.ensures.1
-    (low, more-written all-records bound low old mid new first (length records.plays.items)
-        (omega (arith, level.made, level.level, count_to-rises (below + 1) bound (omega arith))) before
-        c.in_err-write_level-2.ensures.part)
+    c.from_residual-in_err-write_level-2.ensures.1 (
+      low,
+      more-written all-records bound low old mid new first (length records.plays.items)
+          (omega (arith, level.made, level.level, count_to-rises (below + 1) bound (omega arith)))
+          before
+          c.in_err-write_level-2.ensures.part,
+    )
 
 pub loop-below-preserved : goal.loop-below-preserved
 loop-below-preserved g c =
@@ -147,9 +172,10 @@ loop-below-preserved g c =
     let level = c.in_ok-add_level-2.ensures in
     let first : ℕ = length records.means - length records.plays.items in
     let start : length c.loop-below.records.means ≡ first = omega (arith, level.level, is.made) in
-    let all : first + length records.plays.items ≡ length records.means = omega (arith, level.level) in
+    let all : first + length records.plays.items ≡ length records.means =
+    omega (arith, level.level) in
     let before : Appends old mid (built_to all-records bound first) =
-        subst (λ (n : ℕ). Appends old mid (built_to all-records bound n)) start is.written in
+    subst (λ (n : ℕ). Appends old mid (built_to all-records bound n)) start is.written in
     record {
       kept = level.kept;
       made = level.made ∙ sym (first_of-one (below + 1));

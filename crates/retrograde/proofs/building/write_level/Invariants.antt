@@ -9,5 +9,7 @@ ghost-spread g a = g.full
 
 -- the records so far are written
 abbrev pub invariant-loop-index : goal.invariant-loop-index
-invariant-loop-index g l = Appends (g.W.Write.contents l.initial.writer) (g.W.Write.contents l.writer)
-    (records_from (bytes_of_rank g.full) (length l.records.means - length l.records.plays.items) l.index)
+invariant-loop-index g l =
+    Appends (g.W.Write.contents l.initial.writer) (g.W.Write.contents l.writer)
+    (records_from (bytes_of_rank g.full) (length l.records.means - length l.records.plays.items)
+    l.index)

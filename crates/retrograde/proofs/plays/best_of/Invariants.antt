@@ -8,6 +8,9 @@ abbrev pub invariant-loop-position : goal.invariant-loop-position
 invariant-loop-position l = record {
   found : (k : ℕ) × (k < length l.found) × ((d : List ℕ) → rank (get_or l.found k d) ≡ l.best);
   mean : l.least ≡ slice_index l.means l.best;
-  least : (k : ℕ) (d : List ℕ) → k < l.position-index → l.least ≤ slice_index l.means (rank (get_or l.found k d));
-  lowest : (k : ℕ) (d : List ℕ) → k < l.position-index → slice_index l.means (rank (get_or l.found k d)) ≡ l.least → l.best ≤ rank (get_or l.found k d);
+  least : (k : ℕ) (d : List ℕ) → k < l.position-index →
+      l.least ≤ slice_index l.means (rank (get_or l.found k d));
+  lowest : (k : ℕ) (d : List ℕ) → k < l.position-index →
+      slice_index l.means (rank (get_or l.found k d)) ≡ l.least →
+      l.best ≤ rank (get_or l.found k d);
 }

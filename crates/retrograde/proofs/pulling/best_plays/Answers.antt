@@ -12,7 +12,11 @@ loop-index-preserved c =
     let roll = rw c.unwrap-roll.ensures at c.from_index.ensures.value in
     record {
       len = length-set c.loop-index.plays c.from.result r ∙ c.loop-index.invariant.len;
-      best = set_next (λ j play. IsBestPlay means x (roll_at j) play) c.loop-index.plays c.loop-index.index c.from.result r 0 c.from.ensures (omega (arith, c.loop-index.invariant.len)) c.loop-index.invariant.best (subst (λ (v : Throw). IsBestPlay means x v r) roll c.best_result.ensures);
+      best =
+          set_next (λ j play. IsBestPlay means x (roll_at j) play) c.loop-index.plays
+          c.loop-index.index c.from.result r 0 c.from.ensures
+          (omega (arith, c.loop-index.invariant.len)) c.loop-index.invariant.best
+          (subst (λ (v : Throw). IsBestPlay means x v r) roll c.best_result.ensures);
     }
 
 pub returns-clause-best : goal.returns-clause-best

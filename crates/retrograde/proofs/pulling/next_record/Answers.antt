@@ -9,16 +9,20 @@ use Rattle.retrograde.proofs.pulling.next_record.Goals as goal
 
 pub returns-then-is_finished : goal.returns-then-is_finished
 returns-then-is_finished g c =
-    let none : IsFinished c.args.position.now = c.is_finished.ensures.value.0 c.if-is_finished.true in
+    let none : IsFinished c.args.position.now =
+    c.is_finished.ensures.value.0 c.if-is_finished.true in
     let is = c.finished_record.ensures in
     let made = c.finished_record.result in
-    record-at_end g.full c.args.position.now c.requires.0 c.requires.1.0 none made.mean made.plays made.spread
+    record-at_end g.full c.args.position.now c.requires.0 c.requires.1.0 none made.mean made.plays
+    made.spread
     is.mean is.plays is.plays_len is.start is.shares is.shares_len
 
 pub best_plays-plays-requires : goal.best_plays-plays-requires
 best_plays-plays-requires g c = λ v z legal.
     let unfinished : ¬ IsFinished c.args.position.now =
-        λ none. let yes = c.is_finished.ensures.value.1 none in let not = c.if-is_finished.false in cc in
+    λ none.
+    let yes = c.is_finished.ensures.value.1 none in
+    let not = c.if-is_finished.false in cc in
     let next = c.requires.1.1.1.0 in
     omega (arith, legal-lower c.args.position.now v z c.requires.0 unfinished legal, next)
 
@@ -26,38 +30,60 @@ pub sums_of-sums-requires : goal.sums_of-sums-requires
 sums_of-sums-requires g c =
     let x = c.args.position.now in
     let unfinished : ¬ IsFinished x =
-        λ none. let yes = c.is_finished.ensures.value.1 none in let not = c.if-is_finished.false in cc in
+    λ none.
+    let yes = c.is_finished.ensures.value.1 none in
+    let not = c.if-is_finished.false in cc in
     let agree = c.requires.1.1.0.means_are in
     let next = c.requires.1.1.1.0 in
     let recent = c.requires.1.1.1.1 in
-    let best = c.best_plays-plays.ensures in
-    (c.requires.1.1.0,
-    (plays-held g.full x c.requires.0 c.requires.1.0 unfinished c.args.records.now.means agree next
-        c.best_plays-plays.result best.len best.best,
-    λ i lt. omega (arith, recent, plays-recent g.full x c.requires.0 c.requires.1.0 unfinished c.args.records.now.means agree
-        next c.best_plays-plays.result best.len best.best i lt)))
+    let best = c.best_plays-plays.ensures in (
+      c.requires.1.1.0,
+      (
+        plays-held g.full x c.requires.0 c.requires.1.0 unfinished c.args.records.now.means agree
+            next
+            c.best_plays-plays.result best.len best.best,
+        λ i lt. omega (
+          arith,
+          recent,
+          plays-recent g.full x c.requires.0 c.requires.1.0 unfinished c.args.records.now.means
+              agree
+              next c.best_plays-plays.result best.len best.best i lt,
+        ),
+      ),
+    )
 
 pub unwrap-mean-requires : goal.unwrap-mean-requires
 unwrap-mean-requires g c =
     let x = c.args.position.now in
     let unfinished : ¬ IsFinished x =
-        λ none. let yes = c.is_finished.ensures.value.1 none in let not = c.if-is_finished.false in cc in
+    λ none.
+    let yes = c.is_finished.ensures.value.1 none in
+    let not = c.if-is_finished.false in cc in
     let best = c.best_plays-plays.ensures in
     let exact = mean-exact g.full x c.requires.0 c.requires.1.0 unfinished c.args.records.now.means
-        c.requires.1.1.0.means_are c.requires.1.1.1.0 c.best_plays-plays.result best.len best.best in
-    c.mean.ensures.some.1 (exact.0, exact.1.0, exact.1.1 ∙ ap (λ n. 36 * whole + n) (sym c.sums_of-sums.ensures.mean))
+    c.requires.1.1.0.means_are c.requires.1.1.1.0 c.best_plays-plays.result best.len best.best
+    in
+    c.mean.ensures.some.1 (
+      exact.0,
+      exact.1.0,
+      exact.1.1 ∙ ap (λ n. 36 * whole + n) (sym c.sums_of-sums.ensures.mean),
+    )
 
 pub unwrap-spread-requires : goal.unwrap-spread-requires
 unwrap-spread-requires g c =
     let x = c.args.position.now in
     let unfinished : ¬ IsFinished x =
-        λ none. let yes = c.is_finished.ensures.value.1 none in let not = c.if-is_finished.false in cc in
+    λ none.
+    let yes = c.is_finished.ensures.value.1 none in
+    let not = c.if-is_finished.false in cc in
     let best = c.best_plays-plays.ensures in
     let sums = c.sums_of-sums.ensures.shares in
     let last = no-last g.full x c.requires.0 c.requires.1.0 unfinished c.args.records.now.means
-        c.requires.1.1.0.means_are c.requires.1.1.1.0 c.best_plays-plays.result best.len best.best in
+    c.requires.1.1.0.means_are c.requires.1.1.1.0 c.best_plays-plays.result best.len best.best
+    in
     let exact = shares-exact g.full x c.requires.0 c.requires.1.0 unfinished c.args.records.now.means
-        c.requires.1.1.0.means_are c.requires.1.1.1.0 c.best_plays-plays.result best.len best.best in
+    c.requires.1.1.0.means_are c.requires.1.1.1.0 c.best_plays-plays.result best.len best.best
+    in
     c.spread.ensures.some.1
     (sums 22 (omega arith) ∙ last, λ k lt. ap (λ n. n % 36) (sums k (omega arith)) ∙ exact k lt)
 
@@ -65,10 +91,13 @@ pub returns : goal.returns
 returns g c =
     let x = c.args.position.now in
     let unfinished : ¬ IsFinished x =
-        λ none. let yes = c.is_finished.ensures.value.1 none in let not = c.if-is_finished.false in cc in
+    λ none.
+    let yes = c.is_finished.ensures.value.1 none in
+    let not = c.if-is_finished.false in cc in
     let best = c.best_plays-plays.ensures in
     let sums = c.sums_of-sums.ensures in
-    let mean = (rw c.unwrap-mean.ensures at c.mean.ensures.value) ∙ ap (λ n. 36 * whole + n) sums.mean in
+    let mean =
+    (rw c.unwrap-mean.ensures at c.mean.ensures.value) ∙ ap (λ n. 36 * whole + n) sums.mean in
     let start = rw c.unwrap-spread.ensures at c.spread.ensures.start in
     let moved = rw c.unwrap-spread.ensures at c.spread.ensures.moved in
     record-before g.full x c.requires.0 c.requires.1.0 unfinished c.args.records.now.means

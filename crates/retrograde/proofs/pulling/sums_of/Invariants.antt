@@ -10,5 +10,7 @@ ghost-spread g a = g.full
 
 -- the sums of the rolls so far
 abbrev pub invariant-loop-index : goal.invariant-loop-index
-invariant-loop-index g l = AreTotals (λ v. mean_of_rank g.full (slice_index l.plays (roll_index v)))
-    (λ v k. slice_index (shares_of_rank g.full (slice_index l.plays (roll_index v))) k) l.index l.sums
+invariant-loop-index g l =
+    AreTotals (λ v. mean_of_rank g.full (slice_index l.plays (roll_index v)))
+    (λ v k. slice_index (shares_of_rank g.full (slice_index l.plays (roll_index v))) k) l.index
+    l.sums

@@ -18,11 +18,13 @@ returns-in-Ok-clause-told c = λ file told.
     let bytes = c.args.self.now.bytes.now in
     let same : bytes ≡ file = cc in
     c.in-Ok.ensures.told file
-    (take-within bytes 32 c.min.result c.min.ensures ∙ ap (λ (f : List ℕ). take 32 f) same) (ap length same)
+    (take-within bytes 32 c.min.result c.min.ensures ∙ ap (λ (f : List ℕ). take 32 f) same)
+    (ap length same)
 
 pub returns-in-Err-clause-told : goal.returns-in-Err-clause-told
 returns-in-Err-clause-told c = λ file told.
     let bytes = c.args.self.now.bytes.now in
     let same : bytes ≡ file = cc in
     c.in-Err.ensures.told file
-    (take-within bytes 32 c.min.result c.min.ensures ∙ ap (λ (f : List ℕ). take 32 f) same) (ap length same)
+    (take-within bytes 32 c.min.result c.min.ensures ∙ ap (λ (f : List ℕ). take 32 f) same)
+    (ap length same)

@@ -9,8 +9,15 @@ loop-self-preserved g c =
     record {
       means = c.loop-self.invariant.means;
       plays = c.loop-self.invariant.plays;
-      kept = kept-fewer g.full records.means records.spreads.items c.pop_front.new.self.items records.plays.items
+      kept =
+          kept-fewer g.full records.means records.spreads.items c.pop_front.new.self.items
+          records.plays.items
           c.pop_front.ensures.rest (omega arith) c.loop-self.invariant.kept;
-      recent = λ le. omega (arith, c.loop-self.invariant.recent le, ap length c.pop_front.ensures.rest, ap length c.loop-self.invariant.means,
-          length-drop 1 records.spreads.items);
+      recent = λ le. omega (
+        arith,
+        c.loop-self.invariant.recent le,
+        ap length c.pop_front.ensures.rest,
+        ap length c.loop-self.invariant.means,
+        length-drop 1 records.spreads.items,
+      );
     }
