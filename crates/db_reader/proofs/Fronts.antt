@@ -73,7 +73,7 @@ front-is_file f small is = record {
   padded-file : IsFileTo 44 padded
   padded-file =
       file_of_header 44 padded
-      (small-append (take 32 f) rest small (zeros (length f - 32))) padded-header
+      (small_append (take 32 f) rest small (zeros (length f - 32))) padded-header
 
   same-bound : bound_of padded ≡ bound_of f
   same-bound = sym (bound_of-front padded) ∙ (ap bound_of same-front ∙ bound_of-front f)

@@ -79,7 +79,7 @@ module _ (full : AllRecords) (bound : ℕ) (low : bound ≤ 44) where
   built-bytes =
       file-bytes bound (bytes_of_rank full) (count_to bound) each-length
       (λ r.
-      small-record (slice_index means r) (slice_index_or plays r [])
+      small_record (slice_index means r) (slice_index_or plays r [])
       (slice_index_or spreads r []))
 
   built-is_file : IsFileTo 44 built

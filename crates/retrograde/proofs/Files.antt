@@ -75,7 +75,7 @@ module _ (bytes : ℕ → List ℕ) where
   unfolding records_from
   records-bytes each r zero i = omega arith
   records-bytes each r (suc n) i =
-      small-append (bytes r) (records_from bytes (suc r) n) (each r) (records-bytes each (suc r) n)
+      small_append (bytes r) (records_from bytes (suc r) n) (each r) (records-bytes each (suc r) n)
       i
 
 -- the file of such records
@@ -107,5 +107,5 @@ module _ (bound : ℕ) (bytes : ℕ → List ℕ) (n : ℕ) (each : (r : ℕ) �
 
     pub file-bytes : ((r : ℕ) → IsBytes (bytes r)) → IsBytes (file_of bound bytes n)
     file-bytes small =
-        small-append (header bound) (records_from bytes 0 n) (small-header bound)
+        small_append (header bound) (records_from bytes 0 n) (small_header bound)
         (records-bytes bytes small 0 n)
