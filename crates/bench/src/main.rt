@@ -7,7 +7,8 @@
 //! database too. It rests on `certificate` and `retrograde`; nothing stands on it.
 #![tactic(auto)]
 
-use certificate::{Whole, check};
+use certificate::check;
+use db_reader::Whole;
 use home_board::MAX_BOUND;
 use legal_plays::{Roll, results};
 use ranking::Ranks;

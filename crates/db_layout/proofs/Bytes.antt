@@ -1,12 +1,12 @@
 -- The bytes of numbers, and what one reads in the bytes of a record.
 use Rattle.std.proofs.Common.{◌≡◌, ℕ, zero, suc, ◌+◌, ◌-◌, ◌*◌, ◌/◌, ◌%◌, ◌^◌, ◌<◌, ◌≤◌, List, [], ◌∷◌, ◌++◌, length, sum, take, drop, get_or, refl, sym, ap, ap₂, subst, ◌∙◌, arith, append_assoc}
+use Rattle.std.proofs.lemmas.Grind.{flat_map-append}
+use Rattle.std.proofs.lemmas.List.{length-append, append-nil, take_more}
+use Rattle.std.proofs.Math.Nat.{div-add-mod, div-div-eq-div-mul, pow-suc}
 use Rattle.std.proofs.Math.Bool.{and-eq-true_iff}
 use Rattle.std.proofs.Math.Dec.{ltb}
 use Rattle.std.proofs.lemmas.Bool.{ltb-true}
 use Rattle.std.specs.List.{list_all}
-use Rattle.std.proofs.lemmas.Grind.{flat_map-append}
-use Rattle.std.proofs.lemmas.List.{length-append, append-nil, take_more}
-use Rattle.std.proofs.Math.Nat.{div-add-mod, div-div-eq-div-mul, pow-suc}
 use Rattle.std.proofs.Math.Seq.{take-append_seam, drop-append-add}
 use Rattle.std.specs.Prelude.{flat_map, replicate, codes, true}
 use Rattle.std.specs.Int.{w16, w32, w128, byte_at, byte_worth, bytes_high_first, sum_through, to_be_bytes, from_be_bytes}
@@ -227,73 +227,71 @@ record_is mean plays shares =
     append_assoc (wide_bytes mean) (flat_map short_bytes plays) (flat_map wide_bytes shares)
 
 -- bytes before bytes are bytes
-pub small-append : (xs ys : List ℕ) → IsBytes xs → IsBytes ys → IsBytes (xs ++ ys)
-small-append [] ys a b i = b i
-small-append (x ∷ xs) ys a b zero = a 0
-small-append (x ∷ xs) ys a b (suc i) = small-append xs ys (λ j. a (suc j)) b i
+pub small_append : (xs ys : List ℕ) → IsBytes xs → IsBytes ys → IsBytes (xs ++ ys)
+small_append [] ys a b i = b i
+small_append (x ∷ xs) ys a b zero = a 0
+small_append (x ∷ xs) ys a b (suc i) = small_append xs ys (λ j. a (suc j)) b i
 
 -- the digits of a number to the base 256 are bytes
-small-byte : (k n : ℕ) → byte_at k n < 256
-small-byte zero n = omega arith
-small-byte (suc k) n = omega arith
+small_byte : (k n : ℕ) → byte_at k n < 256
+small_byte zero n = omega arith
+small_byte (suc k) n = omega arith
 
-small-bytes : (k n : ℕ) → IsBytes (bytes_high_first k n)
-small-bytes zero n i = omega arith
-small-bytes (suc k) n zero = small-byte k n
-small-bytes (suc k) n (suc i) = small-bytes k n i
+small_bytes : (k n : ℕ) → IsBytes (bytes_high_first k n)
+small_bytes zero n i = omega arith
+small_bytes (suc k) n zero = small_byte k n
+small_bytes (suc k) n (suc i) = small_bytes k n i
 
-pub small-short : (n : ℕ) → IsBytes (short_bytes n)
+pub small_short : (n : ℕ) → IsBytes (short_bytes n)
 unfolding short_bytes
-small-short n = small-bytes 2 n
+small_short n = small_bytes 2 n
 
-pub small-wide : (n : ℕ) → IsBytes (wide_bytes n)
+pub small_wide : (n : ℕ) → IsBytes (wide_bytes n)
 unfolding wide_bytes
-small-wide n = small-bytes 16 n
+small_wide n = small_bytes 16 n
 
 -- parts of bytes one after another
-small-parts : (g : ℕ → List ℕ) → ((x : ℕ) → IsBytes (g x)) → (xs : List ℕ) →
+small_parts : (g : ℕ → List ℕ) → ((x : ℕ) → IsBytes (g x)) → (xs : List ℕ) →
     IsBytes (flat_map g xs)
-small-parts g each [] i = omega arith
-small-parts g each (x ∷ xs) i =
-    small-append (g x) (flat_map g xs) (each x) (small-parts g each xs) i
+small_parts g each [] i = omega arith
+small_parts g each (x ∷ xs) i =
+    small_append (g x) (flat_map g xs) (each x) (small_parts g each xs) i
 
 -- a record is one of bytes
-pub small-record : (mean : ℕ) (plays shares : List ℕ) → IsBytes (record_of mean plays shares)
+pub small_record : (mean : ℕ) (plays shares : List ℕ) → IsBytes (record_of mean plays shares)
 unfolding record_of
-small-record mean plays shares =
-    small-append (wide_bytes mean) (flat_map short_bytes plays ++ flat_map wide_bytes shares)
-    (small-wide mean)
-    (small-append (flat_map short_bytes plays) (flat_map wide_bytes shares)
-    (small-parts short_bytes small-short plays) (small-parts wide_bytes small-wide shares))
+small_record mean plays shares =
+    small_append (wide_bytes mean) (flat_map short_bytes plays ++ flat_map wide_bytes shares)
+    (small_wide mean)
+    (small_append (flat_map short_bytes plays) (flat_map wide_bytes shares)
+    (small_parts short_bytes small_short plays) (small_parts wide_bytes small_wide shares))
 
 -- .. and so is a header
-small-none : IsBytes []
-small-none i = omega arith
+small_none : IsBytes []
+small_none i = omega arith
 
-small-more : (b : ℕ) (bs : List ℕ) → b < 256 → IsBytes bs → IsBytes (b ∷ bs)
-small-more b bs lt rest zero = lt
-small-more b bs lt rest (suc i) = rest i
+small_more : (b : ℕ) (bs : List ℕ) → b < 256 → IsBytes bs → IsBytes (b ∷ bs)
+small_more b bs lt rest zero = lt
+small_more b bs lt rest (suc i) = rest i
 
-small-all : (bs : List ℕ) → list_all (λ b. ltb b 256) bs ≡ true → IsBytes bs
-small-all [] every = small-none
-small-all (b ∷ bs) every =
+small_all : (bs : List ℕ) → list_all (λ b. ltb b 256) bs ≡ true → IsBytes bs
+small_all [] every = small_none
+small_all (b ∷ bs) every =
     let both = (and-eq-true_iff (ltb b 256) (list_all (λ b. ltb b 256) bs)).0 every in
-    small-more b bs (ltb-true b 256 both.0) (small-all bs both.1)
+    small_more b bs (ltb-true b 256 both.0) (small_all bs both.1)
 
-pub small-header : (bound : ℕ) → IsBytes (header bound)
-small-header bound =
-    small-append
-    (codes "EPCTABLE" ++ to_be_bytes w16 1 ++ to_be_bytes w16 bound ++
-        to_be_bytes w32 (count_to bound) ++ to_be_bytes w32 426)
-    (replicate 12 0)
-    (small-append
-    (codes "EPCTABLE" ++ to_be_bytes w16 1 ++ to_be_bytes w16 bound ++
-        to_be_bytes w32 (count_to bound))
-    (to_be_bytes w32 426)
-    (small-append (codes "EPCTABLE" ++ to_be_bytes w16 1 ++ to_be_bytes w16 bound)
-    (to_be_bytes w32 (count_to bound))
-    (small-append (codes "EPCTABLE" ++ to_be_bytes w16 1) (to_be_bytes w16 bound)
-    (small-append (codes "EPCTABLE") (to_be_bytes w16 1) (small-all (codes "EPCTABLE") refl)
-    (small-bytes 2 1))
-    (small-bytes 2 bound)) (small-bytes 4 (count_to bound))) (small-bytes 4 426))
-    (small-all (replicate 12 0) refl)
+pub small_header : (bound : ℕ) → IsBytes (header bound)
+small_header bound =
+    let name = codes "EPCTABLE" in
+    let to_version = name ++ to_be_bytes w16 1 in
+    let to_bound = to_version ++ to_be_bytes w16 bound in
+    let to_count = to_bound ++ to_be_bytes w32 (count_to bound) in
+    small_append (to_count ++ to_be_bytes w32 426) (replicate 12 0)
+    (small_append to_count (to_be_bytes w32 426)
+    (small_append to_bound (to_be_bytes w32 (count_to bound))
+    (small_append to_version (to_be_bytes w16 bound)
+    (small_append name (to_be_bytes w16 1) (small_all name refl) (small_bytes 2 1))
+    (small_bytes 2 bound))
+    (small_bytes 4 (count_to bound)))
+    (small_bytes 4 426))
+    (small_all (replicate 12 0) refl)

@@ -6,7 +6,7 @@ use Rattle.std.proofs.Math.Seq.{take-append_seam}
 use Rattle.race_model.specs.Ranks.{count_to}
 use Rattle.race_model.specs.Files.{IsFileTo, bound_of, header}
 use Rattle.race_model.specs.Headers.{IsHeader, long_enough}
-use Rattle.db_layout.proofs.Bytes.{small-append}
+use Rattle.db_layout.proofs.Bytes.{small_append}
 use Rattle.race_model.proofs.FirstFaults.HeaderFacts.{file_of_header, bound_of-front}
 use Rattle.db_layout.specs.declared.header.Header.{Header}
 use Rattle.db_layout.specs.declared.header.HeaderFault.{HeaderFault}
@@ -73,7 +73,7 @@ front-is_file f small is = record {
   padded-file : IsFileTo 44 padded
   padded-file =
       file_of_header 44 padded
-      (small-append (take 32 f) rest small (zeros (length f - 32))) padded-header
+      (small_append (take 32 f) rest small (zeros (length f - 32))) padded-header
 
   same-bound : bound_of padded ≡ bound_of f
   same-bound = sym (bound_of-front padded) ∙ (ap bound_of same-front ∙ bound_of-front f)

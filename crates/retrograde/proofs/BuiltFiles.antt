@@ -18,7 +18,7 @@ use Rattle.retrograde.specs.BuiltRecords.{shares_of, sum_of_means, sum_of_shares
 use Rattle.retrograde.specs.AllRecords.{AllRecords, bytes_of_rank}
 use Rattle.retrograde.specs.BuiltBytes.{built_file}
 use Rattle.retrograde.proofs.Files.{file-front, file-length, file-record, file-bound, file-bytes}
-use Rattle.db_layout.proofs.Bytes.{small-record}
+use Rattle.db_layout.proofs.Bytes.{small_record}
 use Rattle.retrograde.proofs.Next.{best-legal}
 
 -- the records of a bound
@@ -79,7 +79,7 @@ module _ (full : AllRecords) (bound : ℕ) (low : bound ≤ 44) where
   built-bytes =
       file-bytes bound (bytes_of_rank full) (count_to bound) each-length
       (λ r.
-      small-record (slice_index means r) (slice_index_or plays r [])
+      small_record (slice_index means r) (slice_index_or plays r [])
       (slice_index_or spreads r []))
 
   built-is_file : IsFileTo 44 built

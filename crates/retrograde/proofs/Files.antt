@@ -4,7 +4,7 @@ use Rattle.std.proofs.lemmas.Bool.{cases_lt}
 use Rattle.std.proofs.lemmas.List.{append-nil}
 use Rattle.std.proofs.Math.Seq.{take-append_seam, drop-append_seam, drop-append-add}
 use Rattle.race_model.specs.Files.{IsBytes, header, bound_of, record_at}
-use Rattle.db_layout.proofs.Bytes.{small-append, small-header}
+use Rattle.db_layout.proofs.Bytes.{small_append, small_header}
 use Rattle.retrograde.specs.BuiltBytes.{records_from, file_of}
 
 -- a header has 32 bytes
@@ -75,7 +75,7 @@ module _ (bytes : ℕ → List ℕ) where
   unfolding records_from
   records-bytes each r zero i = omega arith
   records-bytes each r (suc n) i =
-      small-append (bytes r) (records_from bytes (suc r) n) (each r) (records-bytes each (suc r) n)
+      small_append (bytes r) (records_from bytes (suc r) n) (each r) (records-bytes each (suc r) n)
       i
 
 -- the file of such records
@@ -107,5 +107,5 @@ module _ (bound : ℕ) (bytes : ℕ → List ℕ) (n : ℕ) (each : (r : ℕ) �
 
     pub file-bytes : ((r : ℕ) → IsBytes (bytes r)) → IsBytes (file_of bound bytes n)
     file-bytes small =
-        small-append (header bound) (records_from bytes 0 n) (small-header bound)
+        small_append (header bound) (records_from bytes 0 n) (small_header bound)
         (records-bytes bytes small 0 n)

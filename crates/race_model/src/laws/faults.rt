@@ -25,8 +25,8 @@ pub fn law_first_fault()
 /// length: a list of bytes is a file of at most that bound exactly where each is answered yes. So
 /// one that has a header fault is none.
 pub fn law_header()
-    ensures file { (limit : ℕ) (f : List ℕ) → IsBytes f →
-        IsHeader limit (take 32 f) (length f) → IsFileTo limit f }
+    ensures file { (limit : ℕ) (f : List ℕ) → IsBytes f → IsHeader limit (take 32 f) (length f) →
+        IsFileTo limit f }
     ensures header { (limit : ℕ) (f : List ℕ) → IsFileTo limit f →
         IsHeader limit (take 32 f) (length f) }
     ensures refused { (limit : ℕ) (f : List ℕ) (t : HeaderTest) →

@@ -54,8 +54,8 @@ pub fn law_agree()
         IsBuilt limit bound g → HasSameNumbers f g }
     ensures same_bytes { (limit : ℕ) (f g : List ℕ) → IsBytes f → IsBytes g → IsFileTo limit f →
         IsFileTo limit g → HasSameNumbers f g → f ≡ g }
-    ensures one_built { (limit bound : ℕ) (f g : List ℕ) → limit ≤ 58 →
-        IsBuilt limit bound f → IsBuilt limit bound g → f ≡ g }
+    ensures one_built { (limit bound : ℕ) (f g : List ℕ) → limit ≤ 58 → IsBuilt limit bound f →
+        IsBuilt limit bound g → f ≡ g }
 {}
 
 /// The shares of a position. Those of a strategy from at most 58 pips add up to the whole, and
