@@ -7,8 +7,7 @@ use Rattle.race_model.specs.Dice.{Throw, roll_index}
 use Rattle.race_model.specs.Ranks.{rank, count_to}
 use Rattle.race_model.specs.Files.{bound_of, record_at, mean_of, play_of, share_of, mean, mean_at, play, play_at, spread, spread_at}
 use Rattle.race_model.specs.LocalEquations.{whole, recorded, IsPlayed, IsLocal, IsLocalAt}
-use Rattle.race_model.specs.Strategies.{IsLeast, count_of}
-use Rattle.race_model.specs.RightFiles.{follow, IsRightAt}
+use Rattle.race_model.specs.RightFiles.{IsRightAt}
 use Rattle.race_model.proofs.RightFiles.RightFacts.{shares_add_up}
 use Rattle.race_model.proofs.Strategies.Horizons.{ends_in_22}
 use Rattle.race_model.proofs.RightFiles.Bounded.{mean_at_most}
@@ -19,7 +18,8 @@ use Rattle.certificate.specs.RecordNumbers.{shares_of}
 use Rattle.certificate.proofs.RecordBytes.{mean-of_record, share-of_record, play-of_record}
 
 -- the bytes that were lent for a position are its record
-module _ (f bytes : List ℕ) (x : Board) (r : ℕ) (lent : bytes ≡ record_at f r) (ranked : r ≡ rank x) where
+module _ (f bytes : List ℕ) (x : Board) (r : ℕ) (lent : bytes ≡ record_at f r)
+    (ranked : r ≡ rank x) where
   pub mean-of_lent : mean_of bytes ≡ mean f x
   mean-of_lent = ap mean_of lent ∙ (mean-of_record f r ∙ ap (mean_at f) ranked)
 

@@ -1,5 +1,5 @@
 -- What the tests of a record's numbers answer.
-use Rattle.std.proofs.Common.{◌≡◌, ◌↔◌, ℕ, zero, suc, ◌<◌, ◌==◌, List, refl, sym, ◌∙◌, arith, IsTrue}
+use Rattle.std.proofs.Common.{◌≡◌, ◌↔◌, ℕ, zero, suc, ◌<◌, ◌==◌, refl, sym, ◌∙◌, arith, IsTrue}
 use Rattle.std.proofs.lemmas.Bool.{eqb-true, eq-eqb}
 use Rattle.race_model.specs.Positions.{Board, IsFinished}
 use Rattle.race_model.specs.LocalEquations.{whole}
@@ -16,7 +16,11 @@ pub share-at_end : (x : Board) (share : ℕ → ℕ) (sums : Totals) (k stored e
     → IsFinished x → stored ≡ share k → (k ≡ 0 → expected ≡ whole) → (0 < k → expected ≡ 0)
     → IsTrue (stored == expected) ↔ IsShareOf x share sums k
 share-at_end x share sums zero stored expected end read start later = (
-  λ is. (λ _. sym read ∙ (eqb-true stored expected is ∙ start refl), λ unfinished. absurd (unfinished end)),
+  λ is. (
+    λ _. sym read ∙ (eqb-true stored expected is ∙ start refl),
+    λ unfinished. absurd
+        (unfinished end),
+  ),
   λ has. eq-eqb stored expected (read ∙ (has.0 end ∙ sym (start refl))),
 )
 share-at_end x share sums (suc k) stored expected end read start later = (

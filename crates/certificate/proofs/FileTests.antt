@@ -44,7 +44,8 @@ first-of_file f r t accepted first = record {
   fails = first.fails;
   earlier = λ u asks before. ⊎_elim
       (λ lower.
-      let there = rank-at_rank (rank_of u) (omega (arith, asked-rank f u asks, count_to-most (bound_of f))) in
+      let there = rank-at_rank (rank_of u)
+      (omega (arith, asked-rank f u asks, count_to-most (bound_of f))) in
       let low : rank (at_rank (rank_of u)) < r = omega (arith, first.of_rank) in
       local-answers f u (accepted (at_rank (rank_of u)) (at_rank_position (rank_of u)) low) asks)
       (λ here. first.earlier u (here.0 ∙ first.of_rank) here.1 asks)
@@ -89,10 +90,12 @@ pub accepted-all : (f : List ℕ) (r : ℕ) → IsFileTo 44 f → count_to (boun
     → ((z : Board) → IsPosition z → rank z < r → IsLocalAt f z) → IsLocal 44 f
 accepted-all f r file all accepted = record {
   file = file;
-  at_each = λ x at low. let lt = (rank_bound x (bound_of f) at).1 low in accepted x at (omega arith);
+  at_each = λ x at low. let lt = (rank_bound x (bound_of f) at).1 low in accepted x at
+      (omega arith);
 }
 
--- a right file is refused by no fault but one of reading, and by that only where the count of failures rose
+-- a right file is refused by no fault but one of reading, and by that only where the count of
+-- failures rose
 pub none-of_right : (f : List ℕ) (before now : ℕ) (fault : CheckFault) → IsFirst f fault
     → CheckCauses before now fault → now ≡ before → ¬ IsRight 44 f
 none-of_right f before now (Header fault) first cause same = λ right.

@@ -1,5 +1,5 @@
 -- What is recorded of a position where it and each position of lower rank meet the equations.
-use Rattle.std.proofs.Common.{◌≡◌, ⊎_elim, ℕ, zero, suc, ◌+◌, ◌*◌, ◌<◌, ◌≤◌, List, [], ◌∷◌, map, length, get_or, sum, sum_by, All, refl, sym, ap, ◌∙◌, arith}
+use Rattle.std.proofs.Common.{◌≡◌, ⊎_elim, ℕ, zero, suc, ◌+◌, ◌*◌, ◌<◌, ◌≤◌, List, map, length, get_or, sum, refl, sym, ap, ◌∙◌, arith}
 use Rattle.std.specs.List.{range_with_len}
 use Rattle.std.proofs.lemmas.List.Elements.{All-map}
 use Rattle.std.proofs.lemmas.List.Sums.{sum-map}
@@ -7,7 +7,7 @@ use Rattle.race_model.specs.Positions.{Board, IsPosition, IsFinished}
 use Rattle.race_model.specs.Dice.{Throw, all_rolls, weight}
 use Rattle.race_model.specs.Ranks.{rank}
 use Rattle.race_model.specs.Files.{record_at, share_of, play, spread, spread_at}
-use Rattle.race_model.specs.LocalEquations.{recorded, whole, weighted, IsPlayed, IsLocalAt}
+use Rattle.race_model.specs.LocalEquations.{recorded, whole, IsPlayed, IsLocalAt}
 use Rattle.race_model.specs.Strategies.{EndsIn}
 use Rattle.race_model.proofs.Dice.Throws.{played_by_rolls}
 use Rattle.race_model.proofs.Numbers.Sums.{sum_by-equal, sum_by-equal_within, sum_by-map, sum_by-zero}
@@ -38,7 +38,8 @@ abbrev Meets : List ℕ → Board → Type 0
 Meets f x = (z : Board) → IsPosition z → rank z ≤ rank x → IsLocalAt f z
 
 -- what follows of that for the recorded positions of one that isn't finished
-module _ (f : List ℕ) (x : Board) (at : IsPosition x) (meets : Meets f x) (unfinished : ¬ IsFinished x) where
+module _ (f : List ℕ) (x : Board) (at : IsPosition x) (meets : Meets f x)
+    (unfinished : ¬ IsFinished x) where
   played : (v : Throw) → IsPlayed f x v
   played = played_by_rolls f x (meets x at (omega arith)).means.played
 
@@ -54,19 +55,23 @@ module _ (f : List ℕ) (x : Board) (at : IsPosition x) (meets : Meets f x) (unf
 pub count_of-beyond : (f : List ℕ) (n : ℕ) (x : Board) → EndsIn n x → IsPosition x → Meets f x
     → (k : ℕ) → n < k → k ≤ 22 → spread f x k ≡ 0
 count_of-beyond f n x ends at meets zero beyond few = absurd (omega arith)
-count_of-beyond f zero x ends at meets (suc k) beyond few = ((meets x at (omega arith)).shares (suc k) few).0 ends
+count_of-beyond f zero x ends at meets (suc k) beyond few = ((meets x at (omega arith)).shares
+    (suc k) few).0 ends
 count_of-beyond f (suc n) x ends at meets (suc k) beyond few = ⊎_elim
     (λ end. ((meets x at (omega arith)).shares (suc k) few).0 end)
     (λ unfinished. further unfinished (λ v.
-    count_of-beyond f n (recorded f x v) (ends unfinished v (recorded f x v) (played f x at meets unfinished v).legal)
-    (after_is f x at meets unfinished v) (after_meets f x at meets unfinished v) k (omega arith) (omega arith)))
+    count_of-beyond f n (recorded f x v) (ends unfinished v (recorded f x v)
+    (played f x at meets unfinished v).legal)
+    (after_is f x at meets unfinished v) (after_meets f x at meets unfinished v) k (omega arith)
+    (omega arith)))
     (finished_or_not x)
   where
     further : (unfinished : ¬ IsFinished x) → ((v : Throw) → spread f (recorded f x v) k ≡ 0)
         → spread f x (suc k) ≡ 0
     further unfinished each =
         let none = sum_by-zero (λ v. weight v * spread_at f (play f x v) k) all_rolls (λ v.
-        ap (λ n. weight v * n) (ap (λ r. spread_at f r k) (sym (played f x at meets unfinished v).ranked) ∙ each v)
+        ap (λ n. weight v * n)
+        (ap (λ r. spread_at f r k) (sym (played f x at meets unfinished v).ranked) ∙ each v)
         ∙ omega arith) in
         omega (arith, ((meets x at (omega arith)).shares (suc k) few).1 unfinished, none)
 
@@ -103,9 +108,11 @@ total-before f n x small unfinished ends at meets wholes =
     moved_whole (shares_at f (rank x)) (parts_of f x) (shares_at-length f (rank x))
     (share_at f (rank x) 0 (omega arith) ∙ (local.shares 0 (omega arith)).1 unfinished)
     moved
-    (All-map (λ part. get_or part.1 22 0 ≡ 0) of_roll all_rolls (all_of_members (λ v. get_or (of_roll v).1 22 0 ≡ 0) all_rolls (λ v _. room v)))
+    (All-map (λ part. get_or part.1 22 0 ≡ 0) of_roll all_rolls
+    (all_of_members (λ v. get_or (of_roll v).1 22 0 ≡ 0) all_rolls (λ v _. room v)))
     (All-map (λ part. (sum part.1 ≡ whole) × (length part.1 ≡ 23)) of_roll all_rolls
-    (all_of_members (λ v. (sum (of_roll v).1 ≡ whole) × (length (of_roll v).1 ≡ 23)) all_rolls (λ v _. (part_whole v, shares_at-length f (play f x v)))))
+    (all_of_members (λ v. (sum (of_roll v).1 ≡ whole) × (length (of_roll v).1 ≡ 23)) all_rolls
+    (λ v _. (part_whole v, shares_at-length f (play f x v)))))
     (sum_by-map (λ part. part.0) of_roll all_rolls ∙ sum_by-weight)
   where
     of_roll : Throw → ℕ × List ℕ
@@ -126,14 +133,17 @@ total-before f n x small unfinished ends at meets wholes =
         ∙ (ap (λ r. spread_at f r 22) (sym (ranked v))
         ∙ count_of-beyond f n (recorded f x v)
         (ends unfinished v (recorded f x v) (played f x at meets unfinished v).legal)
-        (after_is f x at meets unfinished v) (after_meets f x at meets unfinished v) 22 (omega arith) (omega arith))
+        (after_is f x at meets unfinished v) (after_meets f x at meets unfinished v) 22
+        (omega arith) (omega arith))
 
-    moved : (j : ℕ) → j < 22 → 36 * get_or (shares_at f (rank x)) (suc j) 0 ≡ weighted_share (parts_of f x) j
+    moved : (j : ℕ) → j < 22 → 36 * get_or (shares_at f (rank x)) (suc j) 0 ≡ weighted_share
+        (parts_of f x) j
     moved j lt =
         ap (λ n. 36 * n) (share_at f (rank x) (suc j) (omega arith))
         ∙ ((local.shares (suc j) (omega arith)).1 unfinished
         ∙ sym (sum_by-map (λ part. part.0 * get_or part.1 j 0) of_roll all_rolls
-        ∙ sum_by-equal (λ v. weight v * get_or (shares_at f (play f x v)) j 0) (λ v. weight v * spread_at f (play f x v) j)
+        ∙ sum_by-equal (λ v. weight v * get_or (shares_at f (play f x v)) j 0)
+        (λ v. weight v * spread_at f (play f x v) j)
         all_rolls (λ v. ap (λ n. weight v * n) (share_at f (play f x v) j (omega arith)))))
 
 -- the recorded shares add up to the whole

@@ -1,12 +1,13 @@
 -- The equations of a record, by the sums of what is recorded for the rolls.
-use Rattle.std.proofs.Common.{◌≡◌, ◌↔◌, ℕ, zero, suc, ◌*◌, ◌<◌, ◌≤◌, List, get_or, sym, subst, ap, ◌∙◌, arith}
+use Rattle.std.proofs.Common.{◌≡◌, ℕ, zero, suc, ◌*◌, ◌≤◌, List, sym, ap, ◌∙◌, arith}
 use Rattle.race_model.specs.Positions.{Board, IsFinished}
 use Rattle.race_model.specs.Files.{mean_of, share_of, mean, spread}
 use Rattle.race_model.specs.LocalEquations.{whole, HasMean, HasShare}
 use Rattle.fixed_fraction.specs.Totals.{Totals}
 use Rattle.certificate.specs.RecordNumbers.{IsMeanOf, IsShareOf, AreSumsOf}
 
-module _ (f bytes : List ℕ) (x : Board) (sums : Totals) (are : ¬ IsFinished x → AreSumsOf f x sums) where
+module _ (f bytes : List ℕ) (x : Board) (sums : Totals) (are : ¬ IsFinished x
+    → AreSumsOf f x sums) where
   -- the mean of the bytes is that of the sums exactly where the mean equation holds
   pub mean-holds : mean_of bytes ≡ mean f x → IsMeanOf x (mean_of bytes) sums → HasMean f x
   mean-holds read is = record {
@@ -39,7 +40,8 @@ module _ (f bytes : List ℕ) (x : Board) (sums : Totals) (are : ¬ IsFinished x
   share-holds read (suc k) few is = (
     λ end. sym (read (suc k)) ∙ is.0 end,
     λ unfinished.
-        ap (λ n. 36 * n) (sym (read (suc k))) ∙ is.1 unfinished ∙ (are unfinished).each k (omega arith),
+        ap (λ n. 36 * n) (sym (read (suc k))) ∙ is.1 unfinished ∙ (are unfinished).each k
+        (omega arith),
   )
 
   pub share-tested : ((k : ℕ) → share_of bytes k ≡ spread f x k) → (k : ℕ) → k ≤ 22
@@ -51,5 +53,6 @@ module _ (f bytes : List ℕ) (x : Board) (sums : Totals) (are : ¬ IsFinished x
   share-tested read (suc k) few has = (
     λ end. read (suc k) ∙ has.0 end,
     λ unfinished.
-        ap (λ n. 36 * n) (read (suc k)) ∙ has.1 unfinished ∙ sym ((are unfinished).each k (omega arith)),
+        ap (λ n. 36 * n) (read (suc k)) ∙ has.1 unfinished
+        ∙ sym ((are unfinished).each k (omega arith)),
   )

@@ -1,14 +1,13 @@
 -- What the record of a play can hold, where each record of lower rank was accepted.
-use Rattle.std.proofs.Common.{◌≡◌, ℕ, ◌*◌, ◌<◌, ◌≤◌, List, get_or, sum, sym, ap, subst, ◌∙◌, arith, le_trans}
+use Rattle.std.proofs.Common.{◌≡◌, ℕ, ◌*◌, ◌<◌, ◌≤◌, List, get_or, sum, sym, ap, subst, ◌∙◌, arith}
 use Rattle.race_model.specs.Positions.{Board, IsPosition, IsFinished, pips}
-use Rattle.race_model.specs.Dice.{Throw, roll_at, weight}
+use Rattle.race_model.specs.Dice.{Throw}
 use Rattle.race_model.specs.Ranks.{rank}
 use Rattle.race_model.specs.Files.{record_at, mean_of, share_of, mean_at, play, spread_at}
 use Rattle.race_model.specs.LocalEquations.{recorded, whole, IsPlayed, IsLocalAt}
 use Rattle.race_model.proofs.Plays.Results.{legal_position, legal_pips}
 use Rattle.race_model.proofs.Strategies.Horizons.{ends_in_22}
 use Rattle.race_model.proofs.RightFiles.Bounded.{recorded_lower, mean_at_most}
-use Rattle.fixed_fraction.specs.Totals.{Totals, IsAdded}
 use Rattle.certificate.specs.RecordNumbers.{shares_of, recorded_mean, recorded_share}
 use Rattle.certificate.proofs.RecordBytes.{mean-of_record, share-of_record, get_or-shares_of}
 use Rattle.certificate.proofs.Lower.{shares_whole}
@@ -31,14 +30,16 @@ module _ (f : List ℕ) (x : Board) (at : IsPosition x) (short : pips x ≤ 44)
   pub play-mean : mean_at f (play f x v) ≤ 22 * whole
   play-mean =
       subst (λ r. mean_at f r ≤ 22 * whole) played.ranked
-      (mean_at_most f 22 (recorded f x v) (ends_in_22 (recorded f x v) after_is after_short) after_is
+      (mean_at_most f 22 (recorded f x v)
+      (ends_in_22 (recorded f x v) after_is after_short) after_is
       (λ z is le. (after_meets z is le).means))
 
   -- and its shares add up to the whole
   pub play-total : sum (shares_of (record_at f (play f x v))) ≡ whole
   play-total =
       subst (λ r. sum (shares_of (record_at f r)) ≡ whole) played.ranked
-      (shares_whole f 22 (recorded f x v) (omega arith) (ends_in_22 (recorded f x v) after_is after_short) after_is after_meets)
+      (shares_whole f 22 (recorded f x v) (omega arith)
+      (ends_in_22 (recorded f x v) after_is after_short) after_is after_meets)
 
   -- so what was lent of it can be added
   pub play-lent : (bytes : List ℕ) (p : ℕ) → bytes ≡ record_at f p → p ≡ play f x v

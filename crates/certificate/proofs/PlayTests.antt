@@ -29,7 +29,8 @@ module _ (x : Board) (v : Throw) (xs : List Board)
   pub not_played : (f : List ℕ) (p : ℕ) → p ≡ play f x v → All (λ y. rank y ≢ p) xs
       → ¬ IsPlayed f x v
   not_played f p read none = λ played.
-      member_of_all (λ y. rank y ≢ p) xs _ none ((members _).1 played.legal) (played.ranked ∙ sym read)
+      member_of_all (λ y. rank y ≢ p) xs _ none ((members _).1 played.legal) (played.ranked
+      ∙ sym read)
 
   -- a number that is one is
   pub is_played : (f : List ℕ) (p : ℕ) → p ≡ play f x v → IsPosition x

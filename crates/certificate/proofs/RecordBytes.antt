@@ -1,5 +1,5 @@
 -- What a record says, by its bytes.
-use Rattle.std.proofs.Common.{◌≡◌, ℕ, ◌<◌, List, map, length, get_or, refl, sym, ◌∙◌, arith}
+use Rattle.std.proofs.Common.{◌≡◌, ℕ, ◌<◌, List, length, get_or, refl, sym, ◌∙◌, arith}
 use Rattle.std.specs.List.{range_with_len}
 use Rattle.std.proofs.lemmas.Grind.{same_number_lists}
 use Rattle.std.proofs.lemmas.List.{length-map}
@@ -20,7 +20,8 @@ unfolding play_at
 play-of_record f r roll = refl
 
 -- one of the shares in the bytes of a record
-pub get_or-shares_of : (bytes : List ℕ) (k : ℕ) → k < 23 → get_or (shares_of bytes) k 0 ≡ share_of bytes k
+pub get_or-shares_of : (bytes : List ℕ) (k : ℕ) → k < 23
+    → get_or (shares_of bytes) k 0 ≡ share_of bytes k
 unfolding shares_of
 get_or-shares_of bytes k lt =
     get_or-map-range_with_len (share_of bytes) 0 23 k k 0 (omega arith) (omega arith)
@@ -30,5 +31,6 @@ pub are_shares : (xs bytes : List ℕ) → length xs ≡ 23
     → ((k : ℕ) → k < 23 → get_or xs k 0 ≡ share_of bytes k) → xs ≡ shares_of bytes
 unfolding shares_of
 are_shares xs bytes len each =
-    same_number_lists xs (shares_of bytes) (len ∙ sym (length-map (range_with_len 0 23) (share_of bytes)))
+    same_number_lists xs (shares_of bytes)
+    (len ∙ sym (length-map (range_with_len 0 23) (share_of bytes)))
     (λ k lt. each k (omega arith) ∙ sym (get_or-shares_of bytes k (omega arith)))

@@ -33,7 +33,8 @@ module _ (bound r : ℕ) (lt : r < count_to bound) where
   position-low = (rank_bound (at_rank r) bound position-is).0 (omega (arith, rank-is))
 
   -- a position of no more pips has a record
-  pub record-below : (y : Board) → IsPosition y → pips y ≤ pips (at_rank r) → rank y < count_to bound
+  pub record-below : (y : Board) → IsPosition y → pips y ≤ pips (at_rank r)
+      → rank y < count_to bound
   record-below y is low = (rank_bound y bound is).1 (omega (arith, low, position-low))
 
 module _ (f : List ℕ) (r : ℕ) (lt : r < count_to (bound_of f)) where
@@ -41,11 +42,18 @@ module _ (f : List ℕ) (r : ℕ) (lt : r < count_to (bound_of f)) where
   pub first-play : (roll : ℕ) → FirstOfPlays f (at_rank r) roll NotLegal
       → IsFirstInRecord f r (play_test r roll)
   first-play roll first =
-      record { of_rank = refl; is_asked = (lt, first.is_roll); fails = first.applies; earlier = earlier }
+      record {
+        of_rank = refl;
+        is_asked = (lt, first.is_roll);
+        fails = first.applies;
+        earlier =
+            earlier;
+      }
     where
       earlier : (u : Test) → rank_of u ≡ r → place_of u < 2 * roll → Asks f u → Holds f u
       earlier (play_test q i) same before asks =
-          subst (λ q. IsPlayed f (at_rank q) (roll_at i)) (sym same) (first.earlier i (omega arith)).0
+          subst (λ q. IsPlayed f (at_rank q) (roll_at i)) (sym same)
+          (first.earlier i (omega arith)).0
       earlier (least_test q i) same before asks =
           subst (λ q. IsBest f (at_rank q) (roll_at i)) (sym same) (first.earlier i (omega arith)).1
       earlier (mean_test q) same before asks = absurd (omega (arith, first.is_roll))
@@ -54,7 +62,13 @@ module _ (f : List ℕ) (r : ℕ) (lt : r < count_to (bound_of f)) where
   pub first-least : (roll : ℕ) → FirstOfPlays f (at_rank r) roll NotLeast
       → IsFirstInRecord f r (least_test r roll)
   first-least roll first =
-      record { of_rank = refl; is_asked = (lt, first.is_roll); fails = first.applies.1; earlier = earlier }
+      record {
+        of_rank = refl;
+        is_asked = (lt, first.is_roll);
+        fails = first.applies.1;
+        earlier =
+            earlier;
+      }
     where
       earlier : (u : Test) → rank_of u ≡ r → place_of u < 2 * roll + 1 → Asks f u → Holds f u
       earlier (play_test q i) same before asks =
@@ -140,24 +154,28 @@ module _ (f : List ℕ) (r : ℕ) (lt : r < count_to (bound_of f)) where
         subst (HasLeastMean f) (sym same) (least-mean has))
         (cases_lt (rank z) (rank (at_rank r))))
 
--- what is known of the position of a record when its numbers are tested: the plays hold, and the sums are theirs
+-- what is known of the position of a record when its numbers are tested: the plays hold, and the
+-- sums are theirs
 pub record IsSummed (f : List ℕ) (x : Board) (sums : Totals) : Type 0 where
   pub held : (i : ℕ) → i < 21 → IsPlayed f x (roll_at i) × IsBest f x (roll_at i)
   pub are : ¬ IsFinished x → AreSumsOf f x sums
 
-module _ (f bytes : List ℕ) (r : ℕ) (sums : Totals) (lt : r < count_to (bound_of f)) (small : bound_of f ≤ 44)
+module _ (f bytes : List ℕ) (r : ℕ) (sums : Totals) (lt : r < count_to (bound_of f))
+    (small : bound_of f ≤ 44)
     (lower : (z : Board) → IsPosition z → rank z < r → IsLocalAt f z) (lent : bytes ≡ record_at f r)
     (known : IsSummed f (at_rank r) sums) where
   ranked : r ≡ rank (at_rank r)
   ranked = sym (rank-is (bound_of f) r lt)
 
   holds-mean : IsMeanOf (at_rank r) (mean_of bytes) sums → HasMean f (at_rank r)
-  holds-mean = mean-holds f bytes (at_rank r) sums known.are (mean-of_lent f bytes (at_rank r) r lent ranked)
+  holds-mean = mean-holds f bytes (at_rank r) sums known.are
+      (mean-of_lent f bytes (at_rank r) r lent ranked)
 
   -- a mean that isn't that of the sums is the first fault
   pub wrong-mean : ¬ IsMeanOf (at_rank r) (mean_of bytes) sums → IsFirstInRecord f r (mean_test r)
   wrong-mean fails = first-mean f r lt known.held (λ has. fails
-      (mean-tested f bytes (at_rank r) sums known.are (mean-of_lent f bytes (at_rank r) r lent ranked)
+      (mean-tested f bytes (at_rank r) sums known.are
+      (mean-of_lent f bytes (at_rank r) r lent ranked)
       (mean-bounded f r lt known.held small lower) has))
 
   -- and so is a share
@@ -167,12 +185,14 @@ module _ (f bytes : List ℕ) (r : ℕ) (sums : Totals) (lt : r < count_to (boun
   wrong-share k few mean earlier fails =
       let read = share-of_lent f bytes (at_rank r) r lent ranked in
       first-share f r lt known.held k few (holds-mean mean)
-      (λ j less. share-holds f bytes (at_rank r) sums known.are read j (omega arith) (earlier j less))
+      (λ j less. share-holds f bytes (at_rank r) sums known.are read j (omega arith)
+      (earlier j less))
       (λ has. fails (share-tested f bytes (at_rank r) sums known.are read k few has))
 
   -- where all are those of the sums, the equations hold
   pub right-numbers : IsMeanOf (at_rank r) (mean_of bytes) sums
       → ((k : ℕ) → k ≤ 22 → IsShareOf (at_rank r) (share_of bytes) sums k) → IsLocalAt f (at_rank r)
   right-numbers mean shares = local-at f r lt known.held (holds-mean mean) (λ k few.
-      share-holds f bytes (at_rank r) sums known.are (share-of_lent f bytes (at_rank r) r lent ranked) k few
+      share-holds f bytes (at_rank r) sums known.are
+      (share-of_lent f bytes (at_rank r) r lent ranked) k few
       (shares k few))

@@ -10,7 +10,8 @@ abbrev pub bound_in : Option Header → ℕ
 bound_in None = 0
 bound_in (Some header) = header.bound
 
--- the table has accepted this header, and the bytes that it tells meet the local equations and have its bound
+-- the table has accepted this header, and the bytes that it tells meet the local equations and
+-- have its bound
 pub record IsAccepted (told : Option (List ℕ)) (accepted : Option Header) (header : Header) :
     Type 0 where
   pub header_is : accepted ≡ Some header

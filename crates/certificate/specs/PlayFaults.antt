@@ -6,7 +6,8 @@ use Rattle.race_model.specs.LocalEquations.{IsPlayed, IsBest}
 use Rattle.certificate.specs.declared.plays.PlayFault.{PlayFault}
 use Rattle.certificate.specs.declared.plays.PlayFault.TheVariants.{NotLegal, NotLeast, Read}
 
--- the play equation fails, or it holds and the least equation fails; nothing is said where a read failed
+-- the play equation fails, or it holds and the least equation fails; nothing is said where a read
+-- failed
 abbrev pub Applies : List ℕ → Board → Throw → PlayFault → Type 0
 Applies f x v NotLegal = ¬ IsPlayed f x v
 Applies f x v NotLeast = IsPlayed f x v × (¬ IsBest f x v)

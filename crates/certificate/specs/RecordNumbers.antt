@@ -1,4 +1,5 @@
--- The numbers of a record, and the mean and spread equations over sums of what is recorded for the rolls.
+-- The numbers of a record, and the mean and spread equations over sums of what is recorded for the
+-- rolls.
 use Rattle.std.specs.Prelude.{◌≡◌, ℕ, zero, suc, ◌+◌, ◌*◌, ◌<◌, ◌≤◌, List, map, slice_index}
 use Rattle.std.specs.List.{range_with_len}
 use Rattle.race_model.specs.Positions.{Board, IsFinished}

@@ -2,15 +2,16 @@ use crate::record_check::RecordFault;
 use db_layout::HeaderFault;
 use thiserror::Error;
 
-/// Why a table is refused: the first fault, in this order, by rising rank. (This project's profile.)
+/// Why a table is refused: the first fault, in this order, by rising rank. (This project's
+/// profile.)
 #[derive(Clone, Copy, Debug, PartialEq, Eq, Error)]
 pub enum CheckFault {
     /// The bytes are no database: the first fault of the header.
     #[error("the header has a fault")]
     Header(HeaderFault),
 
-    /// What is recorded for a position, by its rank, and a roll, by its index, is no rank of a position that
-    /// the roll leads to.
+    /// What is recorded for a position, by its rank, and a roll, by its index, is no rank of a
+    /// position that the roll leads to.
     #[error("rank {rank}, roll {roll}: no legal play")]
     Play { rank: u16, roll: u8 },
 
@@ -18,8 +19,8 @@ pub enum CheckFault {
     #[error("rank {rank}, roll {roll}: not the least mean")]
     NotLeast { rank: u16, roll: u8 },
 
-    /// The recorded mean is not one roll and the weighted mean of what is recorded, or not 0 for the finished
-    /// position.
+    /// The recorded mean is not one roll and the weighted mean of what is recorded, or not 0 for
+    /// the finished position.
     #[error("rank {rank}: the mean")]
     Mean { rank: u16 },
 
@@ -27,7 +28,8 @@ pub enum CheckFault {
     #[error("rank {rank}, {k} rolls: the share")]
     Spread { rank: u16, k: u8 },
 
-    /// The table could not be read, or a record that is read again holds what no accepted record can hold.
+    /// The table could not be read, or a record that is read again holds what no accepted record
+    /// can hold.
     #[error("the table could not be read")]
     Read,
 }

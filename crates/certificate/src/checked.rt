@@ -27,14 +27,15 @@ use race_model::laws;
 use ranking::Ranks;
 use std::marker::Model;
 
-/// A table that was accepted. Where it tells its bytes they are a right database: for each position of at most
-/// its bound the recorded mean is the least mean number of rolls over all strategies, also those that look at the
-/// history; the recorded plays are legal and reach it; and the recorded shares are those of these plays. It is made
-/// by `check` alone.
+/// A table that was accepted. Where it tells its bytes they are a right database: for each
+/// position of at most its bound the recorded mean is the least mean number of rolls over all
+/// strategies, also those that look at the history; the recorded plays are legal and reach it;
+/// and the recorded shares are those of these plays. It is made by `check` alone.
 ///
-/// Each query keeps the bytes that the table tells and the header that it accepted. A query answers `Read` where a
-/// record could not be read, or holds what no accepted record can hold, so that it was changed since the check;
-/// where the table tells its bytes, that is exactly where a read failed in this call.
+/// Each query keeps the bytes that the table tells and the header that it accepted. A query
+/// answers `Read` where a record could not be read, or holds what no accepted record can hold, so
+/// that it was changed since the check; where the table tells its bytes, that is exactly where a
+/// read failed in this call.
 #[derive(Drop)]
 pub struct Checked<T: Table> {
     table: T,
@@ -54,10 +55,11 @@ impl<T: Table> Model for Checked<T> {
         IsAccepted (T.tells checked.table) (T.accepted checked.table) checked.header };
 }
 
-/// Checks a table. Where it tells its bytes and no read fails, it is accepted exactly where they are a right
-/// database of at most 44 pips, and else refused with the first fault of the bytes; it is refused as `Read` exactly
-/// where a read failed. The table is handed back with the fault and tells the same bytes. It takes no memory, and
-/// adds a stored number to others only where it was accepted before.
+/// Checks a table. Where it tells its bytes and no read fails, it is accepted exactly where they
+/// are a right database of at most 44 pips, and else refused with the first fault of the bytes;
+/// it is refused as `Read` exactly where a read failed. The table is handed back with the fault
+/// and tells the same bytes. It takes no memory, and adds a stored number to others only where it
+/// was accepted before.
 pub fn check<T: Table>(mut table: T) -> Result<Checked<T>, (T, CheckFault)>
     ensures told { IfOk result (λ checked. T.tells checked ≡ T.tells table) }
     ensures back { IfErr result (λ refused. T.tells refused.0 ≡ T.tells table) }
@@ -85,8 +87,8 @@ pub fn check<T: Table>(mut table: T) -> Result<Checked<T>, (T, CheckFault)>
 }
 
 impl<T: Table> Checked<T> {
-    /// The pip bound of the accepted header, 0 to 44. Where the table tells its bytes, they are a right database and
-    /// it is their bound.
+    /// The pip bound of the accepted header, 0 to 44. Where the table tells its bytes, they are a
+    /// right database and it is their bound.
     pub fn bound(&self) -> u8
         ensures bound { result ≡ bound_in (T.accepted self.now) }
         ensures right { WhereTold (T.tells self.now)
@@ -137,9 +139,9 @@ impl<T: Table> Checked<T> {
         }
     }
 
-    /// The least mean number of rolls of a position over all strategies, also those that look at the history,
-    /// as a numerator over 36 ^ 22. Refused as `OverBound` exactly where the position has more pips than the
-    /// bound, or as `Read`.
+    /// The least mean number of rolls of a position over all strategies, also those that look at
+    /// the history, as a numerator over 36 ^ 22. Refused as `OverBound` exactly where the
+    /// position has more pips than the bound, or as `Read`.
     pub fn scaled(&mut self, position: &Position) -> Result<Scaled, QueryFault>
         ensures over_bound { (result ≡ Err QueryFault.OverBound) ↔
             (bound_in (T.accepted self.old) < pips position.now) }
@@ -160,14 +162,15 @@ impl<T: Table> Checked<T> {
         Ok(mean)
     }
 
-    /// The least mean number of rolls of a position over all strategies, as a fraction in lowest terms. Refused as
-    /// `scaled` is.
+    /// The least mean number of rolls of a position over all strategies, as a fraction in lowest
+    /// terms. Refused as `scaled` is.
     pub fn mean(&mut self, position: &Position) -> Result<Fraction, QueryFault>
         ensures over_bound { (result ≡ Err QueryFault.OverBound) ↔
             (bound_in (T.accepted self.old) < pips position.now) }
         ensures least { WhereTold (T.tells self.old) (λ file. IfOk result (λ fraction.
             IsLeast position.now (mean_of file position.now)
-            × IsMean (mean_of file position.now) fraction.numerator fraction.denominator)) }
+            × IsMean (mean_of file position.now)
+            fraction.numerator fraction.denominator)) }
         ensures stays { T.tells self.new ≡ T.tells self.old }
         ensures accepted { T.accepted self.new ≡ T.accepted self.old }
         ensures fault { IfErr result RefusesNumbers }
@@ -178,14 +181,15 @@ impl<T: Table> Checked<T> {
         Ok(mean(rolls))
     }
 
-    /// The effective pip count of a position: 49/6 of the least mean number of rolls, in lowest terms (the GNU
-    /// Backgammon manual). Refused as `scaled` is.
+    /// The effective pip count of a position: 49/6 of the least mean number of rolls, in lowest
+    /// terms (the GNU Backgammon manual). Refused as `scaled` is.
     pub fn epc(&mut self, position: &Position) -> Result<Fraction, QueryFault>
         ensures over_bound { (result ≡ Err QueryFault.OverBound) ↔
             (bound_in (T.accepted self.old) < pips position.now) }
         ensures pips { WhereTold (T.tells self.old) (λ file. IfOk result (λ fraction.
             IsLeast position.now (mean_of file position.now)
-            × IsEffectivePips (mean_of file position.now) fraction.numerator fraction.denominator)) }
+            × IsEffectivePips (mean_of file position.now)
+            fraction.numerator fraction.denominator)) }
         ensures stays { T.tells self.new ≡ T.tells self.old }
         ensures accepted { T.accepted self.new ≡ T.accepted self.old }
         ensures fault { IfErr result RefusesNumbers }
@@ -196,14 +200,16 @@ impl<T: Table> Checked<T> {
         Ok(epc(rolls))
     }
 
-    /// How the number of rolls is spread where each play is the recorded one. Refused as `scaled` is.
+    /// How the number of rolls is spread where each play is the recorded one. Refused as `scaled`
+    /// is.
     pub fn spread(&mut self, position: &Position) -> Result<Spread, QueryFault>
         ensures over_bound { (result ≡ Err QueryFault.OverBound) ↔
             (bound_in (T.accepted self.old) < pips position.now) }
-        ensures shares { WhereTold (T.tells self.old) (λ file. IfOk result (λ spread. (k : ℕ) → k ≤ 22 →
+        ensures shares { WhereTold (T.tells self.old) (λ file. IfOk result (λ spread.
+            (k : ℕ) → k ≤ 22 →
             slice_index spread k ≡ count_of (follow file 22 position.now) k)) }
-        ensures recorded { WhereTold (T.tells self.old) (λ file. IfOk result (λ spread. (k : ℕ) → k ≤ 22 →
-            slice_index spread k ≡ share_of file position.now k)) }
+        ensures recorded { WhereTold (T.tells self.old) (λ file. IfOk result (λ spread.
+            (k : ℕ) → k ≤ 22 → slice_index spread k ≡ share_of file position.now k)) }
         ensures stays { T.tells self.new ≡ T.tells self.old }
         ensures accepted { T.accepted self.new ≡ T.accepted self.old }
         ensures fault { IfErr result RefusesNumbers }
@@ -218,9 +224,9 @@ impl<T: Table> Checked<T> {
         Ok(spread)
     }
 
-    /// The recorded play of a roll: the position that it leads to, and the first play to it. Refused as `OverBound`
-    /// exactly where the position has more pips than the bound, else as `Finished` exactly where no checker is left,
-    /// or as `Read`.
+    /// The recorded play of a roll: the position that it leads to, and the first play to it.
+    /// Refused as `OverBound` exactly where the position has more pips than the bound, else as
+    /// `Finished` exactly where no checker is left, or as `Read`.
     pub fn play(&mut self, position: &Position, roll: Roll) -> Result<(Play, Position), QueryFault>
         ensures over_bound { (result ≡ Err QueryFault.OverBound) ↔
             (bound_in (T.accepted self.old) < pips position.now) }

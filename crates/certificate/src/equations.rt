@@ -1,4 +1,5 @@
-//! The mean equation and the spread equation of a record, tested by the sums of what is recorded for the rolls.
+//! The mean equation and the spread equation of a record, tested by the sums of what is recorded
+//! for the rolls.
 ghost use Rattle.std.specs.Prelude.{◌≡◌, ℕ, ◌<◌, ◌≤◌, ◌↔◌, IsTrue, IfSome, IfNone};
 ghost use Rattle.race_model.specs.Positions.{IsFinished};
 ghost use Rattle.race_model.specs.Files.{mean_of, share_of};
@@ -8,7 +9,8 @@ use db_layout::RecordView;
 use fixed_fraction::{Sums, WHOLE};
 use home_board::Position;
 
-/// Whether the mean of a record is one roll and that of the sums, or no roll for the finished position.
+/// Whether the mean of a record is one roll and that of the sums, or no roll for the finished
+/// position.
 pub fn has_mean(position: &Position, view: &RecordView<'_>, sums: &Sums) -> bool
     ensures { IsTrue result ↔ IsMeanOf position.now (mean_of view.now) sums.now }
 {
@@ -19,8 +21,8 @@ pub fn has_mean(position: &Position, view: &RecordView<'_>, sums: &Sums) -> bool
     sums.is_mean(stored)
 }
 
-/// Whether the share of exactly `k` rolls is that of the sums at one roll fewer, or the whole at no roll for the
-/// finished position.
+/// Whether the share of exactly `k` rolls is that of the sums at one roll fewer, or the whole at
+/// no roll for the finished position.
 fn has_share(position: &Position, view: &RecordView<'_>, sums: &Sums, k: u8) -> bool
     requires { k ≤ 22 }
     ensures { IsTrue result ↔ IsShareOf position.now (share_of view.now) sums.now k }
@@ -35,7 +37,8 @@ fn has_share(position: &Position, view: &RecordView<'_>, sums: &Sums, k: u8) -> 
     sums.is_later_share(k - 1, stored)
 }
 
-/// The least number of rolls whose share is not that of the sums; none where there is no such number.
+/// The least number of rolls whose share is not that of the sums; none where there is no such
+/// number.
 pub fn wrong_share(position: &Position, view: &RecordView<'_>, sums: &Sums) -> Option<u8>
     ensures right { IfNone result
         ((k : ℕ) → k ≤ 22 → IsShareOf position.now (share_of view.now) sums.now k) }

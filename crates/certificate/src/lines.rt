@@ -10,8 +10,9 @@ use arrayvec::ArrayString;
 use db_layout::HeaderFault;
 use itoa::Buffer;
 
-/// The text of a fault, without a line feed: `header` and the fault of the header, `play rank R roll I`,
-/// `not-least rank R roll I`, `mean rank R`, `spread rank R k K`, or `read` (this project's profile).
+/// The text of a fault, without a line feed: `header` and the fault of the header, `play rank R
+/// roll I`, `not-least rank R roll I`, `mean rank R`, `spread rank R k K`, or `read` (this
+/// project's profile).
 pub fn fault_line(fault: &CheckFault) -> ArrayString<64>
     ensures { result.bytes ≡ line_of fault.now }
 {

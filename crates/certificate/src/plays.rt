@@ -33,7 +33,8 @@ struct Seen {
     /// Whether it is the rank of one of them.
     is_legal: bool,
 
-    /// The least of their recorded means, and the greatest number of 128 bits where there is none.
+    /// The least of their recorded means, and the greatest number of 128 bits where there is
+    /// none.
     least: u128,
 }
 
@@ -89,8 +90,8 @@ fn look_over<T: Table>(
     Ok(Seen { is_legal, least })
 }
 
-/// Whether what is recorded for a roll is the rank of a result with the least recorded mean. Its record is then
-/// ready to be lent.
+/// Whether what is recorded for a roll is the rank of a result with the least recorded mean. Its
+/// record is then ready to be lent.
 pub fn check_play<T: Table>(
     table: &mut T,
     ranks: &Ranks,

@@ -19,7 +19,8 @@ pub enum QueryFault {
     #[error("no memory")]
     Memory,
 
-    /// A record could not be read, or holds what no accepted record can hold: it was changed since the check.
+    /// A record could not be read, or holds what no accepted record can hold: it was changed
+    /// since the check.
     #[error("the table could not be read")]
     Read,
 }

@@ -62,7 +62,8 @@ pub enum RecordFault {
     Read,
 }
 
-/// Adds the numbers of a record with the weight of a roll, where an accepted record can hold them.
+/// Adds the numbers of a record with the weight of a roll, where an accepted record can hold
+/// them.
 fn add_numbers(sums: &mut Sums, roll: Roll, view: &RecordView<'_>) -> Result<(), ReadFault>
     requires { sums.old.weight + weight roll ≤ 36 }
     ensures added { OnOk result
@@ -76,8 +77,9 @@ fn add_numbers(sums: &mut Sums, roll: Roll, view: &RecordView<'_>) -> Result<(),
     Ok(())
 }
 
-/// The sums of what is recorded for the 21 rolls, where each is the rank of a result with the least recorded mean;
-/// of the finished position, which has no lower records, the sums of nothing.
+/// The sums of what is recorded for the 21 rolls, where each is the rank of a result with the
+/// least recorded mean; of the finished position, which has no lower records, the sums of
+/// nothing.
 fn sum_plays<T: Table>(
     table: &mut T,
     ranks: &Ranks,

@@ -14,7 +14,8 @@ const WHOLE_BYTES: [u8; 16] = [
     0x00, 0x03, 0x56, 0x27, 0x10, 0xdf, 0xf0, 0x31, 0x87, 0x27, 0x10, 0, 0, 0, 0, 0,
 ];
 
-/// The file of bound 1: the finished position, and one checker on the ace point, whose mean is one roll.
+/// The file of bound 1: the finished position, and one checker on the ace point, whose mean is
+/// one roll.
 fn bound_one() -> [u8; 884]
     ensures { length result ≡ 884 }
 {
@@ -51,6 +52,18 @@ fn fault_of_front(count: usize) -> Option<CheckFault> {
 /// The ace point, with so many checkers there.
 fn aces(count: u8) -> Result<Position, Fail> {
     Ok(Position::new([count, 0, 0, 0, 0, 0])?)
+}
+
+/// The same with a second record of ones alone.
+fn record_of_ones() -> [u8; 884]
+    ensures { length result ≡ 884 }
+{
+    let mut file = [0xff; 884];
+    file[..12].copy_from_slice(b"EPCTABLE\x00\x01\x00\x01");
+    file[12..20].copy_from_slice(b"\x00\x00\x00\x02\x00\x00\x01\xaa");
+    file[20..458].copy_from_slice(&[0; 438]);
+    file[90..106].copy_from_slice(&WHOLE_BYTES);
+    file
 }
 
 #[test]
@@ -150,12 +163,9 @@ fn damaged_files(rt: HostRuntime) {
 
 #[test]
 fn a_record_of_ones(rt: HostRuntime) {
-    let mut file = bound_one();
-    file[458..].copy_from_slice(&[0xff; 426]);
-    assert_eq!(rt;
-        fault_of(&file),
-        Some(CheckFault::Play { rank: 1, roll: 0 })
-    );
+    let file = record_of_ones();
+    let fault = CheckFault::Play { rank: 1, roll: 0 };
+    assert_eq!(rt; fault_of(&file), Some(fault));
 }
 
 #[test]
@@ -193,7 +203,8 @@ fn each_read_failing_once(rt: HostRuntime) -> Result<(), Fail> {
         assert!(rt; check(table).is_ok(), "call {call}");
         reads = call;
     }
-    // the header, and for each of two records itself, and for each roll its one result and the recorded one
+    // the header, and for each of two records itself, and for each roll its one result and the
+    // recorded one
     assert_eq!(rt; reads, 1 + 2 * (1 + 21 * 2));
 
     let (ace, roll) = (aces(1)?, Roll::from_index(0).ok_or("no roll")?);

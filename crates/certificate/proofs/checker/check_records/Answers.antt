@@ -1,8 +1,7 @@
-use Rattle.std.proofs.Common.{◌≡◌, sym, ap, subst, ◌∙◌, arith}
+use Rattle.std.proofs.Common.{sym, ap, subst, ◌∙◌, arith}
 use Rattle.race_model.specs.Ranks.{count_to}
-use Rattle.certificate.specs.CheckFaults.{IsFirst, CheckCauses}
-use Rattle.certificate.specs.RecordFaults.{RecordCauses}
-use Rattle.certificate.proofs.FileTests.{fault-of_file, fault-cause, accepted-more, accepted-all}
+use Rattle.certificate.specs.CheckFaults.{IsFirst}
+use Rattle.certificate.proofs.FileTests.{fault-of_file, accepted-more, accepted-all}
 use Rattle.certificate.proofs.checker.check_records.Goals as goal
 
 pub check_record-requires-clause-lower : goal.check_record-requires-clause-lower

@@ -7,7 +7,8 @@ use Rattle.certificate.proofs.equations.has_share.Goals.{then-k-eq0, else-k-eq0}
 
 pub returns-then-is_finished : goal.returns-then-is_finished
 returns-then-is_finished c =
-    let expected : (c.args.k ≡ 0 → c.if-k-eq0.result ≡ whole) × (0 < c.args.k → c.if-k-eq0.result ≡ 0) =
+    let expected : (c.args.k ≡ 0 → c.if-k-eq0.result ≡ whole)
+    × (0 < c.args.k → c.if-k-eq0.result ≡ 0) =
     elim c.if-k-eq0.branch [
       | then-k-eq0 w ↦ (
         λ none. w.result-is ∙ whole-literal,

@@ -1,5 +1,4 @@
-use Rattle.std.proofs.Common.{◌≡◌, ℕ, true, false, sym, ap, subst, ◌∙◌, arith, rules}
-use Rattle.std.specs.Option.{IsSomeAnd}
+use Rattle.std.proofs.Common.{◌≡◌, true, false, sym, subst, ◌∙◌, arith, rules}
 use Rattle.race_model.specs.Positions.{Board}
 use Rattle.race_model.specs.Plays.{Legal}
 use Rattle.std.specs.List.{Contains}
@@ -11,7 +10,8 @@ use Rattle.certificate.proofs.plays.check_play.Goals as goal
 -- the slice has the results as its members
 members : (found slice : List Board) (Leads : Board → Type 0) → slice ≡ found
     → ((y : Board) → Contains found y ↔ Leads y) → (y : Board) → Contains slice y ↔ Leads y
-members found slice Leads same are = subst (λ xs. (y : Board) → Contains xs y ↔ Leads y) (sym same) are
+members found slice Leads same are = subst (λ xs. (y : Board) → Contains xs y ↔ Leads y)
+    (sym same) are
 
 pub look_over-requires : goal.look_over-requires
 look_over-requires g c =
@@ -19,7 +19,8 @@ look_over-requires g c =
     let found = c.as_slice.result.now in
     let are = members c.results-found.result.items found (Legal x c.args.roll)
     c.as_slice.ensures.value c.results-found.ensures.members in
-    ranks-of_results x c.args.roll found are (HasRecord (g.T.Table.accepted c.args.table.now)) c.requires.records
+    ranks-of_results x c.args.roll found are
+    (HasRecord (g.T.Table.accepted c.args.table.now)) c.requires.records
 
 pub returns-then-not-seen-clause-fault : goal.returns-then-not-seen-clause-fault
 returns-then-not-seen-clause-fault g c file told read =
@@ -28,7 +29,8 @@ returns-then-not-seen-clause-fault g c file told read =
     let are = members c.results-found.result.items found (Legal x c.args.roll)
     c.as_slice.ensures.value c.results-found.ensures.members in
     let none : c.in-Ok.seen.is_legal ≡ false = search rules in
-    not_played x c.args.roll found are file c.args.recorded read ((c.in-Ok.ensures {u = tt}).not_legal none)
+    not_played x c.args.roll found are file c.args.recorded read
+    ((c.in-Ok.ensures {u = tt}).not_legal none)
 
 pub mean_at-requires : goal.mean_at-requires
 mean_at-requires g c =
@@ -50,9 +52,11 @@ returns-in-Ok-mean_at-clause-fault g c file told read =
     let some : c.in-Ok.seen.is_legal ≡ true = search rules in
     let seen = c.in-Ok.ensures {u = tt} in
     let mean = (c.in-Ok-mean_at.ensures {u = tt}).told file (seen.stays ∙ told) in (
-      is_played x c.args.roll found are file c.args.recorded read c.requires.position (seen.is_legal some),
+      is_played x c.args.roll found are file c.args.recorded read c.requires.position
+          (seen.is_legal some),
       not_best x c.args.roll found are file c.args.recorded c.in-Ok.seen.least read
-          (omega (arith, mean, c.if-seen-mean.true)) (seen.least file told (omega (arith, c.if-seen-mean.true))),
+          (omega (arith, mean, c.if-seen-mean.true))
+          (seen.least file told (omega (arith, c.if-seen-mean.true))),
     )
 
 pub returns-in-Ok-2-clause-right : goal.returns-in-Ok-2-clause-right
@@ -64,7 +68,8 @@ returns-in-Ok-2-clause-right g c file told read =
     let some : c.in-Ok.seen.is_legal ≡ true = search rules in
     let seen = c.in-Ok.ensures {u = tt} in
     let mean = (c.in-Ok-mean_at.ensures {u = tt}).told file (seen.stays ∙ told) in (
-      is_played x c.args.roll found are file c.args.recorded read c.requires.position (seen.is_legal some),
+      is_played x c.args.roll found are file c.args.recorded read c.requires.position
+          (seen.is_legal some),
       is_best x c.args.roll found are file c.args.recorded c.in-Ok.seen.least read
           (omega (arith, mean, c.if-seen-mean.false)) (seen.no_less file told),
     )

@@ -1,7 +1,6 @@
-use Rattle.std.proofs.Common.{◌≡◌, ◌≢◌, ⊎_elim, ℕ, ◌<◌, ◌≤◌, List, [], true, false, length, get_or, sym, ap, ◌∙◌, arith, below_more}
+use Rattle.std.proofs.Common.{◌≡◌, ◌≢◌, ⊎_elim, ℕ, ◌<◌, ◌≤◌, List, [], length, get_or, sym, ap, ◌∙◌, arith, below_more}
 use Rattle.std.proofs.lemmas.Bool.{cases_lt, eqb-true, eq-eqb}
 use Rattle.std.proofs.lemmas.List.{get_or_default}
-use Rattle.race_model.specs.Positions.{Board}
 use Rattle.race_model.specs.Ranks.{rank}
 use Rattle.race_model.specs.Files.{mean, mean_at}
 use Rattle.certificate.proofs.plays.look_over.Goals as goal
@@ -23,7 +22,8 @@ loop-position-preserved g c =
       others = λ bytes other ready. more.others bytes other (before.others bytes other ready);
       cause = λ file told. more.cause file (before.stays ∙ told) ∙ before.cause file told;
       is_legal = elim c.if-is_legal.branch [
-        | then-is_legal w ↦ λ t. let k = before.is_legal w.if-is_legal.true in (k.0, omega (arith, k.1), k.2)
+        | then-is_legal w ↦ λ t. let k = before.is_legal w.if-is_legal.true in
+            (k.0, omega (arith, k.1), k.2)
         | else-is_legal w ↦ λ t.
             (i, omega arith, λ d. ranked d ∙ eqb-true _ _ (sym w.is_legal-is ∙ t))
       ];

@@ -20,5 +20,6 @@ invariant-loop-position g l = record {
   no_less : WhereTold (g.T.Table.tells l.fn.table) (λ file.
       (k : ℕ) (d : List ℕ) → k < l.position-index → l.least ≤ mean file (get_or l.found k d));
   least : WhereTold (g.T.Table.tells l.fn.table) (λ file. l.least < 2 ^ 128 - 1
-      → (k : ℕ) × (k < l.position-index) × ((d : List ℕ) → mean file (get_or l.found k d) ≡ l.least));
+      → (k : ℕ) × (k < l.position-index)
+      × ((d : List ℕ) → mean file (get_or l.found k d) ≡ l.least));
 }

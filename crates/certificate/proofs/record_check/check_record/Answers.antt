@@ -1,20 +1,19 @@
-use Rattle.std.proofs.Common.{◌≡◌, ℕ, ◌<◌, ◌≤◌, true, false, List, Some, refl, sym, ap, subst, ◌∙◌, arith, rules, tests}
-use Rattle.race_model.specs.Positions.{Board, IsPosition, pips}
-use Rattle.race_model.specs.Ranks.{rank, at_rank, count_to}
+use Rattle.std.proofs.Common.{◌≡◌, ℕ, ◌<◌, ◌≤◌, true, false, sym, ap, subst, ◌∙◌, arith, rules, tests}
+use Rattle.race_model.specs.Positions.{Board}
+use Rattle.race_model.specs.Ranks.{count_to}
 use Rattle.race_model.specs.Files.{bound_of, mean_of, share_of}
-use Rattle.race_model.specs.LocalEquations.{IsLocalAt}
 use Rattle.certificate.specs.PlayFaults.{FirstOfPlays, PlayCauses}
 use Rattle.certificate.specs.declared.plays.PlayFault.{PlayFault}
 use Rattle.certificate.specs.declared.plays.PlayFault.TheVariants.{NotLegal, NotLeast, Read}
 use Rattle.std.proofs.lemmas.Bool.{false≢true}
 use Rattle.certificate.specs.RecordNumbers.{IsMeanOf, IsShareOf}
 use Rattle.certificate.specs.RecordFaults.{IsFirstFaultAt, RecordCauses, of_record}
-use Rattle.certificate.specs.declared.record_check.RecordFault.{RecordFault}
 use Rattle.certificate.proofs.RecordTests.{IsSummed, first-refused, wrong-mean, wrong-share, right-numbers}
 use Rattle.certificate.proofs.record_check.check_record.Goals as goal
 
 pub sum_plays-requires-clause-lower : goal.sum_plays-requires-clause-lower
-sum_plays-requires-clause-lower g c file told = c.requires.lower file (sym (c.in_default.ensures {u = tt}).stays ∙ told)
+sum_plays-requires-clause-lower g c file told = c.requires.lower file
+    (sym (c.in_default.ensures {u = tt}).stays ∙ told)
 
 -- the fault of a play, as a fault of the record, has its cause
 play-cause : (roll : ℕ) (fault : PlayFault) (before now : ℕ) → PlayCauses before now fault
@@ -28,9 +27,15 @@ returns-in-Err-sum_plays-clause-first g c file told =
     let same = rw c.unwrap-position.ensures at c.unrank.ensures.value in
     let whole = c.requires.file file told in
     let lt : c.args.rank < count_to (bound_of file) =
-    let count = ap count_to whole.1 in omega (arith, c.requires.rank, c.args.header.counted, count) in
+    let count = ap count_to whole.1 in omega (
+      arith,
+      c.requires.rank,
+      c.args.header.counted,
+      count,
+    ) in
     let refused = c.in-Err-sum_plays.refused in
-    let first = (c.in-Err-sum_plays.ensures {u = tt}).fault file ((c.in_default.ensures {u = tt}).stays ∙ told) in
+    let first = (c.in-Err-sum_plays.ensures {u = tt}).fault file
+    ((c.in_default.ensures {u = tt}).stays ∙ told) in
     subst (IsFirstFaultAt file c.args.rank) (sym c.of_record.ensures)
     (first-refused file c.args.rank lt refused.roll refused.fault
     (subst (λ (x : Board). FirstOfPlays file x refused.roll refused.fault) same first))
@@ -41,9 +46,12 @@ returns-in-Err-sum_plays-clause-cause g c file told =
     let before = loaded.cause file told in
     let refused = c.in-Err-sum_plays.refused in
     let cause = (c.in-Err-sum_plays.ensures {u = tt}).cause file (loaded.stays ∙ told) in
-    subst (RecordCauses (g.T.Table.failures c.args.table.now) (g.T.Table.failures c.sum_plays.new.table)) (sym c.of_record.ensures)
-    (play-cause refused.roll refused.fault (g.T.Table.failures c.args.table.now) (g.T.Table.failures c.sum_plays.new.table)
-    (subst (λ n. PlayCauses n (g.T.Table.failures c.sum_plays.new.table) refused.fault) before cause))
+    subst (RecordCauses (g.T.Table.failures c.args.table.now)
+    (g.T.Table.failures c.sum_plays.new.table)) (sym c.of_record.ensures)
+    (play-cause refused.roll refused.fault (g.T.Table.failures c.args.table.now)
+    (g.T.Table.failures c.sum_plays.new.table)
+    (subst (λ n. PlayCauses n
+    (g.T.Table.failures c.sum_plays.new.table) refused.fault) before cause))
 
 pub returns-then-not-has_mean-clause-first : goal.returns-then-not-has_mean-clause-first
 returns-then-not-has_mean-clause-first g c file told =
@@ -52,14 +60,25 @@ returns-then-not-has_mean-clause-first g c file told =
     let now = (c.in_default.ensures {u = tt}).stays ∙ told in
     let whole = c.requires.file file told in
     let lt : c.args.rank < count_to (bound_of file) =
-    let count = ap count_to whole.1 in omega (arith, c.requires.rank, c.args.header.counted, count) in
+    let count = ap count_to whole.1 in omega (
+      arith,
+      c.requires.rank,
+      c.args.header.counted,
+      count,
+    ) in
     let fine = c.in-Ok.ensures {u = tt} in
-    let known : IsSummed file x c.in-Ok.sums = record { held = fine.right file now; are = fine.totals file now } in
+    let known : IsSummed file x c.in-Ok.sums = record {
+      held = fine.right file now;
+      are =
+          fine.totals file now;
+    } in
     let refused : c.has_mean.result ≡ false = search (rules, tests) in
     let fails : ¬ IsMeanOf x (mean_of c.lend-view.result) c.in-Ok.sums = λ is.
     false≢true (sym refused ∙ c.has_mean.ensures.1 is) in
-    wrong-mean file c.lend-view.result c.args.rank c.in-Ok.sums lt whole.0.bounded (c.requires.lower file told)
-    (c.lend-view.ensures file (fine.stays ∙ now)) (subst (λ (x : Board). IsSummed file x c.in-Ok.sums) same known)
+    wrong-mean file c.lend-view.result c.args.rank c.in-Ok.sums lt whole.0.bounded
+    (c.requires.lower file told)
+    (c.lend-view.ensures file (fine.stays ∙ now))
+    (subst (λ (x : Board). IsSummed file x c.in-Ok.sums) same known)
     (subst (λ (x : Board). ¬ IsMeanOf x (mean_of c.lend-view.result) c.in-Ok.sums) same fails)
 
 pub returns-in-Some-clause-first : goal.returns-in-Some-clause-first
@@ -69,19 +88,31 @@ returns-in-Some-clause-first g c file told =
     let now = (c.in_default.ensures {u = tt}).stays ∙ told in
     let whole = c.requires.file file told in
     let lt : c.args.rank < count_to (bound_of file) =
-    let count = ap count_to whole.1 in omega (arith, c.requires.rank, c.args.header.counted, count) in
+    let count = ap count_to whole.1 in omega (
+      arith,
+      c.requires.rank,
+      c.args.header.counted,
+      count,
+    ) in
     let fine = c.in-Ok.ensures {u = tt} in
-    let known : IsSummed file x c.in-Ok.sums = record { held = fine.right file now; are = fine.totals file now } in
+    let known : IsSummed file x c.in-Ok.sums = record {
+      held = fine.right file now;
+      are =
+          fine.totals file now;
+    } in
     let accepted : c.has_mean.result ≡ true = search (rules, tests) in
     let mean = c.has_mean.ensures.0 accepted in
     let wrong = c.in-Some.ensures {u = tt} in
     let bytes = c.lend-view.result in
     wrong-share file bytes c.args.rank c.in-Ok.sums lt whole.0.bounded (c.requires.lower file told)
-    (c.lend-view.ensures file (fine.stays ∙ now)) (subst (λ (x : Board). IsSummed file x c.in-Ok.sums) same known)
+    (c.lend-view.ensures file (fine.stays ∙ now))
+    (subst (λ (x : Board). IsSummed file x c.in-Ok.sums) same known)
     c.in-Some.k wrong.few
     (subst (λ (x : Board). IsMeanOf x (mean_of bytes) c.in-Ok.sums) same mean)
-    (subst (λ (x : Board). (j : ℕ) → j < c.in-Some.k → IsShareOf x (share_of bytes) c.in-Ok.sums j) same wrong.earlier)
-    (subst (λ (x : Board). ¬ IsShareOf x (share_of bytes) c.in-Ok.sums c.in-Some.k) same wrong.wrong)
+    (subst (λ (x : Board). (j : ℕ) → j < c.in-Some.k
+    → IsShareOf x (share_of bytes) c.in-Ok.sums j) same wrong.earlier)
+    (subst (λ (x : Board). ¬ IsShareOf x
+    (share_of bytes) c.in-Ok.sums c.in-Some.k) same wrong.wrong)
 
 pub returns-in-None-clause-local : goal.returns-in-None-clause-local
 returns-in-None-clause-local g c file told =
@@ -90,13 +121,25 @@ returns-in-None-clause-local g c file told =
     let now = (c.in_default.ensures {u = tt}).stays ∙ told in
     let whole = c.requires.file file told in
     let lt : c.args.rank < count_to (bound_of file) =
-    let count = ap count_to whole.1 in omega (arith, c.requires.rank, c.args.header.counted, count) in
+    let count = ap count_to whole.1 in omega (
+      arith,
+      c.requires.rank,
+      c.args.header.counted,
+      count,
+    ) in
     let fine = c.in-Ok.ensures {u = tt} in
-    let known : IsSummed file x c.in-Ok.sums = record { held = fine.right file now; are = fine.totals file now } in
+    let known : IsSummed file x c.in-Ok.sums = record {
+      held = fine.right file now;
+      are =
+          fine.totals file now;
+    } in
     let accepted : c.has_mean.result ≡ true = search (rules, tests) in
     let mean = c.has_mean.ensures.0 accepted in
     let bytes = c.lend-view.result in
-    right-numbers file bytes c.args.rank c.in-Ok.sums lt whole.0.bounded (c.requires.lower file told)
-    (c.lend-view.ensures file (fine.stays ∙ now)) (subst (λ (x : Board). IsSummed file x c.in-Ok.sums) same known)
+    right-numbers file bytes c.args.rank c.in-Ok.sums lt whole.0.bounded
+    (c.requires.lower file told)
+    (c.lend-view.ensures file (fine.stays ∙ now))
+    (subst (λ (x : Board). IsSummed file x c.in-Ok.sums) same known)
     (subst (λ (x : Board). IsMeanOf x (mean_of bytes) c.in-Ok.sums) same mean)
-    (subst (λ (x : Board). (k : ℕ) → k ≤ 22 → IsShareOf x (share_of bytes) c.in-Ok.sums k) same (c.in-None.ensures {u = tt}).right)
+    (subst (λ (x : Board). (k : ℕ) → k ≤ 22 → IsShareOf x (share_of bytes) c.in-Ok.sums k) same
+    (c.in-None.ensures {u = tt}).right)

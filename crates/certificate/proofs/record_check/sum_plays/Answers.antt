@@ -1,14 +1,10 @@
-use Rattle.std.proofs.Common.{◌≡◌, ℕ, ◌+◌, ◌<◌, ◌≤◌, refl, sym, ap, subst, ◌∙◌, arith, le_trans, below_more}
+use Rattle.std.proofs.Common.{◌≡◌, ◌+◌, ◌<◌, refl, ap, subst, ◌∙◌, arith, below_more}
 use Rattle.race_model.specs.Positions.{Board, IsPosition, IsFinished}
-use Rattle.race_model.specs.Dice.{Throw, roll_at, weight}
+use Rattle.race_model.specs.Dice.{roll_at, weight}
 use Rattle.race_model.specs.LocalEquations.{IsPlayed, IsBest, IsLocalAt}
 use Rattle.race_model.specs.Ranks.{rank}
 use Rattle.race_model.proofs.Plays.Results.{legal_position, legal_pips}
 use Rattle.fixed_fraction.specs.Totals.{IsAdded, AreTotals}
-use Rattle.db_reader.specs.Reads.{HasRecord}
-use Rattle.std.proofs.Common.{List}
-use Rattle.std.specs.Prelude.{IsTrue}
-use Rattle.race_model.specs.Files.{mean_of}
 use Rattle.certificate.specs.PlayFaults.{Applies}
 use Rattle.certificate.specs.RecordNumbers.{shares_of, recorded_mean, recorded_share}
 use Rattle.certificate.proofs.Accepted.{play-of_lent}
@@ -28,10 +24,12 @@ returns-in-Err-clause-fault g c file told =
     let now = c.loop-index.invariant.stays ∙ told in
     let roll = rw c.unwrap-roll.ensures at c.from_index.ensures.value in
     let read = c.play-recorded.ensures
-    ∙ play-of_lent file c.lend.result x c.args.rank (c.lend.ensures file now) c.requires.rank c.unwrap-roll.result in
+    ∙ play-of_lent file c.lend.result x c.args.rank
+    (c.lend.ensures file now) c.requires.rank c.unwrap-roll.result in
     record {
       is_roll = c.loop-index-test.true;
-      applies = subst (λ v. Applies file x v c.in-Err.fault) roll ((c.in-Err.ensures {u = tt}).fault file now read);
+      applies = subst (λ v. Applies file x v c.in-Err.fault) roll
+          ((c.in-Err.ensures {u = tt}).fault file now read);
       earlier = c.loop-index.invariant.held file told;
     }
 
@@ -42,7 +40,8 @@ loop-index-preserved-then-is_finished g c =
     let fine = c.in_default.ensures {u = tt} in
     let i = c.loop-index.index in
     let roll = rw c.unwrap-roll.ensures at c.from_index.ensures.value in
-    let within = c.law_sums.ensures.within i c.loop-index.sums.weight c.loop-index-test.true before.light in
+    let within =
+    c.law_sums.ensures.within i c.loop-index.sums.weight c.loop-index-test.true before.light in
     record {
       stays = fine.stays ∙ before.stays;
       accepted = fine.accepted ∙ before.accepted;
@@ -51,8 +50,10 @@ loop-index-preserved-then-is_finished g c =
       held = λ file told.
           let now = before.stays ∙ told in
           let read = c.play-recorded.ensures
-          ∙ play-of_lent file c.lend.result x c.args.rank (c.lend.ensures file now) c.requires.rank c.unwrap-roll.result in
-          below_more (λ j. IsPlayed file x (roll_at j) × IsBest file x (roll_at j)) i (before.held file told)
+          ∙ play-of_lent file c.lend.result x c.args.rank
+          (c.lend.ensures file now) c.requires.rank c.unwrap-roll.result in
+          below_more (λ j. IsPlayed file x (roll_at j) × IsBest file x (roll_at j)) i
+          (before.held file told)
           (subst (λ v. IsPlayed file x v × IsBest file x v) roll (fine.right file now read));
       light = omega (arith, within.1);
       totals = λ file told unfinished.
@@ -71,10 +72,12 @@ returns-in-Err-add_numbers-clause-cause g c file told =
     let unfinished : ¬ IsFinished x = λ end.
     let is = (c.if-is_finished.ensures {u = tt}).value.1 end in cc in
     let lent = c.lend-in-loop-index.ensures file (fine.stays ∙ now) in
-    let lower = subst (λ r. (z : Board) → IsPosition z → rank z < r → IsLocalAt file z) c.requires.rank
+    let lower = subst (λ r. (z : Board) → IsPosition z → rank z < r
+    → IsLocalAt file z) c.requires.rank
     (c.requires.lower file told) in
     absurd ((c.in-Err-add_numbers.ensures {u = tt}).refused
-    (play-lent file x c.requires.position c.requires.short lower unfinished v (fine.right file now read).0
+    (play-lent file x c.requires.position c.requires.short lower unfinished v
+    (fine.right file now read).0
     c.lend-in-loop-index.result c.play-recorded.result lent read))
 
 pub loop-index-preserved : goal.loop-index-preserved
@@ -85,7 +88,8 @@ loop-index-preserved g c =
     let fine = c.in_default.ensures {u = tt} in
     let i = c.loop-index.index in
     let roll = rw c.unwrap-roll.ensures at c.from_index.ensures.value in
-    let within = c.law_sums.ensures.within i c.loop-index.sums.weight c.loop-index-test.true before.light in
+    let within =
+    c.law_sums.ensures.within i c.loop-index.sums.weight c.loop-index-test.true before.light in
     let added = (c.in_default-add_numbers.ensures {u = tt}).added in
     let bytes = c.lend-in-loop-index.result in
     record {
@@ -96,8 +100,10 @@ loop-index-preserved g c =
       held = λ file told.
           let now = before.stays ∙ told in
           let read = c.play-recorded.ensures
-          ∙ play-of_lent file c.lend.result x c.args.rank (c.lend.ensures file now) c.requires.rank v in
-          below_more (λ j. IsPlayed file x (roll_at j) × IsBest file x (roll_at j)) i (before.held file told)
+          ∙ play-of_lent file c.lend.result x c.args.rank
+          (c.lend.ensures file now) c.requires.rank v in
+          below_more (λ j. IsPlayed file x (roll_at j) × IsBest file x (roll_at j)) i
+          (before.held file told)
           (subst (λ v. IsPlayed file x v × IsBest file x v) roll (fine.right file now read));
       light =
           let more = added.weights ∙ ap (λ v. c.loop-index.sums.weight + weight v) roll in
@@ -105,15 +111,19 @@ loop-index-preserved g c =
       totals = λ file told unfinished.
           let now = before.stays ∙ told in
           let read = c.play-recorded.ensures
-          ∙ play-of_lent file c.lend.result x c.args.rank (c.lend.ensures file now) c.requires.rank v in
+          ∙ play-of_lent file c.lend.result x c.args.rank
+          (c.lend.ensures file now) c.requires.rank v in
           let lent = c.lend-in-loop-index.ensures file (fine.stays ∙ now) in
           let mean = lent-mean file bytes x v c.play-recorded.result lent read in
-          let numbers = subst (λ m. IsAdded c.loop-index.sums (weight v) m (shares_of bytes) c.add_numbers.new.sums)
+          let numbers = subst (λ m. IsAdded c.loop-index.sums (weight v) m
+          (shares_of bytes) c.add_numbers.new.sums)
           mean added in
-          let here = subst (λ v. IsAdded c.loop-index.sums (weight v) (recorded_mean file x v) (shares_of bytes) c.add_numbers.new.sums)
+          let here = subst (λ v. IsAdded c.loop-index.sums (weight v) (recorded_mean file x v)
+          (shares_of bytes) c.add_numbers.new.sums)
           roll numbers in
           c.law_sums.ensures.next (recorded_mean file x) (recorded_share file x) i c.loop-index.sums
-          c.add_numbers.new.sums (shares_of bytes) c.loop-index-test.true (before.totals file told unfinished)
+          c.add_numbers.new.sums (shares_of bytes) c.loop-index-test.true
+          (before.totals file told unfinished)
           (λ k few. lent-share file bytes x v c.play-recorded.result k few lent read
           ∙ ap (λ v. recorded_share file x v k) roll)
           here;
@@ -122,10 +132,17 @@ loop-index-preserved g c =
 pub returns-clause-totals : goal.returns-clause-totals
 returns-clause-totals g c file told unfinished =
     let x = c.args.position.now in
-    let all : c.loop-index.index ≡ 21 = omega (arith, c.loop-index-test.false, c.loop-index.auto.index-end) in
-    let are = subst (λ i. AreTotals (recorded_mean file x) (recorded_share file x) i c.loop-index.sums) all
+    let all : c.loop-index.index ≡ 21 = omega (
+      arith,
+      c.loop-index-test.false,
+      c.loop-index.auto.index-end,
+    ) in
+    let are = subst (λ i. AreTotals (recorded_mean file x)
+    (recorded_share file x) i c.loop-index.sums) all
     (c.loop-index.invariant.totals file told unfinished) in
     record {
-      means = c.law_sums.ensures.mean (recorded_mean file x) (recorded_share file x) c.loop-index.sums are;
-      each = λ k few. c.law_sums.ensures.shares (recorded_mean file x) (recorded_share file x) c.loop-index.sums k few are;
+      means = c.law_sums.ensures.mean (recorded_mean file x)
+          (recorded_share file x) c.loop-index.sums are;
+      each = λ k few. c.law_sums.ensures.shares (recorded_mean file x)
+          (recorded_share file x) c.loop-index.sums k few are;
     }

@@ -1,4 +1,4 @@
-use Rattle.std.proofs.Common.{◌+◌, ◌≤◌, arith}
+use Rattle.std.proofs.Common.{arith}
 use Rattle.race_model.specs.Dice.{weight}
 use Rattle.fixed_fraction.proofs.RollSums.{roll-more, weights-within, totals-next, totals-weight, totals-mean, totals-share}
 use Rattle.fixed_fraction.proofs.sums.law_sums.Goals as goal

@@ -1,7 +1,6 @@
-use Rattle.std.proofs.Common.{◌≡◌, ◌<◌, ℕ, refl, sym, ap, subst, ◌∙◌, arith}
+use Rattle.std.proofs.Common.{refl, sym, ap, subst, ◌∙◌, arith}
 use Rattle.race_model.specs.Plays.{Legal}
 use Rattle.race_model.specs.Ranks.{count_to, at_rank}
-use Rattle.race_model.specs.Files.{bound_of, play}
 use Rattle.race_model.proofs.Ranks.PositionTotals.{count_to-most}
 use Rattle.std.proofs.lemmas.Bool.{false≢true}
 use Rattle.certificate.proofs.Accepted.{play-of_lent, accepted-play, accepted-under}
@@ -18,12 +17,24 @@ returns-then-recorded-self-clause-cause g c file told =
     ∙ play-of_lent file c.lend.result x c.in_ok-rank.rank lent ok.rank c.args.roll in
     let under = accepted-under file accepted.0 x ok.position accepted.1 c.args.roll in
     let count = ap count_to (c.self-2.invariant.bound_is file still) in
-    absurd (omega (arith, read, under, count, c.self-2.inside.header.counted, c.if-recorded-self.true))
+    absurd (omega (
+      arith,
+      read,
+      under,
+      count,
+      c.self-2.inside.header.counted,
+      c.if-recorded-self.true,
+    ))
 
 pub unwrap-to-requires : goal.unwrap-to-requires
 unwrap-to-requires g c =
     let few = count_to-most c.self-2.inside.header.bound in
-    c.unrank.ensures.some.1 (omega (arith, few, c.self-2.inside.header.counted, c.if-recorded-self.false))
+    c.unrank.ensures.some.1 (omega (
+      arith,
+      few,
+      c.self-2.inside.header.counted,
+      c.if-recorded-self.false,
+    ))
 
 pub returns-in_default-clause-cause : goal.returns-in_default-clause-cause
 returns-in_default-clause-cause g c file told =

@@ -13,7 +13,8 @@ returns-in_default-clause-cause g c file told =
     let accepted = ok.local file told in
     let lent = c.lend.ensures file (ap g.T.Table.tells c.self.view_is ∙ (ok.stays ∙ told)) in
     let read = mean-of_lent file c.lend.result x c.in_ok-rank.rank lent ok.rank in
-    let small : mean_of c.lend.result ≤ 22 * whole = rw read (accepted-mean file accepted.0 x ok.position accepted.1) in
+    let small : mean_of c.lend.result ≤ 22 * whole = rw read
+    (accepted-mean file accepted.0 x ok.position accepted.1) in
     absurd (false≢true ((c.in_default.ensures {u = tt}).some.1 small))
 
 pub returns-clause-least : goal.returns-clause-least

@@ -1,7 +1,6 @@
-use Rattle.std.proofs.Common.{◌≡◌, ℕ, ◌≤◌, get_or, ap, ◌∙◌, arith}
+use Rattle.std.proofs.Common.{get_or, ap, ◌∙◌, arith}
 use Rattle.certificate.proofs.RecordBytes.{get_or-shares_of}
 use Rattle.std.proofs.lemmas.Bool.{false≢true}
-use Rattle.certificate.proofs.Lower.{count_of-beyond}
 use Rattle.certificate.proofs.Accepted.{share-of_lent, total-of_lent, accepted-right, accepted-total}
 use Rattle.certificate.proofs.checked.Checked.spread.Goals as goal
 

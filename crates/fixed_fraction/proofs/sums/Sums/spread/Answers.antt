@@ -1,4 +1,4 @@
-use Rattle.std.proofs.Common.{◌≡◌, ℕ, suc, ◌*◌, ◌%◌, ◌<◌, get_or, sum, ap, ◌∙◌, arith}
+use Rattle.std.proofs.Common.{◌≡◌, ℕ, ◌*◌, ◌<◌, sum, ap, ◌∙◌, arith}
 use Rattle.race_model.specs.LocalEquations.{whole}
 use Rattle.fixed_fraction.proofs.RollSums.{shares-moved}
 use Rattle.fixed_fraction.proofs.sums.Sums.spread.Goals as goal
