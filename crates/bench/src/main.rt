@@ -6,7 +6,8 @@
 //! `check` it checks that database too. It rests on `certificate` and `retrograde`; nothing stands on it.
 #![tactic(auto)]
 
-use certificate::{Whole, check};
+use certificate::check;
+use db_reader::Whole;
 use home_board::MAX_BOUND;
 use legal_plays::{Roll, results};
 use ranking::Ranks;
