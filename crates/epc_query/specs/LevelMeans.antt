@@ -7,7 +7,8 @@ use Rattle.certificate.specs.declared.query_fault.QueryFault.{QueryFault}
 use Rattle.certificate.specs.declared.query_fault.QueryFault.TheVariants.{OverBound, Finished, NotLegal, Memory, Read}
 use Rattle.epc_query.specs.declared.reply.Level.{Level}
 
--- the least and the greatest recorded mean of the ranks from one on and before another, where there are any
+-- the least and the greatest recorded mean of the ranks from one on and before another, where
+-- there are any
 pub record AreMeansOf (f : List ℕ) (first end least greatest : ℕ) : Type 0 where
   pub least_reached : first < end → (r : ℕ) × (first ≤ r) × (r < end) × (mean_at f r ≡ least)
   pub none_under : (r : ℕ) → first ≤ r → r < end → least ≤ mean_at f r

@@ -1,5 +1,5 @@
-//! Facts about replies, each on a function with an empty body: a call brings the fact into the caller's proof, and costs
-//! nothing when it runs.
+//! Facts about replies, each on a function with an empty body: a call brings the fact into the
+//! caller's proof, and costs nothing when it runs.
 ghost use Rattle.std.specs.Prelude.{ℕ, List, [], ◌∷◌, ◌++◌};
 ghost use Rattle.race_model.specs.Levels.{IsLevelLine};
 ghost use Rattle.race_model.specs.Replies.{IsReply};
@@ -11,7 +11,8 @@ ghost use Rattle.epc_query.specs.Answers.{IsReplyTo};
 
 use race_model::laws::law_results;
 
-/// The text of what a line is answered with, and a line feed, is the reply to the line as `race_model` defines it.
+/// The text of what a line is answered with, and a line feed, is the reply to the line as
+/// `race_model` defines it.
 pub fn law_reply_text()
     ensures { (f line : List ℕ) (reply : Reply) (text : List ℕ)
         → IsReplyTo f line reply → IsTextOf reply text → IsReply f line (text ++ 10 ∷ []) }
@@ -21,5 +22,6 @@ pub fn law_reply_text()
 
 /// The line of a level is the one that `race_model` defines for its pip count.
 pub fn law_level_text()
-    ensures { (f : List ℕ) (p : ℕ) (level : Level) → HasLevel f p level → IsLevelLine f p (level_text level) }
+    ensures { (f : List ℕ) (p : ℕ) (level : Level) → HasLevel f p level
+        → IsLevelLine f p (level_text level) }
 {}

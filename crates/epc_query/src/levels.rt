@@ -15,8 +15,9 @@ use fixed_fraction::{MOST, Scaled, mean};
 use race_model::laws;
 use ranking::Ranks;
 
-/// How many positions have a pip count, and the least and the greatest of their means. Refused as `OverBound` where the
-/// pip count is over the bound, and as `Read` where a record could not be read.
+/// How many positions have a pip count, and the least and the greatest of their means. Refused as
+/// `OverBound` where the pip count is over the bound, and as `Read` where a record could not be
+/// read.
 pub fn audit_level<T: Table>(checked: &mut Checked<T>, pips: u8) -> Result<Level, QueryFault>
     ensures within { OnOk result (pips ≤ bound_in (T.accepted checked.old)) }
     ensures fault { IfErr result (IsLevelFault (bound_in (T.accepted checked.old)) pips) }
@@ -59,7 +60,8 @@ fn means_of<T: Table>(
 ) -> Result<Means, QueryFault>
     requires { end ≤ count_to (bound_in (T.accepted checked.old)) }
     ensures fault { OnErr result (result ≡ Err QueryFault.Read) }
-    ensures bounded { IfOk result (λ means. (means.least ≤ 22 * whole) × (means.greatest ≤ 22 * whole)) }
+    ensures bounded { IfOk result (λ means. (means.least ≤ 22 * whole)
+        × (means.greatest ≤ 22 * whole)) }
     ensures means { WhereTold (T.tells checked.old)
         (λ file. IfOk result (λ means. AreMeansOf file first end means.least means.greatest)) }
     ensures stays { T.tells checked.new ≡ T.tells checked.old }

@@ -17,14 +17,16 @@ pub returns-clause-level : goal.returns-clause-level
 returns-clause-level g c = λ file t.
     let p = c.args.pips in
     let means = (c.in_ok-means.ensures {u = tt}).means file t in
-    let here : AreMeansOf file (first_of p) (count_to p) c.in_ok-means.means.least c.in_ok-means.means.greatest =
+    let here : AreMeansOf file (first_of p)
+    (count_to p) c.in_ok-means.means.least c.in_ok-means.means.greatest =
     rw (← c.first_of-first.ensures, ← c.count_to-end.ensures) means in
     record {
       pips = refl;
       positions = ap₂ (λ a b. a - b) c.count_to-end.ensures c.first_of-first.ensures;
       least = c.in_ok-means.means.least;
       greatest = c.in_ok-means.means.greatest;
-      means = level_means c.law_rank.ensures.found c.law_rank.ensures.within c.law_at_rank.ensures.position c.law_at_rank.ensures.under c.law_counts.ensures.none c.law_counts.ensures.next
+      means =
+          level_means c.law_rank.ensures.found c.law_rank.ensures.within c.law_at_rank.ensures.position c.law_at_rank.ensures.under c.law_counts.ensures.none c.law_counts.ensures.next
           file p _ _ (omega (arith, c.if-pips-bound.false, c.bound.ensures.range)) here;
       least_is = let same = rw c.unwrap.ensures at c.new.ensures.value in
           subst (λ n. IsMean n c.mean.result.numerator c.mean.result.denominator) same c.mean.ensures.value;

@@ -25,16 +25,24 @@ loop-rank-preserved g c =
       means = λ file t.
           let ranked = rw c.unwrap-position.ensures at c.unrank.ensures.ranked in
           let here = told.recorded file (c.loop-rank.invariant.stays ∙ t) in
-          rw (c.min.ensures, c.max.ensures) (more_means file c.args.first c.loop-rank.rank _ _ c.numerator-mean.result c.loop-rank.auto.rank
-          (c.loop-rank.invariant.means file t) (c.numerator-mean.ensures.value ∙ here ∙ ap (mean_at file) ranked)
+          rw (c.min.ensures, c.max.ensures)
+          (more_means file c.args.first c.loop-rank.rank _ _ c.numerator-mean.result c.loop-rank.auto.rank
+          (c.loop-rank.invariant.means file t) (c.numerator-mean.ensures.value ∙ here
+          ∙ ap (mean_at file) ranked)
           (λ e. omega (arith, (c.loop-rank.invariant.fresh e).0, c.numerator-mean.ensures.range))
           (λ e. omega (arith, (c.loop-rank.invariant.fresh e).1)));
       low = omega (arith, c.min.ensures, c.loop-rank.invariant.low);
-      high = omega (arith, c.max.ensures, c.loop-rank.invariant.high, c.numerator-mean.ensures.range);
+      high = omega (
+        arith,
+        c.max.ensures,
+        c.loop-rank.invariant.high,
+        c.numerator-mean.ensures.range,
+      );
       fresh = λ e. absurd (omega arith);
       stays = c.recorded_mean.ensures.stays ∙ c.loop-rank.invariant.stays;
       accepted = c.recorded_mean.ensures.accepted ∙ c.loop-rank.invariant.accepted;
-      count = λ file t. told.cause file (c.loop-rank.invariant.stays ∙ t) ∙ c.loop-rank.invariant.count file t;
+      count = λ file t. told.cause file (c.loop-rank.invariant.stays ∙ t)
+          ∙ c.loop-rank.invariant.count file t;
     }
 
 pub returns-clause-means : goal.returns-clause-means
