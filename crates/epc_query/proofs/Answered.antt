@@ -19,41 +19,54 @@ use Rattle.epc_query.specs.Answers.{HasLoss, AreChoices, IsReplyTo}
 use Rattle.epc_query.proofs.Texts.{position_text_states}
 
 -- the position that an accepted query of a play is about
-play_position : (bound : ℕ) (line : List ℕ) (x : Board) (v : Throw) → IsAccepted bound line (play_query x v) → IsPosition x
+play_position : (bound : ℕ) (line : List ℕ) (x : Board) (v : Throw) → IsAccepted bound line
+    (play_query x v) → IsPosition x
 play_position bound line x v is = record { six = is.query.2.six; few = omega (arith, is.few) }
 
 -- .. and that of a list of moves
-moves_position : (bound : ℕ) (line : List ℕ) (x : Board) (v : Throw) → IsAccepted bound line (moves_query x v) → IsPosition x
+moves_position : (bound : ℕ) (line : List ℕ) (x : Board) (v : Throw) → IsAccepted bound line
+    (moves_query x v) → IsPosition x
 moves_position bound line x v is = record { six = is.query.2.six; few = omega (arith, is.few) }
 
 -- equal shares have the same parts
-same_parts : (share other : ℕ → ℕ) (text : List ℕ) → ((k : ℕ) → k ≤ 22 → share k ≡ other k) → IsDistReply share text → IsDistReply other text
+same_parts : (share other : ℕ → ℕ) (text : List ℕ) → ((k : ℕ) → k ≤ 22 → share k ≡ other k)
+    → IsDistReply share text → IsDistReply other text
 same_parts share other text same is = record {
   parts = is.parts;
   count = is.count;
-  each = λ k low. subst (λ n. IsSharePart n k (slice_index_or is.parts k [])) (same k (omega arith)) (is.each k low);
+  each = λ k low. subst (λ n. IsSharePart n k (slice_index_or is.parts k []))
+      (same k (omega arith)) (is.each k low);
   written = is.written;
 }
 
 -- the part of a choice
-choice_part : (f : List ℕ) (x : Board) (v : Throw) (choice : Choice) → IsPosition choice.to → HasLoss f x v choice
+choice_part : (f : List ℕ) (x : Board) (v : Throw) (choice : Choice) → IsPosition choice.to
+    → HasLoss f x v choice
     → IsChoicePart choice.to (loss f x v choice.to) (choice_text choice)
 choice_part f x v choice is lost = record {
   position = position_text choice.to;
   position_is = position_text_states choice.to is;
   fraction = fraction_text choice.loss.numerator choice.loss.denominator;
-  loss_is = record { numerator = choice.loss.numerator; denominator = choice.loss.denominator; lowest = lost; written = refl };
+  loss_is = record {
+    numerator = choice.loss.numerator;
+    denominator =
+        choice.loss.denominator;
+    lowest = lost;
+    written = refl;
+  };
   written = refl;
 }
 
 -- the texts of choices, one after another
-joined_texts : (choices : List Choice) → flat_map choice_text choices ≡ concat (map choice_text choices)
+joined_texts : (choices : List Choice) → flat_map choice_text choices ≡ concat
+    (map choice_text choices)
 joined_texts [] = refl
 joined_texts (choice ∷ choices) = ap (λ t. choice_text choice ++ t) (joined_texts choices)
 
 -- the reply to a list of moves
 moves_reply : (f : List ℕ) (x : Board) (v : Throw) (choices : List Choice) (text : List ℕ)
-    → ((y : Board) → Legal x v y → IsPosition y) → AreChoices f x v choices → text ≡ codes "moves" ++ flat_map choice_text choices
+    → ((y : Board) → Legal x v y → IsPosition y) → AreChoices f x v choices
+    → text ≡ codes "moves" ++ flat_map choice_text choices
     → IsMovesReply f x v text
 moves_reply f x v choices text legal are e = record {
   results = map (λ choice. choice.to) choices;
@@ -62,48 +75,73 @@ moves_reply f x v choices text legal are e = record {
   count = length-map choices choice_text ∙ sym (length-map choices (λ choice. choice.to));
   each = λ i low.
       let within : i < length choices = omega (arith, length-map choices (λ choice. choice.to)) in
-      let none : Choice = record { to = finished; loss = record { numerator = 0; denominator = 1 } } in
+      let none : Choice = record {
+        to = finished;
+        loss = record {
+          numerator = 0;
+          denominator =
+              1;
+        };
+      } in
       let choice = get_or choices i none in
-      let to : get_or (map (λ choice. choice.to) choices) i finished ≡ choice.to = get_or-map (λ choice. choice.to) choices i none finished within in
-      let part : get_or (map choice_text choices) i [] ≡ choice_text choice = get_or-map choice_text choices i none [] within in
+      let to : get_or (map (λ choice. choice.to) choices) i finished ≡ choice.to = get_or-map
+      (λ choice. choice.to) choices i none finished within in
+      let part : get_or (map choice_text choices) i [] ≡ choice_text choice =
+      get_or-map choice_text choices i none [] within in
       let listed : Contains (map (λ choice. choice.to) choices) choice.to =
-      subst (Contains (map (λ choice. choice.to) choices)) to (All-contains_itself (map (λ choice. choice.to) choices) i finished low) in
+      subst (Contains (map (λ choice. choice.to) choices)) to
+      (All-contains_itself (map (λ choice. choice.to) choices) i finished low) in
       let is = legal choice.to ((are.listed.members choice.to).0 listed) in
       rw (to, part) (choice_part f x v choice is (are.losses i none within));
   written = e ∙ ap (λ t. codes "moves" ++ t) (joined_texts choices);
 }
 
-module _ (position : (x : Board) (v : Throw) (y : Board) → IsPosition x → Legal x v y → IsPosition y) where
+module _ (position : (x : Board) (v : Throw) (y : Board) → IsPosition x → Legal x v y
+    → IsPosition y) where
   -- the text of what a line is answered with is the reply
-  pub reply_text : (f line : List ℕ) (reply : Reply) (text : List ℕ) → IsReplyTo f line reply → IsTextOf reply text
+  pub reply_text : (f line : List ℕ) (reply : Reply) (text : List ℕ) → IsReplyTo f line reply
+      → IsTextOf reply text
       → IsReply f line (text ++ 10 ∷ [])
-  reply_text f line (Mean rolls pips) text (x, accepted, mean_is, pips_are) is = answered (mean_query x) text accepted (record {
-    numerator = rolls.numerator;
-    denominator = rolls.denominator;
-    mean_is = mean_is;
-    pips_numerator = pips.numerator;
-    pips_denominator = pips.denominator;
-    pips_are = pips_are;
-    thousandths = is.thousandths;
-    rounded = is.rounded;
-    written = is.written;
-  }) refl
+  reply_text f line (Mean rolls pips) text (x, accepted, mean_is, pips_are) is = answered
+      (mean_query x) text accepted (record {
+        numerator = rolls.numerator;
+        denominator = rolls.denominator;
+        mean_is = mean_is;
+        pips_numerator = pips.numerator;
+        pips_denominator = pips.denominator;
+        pips_are = pips_are;
+        thousandths = is.thousandths;
+        rounded = is.rounded;
+        written = is.written;
+      }) refl
   reply_text f line (Dist shares) text (x, accepted, same) is =
-      answered (dist_query x) text accepted (same_parts (slice_index shares) (spread f x) text same is) refl
+      answered (dist_query x) text accepted (same_parts (slice_index shares)
+      (spread f x) text same is) refl
   reply_text f line (Play play to) text (x, v, accepted, same, legal, first) is =
       answered (play_query x v) text accepted (subst (λ y. IsPlayReply x v y text) same (record {
         moves = _;
         first = first;
         position = position_text to;
-        position_is = position_text_states to (position x v to (play_position _ line x v accepted) legal);
+        position_is = position_text_states to
+            (position x v to (play_position _ line x v accepted) legal);
         written = is;
       })) refl
   reply_text f line (Loss lost) text (x, v, y, accepted, lowest) is =
-      answered (loss_query x v y) text accepted
-      (fraction_text lost.numerator lost.denominator, record { numerator = lost.numerator; denominator = lost.denominator; lowest = lowest; written = refl }, is) refl
+      answered (loss_query x v y) text accepted (
+        fraction_text lost.numerator lost.denominator,
+        record {
+          numerator = lost.numerator;
+          denominator = lost.denominator;
+          lowest =
+              lowest;
+          written = refl;
+        },
+        is,
+      ) refl
   reply_text f line (Moves choices) text (x, v, accepted, are) is =
       answered (moves_query x v) text accepted
-      (moves_reply f x v choices.items text (λ y legal. position x v y (moves_position _ line x v accepted) legal) are is) refl
+      (moves_reply f x v choices.items text
+      (λ y legal. position x v y (moves_position _ line x v accepted) legal) are is) refl
   reply_text f line (Rank number) text (x, accepted, same) is =
       answered (rank_query x) text accepted (is ∙ ap (λ n. codes "rank " ++ decimal n) same) refl
   reply_text f line (Refused refusal) text refused_as is =

@@ -43,19 +43,24 @@ cheaper a b h = by (nat_cmp a.0 b.0) refl h
     by Greater e less = absurd (cc)
 
 -- the first costs no more than any other
-pub first_least : (costs : List (ℕ × ℕ)) (i : ℕ) (d : ℕ × ℕ) → IsByCost costs → i < length costs → (get_or costs 0 d).0 ≤ (get_or costs i d).0
+pub first_least : (costs : List (ℕ × ℕ)) (i : ℕ) (d : ℕ × ℕ) → IsByCost costs → i < length costs
+    → (get_or costs 0 d).0 ≤ (get_or costs i d).0
 first_least costs zero d is low = omega arith
 first_least costs (suc i) d is low =
-    ⊎_elim (λ h. omega arith) (λ h. omega arith) (cheaper (get_or costs 0 d) (get_or costs (suc i) d) (is.pairs 0 (suc i) d (omega arith) low))
+    ⊎_elim (λ h. omega arith) (λ h. omega arith)
+    (cheaper (get_or costs 0 d) (get_or costs (suc i) d)
+    (is.pairs 0 (suc i) d (omega arith) low))
 
 -- an element of a list doesn't hang on what stands for those past its end
-pub get_or_any : {X : Type 0} (xs : List X) (k : ℕ) (d e : X) → k < length xs → get_or xs k d ≡ get_or xs k e
+pub get_or_any : {X : Type 0} (xs : List X) (k : ℕ) (d e : X) → k < length xs
+    → get_or xs k d ≡ get_or xs k e
 get_or_any [] k d e low = absurd (omega arith)
 get_or_any (x ∷ xs) zero d e low = refl
 get_or_any (x ∷ xs) (suc k) d e low = get_or_any xs k d e (omega arith)
 
 -- the costs of the positions so far, with one more of them
-pub one_more_cost : (f : List ℕ) (found : List Board) (i : ℕ) (to : Board) (cost : ℕ × ℕ) (Before Now : Type 0) (n r : ℕ) → i < length found
+pub one_more_cost : (f : List ℕ) (found : List Board) (i : ℕ) (to : Board) (cost : ℕ × ℕ)
+    (Before Now : Type 0) (n r : ℕ) → i < length found
     → to ≡ get_or found i to → n ≡ mean f to → r ≡ rank to → (Now ↔ (Before ⊎ (cost ≡ (n, r))))
     → (Before ↔ ((y : Board) × Contains (take i found) y × (cost ≡ (mean f y, rank y))))
     → Now ↔ ((y : Board) × Contains (take (i + 1) found) y × (cost ≡ (mean f y, rank y)))
@@ -69,20 +74,30 @@ one_more_cost f found i to cost Before Now n r low at price place now before = (
 
     there : Now → (y : Board) × Contains (take (i + 1) found) y × (cost ≡ (mean f y, rank y))
     there h = elim (now.0 h) [
-      | inl old ↦ let w = before.0 old in
-          (w.0, subst (λ ys. Contains ys w.0) (sym more) (Contains-append_left (take i found) (to ∷ []) w.0 w.1), w.2)
-      | inr new ↦ (to, subst (λ ys. Contains ys to) (sym more) (Contains-push (take i found) to), new ∙ same)
+      | inl old ↦ let w = before.0 old in (
+        w.0,
+        subst (λ ys. Contains ys w.0) (sym more) (Contains-append_left (take i found)
+            (to ∷ []) w.0 w.1),
+        w.2,
+      )
+      | inr new ↦ (
+        to,
+        subst (λ ys. Contains ys to) (sym more) (Contains-push (take i found) to),
+        new ∙ same,
+      )
     ]
 
     back : (y : Board) × Contains (take (i + 1) found) y × (cost ≡ (mean f y, rank y)) → Now
-    back (y, held, e) = elim (Contains-push_cases (take i found) to y (subst (λ ys. Contains ys y) more held)) [
-      | inl old ↦ now.1 (inl (before.1 (y, old, e)))
-      | inr new ↦ now.1 (inr (e ∙ ap (λ z. (mean f z, rank z)) (sym new) ∙ sym same))
-    ]
+    back (y, held, e) = elim (Contains-push_cases (take i found) to y
+        (subst (λ ys. Contains ys y) more held)) [
+          | inl old ↦ now.1 (inl (before.1 (y, old, e)))
+          | inr new ↦ now.1 (inr (e ∙ ap (λ z. (mean f z, rank z)) (sym new) ∙ sym same))
+        ]
 
 -- what holds of the costs so far holds with one more of them
 pub still_costs : (costs more : List (ℕ × ℕ)) (cost : ℕ × ℕ) → All IsCost costs → IsCost cost
-    → ((other : ℕ × ℕ) → Contains more other ↔ (Contains costs other ⊎ (other ≡ cost))) → All IsCost more
+    → ((other : ℕ × ℕ) → Contains more other ↔ (Contains costs other ⊎ (other ≡ cost)))
+    → All IsCost more
 still_costs costs more cost all is members k d low =
     let other = get_or more k d in
     elim ((members other).0 (k, low, get_or_any more k other d low)) [
@@ -91,25 +106,29 @@ still_costs costs more cost all is members k d low =
     ]
 
 -- the choices so far, with one more of them
-pub one_more_choice : (costs : List (ℕ × ℕ)) (choices more : List Choice) (i : ℕ) (choice : Choice) (c : ℕ × ℕ) (d : Choice) (k : ℕ)
+pub one_more_choice : (costs : List (ℕ × ℕ)) (choices more : List Choice) (i : ℕ) (choice : Choice)
+    (c : ℕ × ℕ) (d : Choice) (k : ℕ)
     → length choices ≡ i → more ≡ choices ++ choice ∷ [] → i < length costs
     → ((j : ℕ) → j < i → IsPriced (get_or costs 0 c) (get_or costs j c) (get_or choices j d))
     → IsPriced (get_or costs 0 c) (get_or costs i c) choice → k < i + 1
     → IsPriced (get_or costs 0 c) (get_or costs k c) (get_or more k d)
 one_more_choice costs choices more i choice c d k count e low each is within =
     below_more (λ j. IsPriced (get_or costs 0 c) (get_or costs j c) (get_or more j d)) i
-    (λ j small. rw (e, get_or_append_left choices (choice ∷ []) d j (omega (arith, count))) (each j small))
+    (λ j small. rw (e, get_or_append_left choices (choice ∷ []) d j (omega (arith, count)))
+    (each j small))
     (rw (e, get_or_push choices choice d i count) is)
     k within
 
 -- the choices of the costs of all results are the list of moves
 module _ (f : List ℕ) (x : Board) (v : Throw) (costs : List (ℕ × ℕ)) (choices : List Choice)
     (ordered : IsByCost costs)
-    (members : (cost : ℕ × ℕ) → Contains costs cost ↔ ((y : Board) × Legal x v y × (cost ≡ (mean f y, rank y))))
+    (members : (cost : ℕ × ℕ) → Contains costs cost ↔ ((y : Board) × Legal x v y
+    × (cost ≡ (mean f y, rank y))))
     (priced : ArePriced costs choices)
     (found : (y : Board) → Legal x v y → at_rank (rank y) ≡ y)
     (low : (y : Board) → Legal x v y → mean_at f (play f x v) ≤ mean f y)
-    (best : Board) (best_legal : Legal x v best) (best_mean : mean f best ≡ mean_at f (play f x v)) where
+    (best : Board) (best_legal : Legal x v best) (best_mean : mean f best ≡ mean_at f
+    (play f x v)) where
   none : ℕ × ℕ
   none = (0, 0)
 
@@ -117,10 +136,16 @@ module _ (f : List ℕ) (x : Board) (v : Throw) (costs : List (ℕ × ℕ)) (cho
   nothing = record { to = finished; loss = record { numerator = 0; denominator = 1 } }
 
   -- the result that a cost is of
-  result_of : (i : ℕ) → i < length costs → (y : Board) × Legal x v y × (get_or costs i none ≡ (mean f y, rank y))
+  result_of : (i : ℕ) → i < length costs → (y : Board) × Legal x v y
+      × (get_or costs i none ≡ (mean f y, rank y))
   unfolding none
   result_of i within =
-      (members (get_or costs i none)).0 (i, within, get_or_any costs i (get_or costs i none) none within)
+      (members (get_or costs i none)).0 (
+        i,
+        within,
+        get_or_any costs i
+            (get_or costs i none) none within,
+      )
 
   -- the first is the least
   first_is : 0 < length costs → (get_or costs 0 none).0 ≡ mean_at f (play f x v)
@@ -128,26 +153,38 @@ module _ (f : List ℕ) (x : Board) (v : Throw) (costs : List (ℕ × ℕ)) (cho
   first_is some =
       let y = result_of 0 some in
       let here = (members (mean f best, rank best)).1 (best, best_legal, refl) in
-      let at : get_or costs here.0 none ≡ (mean f best, rank best) = get_or_any costs here.0 none (mean f best, rank best) here.1 ∙ here.2 in
+      let at : get_or costs here.0 none ≡ (mean f best, rank best) = get_or_any costs here.0 none
+      (mean f best, rank best) here.1 ∙ here.2 in
       let low_first = first_least costs here.0 none ordered here.1 in
       let low_best = low y.0 y.1 in
       omega (arith, ap (λ c. c.0) y.2, ap (λ c. c.0) at, best_mean, low_first, low_best)
 
   -- the choice of a place is the result of that cost, with its loss
-  choice_is : (i : ℕ) → i < length costs → (y : Board) × Legal x v y × (get_or costs i none ≡ (mean f y, rank y))
+  choice_is : (i : ℕ) → i < length costs → (y : Board) × Legal x v y
+      × (get_or costs i none ≡ (mean f y, rank y))
       × ((get_or choices i nothing).to ≡ y) × HasLoss f x v (get_or choices i nothing)
   choice_is i within =
       let y = result_of i within in
       let p = priced.each i none nothing within in
-      let to : (get_or choices i nothing).to ≡ y.0 = p.to ∙ ap (λ c. at_rank c.1) y.2 ∙ found y.0 y.1 in
-      let price : (get_or costs i none).0 ≡ mean f (get_or choices i nothing).to = ap (λ c. c.0) y.2 ∙ ap (mean f) (sym to) in
-      let lost : (get_or costs i none).0 - (get_or costs 0 none).0 ≡ loss f x v (get_or choices i nothing).to =
-      ap₂ (λ a b. a - b) price (first_is (omega arith)) in
-      (y.0, y.1, y.2, to, subst (λ n. IsFraction n whole (get_or choices i nothing).loss.numerator (get_or choices i nothing).loss.denominator) lost p.loss)
+      let to : (get_or choices i nothing).to ≡ y.0 = p.to ∙ ap (λ c. at_rank c.1) y.2
+      ∙ found y.0 y.1 in
+      let price : (get_or costs i none).0 ≡ mean f (get_or choices i nothing).to = ap
+      (λ c. c.0) y.2 ∙ ap (mean f) (sym to) in
+      let lost : (get_or costs i none).0 - (get_or costs 0 none).0 ≡ loss f x v
+      (get_or choices i nothing).to =
+      ap₂ (λ a b. a - b) price (first_is (omega arith)) in (
+        y.0,
+        y.1,
+        y.2,
+        to,
+        subst (λ n. IsFraction n whole (get_or choices i nothing).loss.numerator
+            (get_or choices i nothing).loss.denominator) lost p.loss,
+      )
 
   -- so is the place in the list of results
   place_is : (i : ℕ) (d : Board) → i < length (map (λ choice. choice.to) choices)
-      → (i < length costs) × (get_or (map (λ choice. choice.to) choices) i d ≡ (get_or choices i nothing).to)
+      → (i < length costs) × (get_or (map (λ choice. choice.to) choices) i d ≡
+      (get_or choices i nothing).to)
   place_is i d low =
       let within : i < length choices = omega (arith, length-map choices (λ choice. choice.to)) in
       (omega (arith, priced.count), get_or-map (λ choice. choice.to) choices i nothing d within)
@@ -165,25 +202,40 @@ module _ (f : List ℕ) (x : Board) (v : Throw) (costs : List (ℕ × ℕ)) (cho
         let same : (mean f is.0, rank is.0) ≡ (mean f y, rank y) =
         sym is.2 ∙ get_or_any costs here.0 none (mean f y, rank y) here.1 ∙ here.2 in
         let one : is.0 ≡ y = sym (found is.0 is.1) ∙ ap (λ c. at_rank c.1) same ∙ found y legal in
-        let within : here.0 < length choices = omega (arith, priced.count) in
-        (here.0, omega (arith, length-map choices (λ choice. choice.to)), get_or-map (λ choice. choice.to) choices here.0 nothing y within ∙ is.3 ∙ one),
+        let within : here.0 < length choices = omega (arith, priced.count) in (
+          here.0,
+          omega (arith, length-map choices (λ choice. choice.to)),
+          get_or-map
+              (λ choice. choice.to) choices here.0 nothing y within ∙ is.3 ∙ one,
+        ),
   )
 
   -- .. by rising loss, and then by rising rank
   by_loss : (i j : ℕ) → i < j → j < length (map (λ choice. choice.to) choices)
-      → IsListedBefore f x v (get_or (map (λ choice. choice.to) choices) i finished) (get_or (map (λ choice. choice.to) choices) j finished)
+      → IsListedBefore f x v (get_or (map (λ choice. choice.to) choices) i finished)
+      (get_or (map (λ choice. choice.to) choices) j finished)
   by_loss i j before inside =
       let here = place_is i finished (omega arith) in
       let there = place_is j finished inside in
       let a = choice_is i here.0 in
       let b = choice_is j there.0 in
-      let less = cheaper (get_or costs i none) (get_or costs j none) (ordered.pairs i j none before there.0) in
+      let less = cheaper (get_or costs i none) (get_or costs j none)
+      (ordered.pairs i j none before there.0) in
       let first = low a.0 a.1 in
       let second = low b.0 b.1 in
       subst₂ (IsListedBefore f x v) (sym (here.1 ∙ a.3)) (sym (there.1 ∙ b.3))
       (elim less [
-        | inl smaller_mean ↦ inl (omega (arith, ap (λ c. c.0) a.2, ap (λ c. c.0) b.2, first, second))
-        | inr tie ↦ inr (omega (arith, tie.0, ap (λ c. c.0) a.2, ap (λ c. c.0) b.2), omega (arith, tie.1, ap (λ c. c.1) a.2, ap (λ c. c.1) b.2))
+        | inl smaller_mean ↦ inl (omega (
+          arith,
+          ap (λ c. c.0) a.2,
+          ap (λ c. c.0) b.2,
+          first,
+          second,
+        ))
+        | inr tie ↦ inr (
+          omega (arith, tie.0, ap (λ c. c.0) a.2, ap (λ c. c.0) b.2),
+          omega (arith, tie.1, ap (λ c. c.1) a.2, ap (λ c. c.1) b.2),
+        )
       ])
 
   -- the choices
@@ -191,5 +243,6 @@ module _ (f : List ℕ) (x : Board) (v : Throw) (costs : List (ℕ × ℕ)) (cho
   choices_are = record {
     listed = record { members = listed; ordered = by_loss };
     losses = λ k d within.
-        subst (HasLoss f x v) (get_or_any choices k nothing d within) (choice_is k (omega (arith, priced.count))).4;
+        subst (HasLoss f x v) (get_or_any choices k nothing d within)
+        (choice_is k (omega (arith, priced.count))).4;
   }

@@ -11,13 +11,16 @@ use Rattle.certificate.specs.declared.query_fault.QueryFault.TheVariants.{OverBo
 use Rattle.certificate.specs.QueryFaults.{RefusesNumbers, QueryCauses}
 
 -- the mean after the recorded play is that of the position that it leads to
-pub mean_after : (f : List ℕ) (x : Board) (v : Throw) → IsRight 44 f → IsPosition x → pips x ≤ bound_of f
+pub mean_after : (f : List ℕ) (x : Board) (v : Throw) → IsRight 44 f → IsPosition x
+    → pips x ≤ bound_of f
     → mean f (recorded f x v) ≡ mean_at f (play f x v)
 mean_after f x v right is within = ap (mean_at f) ((right.at_each x is within).played v).ranked
 
 -- the loss, as a difference of recorded means
-pub loss_is : (f : List ℕ) (x : Board) (v : Throw) (y best : Board) (after least lost : ℕ) → IsRight 44 f → IsPosition x
-    → pips x ≤ bound_of f → best ≡ recorded f x v → least ≡ mean f best → after ≡ mean f y → lost + least ≡ after
+pub loss_is : (f : List ℕ) (x : Board) (v : Throw) (y best : Board) (after least lost : ℕ)
+    → IsRight 44 f → IsPosition x
+    → pips x ≤ bound_of f → best ≡ recorded f x v → least ≡ mean f best → after ≡ mean f y
+    → lost + least ≡ after
     → lost ≡ loss f x v y
 loss_is f x v y best after least lost right is within e a b d =
     let m = mean_after f x v right is within in
@@ -25,9 +28,12 @@ loss_is f x v y best after least lost right is within e a b d =
     omega (arith, m, n)
 
 -- where the position has at most so many pips, a refusal is a read that failed
-pub must_be_read : {T : Type 0} (r : Result T QueryFault) (bound pips before now : ℕ) (fault : QueryFault) → r ≡ Err fault
-    → (r ≡ Err OverBound) ↔ (bound < pips) → pips ≤ bound → RefusesNumbers fault → QueryCauses before now fault → before < now
-must_be_read r bound pips before now OverBound e over low refuses cause = absurd (omega (arith, over.0 e))
+pub must_be_read : {T : Type 0} (r : Result T QueryFault) (bound pips before now : ℕ)
+    (fault : QueryFault) → r ≡ Err fault
+    → (r ≡ Err OverBound) ↔ (bound < pips) → pips ≤ bound → RefusesNumbers fault
+    → QueryCauses before now fault → before < now
+must_be_read r bound pips before now OverBound e over low refuses cause = absurd
+    (omega (arith, over.0 e))
 must_be_read r bound pips before now Finished e over low refuses cause = absurd refuses
 must_be_read r bound pips before now NotLegal e over low refuses cause = absurd refuses
 must_be_read r bound pips before now Memory e over low refuses cause = absurd refuses

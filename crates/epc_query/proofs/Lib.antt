@@ -6,3 +6,4 @@ pub mod Costs
 pub mod CostOrder
 pub mod Stops
 pub mod Runs
+pub mod PipCounts

@@ -20,23 +20,33 @@ pub no_replies : (f : List ℕ) (old : Option (List ℕ)) → HasReplies f [] ol
 no_replies f old = record { text = []; replies = refl; written = appends_none old }
 
 -- the reply to one line
-pub one_reply : (f line reply : List ℕ) (old new : Option (List ℕ)) → IsReply f line reply → Appends old new reply → HasReplies f (line ∷ []) old new
+pub one_reply : (f line reply : List ℕ) (old new : Option (List ℕ)) → IsReply f line reply
+    → Appends old new reply → HasReplies f (line ∷ []) old new
 one_reply f line reply old new is h =
     record { text = reply; replies = (reply, [], is, refl, sym (append-nil reply)); written = h }
 
 -- .. and a prefix of it
-pub one_part : (f line reply : List ℕ) (old new : Option (List ℕ)) → IsReply f line reply → AppendsPart old new reply → HasPart f (line ∷ []) old new
+pub one_part : (f line reply : List ℕ) (old new : Option (List ℕ)) → IsReply f line reply
+    → AppendsPart old new reply → HasPart f (line ∷ []) old new
 one_part f line reply old new is h =
     record { text = reply; replies = (reply, [], is, refl, sym (append-nil reply)); written = h }
 
 -- the replies to some lines and then to others
-both_replies : (f : List ℕ) (lines more : List (List ℕ)) (text others : List ℕ) → AreReplies f lines text → AreReplies f more others
+both_replies : (f : List ℕ) (lines more : List (List ℕ)) (text others : List ℕ)
+    → AreReplies f lines text → AreReplies f more others
     → AreReplies f (lines ++ more) (text ++ others)
-both_replies f [] more text others e are = subst (AreReplies f more) (ap (λ t. t ++ others) (sym e)) are
-both_replies f (line ∷ lines) more text others (reply, rest, is, are, e) others_are =
-    (reply, rest ++ others, is, both_replies f lines more rest others are others_are, ap (λ t. t ++ others) e ∙ append_assoc reply rest others)
+both_replies f [] more text others e are = subst (AreReplies f more)
+    (ap (λ t. t ++ others) (sym e)) are
+both_replies f (line ∷ lines) more text others (reply, rest, is, are, e) others_are = (
+  reply,
+  rest ++ others,
+  is,
+  both_replies f lines more rest others are others_are,
+  ap (λ t. t ++ others) e ∙ append_assoc reply rest others,
+)
 
-pub more_replies : (f : List ℕ) (lines more : List (List ℕ)) (old mid new : Option (List ℕ)) → HasReplies f lines old mid → HasReplies f more mid new
+pub more_replies : (f : List ℕ) (lines more : List (List ℕ)) (old mid new : Option (List ℕ))
+    → HasReplies f lines old mid → HasReplies f more mid new
     → HasReplies f (lines ++ more) old new
 more_replies f lines more old mid new a b = record {
   text = a.text ++ b.text;
@@ -44,7 +54,8 @@ more_replies f lines more old mid new a b = record {
   written = appends_twice old mid new a.text b.text a.written b.written;
 }
 
-pub more_part : (f : List ℕ) (lines more : List (List ℕ)) (old mid new : Option (List ℕ)) → HasReplies f lines old mid → HasPart f more mid new
+pub more_part : (f : List ℕ) (lines more : List (List ℕ)) (old mid new : Option (List ℕ))
+    → HasReplies f lines old mid → HasPart f more mid new
     → HasPart f (lines ++ more) old new
 more_part f lines more old mid new a b = record {
   text = a.text ++ b.text;
@@ -53,14 +64,23 @@ more_part f lines more old mid new a b = record {
 }
 
 -- the answers to lines before others stopped as those to all of them
-pub stopped_longer : (f : List ℕ) (lines more : List (List ℕ)) (old new : Option (List ℕ)) (fault : RunFault) → IsStoppedAt f lines old new fault
+pub stopped_longer : (f : List ℕ) (lines more : List (List ℕ)) (old new : Option (List ℕ))
+    (fault : RunFault) → IsStoppedAt f lines old new fault
     → IsStoppedAt f (lines ++ more) old new fault
 stopped_longer f lines more old new Read h = h
 stopped_longer f lines more old new Turns h = h
-stopped_longer f lines more old new Write (n, low, is) =
-    (n, omega (arith, low, length-append lines more), subst (λ ls. HasPart f ls old new) (sym (take-append-le n lines more low)) is)
-stopped_longer f lines more old new Table (n, low, is) =
-    (n, omega (arith, low, length-append lines more), subst (λ ls. HasReplies f ls old new) (sym (take-append-le n lines more (omega arith))) is)
+stopped_longer f lines more old new Write (n, low, is) = (
+  n,
+  omega (arith, low, length-append lines more),
+  subst (λ ls. HasPart f ls old new)
+      (sym (take-append-le n lines more low)) is,
+)
+stopped_longer f lines more old new Table (n, low, is) = (
+  n,
+  omega (arith, low, length-append lines more),
+  subst (λ ls. HasReplies f ls old new)
+      (sym (take-append-le n lines more (omega arith))) is,
+)
 stopped_longer f lines more old new Memory (n, low, moves, is) = (
   n,
   omega (arith, low, length-append lines more),
@@ -69,25 +89,29 @@ stopped_longer f lines more old new Memory (n, low, moves, is) = (
 )
 
 -- the answer to one more line stopped after the replies to those before it
-pub stopped_after : (f : List ℕ) (lines : List (List ℕ)) (line : List ℕ) (old mid new : Option (List ℕ)) (fault : RunFault) → HasReplies f lines old mid
+pub stopped_after : (f : List ℕ) (lines : List (List ℕ)) (line : List ℕ)
+    (old mid new : Option (List ℕ)) (fault : RunFault) → HasReplies f lines old mid
     → IsStoppedAt f (line ∷ []) mid new fault → IsStoppedAt f (lines ++ line ∷ []) old new fault
 stopped_after f lines line old mid new Read has h = h
 stopped_after f lines line old mid new Turns has h = h
 stopped_after f lines line old mid new Write has (n, low, is) = (
   length lines + n,
   omega (arith, low, length-append lines (line ∷ [])),
-  subst (λ ls. HasPart f ls old new) (sym (take-append-add lines (line ∷ []) n)) (more_part f lines (take n (line ∷ [])) old mid new has is),
+  subst (λ ls. HasPart f ls old new) (sym (take-append-add lines (line ∷ []) n))
+      (more_part f lines (take n (line ∷ [])) old mid new has is),
 )
 stopped_after f lines line old mid new Table has (n, low, is) = (
   length lines + n,
   omega (arith, low, length-append lines (line ∷ [])),
-  subst (λ ls. HasReplies f ls old new) (sym (take-append-add lines (line ∷ []) n)) (more_replies f lines (take n (line ∷ [])) old mid new has is),
+  subst (λ ls. HasReplies f ls old new) (sym (take-append-add lines (line ∷ []) n))
+      (more_replies f lines (take n (line ∷ [])) old mid new has is),
 )
 stopped_after f lines line old mid new Memory has (zero, low, moves, is) = (
   length lines + 0,
   omega (arith, length-append lines (line ∷ [])),
   subst (IsMovesLine f) (sym (get_or_push lines line [] (length lines + 0) (omega arith))) moves,
-  subst (λ ls. HasReplies f ls old new) (sym (take-append-add lines (line ∷ []) 0)) (more_replies f lines [] old mid new has is),
+  subst (λ ls. HasReplies f ls old new) (sym (take-append-add lines (line ∷ []) 0))
+      (more_replies f lines [] old mid new has is),
 )
 stopped_after f lines line old mid new Memory has (suc n, low, moves, is) = absurd (omega arith)
 
@@ -96,67 +120,111 @@ pub record IsHeardAs (f line other : List ℕ) : Type 0 where
   pub replies : (reply : List ℕ) → IsReply f line reply → IsReply f other reply
   pub moves : IsMovesLine f line → IsMovesLine f other
 
-pub replies_as : (f line other : List ℕ) (old new : Option (List ℕ)) → IsHeardAs f line other → HasReplies f (line ∷ []) old new → HasReplies f (other ∷ []) old new
+pub replies_as : (f line other : List ℕ) (old new : Option (List ℕ)) → IsHeardAs f line other
+    → HasReplies f (line ∷ []) old new → HasReplies f (other ∷ []) old new
 replies_as f line other old new same has =
     let (reply, rest, is, are, e) = has.replies in
-    record { text = has.text; replies = (reply, rest, same.replies reply is, are, e); written = has.written }
+    record {
+      text = has.text;
+      replies = (reply, rest, same.replies reply is, are, e);
+      written =
+          has.written;
+    }
 
-pub stopped_as : (f line other : List ℕ) (old new : Option (List ℕ)) (fault : RunFault) → IsHeardAs f line other → IsStoppedAt f (line ∷ []) old new fault
+pub stopped_as : (f line other : List ℕ) (old new : Option (List ℕ)) (fault : RunFault)
+    → IsHeardAs f line other → IsStoppedAt f (line ∷ []) old new fault
     → IsStoppedAt f (other ∷ []) old new fault
 stopped_as f line other old new Read same h = h
 stopped_as f line other old new Turns same h = h
-stopped_as f line other old new Write same (zero, low, is) = (0, low, record { text = is.text; replies = is.replies; written = is.written })
+stopped_as f line other old new Write same (zero, low, is) =
+    (0, low, record { text = is.text; replies = is.replies; written = is.written })
 stopped_as f line other old new Write same (suc zero, low, is) =
-    let (reply, rest, replied, are, e) = is.replies in
-    (1, low, record { text = is.text; replies = (reply, rest, same.replies reply replied, are, e); written = is.written })
+    let (reply, rest, replied, are, e) = is.replies in (
+      1,
+      low,
+      record {
+        text = is.text;
+        replies = (
+          reply,
+          rest,
+          same.replies reply replied,
+          are,
+          e,
+        );
+        written = is.written;
+      },
+    )
 stopped_as f line other old new Write same (suc (suc n), low, is) = absurd (omega arith)
-stopped_as f line other old new Table same (zero, low, is) = (0, low, record { text = is.text; replies = is.replies; written = is.written })
+stopped_as f line other old new Table same (zero, low, is) =
+    (0, low, record { text = is.text; replies = is.replies; written = is.written })
 stopped_as f line other old new Table same (suc n, low, is) = absurd (omega arith)
-stopped_as f line other old new Memory same (zero, low, moves, is) = (0, low, same.moves moves, record { text = is.text; replies = is.replies; written = is.written })
+stopped_as f line other old new Memory same (zero, low, moves, is) = (
+  0,
+  low,
+  same.moves moves,
+  record { text = is.text; replies = is.replies; written = is.written },
+)
 stopped_as f line other old new Memory same (suc n, low, moves, is) = absurd (omega arith)
 
 -- the lines that a line feed ends, with one more of them
 ended : (done : List ℕ) → pieces (done ++ 10 ∷ []) ≡ pieces done ++ rest_of done ∷ []
     → whole_lines (done ++ 10 ∷ []) ≡ whole_lines done ++ without_return (rest_of done) ∷ []
-ended done cut = ap (map without_return) cut ∙ map-append without_return (pieces done) (rest_of done ∷ [])
+ended done cut = ap (map without_return) cut ∙ map-append without_return (pieces done)
+    (rest_of done ∷ [])
 
 -- the first bytes of a rest with one byte more are those of its first bytes with that byte
 kept_more : (rest : List ℕ) (c : ℕ) → take 130 (take 130 rest ++ c ∷ []) ≡ take 130 (rest ++ c ∷ [])
 kept_more rest c = by (cases_lt 130 (length rest))
   where
-    by : (130 < length rest) ⊎ (length rest ≤ 130) → take 130 (take 130 rest ++ c ∷ []) ≡ take 130 (rest ++ c ∷ [])
+    by : (130 < length rest) ⊎ (length rest ≤ 130) → take 130 (take 130 rest ++ c ∷ []) ≡ take 130
+        (rest ++ c ∷ [])
     by (inl long) =
-        let whole : take 130 (take 130 rest) ≡ take 130 rest = take_all 130 (take 130 rest) (omega (arith, length-take 130 rest)) in
-        take-append-le 130 (take 130 rest) (c ∷ []) (omega (arith, length-take 130 rest)) ∙ whole ∙ sym (take-append-le 130 rest (c ∷ []) (omega arith))
+        let whole : take 130 (take 130 rest) ≡ take 130 rest = take_all 130 (take 130 rest)
+        (omega (arith, length-take 130 rest)) in
+        take-append-le 130 (take 130 rest) (c ∷ []) (omega (arith, length-take 130 rest)) ∙ whole
+        ∙ sym (take-append-le 130 rest (c ∷ []) (omega arith))
     by (inr all) = ap (λ r. take 130 (r ++ c ∷ [])) (take_all 130 rest all)
 
 -- any other byte is kept
-pub byte_kept : (f done : List ℕ) (start now : Option (List ℕ)) (kept new : List ℕ) (c : ℕ) → IsAnswered f done start now kept
-    → (pieces (done ++ c ∷ []) ≡ pieces done) × (rest_of (done ++ c ∷ []) ≡ rest_of done ++ c ∷ []) → new ≡ take 130 (kept ++ c ∷ [])
-    → IsAnswered f (done ++ c ∷ []) start now new × (length (whole_lines (done ++ c ∷ [])) ≡ length (whole_lines done) + 0)
+pub byte_kept : (f done : List ℕ) (start now : Option (List ℕ)) (kept new : List ℕ) (c : ℕ)
+    → IsAnswered f done start now kept
+    → (pieces (done ++ c ∷ []) ≡ pieces done) × (rest_of (done ++ c ∷ []) ≡ rest_of done ++ c ∷ [])
+    → new ≡ take 130 (kept ++ c ∷ [])
+    → IsAnswered f (done ++ c ∷ []) start now new × (length (whole_lines (done ++ c ∷ [])) ≡ length
+    (whole_lines done) + 0)
 byte_kept f done start now kept new c is cut e =
     let lines : whole_lines (done ++ c ∷ []) ≡ whole_lines done = ap (map without_return) cut.0 in (
       record {
         replies = subst (λ ls. HasReplies f ls start now) (sym lines) is.replies;
-        held = e ∙ ap (λ k. take 130 (k ++ c ∷ [])) is.held ∙ kept_more (rest_of done) c ∙ ap (take 130) (sym cut.1);
+        held = e ∙ ap (λ k. take 130 (k ++ c ∷ [])) is.held ∙ kept_more (rest_of done) c
+            ∙ ap (take 130) (sym cut.1);
       },
       omega (arith, ap length lines),
     )
 
 -- where a byte is kept there is a last line
-last_is : (done kept : List ℕ) → kept ≡ take 130 (rest_of done) → 0 < length kept → lines_of done ≡ whole_lines done ++ rest_of done ∷ []
+last_is : (done kept : List ℕ) → kept ≡ take 130 (rest_of done) → 0 < length kept
+    → lines_of done ≡ whole_lines done ++ rest_of done ∷ []
 last_is done kept e some = by (rest_of done) refl
   where
-    by : (rest : List ℕ) → rest_of done ≡ rest → whole_lines done ++ last_line rest ≡ whole_lines done ++ rest ∷ []
+    by : (rest : List ℕ) → rest_of done ≡ rest
+        → whole_lines done ++ last_line rest ≡ whole_lines done ++ rest ∷ []
     by [] none = absurd (omega (arith, ap length e, ap (λ r. length (take 130 r)) none))
     by (c ∷ rest) h = refl
 
-none_left : (done kept : List ℕ) → kept ≡ take 130 (rest_of done) → length kept ≡ 0 → lines_of done ≡ whole_lines done
+none_left : (done kept : List ℕ) → kept ≡ take 130 (rest_of done) → length kept ≡ 0
+    → lines_of done ≡ whole_lines done
 none_left done kept e none = by (rest_of done) refl
   where
-    by : (rest : List ℕ) → rest_of done ≡ rest → whole_lines done ++ last_line rest ≡ whole_lines done
+    by : (rest : List ℕ) → rest_of done ≡ rest
+        → whole_lines done ++ last_line rest ≡ whole_lines done
     by [] h = append-nil (whole_lines done)
-    by (c ∷ rest) some = absurd (omega (arith, ap length e, ap (λ r. length (take 130 r)) some, length-take 130 (c ∷ rest)))
+    by (c ∷ rest) some = absurd (omega (
+      arith,
+      ap length e,
+      ap (λ r. length (take 130 r)) some,
+      length-take 130 (c ∷ rest),
+    ))
 
 module _ (short : (line : List ℕ) (q : Query) → IsQuery line q → length line ≤ 55) where
   -- a long line asks nothing
@@ -164,7 +232,8 @@ module _ (short : (line : List ℕ) (q : Query) → IsQuery line q → length li
   not_asked line q long is = omega (arith, short line q is)
 
   -- so all long lines are heard alike
-  long_alike : (f line other : List ℕ) → 55 < length line → 55 < length other → IsHeardAs f line other
+  long_alike : (f line other : List ℕ) → 55 < length line → 55 < length other
+      → IsHeardAs f line other
   long_alike f line other long long_other = record {
     replies = λ reply is. alike reply is;
     moves = λ w. absurd (not_asked line w.0 long w.1.query);
@@ -197,27 +266,35 @@ module _ (short : (line : List ℕ) (q : Query) → IsQuery line q → length li
       by false = omega arith
 
   -- the first 130 bytes of a piece are heard as the whole piece
-  pub kept_piece : (f rest : List ℕ) → IsHeardAs f (without_return (take 130 rest)) (without_return rest)
+  pub kept_piece : (f rest : List ℕ) → IsHeardAs f (without_return (take 130 rest))
+      (without_return rest)
   kept_piece f rest = by (cases_lt 130 (length rest))
     where
-      by : (130 < length rest) ⊎ (length rest ≤ 130) → IsHeardAs f (without_return (take 130 rest)) (without_return rest)
+      by : (130 < length rest) ⊎ (length rest ≤ 130) → IsHeardAs f (without_return (take 130 rest))
+          (without_return rest)
       by (inl long) = long_alike f (without_return (take 130 rest)) (without_return rest)
-          (omega (arith, length-without_return (take 130 rest), length-take 130 rest)) (omega (arith, length-without_return rest))
-      by (inr all) = itself f (without_return (take 130 rest)) (without_return rest) (ap without_return (take_all 130 rest all))
+          (omega (arith, length-without_return (take 130 rest), length-take 130 rest))
+          (omega (arith, length-without_return rest))
+      by (inr all) = itself f (without_return (take 130 rest)) (without_return rest)
+          (ap without_return (take_all 130 rest all))
 
   -- and so are those of a last line
   pub kept_rest : (f rest : List ℕ) → IsHeardAs f (take 130 rest) rest
   kept_rest f rest = by (cases_lt 130 (length rest))
     where
       by : (130 < length rest) ⊎ (length rest ≤ 130) → IsHeardAs f (take 130 rest) rest
-      by (inl long) = long_alike f (take 130 rest) rest (omega (arith, length-take 130 rest)) (omega arith)
+      by (inl long) = long_alike f (take 130 rest) rest (omega (arith, length-take 130 rest))
+          (omega arith)
       by (inr all) = itself f (take 130 rest) rest (take_all 130 rest all)
 
   -- a line feed ends the line that is kept, which was answered
-  pub line_ended : (f done : List ℕ) (start mid new : Option (List ℕ)) (kept empty : List ℕ) → IsAnswered f done start mid kept
+  pub line_ended : (f done : List ℕ) (start mid new : Option (List ℕ)) (kept empty : List ℕ)
+      → IsAnswered f done start mid kept
       → HasReplies f (without_return kept ∷ []) mid new
-      → (pieces (done ++ 10 ∷ []) ≡ pieces done ++ rest_of done ∷ []) × (rest_of (done ++ 10 ∷ []) ≡ []) → empty ≡ []
-      → IsAnswered f (done ++ 10 ∷ []) start new empty × (length (whole_lines (done ++ 10 ∷ [])) ≡ length (whole_lines done) + 1)
+      → (pieces (done ++ 10 ∷ []) ≡ pieces done ++ rest_of done ∷ [])
+      × (rest_of (done ++ 10 ∷ []) ≡ []) → empty ≡ []
+      → IsAnswered f (done ++ 10 ∷ []) start new empty
+      × (length (whole_lines (done ++ 10 ∷ [])) ≡ length (whole_lines done) + 1)
   line_ended f done start mid new kept empty is has cut none =
       let line = without_return (rest_of done) in
       let lines = ended done cut.0 in
@@ -225,120 +302,164 @@ module _ (short : (line : List ℕ) (q : Query) → IsQuery line q → length li
         record {
           replies = subst (λ ls. HasReplies f ls start new) (sym lines)
               (more_replies f (whole_lines done) (line ∷ []) start mid new is.replies
-              (replies_as f (without_return (take 130 (rest_of done))) line mid new (kept_piece f (rest_of done)) here));
+              (replies_as f (without_return (take 130 (rest_of done))) line mid new
+              (kept_piece f (rest_of done)) here));
           held = none ∙ ap (take 130) (sym cut.1);
         },
         ap length lines ∙ length_push (whole_lines done) line,
       )
 
   -- .. or stopped there
-  pub line_stopped : (f done : List ℕ) (start mid new : Option (List ℕ)) (kept : List ℕ) (fault : RunFault) → IsAnswered f done start mid kept
-      → IsStoppedAt f (without_return kept ∷ []) mid new fault → pieces (done ++ 10 ∷ []) ≡ pieces done ++ rest_of done ∷ []
+  pub line_stopped : (f done : List ℕ) (start mid new : Option (List ℕ)) (kept : List ℕ)
+      (fault : RunFault) → IsAnswered f done start mid kept
+      → IsStoppedAt f (without_return kept ∷ []) mid new fault
+      → pieces (done ++ 10 ∷ []) ≡ pieces done ++ rest_of done ∷ []
       → IsStoppedAt f (whole_lines (done ++ 10 ∷ [])) start new fault
   line_stopped f done start mid new kept fault is stopped cut =
       let line = without_return (rest_of done) in
       let here = subst (λ k. IsStoppedAt f (without_return k ∷ []) mid new fault) is.held stopped in
       subst (λ ls. IsStoppedAt f ls start new fault) (sym (ended done cut))
       (stopped_after f (whole_lines done) line start mid new fault is.replies
-      (stopped_as f (without_return (take 130 (rest_of done))) line mid new fault (kept_piece f (rest_of done)) here))
+      (stopped_as f (without_return (take 130 (rest_of done))) line mid new fault
+      (kept_piece f (rest_of done)) here))
 
   -- the last line was answered
-  pub last_ended : (f done : List ℕ) (start mid new : Option (List ℕ)) (kept : List ℕ) → IsAnswered f done start mid kept → 0 < length kept
+  pub last_ended : (f done : List ℕ) (start mid new : Option (List ℕ)) (kept : List ℕ)
+      → IsAnswered f done start mid kept → 0 < length kept
       → HasReplies f (kept ∷ []) mid new
-      → HasReplies f (lines_of done) start new × (length (lines_of done) ≡ length (whole_lines done) + 1)
+      → HasReplies f (lines_of done) start new
+      × (length (lines_of done) ≡ length (whole_lines done) + 1)
   last_ended f done start mid new kept is some has =
       let line = rest_of done in
       let lines = last_is done kept is.held some in
       let here = subst (λ k. HasReplies f (k ∷ []) mid new) is.held has in (
         subst (λ ls. HasReplies f ls start new) (sym lines)
-            (more_replies f (whole_lines done) (line ∷ []) start mid new is.replies (replies_as f (take 130 line) line mid new (kept_rest f line) here)),
+            (more_replies f (whole_lines done) (line ∷ []) start mid new is.replies
+            (replies_as f (take 130 line) line mid new (kept_rest f line) here)),
         ap length lines ∙ length_push (whole_lines done) line,
       )
 
   -- .. or stopped there
-  pub last_stopped : (f done : List ℕ) (start mid new : Option (List ℕ)) (kept : List ℕ) (fault : RunFault) → IsAnswered f done start mid kept → 0 < length kept
+  pub last_stopped : (f done : List ℕ) (start mid new : Option (List ℕ)) (kept : List ℕ)
+      (fault : RunFault) → IsAnswered f done start mid kept → 0 < length kept
       → IsStoppedAt f (kept ∷ []) mid new fault → IsStoppedAt f (lines_of done) start new fault
   last_stopped f done start mid new kept fault is some stopped =
       let line = rest_of done in
       let here = subst (λ k. IsStoppedAt f (k ∷ []) mid new fault) is.held stopped in
       subst (λ ls. IsStoppedAt f ls start new fault) (sym (last_is done kept is.held some))
-      (stopped_after f (whole_lines done) line start mid new fault is.replies (stopped_as f (take 130 line) line mid new fault (kept_rest f line) here))
+      (stopped_after f (whole_lines done) line start mid new fault is.replies
+      (stopped_as f (take 130 line) line mid new fault (kept_rest f line) here))
 
 -- where nothing is kept there is no last line
-pub no_last : (f done : List ℕ) (start now : Option (List ℕ)) (kept : List ℕ) → IsAnswered f done start now kept → length kept ≡ 0
-    → HasReplies f (lines_of done) start now × (length (lines_of done) ≡ length (whole_lines done) + 0)
+pub no_last : (f done : List ℕ) (start now : Option (List ℕ)) (kept : List ℕ)
+    → IsAnswered f done start now kept → length kept ≡ 0
+    → HasReplies f (lines_of done) start now
+    × (length (lines_of done) ≡ length (whole_lines done) + 0)
 no_last f done start now kept is none =
     let lines = none_left done kept is.held none in
     (subst (λ ls. HasReplies f ls start now) (sym lines) is.replies, omega (arith, ap length lines))
 
 -- one byte more of the input
-pub byte_next : (done chunk : List ℕ) (i : ℕ) → i < length chunk → (done ++ take i chunk) ++ get_or chunk i 0 ∷ [] ≡ done ++ take (i + 1) chunk
-byte_next done chunk i low = append_assoc done (take i chunk) (get_or chunk i 0 ∷ []) ∙ ap (λ t. done ++ t) (sym (take_more chunk i 0 low))
+pub byte_next : (done chunk : List ℕ) (i : ℕ) → i < length chunk
+    → (done ++ take i chunk) ++ get_or chunk i 0 ∷ [] ≡ done ++ take (i + 1) chunk
+byte_next done chunk i low = append_assoc done (take i chunk) (get_or chunk i 0 ∷ [])
+    ∙ ap (λ t. done ++ t) (sym (take_more chunk i 0 low))
 
 -- what is left of a chunk comes after
-pub byte_rest : (done chunk : List ℕ) (i : ℕ) → i < length chunk → ((done ++ take i chunk) ++ get_or chunk i 0 ∷ []) ++ drop (i + 1) chunk ≡ done ++ chunk
+pub byte_rest : (done chunk : List ℕ) (i : ℕ) → i < length chunk
+    → ((done ++ take i chunk) ++ get_or chunk i 0 ∷ []) ++ drop (i + 1) chunk ≡ done ++ chunk
 byte_rest done chunk i low =
-    ap (λ t. t ++ drop (i + 1) chunk) (byte_next done chunk i low) ∙ append_assoc done (take (i + 1) chunk) (drop (i + 1) chunk)
+    ap (λ t. t ++ drop (i + 1) chunk) (byte_next done chunk i low)
+    ∙ append_assoc done (take (i + 1) chunk) (drop (i + 1) chunk)
     ∙ ap (λ t. done ++ t) (take-append-drop (i + 1) chunk)
 
 -- what stopped the first bytes of an input stops more of it
-pub stopped_before : (f done more all : List ℕ) (later : List (List ℕ)) (start now : Option (List ℕ)) (fault : RunFault) → done ++ more ≡ all
-    → pieces (done ++ more) ≡ pieces done ++ later → IsStoppedAt f (whole_lines done) start now fault → IsStoppedAt f (whole_lines all) start now fault
+pub stopped_before : (f done more all : List ℕ) (later : List (List ℕ))
+    (start now : Option (List ℕ)) (fault : RunFault) → done ++ more ≡ all
+    → pieces (done ++ more) ≡ pieces done ++ later
+    → IsStoppedAt f (whole_lines done) start now fault
+    → IsStoppedAt f (whole_lines all) start now fault
 stopped_before f done more all later start now fault e cut stopped =
     subst (λ input. IsStoppedAt f (whole_lines input) start now fault) e
-    (subst (λ ls. IsStoppedAt f ls start now fault) (sym (ap (map without_return) cut ∙ map-append without_return (pieces done) later))
+    (subst (λ ls. IsStoppedAt f ls start now fault)
+    (sym (ap (map without_return) cut ∙ map-append without_return (pieces done) later))
     (stopped_longer f (whole_lines done) (map without_return later) start now fault stopped))
 
 -- .. and all lines of it
-pub stopped_in : (f done more all : List ℕ) (later : List (List ℕ)) (start now : Option (List ℕ)) (fault : RunFault) → done ++ more ≡ all
-    → pieces (done ++ more) ≡ pieces done ++ later → IsStoppedAt f (whole_lines done) start now fault → IsStoppedAt f (lines_of all) start now fault
+pub stopped_in : (f done more all : List ℕ) (later : List (List ℕ)) (start now : Option (List ℕ))
+    (fault : RunFault) → done ++ more ≡ all
+    → pieces (done ++ more) ≡ pieces done ++ later
+    → IsStoppedAt f (whole_lines done) start now fault
+    → IsStoppedAt f (lines_of all) start now fault
 stopped_in f done more all later start now fault e cut stopped =
-    stopped_longer f (whole_lines all) (last_line (rest_of all)) start now fault (stopped_before f done more all later start now fault e cut stopped)
+    stopped_longer f (whole_lines all) (last_line (rest_of all)) start now fault
+    (stopped_before f done more all later start now fault e cut stopped)
 
 -- a flush leaves what was written
-pub flushed : (f : List ℕ) (lines : List (List ℕ)) (old mid new : Option (List ℕ)) → HasReplies f lines old mid → Keeps mid new → HasReplies f lines old new
+pub flushed : (f : List ℕ) (lines : List (List ℕ)) (old mid new : Option (List ℕ))
+    → HasReplies f lines old mid → Keeps mid new → HasReplies f lines old new
 flushed f lines old mid new has kept = record {
   text = has.text;
   replies = has.replies;
-  written = appends_same old new (has.text ++ []) has.text (append-nil has.text) (appends_twice old mid new has.text [] has.written (appends_kept mid new kept));
+  written = appends_same old new (has.text ++ []) has.text (append-nil has.text)
+      (appends_twice old mid new has.text [] has.written (appends_kept mid new kept));
 }
 
-pub flushed_answers : (f done : List ℕ) (old mid new : Option (List ℕ)) (kept : List ℕ) → IsAnswered f done old mid kept → Keeps mid new → IsAnswered f done old new kept
-flushed_answers f done old mid new kept is stays = record { replies = flushed f (whole_lines done) old mid new is.replies stays; held = is.held }
+pub flushed_answers : (f done : List ℕ) (old mid new : Option (List ℕ)) (kept : List ℕ)
+    → IsAnswered f done old mid kept → Keeps mid new → IsAnswered f done old new kept
+flushed_answers f done old mid new kept is stays =
+    record { replies = flushed f (whole_lines done) old mid new is.replies stays; held = is.held }
 
 -- a writer that failed after all replies has a prefix of them
-pub failed_flush : (f : List ℕ) (lines : List (List ℕ)) (old mid new : Option (List ℕ)) → HasReplies f lines old mid → Keeps mid new → IsStoppedAt f lines old new Write
+pub failed_flush : (f : List ℕ) (lines : List (List ℕ)) (old mid new : Option (List ℕ))
+    → HasReplies f lines old mid → Keeps mid new → IsStoppedAt f lines old new Write
 failed_flush f lines old mid new has kept =
     let now = flushed f lines old mid new has kept in
-    let all : take (length lines) lines ≡ lines = take_all (length lines) lines (omega arith) in
-    (length lines, omega arith, subst (λ ls. HasPart f ls old new) (sym all) (record { text = now.text; replies = now.replies; written = part_all old new now.text now.written }))
+    let all : take (length lines) lines ≡ lines = take_all (length lines) lines (omega arith) in (
+      length lines,
+      omega arith,
+      subst (λ ls. HasPart f ls old new) (sym all)
+          (record {
+            text = now.text;
+            replies = now.replies;
+            written =
+                part_all old new now.text now.written;
+          }),
+    )
 
 -- more of the input was read
-pub read_more : (input : List ℕ) (mid new : Option (List ℕ)) (done bytes : List ℕ) → Consumes (Some input) mid done → Consumes mid new bytes
+pub read_more : (input : List ℕ) (mid new : Option (List ℕ)) (done bytes : List ℕ)
+    → Consumes (Some input) mid done → Consumes mid new bytes
     → Consumes (Some input) new (done ++ bytes)
 read_more input None new done bytes h more = absurd h
 read_more input (Some ys) None done bytes h more = absurd more
-read_more input (Some ys) (Some zs) done bytes h more = h ∙ ap (λ t. done ++ t) more ∙ sym (append_assoc done bytes zs)
+read_more input (Some ys) (Some zs) done bytes h more = h ∙ ap (λ t. done ++ t) more
+    ∙ sym (append_assoc done bytes zs)
 
 -- nothing was read by a read that failed
-pub read_none : (input : List ℕ) (mid new : Option (List ℕ)) (done : List ℕ) → Consumes (Some input) mid done → Keeps mid new → Consumes (Some input) new done
+pub read_none : (input : List ℕ) (mid new : Option (List ℕ)) (done : List ℕ)
+    → Consumes (Some input) mid done → Keeps mid new → Consumes (Some input) new done
 read_none input None new done h kept = absurd h
 read_none input (Some ys) None done h kept = absurd kept
 read_none input (Some ys) (Some zs) done h kept = h ∙ ap (λ t. done ++ t) (sym kept)
 
 -- at the end all of the input was read
-pub read_all : (input : List ℕ) (mid new : Option (List ℕ)) (done : List ℕ) → Consumes (Some input) mid done → Consumes mid new [] → IsAtEnd new → input ≡ done
+pub read_all : (input : List ℕ) (mid new : Option (List ℕ)) (done : List ℕ)
+    → Consumes (Some input) mid done → Consumes mid new [] → IsAtEnd new → input ≡ done
 read_all input None new done h more end = absurd h
 read_all input (Some ys) None done h more end = absurd more
-read_all input (Some ys) (Some zs) done h more end = h ∙ ap (λ t. done ++ t) (more ∙ end) ∙ append-nil done
+read_all input (Some ys) (Some zs) done h more end = h ∙ ap (λ t. done ++ t) (more ∙ end)
+    ∙ append-nil done
 
 -- what was read is the beginning of the input
-pub read_front : (input : List ℕ) (new : Option (List ℕ)) (done : List ℕ) → Consumes (Some input) new done → (rest : List ℕ) × (done ++ rest ≡ input)
+pub read_front : (input : List ℕ) (new : Option (List ℕ)) (done : List ℕ)
+    → Consumes (Some input) new done → (rest : List ℕ) × (done ++ rest ≡ input)
 read_front input None done h = absurd h
 read_front input (Some rest) done h = (rest, sym h)
 
 -- a stop at the lines of an input is one of its run
-pub run_stopped : (f input : List ℕ) (left old new : Option (List ℕ)) (fault : RunFault) → IsStoppedAt f (lines_of input) old new fault
+pub run_stopped : (f input : List ℕ) (left old new : Option (List ℕ)) (fault : RunFault)
+    → IsStoppedAt f (lines_of input) old new fault
     → IsRunStopped f input left old new fault
 run_stopped f input left old new Read h = absurd h
 run_stopped f input left old new Write h = h

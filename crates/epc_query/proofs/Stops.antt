@@ -8,12 +8,21 @@ use Rattle.epc_query.specs.Answers.{IsReplyTo}
 use Rattle.epc_query.specs.Faults.{IsAnswerable, IsFaultOf, stop_of, IsHeard}
 
 -- a query of the line that the database answers is accepted
-pub accepted_query : (bound : ℕ) (line : List ℕ) (q : Query) → IsQuery line q → ¬ HasTooMany q → IsAnswerable bound q → IsAccepted bound line q
+pub accepted_query : (bound : ℕ) (line : List ℕ) (q : Query) → IsQuery line q → ¬ HasTooMany q
+    → IsAnswerable bound q → IsAccepted bound line q
 accepted_query bound line q is few can =
-    record { query = is; few = few; within = can.within; unfinished = can.unfinished; result = can.result }
+    record {
+      query = is;
+      few = few;
+      within = can.within;
+      unfinished = can.unfinished;
+      result =
+          can.result;
+    }
 
 -- the reply to one that it refuses says why
-pub refused_heard : (bound : ℕ) (line : List ℕ) (q : Query) (fault : QueryFault) → IsQuery line q → ¬ HasTooMany q → IsFaultOf bound q fault
+pub refused_heard : (bound : ℕ) (line : List ℕ) (q : Query) (fault : QueryFault) → IsQuery line q
+    → ¬ HasTooMany q → IsFaultOf bound q fault
     → IfOk (stop_of fault) (IsHeard bound line)
 refused_heard bound line q OverBound is few h = of_over_bound q is few h
 refused_heard bound line q Finished is few h = of_finished q is few h.0 h.1
@@ -22,7 +31,8 @@ refused_heard bound line q Memory is few h = tt
 refused_heard bound line q Read is few h = tt
 
 -- .. and is the reply by a file of that bound
-pub refused_told : (f line : List ℕ) (q : Query) (fault : QueryFault) → IsQuery line q → ¬ HasTooMany q → IsFaultOf (bound_of f) q fault
+pub refused_told : (f line : List ℕ) (q : Query) (fault : QueryFault) → IsQuery line q
+    → ¬ HasTooMany q → IsFaultOf (bound_of f) q fault
     → IfOk (stop_of fault) (IsReplyTo f line)
 refused_told f line q OverBound is few h = of_over_bound q is few h
 refused_told f line q Finished is few h = of_finished q is few h.0 h.1

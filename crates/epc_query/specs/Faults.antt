@@ -26,7 +26,8 @@ AsksMoves (loss_query x v y) = ⊥
 AsksMoves (moves_query x v) = Unit {0}
 AsksMoves (rank_query x) = ⊥
 
--- the query is refused so: the first cause that applies, in this order; want of memory and of a read come only to a
+-- the query is refused so: the first cause that applies, in this order; want of memory and of a
+-- read come only to a
 -- query that would be answered, and want of memory only to a list of moves
 abbrev pub IsFaultOf : ℕ → Query → QueryFault → Type 0
 IsFaultOf bound q OverBound = bound < pips (subject q)
@@ -53,7 +54,8 @@ IsHeard bound line (Loss lost) = (q : Query) × IsAccepted bound line q
 IsHeard bound line (Moves choices) = (q : Query) × IsAccepted bound line q
 IsHeard bound line (Rank number) = (q : Query) × IsAccepted bound line q
 
--- a line is stopped only where it is accepted, and for want of memory only where it asks for a list of moves
+-- a line is stopped only where it is accepted, and for want of memory only where it asks for a
+-- list of moves
 abbrev pub IsStopOf : ℕ → List ℕ → Stop → Type 0
 IsStopOf bound line NoMemory = (q : Query) × IsAccepted bound line q × AsksMoves q
 IsStopOf bound line NoRead = (q : Query) × IsAccepted bound line q

@@ -5,3 +5,4 @@ pub mod Answers
 pub mod Faults
 pub mod Costs
 pub mod Runs
+pub mod LevelMeans

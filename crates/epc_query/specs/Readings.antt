@@ -49,8 +49,10 @@ pub record IsThrowText (text : List ℕ) (x : Board) (v : Throw) : Type 0 where
 abbrev pub IsThrowReading : List ℕ → Result (Position × Roll) LineFault → Type 0
 IsThrowReading text (Ok told) = IsThrowText text told.0 told.1 × (¬ (15 < checkers told.0))
 IsThrowReading text (Err BadLine) =
-    (p r : List ℕ) (x : Board) (v : Throw) → IsPositionText p x → IsRollText r v → words text ≢ p ∷ r ∷ []
-IsThrowReading text (Err TooMany) = (x : Board) × (v : Throw) × IsThrowText text x v × (15 < checkers x)
+    (p r : List ℕ) (x : Board) (v : Throw) → IsPositionText p x → IsRollText r v
+    → words text ≢ p ∷ r ∷ []
+IsThrowReading text (Err TooMany) = (x : Board) × (v : Throw) × IsThrowText text x v
+    × (15 < checkers x)
 
 -- the text states a position, a roll and a result
 pub record IsResultText (text : List ℕ) (x : Board) (v : Throw) (y : Board) : Type 0 where
@@ -60,7 +62,8 @@ pub record IsResultText (text : List ℕ) (x : Board) (v : Throw) (y : Board) : 
   pub position_is : IsPositionText position y
   pub joined : text ≡ throw ++ (32 ∷ position)
 
--- the text states a position, a roll and a result: these, or a position of too many checkers, or not
+-- the text states a position, a roll and a result: these, or a position of too many checkers, or
+-- not
 abbrev pub IsResultReading : List ℕ → Result (Position × Roll × Position) LineFault → Type 0
 IsResultReading text (Ok told) =
     IsResultText text told.0 told.1 told.2 × (¬ ((15 < checkers told.0) ⊎ (15 < checkers told.2)))
@@ -70,7 +73,8 @@ IsResultReading text (Err TooMany) = (x : Board) × (v : Throw) × (y : Board)
     × IsResultText text x v y × ((15 < checkers x) ⊎ (15 < checkers y))
 
 -- both readings together: no position comes before one of too many checkers
-abbrev pub both : Result Position LineFault → Roll → Result Position LineFault → Result (Position × Roll × Position) LineFault
+abbrev pub both : Result Position LineFault → Roll → Result Position LineFault
+    → Result (Position × Roll × Position) LineFault
 both (Ok x) v (Ok y) = Ok (x, v, y)
 both (Ok x) v (Err fault) = Err fault
 both (Err BadLine) v reading = Err BadLine

@@ -17,7 +17,8 @@ AreReplies f (line ∷ lines) text =
     (reply rest : List ℕ) × IsReply f line reply × AreReplies f lines rest × (text ≡ reply ++ rest)
 
 -- the writer's known bytes have grown by the replies to these lines, and by nothing else
-pub record HasReplies (f : List ℕ) (lines : List (List ℕ)) (old new : Option (List ℕ)) : Type 0 where
+pub record HasReplies (f : List ℕ) (lines : List (List ℕ))
+    (old new : Option (List ℕ)) : Type 0 where
   pub text : List ℕ
   pub replies : AreReplies f lines text
   pub written : Appends old new text
@@ -32,30 +33,37 @@ pub record HasPart (f : List ℕ) (lines : List (List ℕ)) (old new : Option (L
 abbrev pub IsMovesLine : List ℕ → List ℕ → Type 0
 IsMovesLine f line = (q : Query) × IsAccepted (bound_of f) line q × AsksMoves q
 
--- the answers to these lines stopped so: at a fault of the table, or for want of memory, the replies to the lines before
+-- the answers to these lines stopped so: at a fault of the table, or for want of memory, the
+-- replies to the lines before
 -- one of them were written; at a fault of the writer, a prefix of the replies to some of the first
-abbrev pub IsStoppedAt : List ℕ → List (List ℕ) → Option (List ℕ) → Option (List ℕ) → RunFault → Type 0
+abbrev pub IsStoppedAt : List ℕ → List (List ℕ) → Option (List ℕ) → Option (List ℕ) → RunFault
+    → Type 0
 IsStoppedAt f lines old new Read = ⊥
 IsStoppedAt f lines old new Write = (n : ℕ) × (n ≤ length lines) × HasPart f (take n lines) old new
-IsStoppedAt f lines old new Table = (n : ℕ) × (n < length lines) × HasReplies f (take n lines) old new
+IsStoppedAt f lines old new Table = (n : ℕ) × (n < length lines)
+    × HasReplies f (take n lines) old new
 IsStoppedAt f lines old new Memory =
-    (n : ℕ) × (n < length lines) × IsMovesLine f (slice_index_or lines n []) × HasReplies f (take n lines) old new
+    (n : ℕ) × (n < length lines) × IsMovesLine f (slice_index_or lines n [])
+    × HasReplies f (take n lines) old new
 IsStoppedAt f lines old new Turns = ⊥
 
 -- the replies to the whole lines of what was read of the input were written
-abbrev pub HasAnswered : List ℕ → List ℕ → Option (List ℕ) → Option (List ℕ) → Option (List ℕ) → Type 0
+abbrev pub HasAnswered : List ℕ → List ℕ → Option (List ℕ) → Option (List ℕ) → Option (List ℕ)
+    → Type 0
 HasAnswered f input left old new =
     (done : List ℕ) × Consumes (Some input) left done × HasReplies f (whole_lines done) old new
 
 -- the answers to the lines of an input stopped so
-abbrev pub IsRunStopped : List ℕ → List ℕ → Option (List ℕ) → Option (List ℕ) → Option (List ℕ) → RunFault → Type 0
+abbrev pub IsRunStopped : List ℕ → List ℕ → Option (List ℕ) → Option (List ℕ) → Option (List ℕ)
+    → RunFault → Type 0
 IsRunStopped f input left old new Read = HasAnswered f input left old new
 IsRunStopped f input left old new Write = IsStoppedAt f (lines_of input) old new Write
 IsRunStopped f input left old new Table = IsStoppedAt f (lines_of input) old new Table
 IsRunStopped f input left old new Memory = IsStoppedAt f (lines_of input) old new Memory
 IsRunStopped f input left old new Turns = HasAnswered f input left old new
 
--- the replies to the whole lines of these bytes were written, and the first bytes of the rest are kept
+-- the replies to the whole lines of these bytes were written, and the first bytes of the rest are
+-- kept
 pub record IsAnswered (f done : List ℕ) (old new : Option (List ℕ)) (kept : List ℕ) : Type 0 where
   pub replies : HasReplies f (whole_lines done) old new
   pub held : kept ≡ take 130 (rest_of done)

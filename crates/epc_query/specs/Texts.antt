@@ -53,7 +53,8 @@ abbrev pub IsTextOf : Reply → List ℕ → Type 0
 IsTextOf (Mean mean pips) text = IsMeanText mean pips text
 IsTextOf (Dist spread) text = IsDistReply (slice_index spread) text
 IsTextOf (Play play to) text =
-    text ≡ codes "play" ++ flat_map (λ m. codes " " ++ move_text m) (moves_of play.items) ++ codes " to " ++ position_text to
+    text ≡ codes "play" ++ flat_map (λ m. codes " " ++ move_text m)
+    (moves_of play.items) ++ codes " to " ++ position_text to
 IsTextOf (Loss loss) text = text ≡ codes "loss " ++ ratio_text loss
 IsTextOf (Moves choices) text = text ≡ codes "moves" ++ flat_map choice_text choices.items
 IsTextOf (Rank rank) text = text ≡ codes "rank " ++ decimal rank

@@ -46,7 +46,8 @@ fn refused(fault: QueryFault) -> Result<Reply, Stop>
 }
 /// What a query is answered with.
 fn ask<T: Table>(alloc: Global, checked: &mut Checked<T>, query: Query) -> Result<Reply, QueryFault>
-    ensures answerable { OnOk result (IsAnswerable (bound_in (T.accepted checked.old)) (asked query)) }
+    ensures answerable { OnOk result (IsAnswerable (bound_in (T.accepted checked.old))
+        (asked query)) }
     ensures told { WhereTold (T.tells checked.old) (λ file. IfOk result (λ reply. (line : List ℕ)
         → IsAccepted (bound_of file) line (asked query) → IsReplyTo file line reply)) }
     ensures heard { IfOk result (λ reply. (bound : ℕ) (line : List ℕ)
@@ -98,15 +99,16 @@ fn rank<T: Table>(checked: &Checked<T>, position: &Position) -> Result<u16, Quer
     Ok(Ranks::new().rank(position))
 }
 
-/// Answers a line, which comes without its line feed: with what the database says, or why it is refused. It is stopped as
-/// `Memory` only at a line that asks for a list of moves and has no refusal, and as `Read` where a record could not be read.
-/// The database stays as it was.
+/// Answers a line, which comes without its line feed: with what the database says, or why it is
+/// refused. It is stopped as `Memory` only at a line that asks for a list of moves and has no
+/// refusal, and as `Read` where a record could not be read. The database stays as it was.
 pub fn answer_line<T: Table>(
     alloc: Global,
     checked: &mut Checked<T>,
     line: &[u8],
 ) -> Result<Reply, Stop>
-    ensures reply { WhereTold (T.tells checked.old) (λ file. IfOk result (IsReplyTo file line.now)) }
+    ensures reply { WhereTold (T.tells checked.old)
+        (λ file. IfOk result (IsReplyTo file line.now)) }
     ensures heard { IfOk result (IsHeard (bound_in (T.accepted checked.old)) line.now) }
     ensures stop { IfErr result (IsStopOf (bound_in (T.accepted checked.old)) line.now) }
     ensures stays { T.tells checked.new ≡ T.tells checked.old }

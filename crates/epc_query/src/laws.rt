@@ -1,17 +1,27 @@
-//! A fact about replies, on a function with an empty body: a call brings it into the caller's proof, and costs nothing
-//! when it runs.
+//! Facts about replies, each on a function with an empty body: a call brings the fact into the
+//! caller's proof, and costs nothing when it runs.
 ghost use Rattle.std.specs.Prelude.{ℕ, List, [], ◌∷◌, ◌++◌};
+ghost use Rattle.race_model.specs.Levels.{IsLevelLine};
 ghost use Rattle.race_model.specs.Replies.{IsReply};
+ghost use Rattle.epc_query.specs.declared.reply.Level.{Level};
 ghost use Rattle.epc_query.specs.declared.reply.Reply.{Reply};
-ghost use Rattle.epc_query.specs.Texts.{IsTextOf};
+ghost use Rattle.epc_query.specs.LevelMeans.{HasLevel};
+ghost use Rattle.epc_query.specs.Texts.{IsTextOf, level_text};
 ghost use Rattle.epc_query.specs.Answers.{IsReplyTo};
 
 use race_model::laws::law_results;
 
-/// The text of what a line is answered with, and a line feed, is the reply to the line as `race_model` defines it.
+/// The text of what a line is answered with, and a line feed, is the reply to the line as
+/// `race_model` defines it.
 pub fn law_reply_text()
     ensures { (f line : List ℕ) (reply : Reply) (text : List ℕ)
         → IsReplyTo f line reply → IsTextOf reply text → IsReply f line (text ++ 10 ∷ []) }
 {
     law_results();
 }
+
+/// The line of a level is the one that `race_model` defines for its pip count.
+pub fn law_level_text()
+    ensures { (f : List ℕ) (p : ℕ) (level : Level) → HasLevel f p level
+        → IsLevelLine f p (level_text level) }
+{}

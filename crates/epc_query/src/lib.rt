@@ -1,27 +1,33 @@
-//! The query language of a bearoff database: what a line asks.
+//! The query language of a bearoff database: what a line asks, what it is answered with, and the
+//! answers to all lines of an input. It rests on `certificate` for the answers of an accepted
+//! table, whatever table that is, and on `race_model` for what a line asks, what its reply is,
+//! and how an input is cut into lines. The crates above may use that a loss is the least mean
+//! after a result less the least such mean among all results, that `moves` has every result once,
+//! in order, and that `run` writes the replies to the lines that it read and nothing else.
 #![tactic(auto)]
-
-pub use reply::{Choice, Level, Refusal, Reply};
-pub use writing::{write_level, write_reply};
 
 mod answer;
 pub mod laws;
+mod levels;
 mod line_buffer;
 mod lines;
-mod run_fault;
-mod running;
-
-pub use run_fault::RunFault;
-pub use running::run;
-
 mod losses;
 mod move_list;
 mod query;
-
-pub use answer::{Stop, answer_line};
-pub use losses::loss;
-pub use move_list::moves;
-
 mod reply;
+mod run_fault;
+mod running;
 mod text;
 mod writing;
+
+pub use answer::{Stop, answer_line};
+pub use levels::audit_level;
+pub use losses::loss;
+pub use move_list::moves;
+pub use reply::{Choice, Level, Refusal, Reply};
+pub use run_fault::RunFault;
+pub use running::run;
+pub use writing::{write_level, write_reply};
+
+#[cfg(test)]
+mod tests;

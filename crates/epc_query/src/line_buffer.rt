@@ -5,12 +5,13 @@ ghost use Rattle.race_model.specs.InputLines.{without_return};
 use arrayvec::ArrayVec;
 use std::marker::Model;
 
-/// How many bytes of a line are kept: those of the longest line that is looked at, 128, of a carriage return after them, and
-/// one more, by which a longer line is told from it (this project's profile).
+/// How many bytes of a line are kept: those of the longest line that is looked at, 128, of a
+/// carriage return after them, and one more, by which a longer line is told from it (this
+/// project's profile).
 const KEPT: usize = 130;
 
-/// The bytes that were read after the last line feed, of which the first 130 are kept: a line of more than 128 bytes is
-/// no query, whatever its other bytes are.
+/// The bytes that were read after the last line feed, of which the first 130 are kept: a line of
+/// more than 128 bytes is no query, whatever its other bytes are.
 #[derive(Drop)]
 pub(crate) struct LineBuffer {
     bytes: ArrayVec<u8, KEPT>,

@@ -44,8 +44,8 @@ fn answer<T: Table, W: Write>(
     }
 }
 
-/// Takes one byte of the input: a line feed ends a line, which is answered, and any other byte is kept. It gives how
-/// many lines were answered.
+/// Takes one byte of the input: a line feed ends a line, which is answered, and any other byte is
+/// kept. It gives how many lines were answered.
 fn answer_byte<T: Table, W: Write>(
     alloc: Global,
     checked: &mut Checked<T>,
@@ -53,7 +53,8 @@ fn answer_byte<T: Table, W: Write>(
     byte: u8,
     writer: &mut W,
 ) -> Result<u64, RunFault>
-    ensures answered { WhereTold (T.tells checked.old) (λ file. (done : List ℕ) (start : Option (List ℕ))
+    ensures answered { WhereTold (T.tells checked.old)
+        (λ file. (done : List ℕ) (start : Option (List ℕ))
         → IsAnswered file done start (W.contents writer.old) held.old → MatchResult result
         (λ n. IsAnswered file (done ++ byte ∷ []) start (W.contents writer.new) held.new
         × (length (whole_lines (done ++ byte ∷ [])) ≡ length (whole_lines done) + n))
@@ -84,7 +85,8 @@ pub(crate) fn answer_chunk<T: Table, W: Write>(
     writer: &mut W,
 ) -> Result<u64, RunFault>
     requires { length chunk.now < 2 ^ 32 }
-    ensures answered { WhereTold (T.tells checked.old) (λ file. (done : List ℕ) (start : Option (List ℕ))
+    ensures answered { WhereTold (T.tells checked.old)
+        (λ file. (done : List ℕ) (start : Option (List ℕ))
         → IsAnswered file done start (W.contents writer.old) held.old → MatchResult result
         (λ n. IsAnswered file (done ++ chunk.now) start (W.contents writer.new) held.new
         × (length (whole_lines (done ++ chunk.now)) ≡ length (whole_lines done) + n))
@@ -103,15 +105,16 @@ pub(crate) fn answer_chunk<T: Table, W: Write>(
     Ok(count)
 }
 
-/// Answers the line that stands after the last line feed, at the end of the input, unless it is empty. It gives how
-/// many lines were answered, 0 or 1.
+/// Answers the line that stands after the last line feed, at the end of the input, unless it is
+/// empty. It gives how many lines were answered, 0 or 1.
 pub(crate) fn answer_last<T: Table, W: Write>(
     alloc: Global,
     checked: &mut Checked<T>,
     held: &LineBuffer,
     writer: &mut W,
 ) -> Result<u64, RunFault>
-    ensures answered { WhereTold (T.tells checked.old) (λ file. (done : List ℕ) (start : Option (List ℕ))
+    ensures answered { WhereTold (T.tells checked.old)
+        (λ file. (done : List ℕ) (start : Option (List ℕ))
         → IsAnswered file done start (W.contents writer.old) held.now → MatchResult result
         (λ n. HasReplies file (lines_of done) start (W.contents writer.new)
         × (length (lines_of done) ≡ length (whole_lines done) + n))

@@ -22,10 +22,11 @@ use legal_plays::{Roll, play_to};
 use race_model::laws;
 use std::alloc::Global;
 
-/// What a result of a roll costs: the mean number of rolls after it less the least such mean among all results, in
-/// lowest terms. Refused as `OverBound` where the first position has more pips than the bound, else as `Finished`
-/// where no checker is left there, else as `NotLegal` where the roll doesn't lead to the second position, and as
-/// `Read` where a record could not be read.
+/// What a result of a roll costs: the mean number of rolls after it less the least such mean
+/// among all results, in lowest terms. Refused as `OverBound` where the first position has more
+/// pips than the bound, else as `Finished` where no checker is left there, else as `NotLegal`
+/// where the roll doesn't lead to the second position, and as `Read` where a record could not be
+/// read.
 pub fn loss<T: Table>(
     checked: &mut Checked<T>,
     position: &Position,
@@ -58,7 +59,8 @@ pub fn loss<T: Table>(
     lost(checked, position, roll, to)
 }
 
-/// What a result of a roll costs that it leads to from an unfinished position of at most the bound.
+/// What a result of a roll costs that it leads to from an unfinished position of at most the
+/// bound.
 fn lost<T: Table>(
     checked: &mut Checked<T>,
     position: &Position,
@@ -88,7 +90,8 @@ fn lost<T: Table>(
     }
 }
 
-/// The least mean after a roll from an unfinished position of at most the bound: that after the recorded play.
+/// The least mean after a roll from an unfinished position of at most the bound: that after the
+/// recorded play.
 pub(crate) fn least_mean<T: Table>(
     checked: &mut Checked<T>,
     position: &Position,
@@ -120,7 +123,8 @@ pub(crate) fn recorded_mean<T: Table>(
 ) -> Result<Scaled, QueryFault>
     requires { pips position.now ≤ bound_in (T.accepted checked.old) }
     ensures fault { OnErr result (result ≡ Err QueryFault.Read) }
-    ensures recorded { WhereTold (T.tells checked.old) (λ file. IfOk result (λ mean. mean ≡ mean_of file position.now)) }
+    ensures recorded { WhereTold (T.tells checked.old)
+        (λ file. IfOk result (λ mean. mean ≡ mean_of file position.now)) }
     ensures stays { T.tells checked.new ≡ T.tells checked.old }
     ensures accepted { T.accepted checked.new ≡ T.accepted checked.old }
     ensures cause { WhereTold (T.tells checked.old)

@@ -29,9 +29,10 @@ use std::alloc::Global;
 /// A result of a roll as it is put in order: its mean as a numerator over 36 ^ 22, and its rank.
 type Cost = (u128, u16);
 
-/// Every result of a roll once, by rising loss and then by rising rank. Refused as `OverBound` where the position has
-/// more pips than the bound, else as `Finished` where no checker is left, and else as `Memory` where the list can't be
-/// had, or as `Read` where a record could not be read. The memory of the list is taken before the first read.
+/// Every result of a roll once, by rising loss and then by rising rank. Refused as `OverBound`
+/// where the position has more pips than the bound, else as `Finished` where no checker is left,
+/// and else as `Memory` where the list can't be had, or as `Read` where a record could not be
+/// read. The memory of the list is taken before the first read.
 pub fn moves<T: Table>(
     alloc: Global,
     checked: &mut Checked<T>,
@@ -78,7 +79,8 @@ fn costs_of<T: Table>(
     ensures bounded { IfOk result (λ costs. All IsCost costs.items) }
     ensures len { IfOk result (λ costs. array_vec_len costs ≤ length found.now) }
     ensures members { WhereTold (T.tells checked.old) (λ file. IfOk result (λ costs. (cost : ℕ × ℕ)
-        → Contains costs.items cost ↔ ((y : Board) × Contains found.now y × (cost ≡ (mean_of file y, rank y))))) }
+        → Contains costs.items cost ↔ ((y : Board) × Contains found.now y
+        × (cost ≡ (mean_of file y, rank y))))) }
     ensures stays { T.tells checked.new ≡ T.tells checked.old }
     ensures accepted { T.accepted checked.new ≡ T.accepted checked.old }
     ensures cause { WhereTold (T.tells checked.old)

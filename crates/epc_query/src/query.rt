@@ -51,8 +51,8 @@ enum Kind {
     Rank,
 }
 
-/// What a line asks. Refused as `BadLine` where it isn't of the form of a query, and else as `TooMany` where
-/// a position of it has more than 15 checkers.
+/// What a line asks. Refused as `BadLine` where it isn't of the form of a query, and else as
+/// `TooMany` where a position of it has more than 15 checkers.
 pub(crate) fn read_query(line: &[u8]) -> Result<Query, LineFault>
     ensures { IsReading line.now result }
 {
@@ -84,7 +84,8 @@ pub(crate) fn read_query(line: &[u8]) -> Result<Query, LineFault>
 
 /// The kind of query that a word names.
 fn read_kind(word: &[u8]) -> Option<Kind>
-    ensures { MatchOption result ((kind : Kind) → word.now ≢ kind_text kind) (λ kind. word.now ≡ kind_text kind) }
+    ensures { MatchOption result ((kind : Kind) → word.now ≢ kind_text kind)
+        (λ kind. word.now ≡ kind_text kind) }
 {
     match word {
         b"mean" => Some(Kind::Mean),
@@ -97,10 +98,12 @@ fn read_kind(word: &[u8]) -> Option<Kind>
     }
 }
 
-/// The part of a text before its first space, and the part after it; none where there is no space.
+/// The part of a text before its first space, and the part after it; none where there is no
+/// space.
 fn cut(text: &[u8]) -> Option<(&[u8], &[u8])>
     ensures { MatchOption result (words text.now ≡ text.now ∷ [])
-        (λ parts. (text.now ≡ parts.0.now ++ (32 ∷ parts.1.now)) × (words text.now ≡ parts.0.now ∷ words parts.1.now)) }
+        (λ parts. (text.now ≡ parts.0.now ++ (32 ∷ parts.1.now))
+        × (words text.now ≡ parts.0.now ∷ words parts.1.now)) }
 {
     match first_space(text) {
         Some(place) => Some((&text[..place], &text[place + 1..])),
@@ -169,8 +172,8 @@ fn read_result(text: &[u8]) -> Result<(Position, Roll, Position), LineFault>
     both(read_position(position), roll, read_position(to))
 }
 
-/// Two positions and a roll, where both could be read: a text that states none comes before one with too many
-/// checkers.
+/// Two positions and a roll, where both could be read: a text that states none comes before one
+/// with too many checkers.
 fn both(
     position: Result<Position, LineFault>,
     roll: Roll,

@@ -28,7 +28,8 @@ pub struct Choice {
     /// The position that the roll leads to.
     pub to: Position,
 
-    /// The mean number of rolls after it less the least mean after any result of the roll, in rolls.
+    /// The mean number of rolls after it less the least mean after any result of the roll, in
+    /// rolls.
     pub loss: Fraction,
 }
 

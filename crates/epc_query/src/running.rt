@@ -17,15 +17,17 @@ use std::io::{Read, Write};
 /// The most reads of one call of `run`, 2 ^ 40 (this project's profile).
 const MOST_TURNS: u64 = 1 << 40;
 
-/// Answers each line of an input as soon as it is whole, and gives the number of lines answered. A line ends at a line
-/// feed, and a carriage return just before it is dropped; bytes after the last line feed are a last line, from which
-/// nothing is dropped. Before the next read the replies to all whole lines so far are with the writer, and it was flushed.
-/// There are at most `turns` reads, and at most 2 ^ 40.
+/// Answers each line of an input as soon as it is whole, and gives the number of lines answered.
+/// A line ends at a line feed, and a carriage return just before it is dropped; bytes after the
+/// last line feed are a last line, from which nothing is dropped. Before the next read the
+/// replies to all whole lines so far are with the writer, and it was flushed. There are at most
+/// `turns` reads, and at most 2 ^ 40.
 ///
-/// Refused as `Read` where the reader failed, as `Write` where the writer failed or took no byte, as `Table` where a
-/// record could not be read, as `Memory` where there was none for a list of moves, and as `Turns` where there were so many
-/// reads and no end yet. At each fault but `Write` the replies to all lines before it were written in full, and at `Write` a
-/// prefix of the replies. It takes no memory but at a line that asks for a list of moves.
+/// Refused as `Read` where the reader failed, as `Write` where the writer failed or took no byte,
+/// as `Table` where a record could not be read, as `Memory` where there was none for a list of
+/// moves, and as `Turns` where there were so many reads and no end yet. At each fault but `Write`
+/// the replies to all lines before it were written in full, and at `Write` a prefix of the
+/// replies. It takes no memory but at a line that asks for a list of moves.
 pub fn run<T: Table, R: Read, W: Write>(
     alloc: Global,
     checked: &mut Checked<T>,
@@ -33,11 +35,14 @@ pub fn run<T: Table, R: Read, W: Write>(
     writer: &mut W,
     turns: u64,
 ) -> Result<u64, RunFault>
-    ensures done { WhereTold (T.tells checked.old) (λ file. WhereTold (R.remaining reader.old) (λ input. IfOk result
+    ensures done { WhereTold (T.tells checked.old) (λ file. WhereTold (R.remaining reader.old)
+        (λ input. IfOk result
         (λ n. IsAtEnd (R.remaining reader.new) × (n ≡ length (lines_of input))
         × HasReplies file (lines_of input) (W.contents writer.old) (W.contents writer.new)))) }
-    ensures stopped { WhereTold (T.tells checked.old) (λ file. WhereTold (R.remaining reader.old) (λ input. IfErr result
-        (IsRunStopped file input (R.remaining reader.new) (W.contents writer.old) (W.contents writer.new)))) }
+    ensures stopped { WhereTold (T.tells checked.old) (λ file. WhereTold (R.remaining reader.old)
+        (λ input. IfErr result
+        (IsRunStopped file input (R.remaining reader.new) (W.contents writer.old)
+        (W.contents writer.new)))) }
     ensures stays { T.tells checked.new ≡ T.tells checked.old }
     ensures accepted { T.accepted checked.new ≡ T.accepted checked.old }
     ensures cause { WhereTold (T.tells checked.old)
@@ -69,7 +74,8 @@ fn answer_read<T: Table, W: Write>(
     writer: &mut W,
 ) -> Result<u64, RunFault>
     requires { length bytes.now < 2 ^ 32 }
-    ensures answered { WhereTold (T.tells checked.old) (λ file. (done : List ℕ) (start : Option (List ℕ))
+    ensures answered { WhereTold (T.tells checked.old)
+        (λ file. (done : List ℕ) (start : Option (List ℕ))
         → IsAnswered file done start (W.contents writer.old) held.old → MatchResult result
         (λ n. IsAnswered file (done ++ bytes.now) start (W.contents writer.new) held.new
         × (length (whole_lines (done ++ bytes.now)) ≡ length (whole_lines done) + n))
@@ -92,7 +98,8 @@ fn answer_end<T: Table, W: Write>(
     held: &LineBuffer,
     writer: &mut W,
 ) -> Result<u64, RunFault>
-    ensures answered { WhereTold (T.tells checked.old) (λ file. (done : List ℕ) (start : Option (List ℕ))
+    ensures answered { WhereTold (T.tells checked.old)
+        (λ file. (done : List ℕ) (start : Option (List ℕ))
         → IsAnswered file done start (W.contents writer.old) held.now → MatchResult result
         (λ n. HasReplies file (lines_of done) start (W.contents writer.new)
         × (length (lines_of done) ≡ length (whole_lines done) + n))

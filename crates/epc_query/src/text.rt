@@ -134,7 +134,8 @@ pub(crate) fn dist_text(spread: &Spread) -> Text
 /// The text of a play and the position that it leads to.
 pub(crate) fn play_text(play: &Play, to: &Position) -> Text
     ensures text { result.bytes ≡ codes "play"
-        ++ flat_map (λ m. codes " " ++ move_text m) (moves_of play.now.items) ++ codes " to " ++ position_text to.now }
+        ++ flat_map (λ m. codes " " ++ move_text m)
+        (moves_of play.now.items) ++ codes " to " ++ position_text to.now }
     ensures len { array_string_len result ≤ 4000 }
 {
     let mut text = Text::new();

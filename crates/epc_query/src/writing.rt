@@ -14,8 +14,9 @@ use crate::text::{
 use db_layout::{WriteFault, write_bytes};
 use std::io::Write;
 
-/// Writes a reply and a line feed, in one call of the writer's `write` where it takes all that it is given, but for a
-/// long list of moves. Refused only where a `write` fails or takes no byte; then a prefix of the line was written.
+/// Writes a reply and a line feed, in one call of the writer's `write` where it takes all that it
+/// is given, but for a long list of moves. Refused only where a `write` fails or takes no byte;
+/// then a prefix of the line was written.
 pub fn write_reply<W: Write>(reply: &Reply, writer: &mut W) -> Result<(), WriteFault>
     ensures all { OnOk result ((text : List ℕ) × IsTextOf reply.now text
         × Appends (W.contents writer.old) (W.contents writer.new) (text ++ 10 ∷ [])) }
@@ -37,9 +38,11 @@ pub fn write_reply<W: Write>(reply: &Reply, writer: &mut W) -> Result<(), WriteF
 /// Writes the line of a level and a line feed. Refused as `write_reply` is.
 pub fn write_level<W: Write>(level: &Level, writer: &mut W) -> Result<(), WriteFault>
     ensures all { OnOk result
-        (Appends (W.contents writer.old) (W.contents writer.new) (level_text level.now ++ 10 ∷ [])) }
+        (Appends (W.contents writer.old) (W.contents writer.new)
+        (level_text level.now ++ 10 ∷ [])) }
     ensures part { OnErr result
-        (AppendsPart (W.contents writer.old) (W.contents writer.new) (level_text level.now ++ 10 ∷ [])) }
+        (AppendsPart (W.contents writer.old) (W.contents writer.new)
+        (level_text level.now ++ 10 ∷ [])) }
 {
     write_line(level_text(level), writer)
 }
@@ -72,7 +75,8 @@ fn write_moves<W: Write>(choices: &[Choice], writer: &mut W) -> Result<(), Write
     write_line(text, writer)
 }
 
-/// Adds a choice to the text that waits to be written, and writes that one first where there is no room.
+/// Adds a choice to the text that waits to be written, and writes that one first where there is
+/// no room.
 fn write_choice<W: Write>(
     text: &mut Text,
     choice: &Choice,
@@ -81,7 +85,8 @@ fn write_choice<W: Write>(
     ensures all { OnOk result (Takes (W.contents writer.old) (W.contents writer.new)
         text.old.bytes text.new.bytes (choice_text choice.now)) }
     ensures len { OnOk result (array_string_len text.new ≤ 4000) }
-    ensures part { OnErr result (AppendsPart (W.contents writer.old) (W.contents writer.new) text.old.bytes) }
+    ensures part { OnErr result (AppendsPart (W.contents writer.old)
+        (W.contents writer.new) text.old.bytes) }
 {
     make_room(text, writer)?;
     push_choice(text, choice);
@@ -90,9 +95,11 @@ fn write_choice<W: Write>(
 
 /// Writes the text that waits where it leaves no room for another choice.
 fn make_room<W: Write>(text: &mut Text, writer: &mut W) -> Result<(), WriteFault>
-    ensures all { OnOk result (Takes (W.contents writer.old) (W.contents writer.new) text.old.bytes text.new.bytes []) }
+    ensures all { OnOk result (Takes (W.contents writer.old)
+        (W.contents writer.new) text.old.bytes text.new.bytes []) }
     ensures len { OnOk result (array_string_len text.new + 95 ≤ 4000) }
-    ensures part { OnErr result (AppendsPart (W.contents writer.old) (W.contents writer.new) text.old.bytes) }
+    ensures part { OnErr result (AppendsPart (W.contents writer.old)
+        (W.contents writer.new) text.old.bytes) }
 {
     if text.len() + 95 <= 4000 {
         return Ok(());

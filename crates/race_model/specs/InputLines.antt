@@ -1,4 +1,5 @@
--- The lines of an input. A line ends at a line feed, and a carriage return just before it is dropped; what stands after
+-- The lines of an input. A line ends at a line feed, and a carriage return just before it is
+-- dropped; what stands after
 -- the last line feed is a last line, from which nothing is dropped. Source: this project's profile.
 use Rattle.std.specs.Prelude.{◌≡◌, ◌≢◌, ℕ, ◌-◌, ◌==◌, if◌then◌else◌, List, [], ◌∷◌, ◌++◌, length, take, map, flat_map, slice_index, All}
 
@@ -20,7 +21,8 @@ before_rest c (piece ∷ more) rest = rest
 -- what stands after the last line feed
 abbrev pub rest_of : List ℕ → List ℕ
 rest_of [] = []
-rest_of (c ∷ bytes) = if c == 10 then rest_of bytes else before_rest c (pieces bytes) (rest_of bytes)
+rest_of (c ∷ bytes) = if c == 10 then rest_of bytes else before_rest c (pieces bytes)
+    (rest_of bytes)
 
 -- a piece without the carriage return at its end, if it has one
 abbrev pub without_return : List ℕ → List ℕ
@@ -44,7 +46,8 @@ lines_of input = whole_lines input ++ last_line (rest_of input)
 abbrev pub HasNoFeed : List ℕ → Type 0
 HasNoFeed bytes = All (λ c. c ≢ 10) bytes
 
--- the input is these pieces, each with a line feed after it, and then this rest, and has no other line feed
+-- the input is these pieces, each with a line feed after it, and then this rest, and has no other
+-- line feed
 pub record IsCut (input : List ℕ) (parts : List (List ℕ)) (rest : List ℕ) : Type 0 where
   pub joined : input ≡ flat_map (λ part. part ++ 10 ∷ []) parts ++ rest
   pub each : All HasNoFeed parts

@@ -13,11 +13,15 @@ no_feed : (c : ℕ) → c ≢ 10 → eqb c 10 ≡ false
 no_feed c h = ne_eqb c 10 h
 
 -- .. and belongs to the first piece, or to the rest
-pieces_byte : (c : ℕ) (bytes : List ℕ) → c ≢ 10 → pieces (c ∷ bytes) ≡ before_first_piece c (pieces bytes)
-pieces_byte c bytes h = ap (λ b. cond b ([] ∷ pieces bytes) (before_first_piece c (pieces bytes))) (no_feed c h)
+pieces_byte : (c : ℕ) (bytes : List ℕ) → c ≢ 10 → pieces (c ∷ bytes) ≡ before_first_piece c
+    (pieces bytes)
+pieces_byte c bytes h = ap (λ b. cond b ([] ∷ pieces bytes) (before_first_piece c (pieces bytes)))
+    (no_feed c h)
 
-rest_byte : (c : ℕ) (bytes : List ℕ) → c ≢ 10 → rest_of (c ∷ bytes) ≡ before_rest c (pieces bytes) (rest_of bytes)
-rest_byte c bytes h = ap (λ b. cond b (rest_of bytes) (before_rest c (pieces bytes) (rest_of bytes))) (no_feed c h)
+rest_byte : (c : ℕ) (bytes : List ℕ) → c ≢ 10 → rest_of (c ∷ bytes) ≡ before_rest c (pieces bytes)
+    (rest_of bytes)
+rest_byte c bytes h = ap (λ b. cond b (rest_of bytes) (before_rest c (pieces bytes)
+    (rest_of bytes))) (no_feed c h)
 
 -- bytes without a line feed are all rest
 none_whole : (r : List ℕ) → HasNoFeed r → (pieces r ≡ []) × (rest_of r ≡ r)
@@ -30,7 +34,8 @@ none_whole (c ∷ r) h =
     )
 
 -- bytes without a line feed, and then one, are the first piece
-one_whole : (p t : List ℕ) → HasNoFeed p → (pieces (p ++ 10 ∷ t) ≡ p ∷ pieces t) × (rest_of (p ++ 10 ∷ t) ≡ rest_of t)
+one_whole : (p t : List ℕ) → HasNoFeed p → (pieces (p ++ 10 ∷ t) ≡ p ∷ pieces t)
+    × (rest_of (p ++ 10 ∷ t) ≡ rest_of t)
 one_whole [] t h = (refl, refl)
 one_whole (c ∷ p) t h =
     let head = All-head (λ c. c ≢ 10) c p h in
@@ -58,7 +63,8 @@ cut_after (p ∷ parts) t h =
     )
 
 -- .. and so an input that begins with them
-pub more_pieces : (input more : List ℕ) (parts : List (List ℕ)) (rest : List ℕ) → IsCut input parts rest
+pub more_pieces : (input more : List ℕ) (parts : List (List ℕ)) (rest : List ℕ)
+    → IsCut input parts rest
     → pieces (input ++ more) ≡ parts ++ pieces (rest ++ more)
 unfolding joined
 more_pieces input more parts rest is =
@@ -71,9 +77,11 @@ pub cut_of : (input : List ℕ) → IsCut input (pieces input) (rest_of input)
 cut_of [] = record { joined = refl; each = All-nil HasNoFeed; last = All-nil (λ c. c ≢ 10) }
 cut_of (c ∷ bytes) = one_more c bytes (pieces bytes) (rest_of bytes) (eqb c 10) refl (cut_of bytes)
   where
-    one_more : (c : ℕ) (bytes : List ℕ) (parts : List (List ℕ)) (rest : List ℕ) (b : Bool) → eqb c 10 ≡ b
+    one_more : (c : ℕ) (bytes : List ℕ) (parts : List (List ℕ)) (rest : List ℕ) (b : Bool)
+        → eqb c 10 ≡ b
         → IsCut bytes parts rest
-        → IsCut (c ∷ bytes) (cond b ([] ∷ parts) (before_first_piece c parts)) (cond b rest (before_rest c parts rest))
+        → IsCut (c ∷ bytes) (cond b ([] ∷ parts) (before_first_piece c parts))
+            (cond b rest (before_rest c parts rest))
     one_more c bytes parts rest true e is = record {
       joined = ap (λ n. n ∷ bytes) (eqb-true c 10 e) ∙ ap (λ t. 10 ∷ t) is.joined;
       each = All-cons HasNoFeed [] parts (All-nil (λ c. c ≢ 10)) is.each;
@@ -86,12 +94,14 @@ cut_of (c ∷ bytes) = one_more c bytes (pieces bytes) (rest_of bytes) (eqb c 10
     }
     one_more c bytes (part ∷ parts) rest false e is = record {
       joined = ap (λ t. c ∷ t) is.joined;
-      each = All-cons HasNoFeed (c ∷ part) parts (All-cons (λ c. c ≢ 10) c part (eqb-false c 10 e) (All-head HasNoFeed part parts is.each)) (All-tail HasNoFeed part parts is.each);
+      each = All-cons HasNoFeed (c ∷ part) parts (All-cons (λ c. c ≢ 10) c part (eqb-false c 10 e)
+          (All-head HasNoFeed part parts is.each)) (All-tail HasNoFeed part parts is.each);
       last = is.last;
     }
 
 -- nothing else cuts an input so
-pub one_cut : (input : List ℕ) (parts : List (List ℕ)) (rest : List ℕ) → IsCut input parts rest → (parts ≡ pieces input) × (rest ≡ rest_of input)
+pub one_cut : (input : List ℕ) (parts : List (List ℕ)) (rest : List ℕ) → IsCut input parts rest
+    → (parts ≡ pieces input) × (rest ≡ rest_of input)
 unfolding joined
 one_cut input parts rest is =
     let none = none_whole rest is.last in
@@ -102,7 +112,8 @@ one_cut input parts rest is =
 
 -- one line feed more makes the rest a piece
 pub feed_more : (input : List ℕ)
-    → (pieces (input ++ 10 ∷ []) ≡ pieces input ++ rest_of input ∷ []) × (rest_of (input ++ 10 ∷ []) ≡ [])
+    → (pieces (input ++ 10 ∷ []) ≡ pieces input ++ rest_of input ∷ [])
+        × (rest_of (input ++ 10 ∷ []) ≡ [])
 unfolding joined
 feed_more input =
     let is = cut_of input in
@@ -115,7 +126,8 @@ feed_more input =
           ∙ ap (λ t. joined parts ++ t) (sym (append-nil (rest ++ 10 ∷ [])))
           ∙ sym (flat_map-append (λ part. part ++ 10 ∷ []) parts (rest ∷ []))
           ∙ sym (append-nil (joined (parts ++ rest ∷ [])));
-      each = All-append HasNoFeed parts (rest ∷ []) is.each (All-cons HasNoFeed rest [] is.last (All-nil HasNoFeed));
+      each = All-append HasNoFeed parts (rest ∷ []) is.each (All-cons HasNoFeed rest [] is.last
+          (All-nil HasNoFeed));
       last = All-nil (λ c. c ≢ 10);
     } in
     let one = one_cut (input ++ 10 ∷ []) (parts ++ rest ∷ []) [] more in
@@ -123,7 +135,8 @@ feed_more input =
 
 -- any other byte more belongs to the rest
 pub byte_more : (input : List ℕ) (c : ℕ) → c ≢ 10
-    → (pieces (input ++ c ∷ []) ≡ pieces input) × (rest_of (input ++ c ∷ []) ≡ rest_of input ++ c ∷ [])
+    → (pieces (input ++ c ∷ []) ≡ pieces input)
+        × (rest_of (input ++ c ∷ []) ≡ rest_of input ++ c ∷ [])
 unfolding joined
 byte_more input c other =
     let is = cut_of input in
@@ -132,11 +145,14 @@ byte_more input c other =
     let more : IsCut (input ++ c ∷ []) parts (rest ++ c ∷ []) = record {
       joined = ap (λ t. t ++ c ∷ []) is.joined ∙ append_assoc (joined parts) rest (c ∷ []);
       each = is.each;
-      last = All-append (λ c. c ≢ 10) rest (c ∷ []) is.last (All-cons (λ c. c ≢ 10) c [] other (All-nil (λ c. c ≢ 10)));
+      last = All-append (λ c. c ≢ 10) rest (c ∷ []) is.last (All-cons (λ c. c ≢ 10) c [] other
+          (All-nil (λ c. c ≢ 10)));
     } in
     let one = one_cut (input ++ c ∷ []) parts (rest ++ c ∷ []) more in
     (sym one.0, sym one.1)
 
 -- more input leaves the pieces before it, and adds pieces
-pub pieces_stay : (input more : List ℕ) → (later : List (List ℕ)) × (pieces (input ++ more) ≡ pieces input ++ later)
-pieces_stay input more = (pieces (rest_of input ++ more), more_pieces input more (pieces input) (rest_of input) (cut_of input))
+pub pieces_stay : (input more : List ℕ) → (later : List (List ℕ))
+    × (pieces (input ++ more) ≡ pieces input ++ later)
+pieces_stay input more = (pieces (rest_of input ++ more), more_pieces input more (pieces input)
+    (rest_of input) (cut_of input))

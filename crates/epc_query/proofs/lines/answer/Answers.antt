@@ -6,11 +6,16 @@ pub returns-in-Ok-write_reply-clause-answered : goal.returns-in-Ok-write_reply-c
 returns-in-Ok-write_reply-clause-answered g c = λ file t.
     let told = (c.in-Ok.ensures {u = tt}).reply file t in
     let wrote = (c.in-Ok-write_reply.ensures {u = tt}).all in
-    one_reply file c.args.line.now _ _ _ (c.law_reply_text.ensures file c.args.line.now c.in-Ok.reply wrote.0 told wrote.1) wrote.2
+    one_reply file c.args.line.now _ _ _
+    (c.law_reply_text.ensures file c.args.line.now c.in-Ok.reply wrote.0 told wrote.1) wrote.2
 
 pub returns-in-Ok-clause-answered : goal.returns-in-Ok-clause-answered
 returns-in-Ok-clause-answered g c = λ file t.
     let told = (c.in-Ok.ensures {u = tt}).reply file t in
     let wrote = (c.in-Err.ensures {u = tt}).part in
-    let line = c.args.line.now in
-    (1, omega arith, one_part file line _ _ _ (c.law_reply_text.ensures file line c.in-Ok.reply wrote.0 told wrote.1) wrote.2)
+    let line = c.args.line.now in (
+      1,
+      omega arith,
+      one_part file line _ _ _
+          (c.law_reply_text.ensures file line c.in-Ok.reply wrote.0 told wrote.1) wrote.2,
+    )

@@ -7,12 +7,16 @@ use Rattle.epc_query.proofs.lines.answer_chunk.Given as goal
 -- the bytes so far were taken
 abbrev pub invariant-loop-byte : goal.invariant-loop-byte
 invariant-loop-byte g l = record {
-  taken : WhereTold (g.T.Table.tells l.initial.checked) (λ file. (done : List ℕ) (start : Option (List ℕ))
+  taken : WhereTold (g.T.Table.tells l.initial.checked)
+      (λ file. (done : List ℕ) (start : Option (List ℕ))
       → IsAnswered file done start (g.W.Write.contents l.initial.writer) l.initial.held
-      → IsAnswered file (done ++ take l.byte-index l.chunk) start (g.W.Write.contents l.writer) l.held
-      × (length (whole_lines (done ++ take l.byte-index l.chunk)) ≡ length (whole_lines done) + l.count));
+      → IsAnswered file (done ++ take l.byte-index l.chunk) start
+      (g.W.Write.contents l.writer) l.held
+      × (length (whole_lines (done ++ take l.byte-index l.chunk)) ≡ length
+      (whole_lines done) + l.count));
   few : l.count ≤ l.byte-index;
   stays : g.T.Table.tells l.checked ≡ g.T.Table.tells l.initial.checked;
   accepted : g.T.Table.accepted l.checked ≡ g.T.Table.accepted l.initial.checked;
-  count : WhereTold (g.T.Table.tells l.initial.checked) (λ _. g.T.Table.failures l.checked ≡ g.T.Table.failures l.initial.checked);
+  count : WhereTold (g.T.Table.tells l.initial.checked)
+      (λ _. g.T.Table.failures l.checked ≡ g.T.Table.failures l.initial.checked);
 }

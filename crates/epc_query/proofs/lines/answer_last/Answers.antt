@@ -10,7 +10,8 @@ returns-in_err-answer-clause-answered g c = λ file t done start is.
     let stopped = rw c.rest-line.ensures at ((c.in_err-answer.ensures {u = tt}).answered file t) in
     let none = eqb-false _ _ (sym c.if-is_empty.ensures) in
     let some : 0 < length c.args.held.now = omega (arith, ap length c.rest-line.ensures) in
-    rw same (last_stopped c.law_lines.ensures.short file done start _ _ c.args.held.now fault is some stopped)
+    rw same
+    (last_stopped c.law_lines.ensures.short file done start _ _ c.args.held.now fault is some stopped)
 
 pub returns-clause-answered : goal.returns-clause-answered
 returns-clause-answered g c = λ file t done start is.

@@ -13,8 +13,13 @@ recorded_mean-requires g c =
 pub returns-in-Ok-clause-recorded : goal.returns-in-Ok-clause-recorded
 returns-in-Ok-clause-recorded g c = λ file t.
     let right = c.bound-bound.ensures.right file t in
-    let within : pips c.args.position.now ≤ bound_of file = omega (arith, c.requires.within, right.1) in
+    let within : pips c.args.position.now ≤ bound_of file = omega (
+      arith,
+      c.requires.within,
+      right.1,
+    ) in
     let told = (c.in-Ok.ensures {u = tt}).recorded file t in
     IfOk-weaker c.recorded_mean.result _ _
-    (λ m h. h ∙ ap (mean file) told ∙ mean_after file c.args.position.now c.args.roll right.0 c.requires.position within)
+    (λ m h. h ∙ ap (mean file) told
+    ∙ mean_after file c.args.position.now c.args.roll right.0 c.requires.position within)
     (c.recorded_mean.ensures.recorded file (c.play.ensures.stays ∙ t))

@@ -11,19 +11,24 @@ loop-to-preserved g c =
     let i = c.loop-to.to-index in
     record {
       ordered = c.include.ensures.ordered;
-      bounded = still_costs c.loop-to.costs.items _ _ c.loop-to.invariant.bounded (c.numerator.ensures.range, c.rank.ensures.range) c.include.ensures.members;
+      bounded = still_costs c.loop-to.costs.items _ _ c.loop-to.invariant.bounded
+          (c.numerator.ensures.range, c.rank.ensures.range) c.include.ensures.members;
       few = omega (arith, c.include.ensures.len, c.loop-to.invariant.few);
       members = λ file t cost.
           one_more_cost file c.args.found.now i c.to-item.result cost _ _ _ _ c.loop-to-test.true c.to-item.is
-          (c.numerator.ensures.value ∙ told.recorded file (c.loop-to.invariant.stays ∙ t)) c.rank.ensures.value
+          (c.numerator.ensures.value ∙ told.recorded file (c.loop-to.invariant.stays
+          ∙ t)) c.rank.ensures.value
           (c.include.ensures.members cost) (c.loop-to.invariant.members file t cost);
       stays = c.recorded_mean.ensures.stays ∙ c.loop-to.invariant.stays;
       accepted = c.recorded_mean.ensures.accepted ∙ c.loop-to.invariant.accepted;
-      count = λ file t. told.cause file (c.loop-to.invariant.stays ∙ t) ∙ c.loop-to.invariant.count file t;
+      count = λ file t. told.cause file (c.loop-to.invariant.stays ∙ t)
+          ∙ c.loop-to.invariant.count file t;
     }
 
 pub returns-clause-members : goal.returns-clause-members
 returns-clause-members g c = λ file t cost.
-    let all : take c.loop-to.to-index c.args.found.now ≡ c.args.found.now = take_all _ _ (omega arith) in
-    subst (λ (ys : List Board). Contains c.loop-to.costs.items cost ↔ ((y : Board) × Contains ys y × (cost ≡ (mean file y, rank y)))) all
+    let all : take c.loop-to.to-index c.args.found.now ≡ c.args.found.now = take_all _ _
+    (omega arith) in
+    subst (λ (ys : List Board). Contains c.loop-to.costs.items cost ↔ ((y : Board) × Contains ys y
+    × (cost ≡ (mean file y, rank y)))) all
     (c.loop-to.invariant.members file t cost)

@@ -13,8 +13,10 @@ invariant-loop-to g l = record {
   bounded : All IsCost l.costs.items;
   few : length l.costs.items ≤ l.to-index;
   members : WhereTold (g.T.Table.tells l.initial.checked) (λ file. (cost : ℕ × ℕ)
-      → Contains l.costs.items cost ↔ ((y : Board) × Contains (take l.to-index l.found) y × (cost ≡ (mean file y, rank y))));
+      → Contains l.costs.items cost ↔ ((y : Board) × Contains (take l.to-index l.found) y
+      × (cost ≡ (mean file y, rank y))));
   stays : g.T.Table.tells l.checked ≡ g.T.Table.tells l.initial.checked;
   accepted : g.T.Table.accepted l.checked ≡ g.T.Table.accepted l.initial.checked;
-  count : WhereTold (g.T.Table.tells l.initial.checked) (λ _. g.T.Table.failures l.checked ≡ g.T.Table.failures l.initial.checked);
+  count : WhereTold (g.T.Table.tells l.initial.checked)
+      (λ _. g.T.Table.failures l.checked ≡ g.T.Table.failures l.initial.checked);
 }

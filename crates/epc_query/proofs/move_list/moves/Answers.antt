@@ -12,9 +12,16 @@ pub costs_of-requires-clause-within : goal.costs_of-requires-clause-within
 costs_of-requires-clause-within g c = λ k d low.
     let found = c.results-found.result.items in
     let same : c.as_slice.result.now ≡ found = c.as_slice.ensures.value in
-    let legal = (c.results-found.ensures.members (get_or found k d)).0 (All-contains_itself found k d (rw (← same) low)) in
+    let legal = (c.results-found.ensures.members (get_or found k d)).0
+    (All-contains_itself found k d (rw (← same) low)) in
     let fewer = c.law_results.ensures.pips _ _ _ legal in
-    rw same (omega (arith, fewer, c.if-pips-bound.false, c.pips.ensures.value, c.bound.ensures.bound))
+    rw same (omega (
+      arith,
+      fewer,
+      c.if-pips-bound.false,
+      c.pips.ensures.value,
+      c.bound.ensures.bound,
+    ))
 
 pub returns-clause-choices : goal.returns-clause-choices
 returns-clause-choices g c = λ file t.
@@ -22,11 +29,18 @@ returns-clause-choices g c = λ file t.
     let v = c.args.roll in
     let right = c.bound.ensures.right file t in
     let position = c.pips.ensures.position in
-    let within : pips x ≤ bound_of file = omega (arith, c.if-pips-bound.false, c.pips.ensures.value, c.bound.ensures.bound, right.1) in
+    let within : pips x ≤ bound_of file = omega (
+      arith,
+      c.if-pips-bound.false,
+      c.pips.ensures.value,
+      c.bound.ensures.bound,
+      right.1,
+    ) in
     let at = right.0.at_each x position within in
     let costs = c.in_ok-costs.ensures {u = tt} in
     let same : c.as_slice.result.now ≡ c.results-found.result.items = c.as_slice.ensures.value in
-    let legal = λ (y : Board). subst (λ (ys : List Board). Contains ys y ↔ Legal x v y) (sym same) (c.results-found.ensures.members y) in
+    let legal = λ (y : Board). subst (λ (ys : List Board). Contains ys y ↔ Legal x v y) (sym same)
+    (c.results-found.ensures.members y) in
     let told = costs.members file t in
     let priced = rw c.as_slice-2.ensures.value at c.priced.ensures in
     choices_are file x v c.in_ok-costs.costs.items c.priced.result.items costs.ordered

@@ -10,5 +10,6 @@ invariant-loop-cost l = record {
   count : length l.choices.items ≡ l.cost-index;
   room : length l.costs ≤ vec_capacity l.choices;
   each : (i : ℕ) (c : ℕ × ℕ) (d : Choice) → i < l.cost-index
-      → IsPriced (slice_index_or l.costs 0 c) (slice_index_or l.costs i c) (slice_index_or l.choices.items i d);
+      → IsPriced (slice_index_or l.costs 0 c) (slice_index_or l.costs i c)
+      (slice_index_or l.choices.items i d);
 }

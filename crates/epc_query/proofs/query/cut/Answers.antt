@@ -11,5 +11,6 @@ returns-in-Some c =
     let text = c.args.text.now in
     let place = c.in-Some.place in
     let all : take (length text - (place + 1)) (drop (place + 1) text) ≡ drop (place + 1) text =
-    take_all (length text - (place + 1)) (drop (place + 1) text) (omega (arith, length-drop (place + 1) text)) in
+    take_all (length text - (place + 1)) (drop (place + 1) text)
+    (omega (arith, length-drop (place + 1) text)) in
     rw all (cut_at text place (c.in-Some.ensures {u = tt}).place)

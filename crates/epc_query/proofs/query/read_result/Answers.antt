@@ -7,4 +7,5 @@ returns-in_default-read_roll c =
 
 pub returns : goal.returns
 returns c =
-    rw c.both.ensures (result_read c.args.text.now _ _ _ _ c.in-Some-read_roll.roll c.read_position.result c.read_position-2.result c.in-Some.ensures c.in-Some-cut.ensures c.in-Some-read_roll.ensures c.read_position.ensures c.read_position-2.ensures)
+    rw c.both.ensures
+    (result_read c.args.text.now _ _ _ _ c.in-Some-read_roll.roll c.read_position.result c.read_position-2.result c.in-Some.ensures c.in-Some-cut.ensures c.in-Some-read_roll.ensures c.read_position.ensures c.read_position-2.ensures)

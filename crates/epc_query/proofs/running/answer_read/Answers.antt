@@ -10,7 +10,9 @@ returns-in_err-flush-clause-answered g c = λ file t done start is.
     let same : c.from_residual-in_err-flush.result ≡ Err c.in_err-flush.field-0.0 = search rules in
     let told = (c.in_err-flush.ensures {u = tt}).fault in
     let fault : c.in_err-flush.field-0.0 ≡ Write = cc in
-    rw (same, fault) (failed_flush file (whole_lines (done ++ c.args.bytes.now)) start _ _ has.0.replies c.flush.ensures.kept)
+    rw (same, fault)
+    (failed_flush file
+    (whole_lines (done ++ c.args.bytes.now)) start _ _ has.0.replies c.flush.ensures.kept)
 
 pub returns-clause-answered : goal.returns-clause-answered
 returns-clause-answered g c = λ file t done start is.

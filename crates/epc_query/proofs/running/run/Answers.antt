@@ -6,15 +6,19 @@ use Rattle.epc_query.proofs.running.run.Goals as goal
 
 pub returns-in_default-clause-stopped : goal.returns-in_default-clause-stopped
 returns-in_default-clause-stopped g c = λ file t input u.
-    let so_far = c.loop-turn.invariant.taken file t input u in
-    (so_far.0, read_none input _ _ so_far.0 so_far.1 (c.in_default.ensures {u = tt}).bytes, so_far.2.replies)
+    let so_far = c.loop-turn.invariant.taken file t input u in (
+      so_far.0,
+      read_none input _ _ so_far.0 so_far.1 (c.in_default.ensures {u = tt}).bytes,
+      so_far.2.replies,
+    )
 
 pub returns-in_err-count-clause-stopped : goal.returns-in_err-count-clause-stopped
 returns-in_err-count-clause-stopped g c = λ file t input u.
     let so_far = c.loop-turn.invariant.taken file t input u in
     let fault = c.in_err-count.field-0.0 in
     let same : c.from_residual.result ≡ Err fault = search rules in
-    let stopped = (c.in_err-count.ensures {u = tt}).answered file (c.loop-turn.invariant.stays ∙ t) so_far.0 _ so_far.2 in
+    let stopped = (c.in_err-count.ensures {u = tt}).answered file (c.loop-turn.invariant.stays
+    ∙ t) so_far.0 _ so_far.2 in
     let told = (c.in-Ok.ensures {u = tt}).bytes in
     let end = told.1 c.if-taken-eq0.true (omega (arith, c.read.auto.buf)) in
     let none = rw c.if-taken-eq0.true at told.0 in
@@ -24,7 +28,8 @@ returns-in_err-count-clause-stopped g c = λ file t input u.
 pub returns-then-taken-eq0-clause-done : goal.returns-then-taken-eq0-clause-done
 returns-then-taken-eq0-clause-done g c = λ file t input u.
     let so_far = c.loop-turn.invariant.taken file t input u in
-    let has = (c.in_ok-count.ensures {u = tt}).answered file (c.loop-turn.invariant.stays ∙ t) so_far.0 _ so_far.2 in
+    let has = (c.in_ok-count.ensures {u = tt}).answered file (c.loop-turn.invariant.stays
+    ∙ t) so_far.0 _ so_far.2 in
     let told = (c.in-Ok.ensures {u = tt}).bytes in
     let end = told.1 c.if-taken-eq0.true (omega (arith, c.read.auto.buf)) in
     let none = rw c.if-taken-eq0.true at told.0 in
@@ -36,13 +41,16 @@ returns-in_err-count-2-clause-stopped g c = λ file t input u.
     let so_far = c.loop-turn.invariant.taken file t input u in
     let fault = c.in_err-count-2.field-0.0 in
     let same : c.from_residual-in_err-count-2.result ≡ Err fault = search rules in
-    let stopped = (c.in_err-count-2.ensures {u = tt}).answered file (c.loop-turn.invariant.stays ∙ t) so_far.0 _ so_far.2 in
+    let stopped = (c.in_err-count-2.ensures {u = tt}).answered file (c.loop-turn.invariant.stays
+    ∙ t) so_far.0 _ so_far.2 in
     let told = (c.in-Ok.ensures {u = tt}).bytes in
     let consumed = read_more input _ _ so_far.0 _ so_far.1 told.0 in
     let front = read_front input _ _ consumed in
-    let cut = c.law_input_lines.ensures.more (so_far.0 ++ take c.in-Ok.taken c.read.new.buf) front.0 in
+    let cut = c.law_input_lines.ensures.more
+    (so_far.0 ++ take c.in-Ok.taken c.read.new.buf) front.0 in
     rw same (run_stopped file input _ _ _ fault
-    (stopped_in file (so_far.0 ++ take c.in-Ok.taken c.read.new.buf) front.0 input cut.0 _ _ fault front.1 cut.1 stopped))
+    (stopped_in file
+    (so_far.0 ++ take c.in-Ok.taken c.read.new.buf) front.0 input cut.0 _ _ fault front.1 cut.1 stopped))
 
 pub loop-turn-preserved : goal.loop-turn-preserved
 loop-turn-preserved g c =
@@ -57,11 +65,19 @@ loop-turn-preserved g c =
             has.0,
             omega (arith, has.1, so_far.3),
           );
-      few = omega (arith, told.few, c.loop-turn.invariant.few, length-take c.in-Ok.taken c.read.new.buf, c.read.auto.buf, c.loop-turn.invariant.long);
+      few = omega (
+        arith,
+        told.few,
+        c.loop-turn.invariant.few,
+        length-take c.in-Ok.taken c.read.new.buf,
+        c.read.auto.buf,
+        c.loop-turn.invariant.long,
+      );
       long = omega (arith, c.read.auto.buf, c.loop-turn.invariant.long);
       stays = c.answer_read.ensures.stays ∙ c.loop-turn.invariant.stays;
       accepted = c.answer_read.ensures.accepted ∙ c.loop-turn.invariant.accepted;
-      count = λ file t. told.cause file (c.loop-turn.invariant.stays ∙ t) ∙ c.loop-turn.invariant.count file t;
+      count = λ file t. told.cause file (c.loop-turn.invariant.stays ∙ t)
+          ∙ c.loop-turn.invariant.count file t;
     }
 
 pub returns-clause-stopped : goal.returns-clause-stopped

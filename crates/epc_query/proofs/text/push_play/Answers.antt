@@ -13,4 +13,5 @@ returns-clause-bytes c =
     let some : 0 < length moves = omega (arith, length-map c.args.play.now.items move_of) in
     c.push_str-2.ensures.bytes
     ∙ rw (c.push_str.ensures.bytes, c.as_str.ensures.value, c.write_play.ensures)
-    (append_assoc c.args.text.now.bytes (codes " ") _ ∙ ap (λ t. c.args.text.now.bytes ++ t) (spaces_before move_text moves some))
+    (append_assoc c.args.text.now.bytes (codes " ") _ ∙ ap (λ t. c.args.text.now.bytes ++ t)
+    (spaces_before move_text moves some))

@@ -6,4 +6,5 @@ pub returns-clause-bytes : goal.returns-clause-bytes
 returns-clause-bytes c =
     c.push_str.ensures.bytes
     ∙ ap (λ t. c.args.text.now.bytes ++ t)
-    (c.as_str.ensures.value ∙ position_text_is c.args.position.now _ c.checkers-checkers.ensures.position c.write_position.ensures)
+    (c.as_str.ensures.value
+    ∙ position_text_is c.args.position.now _ c.checkers-checkers.ensures.position c.write_position.ensures)

@@ -17,4 +17,5 @@ returns-clause-bytes c =
       decimal_digit (n / 10 % 10) (omega arith),
       decimal_digit (n % 10) (omega arith),
     )
-    (digits_added c.args.text.now.bytes (decimal (n / 1000)) (48 + n / 100 % 10) (48 + n / 10 % 10) (48 + n % 10))
+    (digits_added c.args.text.now.bytes (decimal (n / 1000)) (48 + n / 100 % 10) (48 + n / 10 % 10)
+    (48 + n % 10))

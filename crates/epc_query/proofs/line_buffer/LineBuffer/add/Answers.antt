@@ -18,5 +18,6 @@ returns c =
     let room = eqb-false _ _ (sym (c.if-is_full.ensures {u = tt}).value) in
     let fits = c.is_full.ensures.fits in
     let all : take 130 (kept ++ c.args.byte ∷ []) ≡ kept ++ c.args.byte ∷ [] =
-    take_all 130 (kept ++ c.args.byte ∷ []) (omega (arith, room, fits, ap length same, length-append kept (c.args.byte ∷ []))) in
+    take_all 130 (kept ++ c.args.byte ∷ [])
+    (omega (arith, room, fits, ap length same, length-append kept (c.args.byte ∷ []))) in
     c.push.ensures.items ∙ ap (λ bytes. bytes ++ c.args.byte ∷ []) same ∙ sym all

@@ -1,0 +1,208 @@
+-- The ranks of the positions of one pip count, and the means of some ranks.
+use Rattle.std.proofs.Common.{◌≡◌, ◌↔◌, ◌⊎◌, inl, inr, ℕ, zero, suc, ◌+◌, ◌-◌, ◌*◌, ◌/◌, ◌%◌, ◌<◌, ◌≤◌, min, max, List, [], ◌∷◌, ◌++◌, codes, decimal, refl, ap, sym, subst, ◌∙◌, arith}
+use Rattle.std.proofs.lemmas.Bool.{cases_lt}
+use Rattle.std.proofs.Math.Path.{ap₂}
+use Rattle.race_model.specs.Positions.{Board, IsPosition, pips}
+use Rattle.race_model.specs.Ranks.{rank, at_rank, count_to, first_of}
+use Rattle.race_model.specs.Files.{mean, mean_at}
+use Rattle.race_model.specs.Levels.{IsLevel, IsLevelLine}
+use Rattle.epc_query.specs.declared.reply.Level.{Level}
+use Rattle.epc_query.specs.Texts.{ratio_text, level_text}
+use Rattle.epc_query.specs.LevelMeans.{AreMeansOf, HasLevel}
+
+-- some position has this pip count
+pub some_position : (p : ℕ) → p ≤ 84 → (x : Board) × IsPosition x × (pips x ≡ p)
+some_position p low = by (p / 6) (p % 6) (omega arith) (omega arith)
+  where
+    by : (q r : ℕ) → p ≡ 6 * q + r → r < 6 → (x : Board) × IsPosition x × (pips x ≡ p)
+    by q zero e h = (
+      0 ∷ 0 ∷ 0 ∷ 0 ∷ 0 ∷ q ∷ [],
+      record { six = refl; few = omega arith },
+      omega arith,
+    )
+    by q (suc zero) e h = (
+      1 ∷ 0 ∷ 0 ∷ 0 ∷ 0 ∷ q ∷ [],
+      record { six = refl; few = omega arith },
+      omega arith,
+    )
+    by q (suc (suc zero)) e h = (
+      0 ∷ 1 ∷ 0 ∷ 0 ∷ 0 ∷ q ∷ [],
+      record { six = refl; few = omega arith },
+      omega arith,
+    )
+    by q (suc (suc (suc zero))) e h = (
+      0 ∷ 0 ∷ 1 ∷ 0 ∷ 0 ∷ q ∷ [],
+      record { six = refl; few = omega arith },
+      omega arith,
+    )
+    by q (suc (suc (suc (suc zero)))) e h = (
+      0 ∷ 0 ∷ 0 ∷ 1 ∷ 0 ∷ q ∷ [],
+      record { six = refl; few = omega arith },
+      omega arith,
+    )
+    by q (suc (suc (suc (suc (suc zero))))) e h = (
+      0 ∷ 0 ∷ 0 ∷ 0 ∷ 1 ∷ q ∷ [],
+      record { six = refl; few = omega arith },
+      omega arith,
+    )
+    by q (suc (suc (suc (suc (suc (suc r)))))) e h = absurd (omega arith)
+
+-- no ranks
+pub no_means : (f : List ℕ) (first end least greatest : ℕ) → end ≤ first
+    → AreMeansOf f first end least greatest
+no_means f first end least greatest none = record {
+  least_reached = λ h. absurd (omega arith);
+  none_under = λ r low high. absurd (omega arith);
+  greatest_reached = λ h. absurd (omega arith);
+  none_over = λ r low high. absurd (omega arith);
+}
+
+-- one rank more
+pub more_means : (f : List ℕ) (first r least greatest n : ℕ) → first ≤ r
+    → AreMeansOf f first r least greatest → n ≡ mean_at f r
+    → (first ≡ r → n ≤ least) → (first ≡ r → greatest ≤ n) → AreMeansOf f first (r + 1)
+    (min least n) (max greatest n)
+more_means f first r least greatest n within are e fresh_least fresh_greatest = record {
+  least_reached = λ _. elim (cases_lt n least) [
+    | inl smaller ↦ (r, within, omega arith, sym e ∙ omega arith)
+    | inr other ↦ elim (cases_lt first r) [
+      | inl some ↦ let w = are.least_reached some in (
+        w.0,
+        w.1,
+        omega (arith, w.2),
+        w.3
+            ∙ omega arith,
+      )
+      | inr none ↦ (
+        r,
+        within,
+        omega arith,
+        let same : first ≡ r = omega arith in let low =
+            fresh_least same in sym e ∙ omega arith,
+      )
+    ]
+  ];
+  none_under = λ k low high. elim (cases_lt k r) [
+    | inl before ↦ omega (arith, are.none_under k low before)
+    | inr here ↦ let same : k ≡ r = omega arith in omega (arith, e, ap (mean_at f) same)
+  ];
+  greatest_reached = λ _. elim (cases_lt greatest n) [
+    | inl larger ↦ (r, within, omega arith, sym e ∙ omega arith)
+    | inr other ↦ elim (cases_lt first r) [
+      | inl some ↦ let w = are.greatest_reached some in (
+        w.0,
+        w.1,
+        omega (arith, w.2),
+        w.3
+            ∙ omega arith,
+      )
+      | inr none ↦ (
+        r,
+        within,
+        omega arith,
+        let same : first ≡ r = omega arith in let high =
+            fresh_greatest same in sym e ∙ omega arith,
+      )
+    ]
+  ];
+  none_over = λ k low high. elim (cases_lt k r) [
+    | inl before ↦ omega (arith, are.none_over k low before)
+    | inr here ↦ let same : k ≡ r = omega arith in omega (arith, e, ap (mean_at f) same)
+  ];
+}
+
+-- the ranks of a pip count are those of its positions
+module _ (found : (x : Board) → IsPosition x → at_rank (rank x) ≡ x)
+    (within : (x : Board) (bound : ℕ) → IsPosition x → (rank x < count_to bound) ↔ (pips x ≤ bound))
+    (position : (r : ℕ) → IsPosition (at_rank r))
+    (under : (bound r : ℕ) → r < count_to bound → (rank (at_rank r) ≡ r)
+    × (pips (at_rank r) ≤ bound))
+    (none : first_of 0 ≡ 0) (next : (m : ℕ) → first_of (m + 1) ≡ count_to m) where
+  -- the first rank of a pip count is past those of fewer
+  start : (m : ℕ) → first_of (suc m) ≡ count_to m
+  start m = let e : m + 1 ≡ suc m = omega arith in subst (λ n. first_of n ≡ count_to m) e (next m)
+
+  -- a position has no lower rank than the first of its pip count
+  not_below : (p : ℕ) (x : Board) → IsPosition x → pips x ≡ p → first_of p ≤ rank x
+  not_below zero x is e = omega (arith, none)
+  not_below (suc m) x is e =
+      elim (cases_lt (rank x) (count_to m)) [
+        | inl low ↦ absurd (omega (arith, (within x m is).0 low))
+        | inr high ↦ omega (arith, start m)
+      ]
+
+  -- and only positions of as many pips have a rank from the first on
+  not_fewer : (p r : ℕ) → first_of p ≤ r → r < count_to p → p ≤ pips (at_rank r)
+  not_fewer zero r low high = omega arith
+  not_fewer (suc m) r low high =
+      elim (cases_lt (pips (at_rank r)) (suc m)) [
+        | inl fewer ↦
+            let here = (within (at_rank r) m (position r)).1 (omega arith) in
+            absurd (omega (arith, here, (under (suc m) r high).0, start m))
+        | inr enough ↦ enough
+      ]
+
+  -- there is a rank of each pip count up to 84
+  pub some_rank : (p : ℕ) → p ≤ 84 → first_of p < count_to p
+  some_rank p low =
+      let x = some_position p low in
+      omega (arith, not_below p x.0 x.1 x.2, (within x.0 p x.1).1 (omega (arith, x.2)))
+
+  -- the means of the ranks of a pip count are those of its positions
+  pub level_means : (f : List ℕ) (p least greatest : ℕ) → p ≤ 84 → AreMeansOf f (first_of p)
+      (count_to p) least greatest → IsLevel f p least greatest
+  level_means f p least greatest low are =
+      let some = some_rank p low in
+      let a = are.least_reached some in
+      let b = are.greatest_reached some in
+      record {
+        least_reached = (
+          at_rank a.0,
+          position a.0,
+          at a.0 a.1 a.2,
+          ap (mean_at f)
+              (under p a.0 a.2).0 ∙ a.3,
+        );
+        none_under = λ x is e. are.none_under (rank x) (not_below p x is e)
+            ((within x p is).1 (omega (arith, e)));
+        greatest_reached = (
+          at_rank b.0,
+          position b.0,
+          at b.0 b.1 b.2,
+          ap (mean_at f)
+              (under p b.0 b.2).0 ∙ b.3,
+        );
+        none_over = λ x is e. are.none_over (rank x) (not_below p x is e)
+            ((within x p is).1 (omega (arith, e)));
+      }
+    where
+      at : (r : ℕ) → first_of p ≤ r → r < count_to p → pips (at_rank r) ≡ p
+      at r first last = let few = (under p r last).1 in let many = not_fewer p r first last in
+          omega arith
+
+-- the text of a level is its line
+pub level_line : (f : List ℕ) (p : ℕ) (level : Level) → HasLevel f p level
+    → IsLevelLine f p (level_text level)
+level_line f p level is = record {
+  least = is.least;
+  greatest = is.greatest;
+  level = is.means;
+  least_text = ratio_text level.least;
+  least_is = record {
+    numerator = level.least.numerator;
+    denominator =
+        level.least.denominator;
+    lowest = is.least_is;
+    written = refl;
+  };
+  greatest_text = ratio_text level.greatest;
+  greatest_is = record {
+    numerator = level.greatest.numerator;
+    denominator =
+        level.greatest.denominator;
+    lowest = is.greatest_is;
+    written = refl;
+  };
+  written = ap₂
+      (λ m n. codes "pips " ++ decimal m ++ codes " positions " ++ decimal n ++ codes " least " ++ ratio_text level.least ++ codes " greatest " ++ ratio_text level.greatest) is.pips is.positions;
+}

@@ -1,0 +1,5 @@
+use Rattle.epc_query.proofs.PipCounts.{level_line}
+use Rattle.epc_query.proofs.laws.law_level_text.Goals as goal
+
+pub returns : goal.returns
+returns c = level_line

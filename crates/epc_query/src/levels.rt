@@ -1,0 +1,85 @@
+//! The positions of one pip count.
+ghost use Rattle.std.specs.Prelude.{◌≡◌, ℕ, ◌*◌, ◌<◌, ◌≤◌, List, IfOk, IfErr, OnOk, OnErr};
+ghost use Rattle.race_model.specs.Ranks.{count_to};
+ghost use Rattle.race_model.specs.LocalEquations.{whole};
+ghost use Rattle.db_reader.specs.Telling.{WhereTold};
+ghost use Rattle.certificate.specs.Accepted.{bound_in};
+ghost use Rattle.certificate.specs.QueryFaults.{QueryCounted};
+ghost use Rattle.epc_query.specs.LevelMeans.{AreMeansOf, HasLevel, IsLevelFault};
+
+use crate::losses::recorded_mean;
+use crate::reply::Level;
+use certificate::{Checked, QueryFault};
+use db_reader::Table;
+use fixed_fraction::{MOST, Scaled, mean};
+use race_model::laws;
+use ranking::Ranks;
+
+/// How many positions have a pip count, and the least and the greatest of their means. Refused as
+/// `OverBound` where the pip count is over the bound, and as `Read` where a record could not be
+/// read.
+pub fn audit_level<T: Table>(checked: &mut Checked<T>, pips: u8) -> Result<Level, QueryFault>
+    ensures within { OnOk result (pips ≤ bound_in (T.accepted checked.old)) }
+    ensures fault { IfErr result (IsLevelFault (bound_in (T.accepted checked.old)) pips) }
+    ensures level { WhereTold (T.tells checked.old) (λ file. IfOk result (HasLevel file pips)) }
+    ensures stays { T.tells checked.new ≡ T.tells checked.old }
+    ensures accepted { T.accepted checked.new ≡ T.accepted checked.old }
+    ensures cause { WhereTold (T.tells checked.old)
+        (λ _. QueryCounted (T.failures checked.old) (T.failures checked.new) result) }
+{
+    laws::law_rank();
+    laws::law_at_rank();
+    laws::law_counts();
+    if pips > checked.bound() {
+        return Err(QueryFault::OverBound);
+    }
+    let ranks = Ranks::new();
+    let (first, end) = (ranks.first_of(pips), ranks.count_to(pips));
+    let means = means_of(checked, &ranks, first, end)?;
+    Ok(Level {
+        pips,
+        positions: end - first,
+        least: mean(Scaled::new(means.least).unwrap()),
+        greatest: mean(Scaled::new(means.greatest).unwrap()),
+    })
+}
+
+/// The least and the greatest of some means, as numerators over 36 ^ 22.
+#[derive(Clone, Copy, Debug, PartialEq, Eq)]
+struct Means {
+    least: u128,
+    greatest: u128,
+}
+
+/// The least and the greatest mean of the ranks from one on and before another.
+fn means_of<T: Table>(
+    checked: &mut Checked<T>,
+    ranks: &Ranks,
+    first: u16,
+    end: u16,
+) -> Result<Means, QueryFault>
+    requires { end ≤ count_to (bound_in (T.accepted checked.old)) }
+    ensures fault { OnErr result (result ≡ Err QueryFault.Read) }
+    ensures bounded { IfOk result (λ means. (means.least ≤ 22 * whole)
+        × (means.greatest ≤ 22 * whole)) }
+    ensures means { WhereTold (T.tells checked.old)
+        (λ file. IfOk result (λ means. AreMeansOf file first end means.least means.greatest)) }
+    ensures stays { T.tells checked.new ≡ T.tells checked.old }
+    ensures accepted { T.accepted checked.new ≡ T.accepted checked.old }
+    ensures cause { WhereTold (T.tells checked.old)
+        (λ _. QueryCounted (T.failures checked.old) (T.failures checked.new) result) }
+{
+    laws::law_rank();
+    laws::law_counts();
+    let mut means = Means {
+        least: MOST,
+        greatest: 0,
+    };
+    for rank in first..end {
+        let position = ranks.unrank(rank).unwrap();
+        let mean = recorded_mean(checked, &position)?.numerator();
+        means.least = means.least.min(mean);
+        means.greatest = means.greatest.max(mean);
+    }
+    Ok(means)
+}
