@@ -1,16 +1,52 @@
-//! The program `bearoff`: it makes the database of 8 pips in memory, checks it, reads a position from standard
-//! input, and writes the numerator over 36 ^ 22 of the position's least mean number of rolls.
+//! The program `bearoff`: it builds a one-sided bearoff database, checks one that anybody built,
+//! answers lines about its positions, and audits it. `act` is the whole program; this file only
+//! hands it the words, the three standard streams and the system's files.
 #![tactic(auto)]
 
-use program::run;
+use act::act;
+use fault::{Fault, write_fault};
 use std::process::ExitCode;
+use std::{env, io};
 
-pub mod answer;
-pub mod program;
+pub mod act;
+pub mod fault;
+pub mod files;
+pub mod words;
 
 fn main(rt: HostRuntime) -> ExitCode {
-    match run(rt.alloc(), &mut rt.stdin(), &mut rt.stdout()) {
-        Ok(()) => ExitCode::SUCCESS,
-        Err(_) => ExitCode::FAILURE,
-    }
+    let words = match words_of(&rt) {
+        Ok(words) => words,
+        Err(fault) => {
+            write_fault(&fault, &mut rt.stderr());
+            return ExitCode::from(fault.status());
+        }
+    };
+    ExitCode::from(act(
+        &rt,
+        rt.alloc(),
+        words.as_slice(),
+        &mut rt.stdin(),
+        &mut rt.stdout(),
+        &mut rt.stderr(),
+    ))
 }
+
+/// The words after the program's own name. One that is no UTF-8 text names no file that could be
+/// opened.
+fn words_of(rt: &(impl env::Env + AllocGlobal)) -> Result<Vec<String>, Fault> {
+    let given = match env::args(rt) {
+        Ok(given) => given,
+        Err(error) if error.kind() == io::ErrorKind::InvalidData => return Err(Fault::Open),
+        Err(_) => return Err(Fault::Memory),
+    };
+    let mut words = Vec::new(rt.alloc());
+    for word in given.skip(1) {
+        words.push(word)?;
+    }
+    Ok(words)
+}
+
+#[cfg(test)]
+mod page_tests;
+#[cfg(test)]
+mod tests;

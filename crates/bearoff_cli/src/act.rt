@@ -1,0 +1,232 @@
+//! The whole program, over the files of a system, a reader and two writers.
+use crate::fault::{Fault, write_fault};
+use crate::files::{build_file, read_file};
+use crate::words::{Request, read_words};
+use arrayvec::ArrayString;
+use certificate::{Checked, check};
+use clap::Error;
+use clap::error::ErrorKind;
+use db_layout::write_bytes;
+use db_reader::{FileSource, Paged, Table, Whole};
+use epc_query::{audit_level, run, write_level};
+use home_board::MAX_BOUND;
+use itoa::Buffer;
+use ranking::Ranks;
+use retrograde::build;
+use std::alloc::Global;
+use std::convert::AsStr;
+use std::fs;
+use std::io::{Read, Write};
+use std::rt::Files;
+
+/// The pip bound of the database that is built where no word is given.
+const DEFAULT_BOUND: u8 = 8;
+
+/// How many reads of standard input there are at most.
+const TURNS: u64 = 1 << 40;
+
+/// The whole program: does what the words (those after the program's own name) ask for, and gives
+/// the exit status. 0: done; 1: a file, the input, an output or memory failed; 2: the words are
+/// wrong, or the bound is over the greatest one; 3: the database was refused. At 1 and 3, and for
+/// a bound over the greatest one, one line is written to `errors`; for words that are wrong it is
+/// the text of `clap`. Where the database was refused nothing was written to `output`. (The
+/// words, the statuses and the lines are this project's profile.)
+pub fn act<R: Files, S: AsStr, I: Read, O: Write, E: Write>(
+    rt: &R,
+    alloc: Global,
+    words: &[S],
+    input: &mut I,
+    output: &mut O,
+    errors: &mut E,
+) -> u8 {
+    let done = match read_words(alloc, words) {
+        Ok(request) => fulfil(rt, alloc, request, input, output),
+        Err(error) if error.kind() == ErrorKind::OutOfMemory => Err(Fault::Memory),
+        Err(error) if error.use_stderr() => {
+            let _ = write!(errors, "{error}");
+            return 2;
+        }
+        Err(error) => write_help(&error, output),
+    };
+    match done {
+        Ok(()) => 0,
+        Err(fault) => {
+            write_fault(&fault, errors);
+            fault.status()
+        }
+    }
+}
+
+/// Writes a help text or the version.
+fn write_help<O: Write>(error: &Error, output: &mut O) -> Result<(), Fault> {
+    match write!(output, "{error}") {
+        Ok(()) => Ok(()),
+        Err(_) => Err(Fault::Write),
+    }
+}
+
+/// Does what is asked for.
+fn fulfil<R: Files, I: Read, O: Write>(
+    rt: &R,
+    alloc: Global,
+    request: Request<'_>,
+    input: &mut I,
+    output: &mut O,
+) -> Result<(), Fault> {
+    match request {
+        Request::Default => answer_default(alloc, input, output),
+        Request::Build { pips, path } => write_database(rt, alloc, pips, path, output),
+        Request::Check { path } => check_database(rt, alloc, path, output),
+        Request::Query { path, cache: None } => answer_file(rt, alloc, path, input, output),
+        Request::Query {
+            path,
+            cache: Some(records),
+        } => answer_pages(rt, alloc, path, records, input, output),
+        Request::Audit { path } => audit_database(rt, alloc, path, output),
+    }
+}
+
+/// Answers each line of the input over the database of 8 pips.
+fn answer_default<I: Read, O: Write>(
+    alloc: Global,
+    input: &mut I,
+    output: &mut O,
+) -> Result<(), Fault> {
+    let mut bytes = Vec::new(alloc);
+    build(alloc, DEFAULT_BOUND, &mut bytes)?;
+    answer_lines(alloc, Whole::new(bytes.as_slice()), input, output)
+}
+
+/// Answers each line of the input over the database in a file, which is read whole.
+fn answer_file<R: Files, I: Read, O: Write>(
+    rt: &R,
+    alloc: Global,
+    path: &str,
+    input: &mut I,
+    output: &mut O,
+) -> Result<(), Fault> {
+    let bytes = read_file(rt, alloc, path)?;
+    answer_lines(alloc, Whole::new(bytes.as_slice()), input, output)
+}
+
+/// Answers each line of the input over the database in a file, of which at most so many records
+/// are in memory.
+fn answer_pages<R: Files, I: Read, O: Write>(
+    rt: &R,
+    alloc: Global,
+    path: &str,
+    records: u16,
+    input: &mut I,
+    output: &mut O,
+) -> Result<(), Fault> {
+    let Ok(file) = fs::open(rt, path) else {
+        return Err(Fault::Open);
+    };
+    match Paged::new(alloc, FileSource::new(file), records.max(1)) {
+        Ok(pages) => answer_lines(alloc, pages, input, output),
+        Err(_) => Err(Fault::Memory),
+    }
+}
+
+/// Answers each line of the input over the database of a table.
+fn answer_lines<T: Table + Drop, I: Read, O: Write>(
+    alloc: Global,
+    table: T,
+    input: &mut I,
+    output: &mut O,
+) -> Result<(), Fault> {
+    let mut checked = checked(table)?;
+    run(alloc, &mut checked, input, output, TURNS)?;
+    Ok(())
+}
+
+/// The database of a table, if it is one.
+fn checked<T: Table + Drop>(table: T) -> Result<Checked<T>, Fault> {
+    match check(table) {
+        Ok(checked) => Ok(checked),
+        Err((_, fault)) => Err(Fault::from(fault)),
+    }
+}
+
+/// Writes the database of a pip bound into a file, and says so.
+fn write_database<R: Files, O: Write>(
+    rt: &R,
+    alloc: Global,
+    pips: u8,
+    path: &str,
+    output: &mut O,
+) -> Result<(), Fault> {
+    if pips > MAX_BOUND {
+        return Err(Fault::OverBound);
+    }
+    build_file(rt, alloc, pips, path)?;
+    write_count(Done::Built, pips, Ranks::new().count_to(pips), output)
+}
+
+/// Checks the database in a file, and says that it was accepted.
+fn check_database<R: Files, O: Write>(
+    rt: &R,
+    alloc: Global,
+    path: &str,
+    output: &mut O,
+) -> Result<(), Fault> {
+    let bytes = read_file(rt, alloc, path)?;
+    let checked = checked(Whole::new(bytes.as_slice()))?;
+    write_count(Done::Checked, checked.bound(), checked.positions(), output)
+}
+
+/// Checks the database in a file, and writes a line for each pip count.
+fn audit_database<R: Files, O: Write>(
+    rt: &R,
+    alloc: Global,
+    path: &str,
+    output: &mut O,
+) -> Result<(), Fault> {
+    let bytes = read_file(rt, alloc, path)?;
+    let mut checked = checked(Whole::new(bytes.as_slice()))?;
+    for pips in 0..=checked.bound() {
+        let Ok(level) = audit_level(&mut checked, pips) else {
+            return Err(Fault::File);
+        };
+        if write_level(&level, output).is_err() {
+            return Err(Fault::Write);
+        }
+    }
+    flush(output)
+}
+
+/// What was done with a database.
+enum Done {
+    Built,
+    Checked,
+}
+
+/// Writes what was done, with the pip bound and the number of positions.
+fn write_count<O: Write>(
+    done: Done,
+    pips: u8,
+    positions: u16,
+    output: &mut O,
+) -> Result<(), Fault> {
+    let mut line: ArrayString<64> = ArrayString::new();
+    match done {
+        Done::Built => line.push_str("built pips "),
+        Done::Checked => line.push_str("ok pips "),
+    }
+    line.push_str(Buffer::new().format(pips));
+    line.push_str(" positions ");
+    line.push_str(Buffer::new().format(positions));
+    line.push_str("\n");
+    if write_bytes(line.as_str().as_bytes(), output).is_err() {
+        return Err(Fault::Write);
+    }
+    flush(output)
+}
+
+/// Hands on what a writer may still hold.
+fn flush<O: Write>(output: &mut O) -> Result<(), Fault> {
+    match output.flush() {
+        Ok(()) => Ok(()),
+        Err(_) => Err(Fault::Write),
+    }
+}

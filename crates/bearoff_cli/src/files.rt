@@ -1,0 +1,60 @@
+//! Files, read and written by blocks.
+use crate::fault::Fault;
+use retrograde::build;
+use std::alloc::Global;
+use std::fs;
+use std::io::{BufWriter, Read, Write};
+use std::rt::Files;
+
+/// How many bytes one read or one write moves.
+const BLOCK: usize = 65536;
+
+/// How many bytes of a file are read at most: one more than a file that is read whole may have,
+/// so that a longer file keeps the fault of its header, which is its length if it has no other
+/// (this project's profile).
+const MOST_BYTES: usize = 20_000_001;
+
+/// The bytes of a file, at most 20,000,001 of them. `Open` where it can't be opened, `File` where
+/// a read fails, `Memory` where there is no room.
+pub fn read_file<R: Files>(rt: &R, alloc: Global, path: &str) -> Result<Vec<u8>, Fault> {
+    let Ok(mut file) = fs::open(rt, path) else {
+        return Err(Fault::Open);
+    };
+    let mut bytes = Vec::new(alloc);
+    let mut block = [0; BLOCK];
+    for _ in 0..MOST_BYTES {
+        match read_block(&mut file, &mut block)? {
+            [] => break,
+            read => bytes.extend_from_slice(read)?,
+        }
+        if bytes.len() >= MOST_BYTES {
+            break;
+        }
+    }
+    bytes.truncate(MOST_BYTES);
+    Ok(bytes)
+}
+
+/// What one read gives; nothing at the end of the file.
+fn read_block<'a, F: Read>(file: &mut F, block: &'a mut [u8; BLOCK]) -> Result<&'a [u8], Fault> {
+    match file.read(block) {
+        Ok(count) => Ok(&block[..count]),
+        Err(_) => Err(Fault::File),
+    }
+}
+
+/// Writes the database of a pip bound into a file, which is made anew. `Open` where it can't be
+/// made, and `Write` where a write fails: then the file may hold a prefix of the database.
+pub fn build_file<R: Files>(rt: &R, alloc: Global, pips: u8, path: &str) -> Result<(), Fault> {
+    let Ok(file) = fs::create(rt, path) else {
+        return Err(Fault::Open);
+    };
+    let Ok(mut writer) = BufWriter::with_capacity(alloc, BLOCK, file) else {
+        return Err(Fault::Memory);
+    };
+    build(alloc, pips, &mut writer)?;
+    match writer.flush() {
+        Ok(()) => Ok(()),
+        Err(_) => Err(Fault::Write),
+    }
+}

@@ -1,0 +1,356 @@
+//! The program's words, statuses, output and fault lines, over real files in the folder for
+//! temporary ones. The values are from outside: the worked rows, and counts of an independent
+//! program.
+use crate::act::act;
+use std::env::Env;
+use std::io::{Read, Write};
+use std::process::Abort;
+use std::rt::Files;
+use std::test::Fail;
+use std::{env, fs, io};
+
+/// What the program did.
+#[derive(Drop)]
+struct Outcome {
+    status: u8,
+    output: Vec<u8>,
+    errors: Vec<u8>,
+}
+
+/// Runs the program with these words and this input.
+fn outcome_of(
+    rt: &(impl Abort + AllocGlobal + Files),
+    words: &[&str],
+    mut input: &[u8],
+) -> Outcome {
+    let mut output = Vec::new(rt.alloc());
+    let mut errors = Vec::new(rt.alloc());
+    let status = act(rt, rt.alloc(), words, &mut input, &mut output, &mut errors);
+    Outcome {
+        status,
+        output,
+        errors,
+    }
+}
+
+/// Asserts the status, the whole output, and the whole of what was written to standard error.
+fn assert_outcome(
+    rt: &(impl Abort + AllocGlobal + Files),
+    words: &[&str],
+    input: &str,
+    expected: (u8, &str, &str),
+) {
+    let outcome = outcome_of(rt, words, input.as_bytes());
+    let (status, output, errors) = expected;
+    assert_eq!(rt; outcome.status, status);
+    assert!(rt; outcome.output.as_slice() == output.as_bytes());
+    assert!(rt; outcome.errors.as_slice() == errors.as_bytes());
+}
+
+/// A file of a test's own in the folder for temporary ones.
+fn path_of(rt: &(impl Env + AllocGlobal), name: &str) -> Result<String, Fail> {
+    let folder = env::temp_dir(rt)?;
+    let folder = folder.as_str();
+    Ok(format!(in rt.alloc(); "{folder}/garombyi-test-{name}.db")?)
+}
+
+/// The database of a bound, built by the program into a file.
+fn build(
+    rt: &(impl Abort + AllocGlobal + Files),
+    bound: &str,
+    path: &str,
+) -> Result<Vec<u8>, Fail> {
+    let outcome = outcome_of(rt, &["build", "--pips", bound, path], b"");
+    assert_eq!(rt; outcome.status, 0);
+    Ok(fs::read(rt, path)?)
+}
+
+/// Asserts that a check of these bytes is refused with this line.
+fn assert_refused(
+    rt: &(impl Abort + AllocGlobal + Files),
+    path: &str,
+    bytes: &[u8],
+    line: &str,
+) -> Result<(), Fail> {
+    fs::write(rt, path, bytes)?;
+    for word in ["check", "query", "audit"] {
+        assert_outcome(rt, &[word, path], "mean 0,0,0,0,0,0\n", (3, "", line));
+    }
+    Ok(())
+}
+
+/// Writes these bytes into a file's, as far as they reach.
+fn put(file: &mut [u8], place: usize, bytes: &[u8]) {
+    for (byte, new) in file.iter_mut().skip(place).zip(bytes) {
+        *byte = *new;
+    }
+}
+
+const THREE_LINES: &str = "mean 0,0,0,0,0,1\ndist 5,0,0,0,0,0\nplay 0,0,0,2,0,0 21\n";
+
+const THREE_REPLIES: &str =
+    "mean 5/4 epc 245/24 10.208\ndist 2:11/36 3:25/36\nplay 4/2 2/1 to 1,0,0,1,0,0\n";
+
+#[test]
+fn three_lines(rt: HostRuntime) -> Result<(), Fail> {
+    assert_outcome(&rt, &[], THREE_LINES, (0, THREE_REPLIES, ""));
+    let path = path_of(&rt, "three-lines")?;
+    let path = path.as_str();
+    let file = build(&rt, "8", path)?;
+    assert_eq!(rt; file.len(), 27296);
+    assert_outcome(&rt, &["query", path], THREE_LINES, (0, THREE_REPLIES, ""));
+    for records in ["1", "2", "64", "65535"] {
+        let words = ["query", "--cache", records, path];
+        assert_outcome(&rt, &words, THREE_LINES, (0, THREE_REPLIES, ""));
+    }
+    fs::remove_file(&rt, path)?;
+    Ok(())
+}
+
+#[test]
+fn builds_and_checks(rt: HostRuntime) -> Result<(), Fail> {
+    let path = path_of(&rt, "builds")?;
+    let path = path.as_str();
+    for (bound, size, built, checked) in [
+        (
+            "0",
+            458,
+            "built pips 0 positions 1\n",
+            "ok pips 0 positions 1\n",
+        ),
+        (
+            "1",
+            884,
+            "built pips 1 positions 2\n",
+            "ok pips 1 positions 2\n",
+        ),
+        (
+            "8",
+            27296,
+            "built pips 8 positions 64\n",
+            "ok pips 8 positions 64\n",
+        ),
+    ] {
+        assert_outcome(&rt, &["build", "--pips", bound, path], "", (0, built, ""));
+        assert_eq!(rt; fs::read(&rt, path)?.len(), size);
+        assert_outcome(&rt, &["check", path], "", (0, checked, ""));
+    }
+    fs::remove_file(&rt, path)?;
+    Ok(())
+}
+
+#[test]
+fn command_lines(rt: HostRuntime) -> Result<(), Fail> {
+    let path = path_of(&rt, "command-lines")?;
+    let path = path.as_str();
+    let over = (2, "", "bearoff: over-bound\n");
+    assert_outcome(&rt, &["build", "--pips", "45", path], "", over);
+    assert_outcome(&rt, &["build", "--pips", "255", path], "", over);
+    let wrong: [&[&str]; 10] = [
+        &["build", "--pips", "x", path],
+        &["build", "--pips", "256", path],
+        &["build", path],
+        &["build", "--pips", "8"],
+        &["check"],
+        &["query", "--cache", "0", path],
+        &["query", "--cache", "65536", path],
+        &["query", path, path],
+        &["upgrade", path, path],
+        &["nothing"],
+    ];
+    for words in wrong {
+        let outcome = outcome_of(&rt, words, b"");
+        assert_eq!(rt; outcome.status, 2);
+        assert!(rt; outcome.output.is_empty() && !outcome.errors.is_empty());
+    }
+    assert_eq!(rt; fs::exists(&rt, path)?, false);
+    let shown: [&[&str]; 6] = [
+        &["--help"],
+        &["--version"],
+        &["help", "build"],
+        &["check", "--help"],
+        &["query", "-h"],
+        &["audit", "--help"],
+    ];
+    for words in shown {
+        let outcome = outcome_of(&rt, words, b"");
+        assert_eq!(rt; outcome.status, 0);
+        assert!(rt; !outcome.output.is_empty() && outcome.errors.is_empty());
+    }
+    Ok(())
+}
+
+#[test]
+fn files_that_fail(rt: HostRuntime) -> Result<(), Fail> {
+    let path = path_of(&rt, "not-there")?;
+    let path = path.as_str();
+    for word in ["check", "query", "audit"] {
+        assert_outcome(&rt, &[word, path], "", (1, "", "bearoff: open\n"));
+        assert_outcome(&rt, &[word, "/"], "", (1, "", "bearoff: file\n"));
+    }
+    let cached = ["query", "--cache", "1", path];
+    assert_outcome(&rt, &cached, "", (1, "", "bearoff: open\n"));
+    let folder = ["build", "--pips", "1", "/"];
+    assert_outcome(&rt, &folder, "", (1, "", "bearoff: open\n"));
+    Ok(())
+}
+
+#[test]
+fn headers_that_are_refused(rt: HostRuntime) -> Result<(), Fail> {
+    let path = path_of(&rt, "headers")?;
+    let path = path.as_str();
+    let mut file = build(&rt, "1", path)?;
+    for (length, line) in [
+        (0, "bearoff: refused header too-short\n"),
+        (31, "bearoff: refused header too-short\n"),
+        (883, "bearoff: refused header bad-length\n"),
+    ] {
+        assert_refused(&rt, path, file.get(..length).unwrap_or(b"?"), line)?;
+    }
+    for (place, byte, line) in [
+        (0, 0, "bearoff: refused header bad-magic\n"),
+        (9, 2, "bearoff: refused header bad-version\n"),
+        (11, 45, "bearoff: refused header bad-bound\n"),
+        (15, 3, "bearoff: refused header bad-count\n"),
+        (19, 0xab, "bearoff: refused header bad-record-bytes\n"),
+        (31, 1, "bearoff: refused header bad-reserved\n"),
+    ] {
+        let mut damaged = file.clone()?;
+        put(&mut damaged, place, &[byte]);
+        assert_refused(&rt, path, damaged.as_slice(), line)?;
+    }
+    file.push(0)?;
+    let line = "bearoff: refused header bad-length\n";
+    assert_refused(&rt, path, file.as_slice(), line)?;
+    fs::remove_file(&rt, path)?;
+    Ok(())
+}
+
+#[test]
+fn records_that_are_refused(rt: HostRuntime) -> Result<(), Fail> {
+    let path = path_of(&rt, "records")?;
+    let path = path.as_str();
+    let file = build(&rt, "1", path)?;
+    let mut damaged = file.clone()?;
+    put(&mut damaged, 473, &[1]);
+    assert_refused(
+        &rt,
+        path,
+        damaged.as_slice(),
+        "bearoff: refused mean rank 1\n",
+    )?;
+    damaged = file.clone()?;
+    put(&mut damaged, 458, &[0xff; 426]);
+    let line = "bearoff: refused play rank 1 roll 0\n";
+    assert_refused(&rt, path, damaged.as_slice(), line)?;
+    damaged = file.clone()?;
+    put(&mut damaged, 883, &[1]);
+    let line = "bearoff: refused spread rank 1 k 22\n";
+    assert_refused(&rt, path, damaged.as_slice(), line)?;
+    damaged = build(&rt, "8", path)?;
+    put(&mut damaged, 32 + 426 * 44 + 18, &13u16.to_be_bytes());
+    let line = "bearoff: refused not-least rank 44 roll 1\n";
+    assert_refused(&rt, path, damaged.as_slice(), line)?;
+    fs::remove_file(&rt, path)?;
+    Ok(())
+}
+
+#[test]
+fn a_tied_play_is_answered(rt: HostRuntime) -> Result<(), Fail> {
+    let path = path_of(&rt, "tied")?;
+    let path = path.as_str();
+    let line = "play 0,1,0,1,0,0 21\n";
+    let mut file = build(&rt, "6", path)?;
+    let builders = (0, "play 2/off 4/3 to 0,0,1,0,0,0\n", "");
+    assert_outcome(&rt, &["query", path], line, builders);
+    put(&mut file, 32 + 426 * 21 + 18, &5u16.to_be_bytes());
+    fs::write(&rt, path, file.as_slice())?;
+    let tied = (0, "play 4/2 2/1 to 1,1,0,0,0,0\n", "");
+    assert_outcome(&rt, &["query", path], line, tied);
+    assert_outcome(&rt, &["query", "--cache", "1", path], line, tied);
+    fs::remove_file(&rt, path)?;
+    Ok(())
+}
+
+#[test]
+fn audits(rt: HostRuntime) -> Result<(), Fail> {
+    let path = path_of(&rt, "audits")?;
+    let path = path.as_str();
+    build(&rt, "3", path)?;
+    let lines = "pips 0 positions 1 least 0/1 greatest 0/1\n\
+        pips 1 positions 1 least 1/1 greatest 1/1\n\
+        pips 2 positions 2 least 1/1 greatest 1/1\n\
+        pips 3 positions 3 least 1/1 greatest 11/6\n";
+    assert_outcome(&rt, &["audit", path], "", (0, lines, ""));
+    fs::remove_file(&rt, path)?;
+    Ok(())
+}
+
+/// A reader that fails, and a writer that does.
+#[derive(Drop)]
+struct Broken;
+
+impl Read for Broken {
+    fn read(&mut self, _buf: &mut [u8]) -> io::Result<usize> {
+        Err(io::Error::from(io::ErrorKind::Other))
+    }
+}
+
+impl Write for Broken {
+    fn write(&mut self, _buf: &[u8]) -> io::Result<usize> {
+        Err(io::Error::from(io::ErrorKind::Other))
+    }
+
+    fn flush(&mut self) -> io::Result<()> {
+        Err(io::Error::from(io::ErrorKind::Other))
+    }
+}
+
+#[test]
+fn streams_that_fail(rt: HostRuntime) -> Result<(), Fail> {
+    let words: [&str; 0] = [];
+    let mut output = Vec::new(rt.alloc());
+    let mut errors = Vec::new(rt.alloc());
+    let status = act(
+        &rt,
+        rt.alloc(),
+        words.as_slice(),
+        &mut Broken,
+        &mut output,
+        &mut errors,
+    );
+    assert_eq!(rt; status, 1);
+    assert!(rt; output.is_empty());
+    assert!(rt; errors.as_slice() == b"bearoff: read\n".as_slice());
+    let path = path_of(&rt, "streams")?;
+    let path = path.as_str();
+    build(&rt, "1", path)?;
+    let written: [&[&str]; 6] = [
+        &[],
+        &["--help"],
+        &["check", path],
+        &["query", path],
+        &["audit", path],
+        &["build", "--pips", "1", path],
+    ];
+    for words in written {
+        let mut errors = Vec::new(rt.alloc());
+        let mut input: &[u8] = b"mean 0,0,0,0,0,0\n";
+        let status = act(&rt, rt.alloc(), words, &mut input, &mut Broken, &mut errors);
+        assert_eq!(rt; status, 1);
+        assert!(rt; errors.as_slice() == b"bearoff: write\n".as_slice());
+        let mut input: &[u8] = b"";
+        let missing = ["check", "/nowhere"];
+        let lost = act(
+            &rt,
+            rt.alloc(),
+            missing.as_slice(),
+            &mut input,
+            &mut Broken,
+            &mut Broken,
+        );
+        assert_eq!(rt; lost, 1);
+    }
+    fs::remove_file(&rt, path)?;
+    Ok(())
+}
