@@ -139,6 +139,20 @@ fn builds_and_checks(rt: HostRuntime) -> Result<(), Fail> {
     Ok(())
 }
 
+/// Asserts that these words are refused: status 2, and a text on standard error alone.
+fn assert_words_wrong(rt: &(impl Abort + AllocGlobal + Files), words: &[&str]) {
+    let outcome = outcome_of(rt, words, b"");
+    assert_eq!(rt; outcome.status, 2);
+    assert!(rt; outcome.output.is_empty() && !outcome.errors.is_empty());
+}
+
+/// Asserts that these words are answered with a text on standard output alone.
+fn assert_shown(rt: &(impl Abort + AllocGlobal + Files), words: &[&str]) {
+    let outcome = outcome_of(rt, words, b"");
+    assert_eq!(rt; outcome.status, 0);
+    assert!(rt; !outcome.output.is_empty() && outcome.errors.is_empty());
+}
+
 #[test]
 fn command_lines(rt: HostRuntime) -> Result<(), Fail> {
     let path = path_of(&rt, "command-lines")?;
@@ -146,37 +160,23 @@ fn command_lines(rt: HostRuntime) -> Result<(), Fail> {
     let over = (2, "", "bearoff: over-bound\n");
     assert_outcome(&rt, &["build", "--pips", "45", path], "", over);
     assert_outcome(&rt, &["build", "--pips", "255", path], "", over);
-    let wrong: [&[&str]; 10] = [
-        &["build", "--pips", "x", path],
-        &["build", "--pips", "256", path],
-        &["build", path],
-        &["build", "--pips", "8"],
-        &["check"],
-        &["query", "--cache", "0", path],
-        &["query", "--cache", "65536", path],
-        &["query", path, path],
-        &["upgrade", path, path],
-        &["nothing"],
-    ];
-    for words in wrong {
-        let outcome = outcome_of(&rt, words, b"");
-        assert_eq!(rt; outcome.status, 2);
-        assert!(rt; outcome.output.is_empty() && !outcome.errors.is_empty());
-    }
+    assert_words_wrong(&rt, &["build", "--pips", "x", path]);
+    assert_words_wrong(&rt, &["build", "--pips", "256", path]);
+    assert_words_wrong(&rt, &["build", path]);
+    assert_words_wrong(&rt, &["build", "--pips", "8"]);
+    assert_words_wrong(&rt, &["check"]);
+    assert_words_wrong(&rt, &["query", "--cache", "0", path]);
+    assert_words_wrong(&rt, &["query", "--cache", "65536", path]);
+    assert_words_wrong(&rt, &["query", path, path]);
+    assert_words_wrong(&rt, &["upgrade", path, path]);
+    assert_words_wrong(&rt, &["nothing"]);
     assert_eq!(rt; fs::exists(&rt, path)?, false);
-    let shown: [&[&str]; 6] = [
-        &["--help"],
-        &["--version"],
-        &["help", "build"],
-        &["check", "--help"],
-        &["query", "-h"],
-        &["audit", "--help"],
-    ];
-    for words in shown {
-        let outcome = outcome_of(&rt, words, b"");
-        assert_eq!(rt; outcome.status, 0);
-        assert!(rt; !outcome.output.is_empty() && outcome.errors.is_empty());
-    }
+    assert_shown(&rt, &["--help"]);
+    assert_shown(&rt, &["--version"]);
+    assert_shown(&rt, &["help", "build"]);
+    assert_shown(&rt, &["check", "--help"]);
+    assert_shown(&rt, &["query", "-h"]);
+    assert_shown(&rt, &["audit", "--help"]);
     Ok(())
 }
 
@@ -184,14 +184,13 @@ fn command_lines(rt: HostRuntime) -> Result<(), Fail> {
 fn files_that_fail(rt: HostRuntime) -> Result<(), Fail> {
     let path = path_of(&rt, "not-there")?;
     let path = path.as_str();
+    let missing = (1, "", "bearoff: open\n");
     for word in ["check", "query", "audit"] {
-        assert_outcome(&rt, &[word, path], "", (1, "", "bearoff: open\n"));
+        assert_outcome(&rt, &[word, path], "", missing);
         assert_outcome(&rt, &[word, "/"], "", (1, "", "bearoff: file\n"));
     }
-    let cached = ["query", "--cache", "1", path];
-    assert_outcome(&rt, &cached, "", (1, "", "bearoff: open\n"));
-    let folder = ["build", "--pips", "1", "/"];
-    assert_outcome(&rt, &folder, "", (1, "", "bearoff: open\n"));
+    assert_outcome(&rt, &["query", "--cache", "1", path], "", missing);
+    assert_outcome(&rt, &["build", "--pips", "1", "/"], "", missing);
     Ok(())
 }
 
@@ -306,6 +305,15 @@ impl Write for Broken {
     }
 }
 
+/// Asserts that the program says so where it can't write its output.
+fn assert_unwritten(rt: &(impl Abort + AllocGlobal + Files), words: &[&str]) {
+    let mut errors = Vec::new(rt.alloc());
+    let mut input: &[u8] = b"mean 0,0,0,0,0,0\n";
+    let status = act(rt, rt.alloc(), words, &mut input, &mut Broken, &mut errors);
+    assert_eq!(rt; status, 1);
+    assert!(rt; errors.as_slice() == b"bearoff: write\n".as_slice());
+}
+
 #[test]
 fn streams_that_fail(rt: HostRuntime) -> Result<(), Fail> {
     let words: [&str; 0] = [];
@@ -325,32 +333,22 @@ fn streams_that_fail(rt: HostRuntime) -> Result<(), Fail> {
     let path = path_of(&rt, "streams")?;
     let path = path.as_str();
     build(&rt, "1", path)?;
-    let written: [&[&str]; 6] = [
-        &[],
-        &["--help"],
-        &["check", path],
-        &["query", path],
-        &["audit", path],
-        &["build", "--pips", "1", path],
-    ];
-    for words in written {
-        let mut errors = Vec::new(rt.alloc());
-        let mut input: &[u8] = b"mean 0,0,0,0,0,0\n";
-        let status = act(&rt, rt.alloc(), words, &mut input, &mut Broken, &mut errors);
-        assert_eq!(rt; status, 1);
-        assert!(rt; errors.as_slice() == b"bearoff: write\n".as_slice());
-        let mut input: &[u8] = b"";
-        let missing = ["check", "/nowhere"];
-        let lost = act(
-            &rt,
-            rt.alloc(),
-            missing.as_slice(),
-            &mut input,
-            &mut Broken,
-            &mut Broken,
-        );
-        assert_eq!(rt; lost, 1);
-    }
+    assert_unwritten(&rt, &[]);
+    assert_unwritten(&rt, &["--help"]);
+    assert_unwritten(&rt, &["check", path]);
+    assert_unwritten(&rt, &["query", path]);
+    assert_unwritten(&rt, &["audit", path]);
+    assert_unwritten(&rt, &["build", "--pips", "1", path]);
+    let mut input: &[u8] = b"";
+    let status = act(
+        &rt,
+        rt.alloc(),
+        ["check", "/nowhere"].as_slice(),
+        &mut input,
+        &mut Broken,
+        &mut Broken,
+    );
+    assert_eq!(rt; status, 1);
     fs::remove_file(&rt, path)?;
     Ok(())
 }

@@ -81,7 +81,7 @@ cut_of (c ∷ bytes) = one_more c bytes (pieces bytes) (rest_of bytes) (eqb c 10
         → eqb c 10 ≡ b
         → IsCut bytes parts rest
         → IsCut (c ∷ bytes) (cond b ([] ∷ parts) (before_first_piece c parts))
-            (cond b rest (before_rest c parts rest))
+        (cond b rest (before_rest c parts rest))
     one_more c bytes parts rest true e is = record {
       joined = ap (λ n. n ∷ bytes) (eqb-true c 10 e) ∙ ap (λ t. 10 ∷ t) is.joined;
       each = All-cons HasNoFeed [] parts (All-nil (λ c. c ≢ 10)) is.each;
@@ -113,7 +113,7 @@ one_cut input parts rest is =
 -- one line feed more makes the rest a piece
 pub feed_more : (input : List ℕ)
     → (pieces (input ++ 10 ∷ []) ≡ pieces input ++ rest_of input ∷ [])
-        × (rest_of (input ++ 10 ∷ []) ≡ [])
+    × (rest_of (input ++ 10 ∷ []) ≡ [])
 unfolding joined
 feed_more input =
     let is = cut_of input in
@@ -136,7 +136,7 @@ feed_more input =
 -- any other byte more belongs to the rest
 pub byte_more : (input : List ℕ) (c : ℕ) → c ≢ 10
     → (pieces (input ++ c ∷ []) ≡ pieces input)
-        × (rest_of (input ++ c ∷ []) ≡ rest_of input ++ c ∷ [])
+    × (rest_of (input ++ c ∷ []) ≡ rest_of input ++ c ∷ [])
 unfolding joined
 byte_more input c other =
     let is = cut_of input in
@@ -154,5 +154,8 @@ byte_more input c other =
 -- more input leaves the pieces before it, and adds pieces
 pub pieces_stay : (input more : List ℕ) → (later : List (List ℕ))
     × (pieces (input ++ more) ≡ pieces input ++ later)
-pieces_stay input more = (pieces (rest_of input ++ more), more_pieces input more (pieces input)
-    (rest_of input) (cut_of input))
+pieces_stay input more = (
+  pieces (rest_of input ++ more),
+  more_pieces input more (pieces input)
+      (rest_of input) (cut_of input),
+)
