@@ -1,5 +1,6 @@
 -- The six dice: they are told apart by their numbers, which are at least 1.
-use Rattle.std.proofs.Common.{◌≡◌, ◌≢◌, ◌⊎◌, inl, inr, ⊎_elim, ◌<◌, Bool, true, ◌&&◌, eqb, refl, arith, eqb-true}
+use Rattle.std.proofs.Common.{◌≡◌, ◌≢◌, ◌⊎◌, inl, inr, ⊎_elim, ℕ, zero, suc, ◌<◌, Bool, true, ◌&&◌, eqb, refl, sym, ap, ◌∙◌, arith, eqb-true}
+use Rattle.std.proofs.lemmas.Bool.Decides.{eqb_tells}
 use Rattle.race_model.specs.Dice.{Die, one, two, three, four, five, six, number, Throw}
 use Rattle.race_model.proofs.Numbers.Tests.{both_tests}
 
@@ -12,88 +13,38 @@ number_positive four = omega arith
 number_positive five = omega arith
 number_positive six = omega arith
 
--- dice that differ show different numbers
-pub numbers_apart : (a b : Die) → a ≢ b → number a ≢ number b
-numbers_apart one one apart = absurd (apart refl)
-numbers_apart one two apart = omega arith
-numbers_apart one three apart = omega arith
-numbers_apart one four apart = omega arith
-numbers_apart one five apart = omega arith
-numbers_apart one six apart = omega arith
-numbers_apart two one apart = omega arith
-numbers_apart two two apart = absurd (apart refl)
-numbers_apart two three apart = omega arith
-numbers_apart two four apart = omega arith
-numbers_apart two five apart = omega arith
-numbers_apart two six apart = omega arith
-numbers_apart three one apart = omega arith
-numbers_apart three two apart = omega arith
-numbers_apart three three apart = absurd (apart refl)
-numbers_apart three four apart = omega arith
-numbers_apart three five apart = omega arith
-numbers_apart three six apart = omega arith
-numbers_apart four one apart = omega arith
-numbers_apart four two apart = omega arith
-numbers_apart four three apart = omega arith
-numbers_apart four four apart = absurd (apart refl)
-numbers_apart four five apart = omega arith
-numbers_apart four six apart = omega arith
-numbers_apart five one apart = omega arith
-numbers_apart five two apart = omega arith
-numbers_apart five three apart = omega arith
-numbers_apart five four apart = omega arith
-numbers_apart five five apart = absurd (apart refl)
-numbers_apart five six apart = omega arith
-numbers_apart six one apart = omega arith
-numbers_apart six two apart = omega arith
-numbers_apart six three apart = omega arith
-numbers_apart six four apart = omega arith
-numbers_apart six five apart = omega arith
-numbers_apart six six apart = absurd (apart refl)
+-- the die that shows a number, where one does
+die_showing : ℕ → Die
+die_showing (suc zero) = one
+die_showing (suc (suc zero)) = two
+die_showing (suc (suc (suc zero))) = three
+die_showing (suc (suc (suc (suc zero)))) = four
+die_showing (suc (suc (suc (suc (suc zero))))) = five
+die_showing n = six
 
--- two dice show the same or not
-pub same_die : (a b : Die) → (a ≡ b) ⊎ (a ≢ b)
-same_die one one = inl refl
-same_die one two = inr (λ e. cc)
-same_die one three = inr (λ e. cc)
-same_die one four = inr (λ e. cc)
-same_die one five = inr (λ e. cc)
-same_die one six = inr (λ e. cc)
-same_die two one = inr (λ e. cc)
-same_die two two = inl refl
-same_die two three = inr (λ e. cc)
-same_die two four = inr (λ e. cc)
-same_die two five = inr (λ e. cc)
-same_die two six = inr (λ e. cc)
-same_die three one = inr (λ e. cc)
-same_die three two = inr (λ e. cc)
-same_die three three = inl refl
-same_die three four = inr (λ e. cc)
-same_die three five = inr (λ e. cc)
-same_die three six = inr (λ e. cc)
-same_die four one = inr (λ e. cc)
-same_die four two = inr (λ e. cc)
-same_die four three = inr (λ e. cc)
-same_die four four = inl refl
-same_die four five = inr (λ e. cc)
-same_die four six = inr (λ e. cc)
-same_die five one = inr (λ e. cc)
-same_die five two = inr (λ e. cc)
-same_die five three = inr (λ e. cc)
-same_die five four = inr (λ e. cc)
-same_die five five = inl refl
-same_die five six = inr (λ e. cc)
-same_die six one = inr (λ e. cc)
-same_die six two = inr (λ e. cc)
-same_die six three = inr (λ e. cc)
-same_die six four = inr (λ e. cc)
-same_die six five = inr (λ e. cc)
-same_die six six = inl refl
+-- .. is the die that shows it
+die_showing-number : (d : Die) → die_showing (number d) ≡ d
+unfolding die_showing
+die_showing-number one = refl
+die_showing-number two = refl
+die_showing-number three = refl
+die_showing-number four = refl
+die_showing-number five = refl
+die_showing-number six = refl
 
 -- dice that show the same number are the same
 pub same_number : (a b : Die) → number a ≡ number b → a ≡ b
-same_number a b e =
-    ⊎_elim (λ same. same) (λ apart. absurd (numbers_apart a b apart e)) (same_die a b)
+same_number a b e = sym (die_showing-number a) ∙ ap die_showing e ∙ die_showing-number b
+
+-- dice that differ show different numbers
+pub numbers_apart : (a b : Die) → a ≢ b → number a ≢ number b
+numbers_apart a b apart e = apart (same_number a b e)
+
+-- two dice show the same or not
+pub same_die : (a b : Die) → (a ≡ b) ⊎ (a ≢ b)
+same_die a b =
+    ⊎_elim (λ same. inl (same_number a b same.1)) (λ apart. inr (λ e. apart.1 (ap number e)))
+    (eqb_tells (number a) (number b))
 
 -- the two throws show the same dice in the same order
 abbrev pub is_throw : Throw → Throw → Bool
