@@ -1,5 +1,5 @@
 -- How the counts of a position are found again from the number of positions that come later.
-use Rattle.std.proofs.Common.{◌≡◌, ◌≢◌, ℕ, zero, suc, ◌+◌, ◌-◌, ◌*◌, ◌<◌, ◌≤◌, List, ◌∷◌, length, slice_index, slice_set, drop, replicate, get_or-set_same, get_or-set_other, if◌then◌else◌, nat_le, true, false, refl, sym, ◌∙◌, ap, subst, add-one, inl, inr, below_more, arith}
+use Rattle.std.proofs.Common.{◌≡◌, ◌≢◌, ℕ, zero, suc, ◌+◌, ◌-◌, ◌*◌, ◌<◌, ◌≤◌, List, ◌∷◌, length, slice_index, slice_set, drop, replicate, get_or-set_same, get_or-set_other, if◌then◌else◌, nat_le, true, false, refl, sym, ◌∙◌, ap, subst, add-one, inl, inr, below_more, arith, le_antisymm, le_trans, le_of_eq}
 use Rattle.std.specs.Prelude.{◌⊎◌, sum}
 use Rattle.std.proofs.lemmas.Bool.{lt-ltb, leb-true, leb-false, cases_lt, cases_order}
 use Rattle.std.specs.List.Sorted.{IsPartitionPoint, IsNonDecreasingBy}
@@ -118,25 +118,25 @@ count_found x (suc i) k m s t c q low high r left w enough =
     (omega (arith, few, sum-cons (slice_index x i) (drop (suc i) x))) weighs (omega arith) w
     enough
 
--- the pip count of a rank, from where the counts of fewer pips pass it
-pub record IsPipsOf (index above : ℕ) : Type 0 where
+-- the pip count of a rank, from where n counts of fewer pips pass it
+pub record IsPipsOf (n index above : ℕ) : Type 0 where
   pub some : 1 ≤ above
   pub from : first_of (above - 1) ≤ index
   pub to : index < first_of (above - 1 + 1)
-  pub range : above - 1 ≤ 90
+  pub range : above < n
 
 -- the pip count of a rank is that before which the counts of fewer pips pass it
-pub pips_found : (starts : List ℕ) (index above : ℕ) → length starts ≡ 92 → index < 54264 →
-    above ≤ length starts →
-    ((m : ℕ) → m < 92 → slice_index starts m ≡ first_of m) →
+pub pips_found : (starts : List ℕ) (n index above : ℕ) → 1 ≤ n → length starts ≡ n →
+    index < first_of (n - 1) → above ≤ length starts →
+    ((m : ℕ) → m < n → slice_index starts m ≡ first_of m) →
     IsPartitionPoint (λ y. nat_le y index ≡ true) (λ y. nat_le y index ≡ false) starts above →
-    IsPipsOf index above
-pips_found starts index above long low most sums point =
+    IsPipsOf n index above
+pips_found starts n index above any long low most sums point =
     record {
       some = some;
       from = from;
       to = subst (λ m. index < first_of m) (sym again) to;
-      range = omega (arith, inside);
+      range = inside;
     } where
       some : 1 ≤ above
       some = by_cases (cases_lt 0 above) where
@@ -145,8 +145,8 @@ pips_found starts index above long low most sums point =
         by_cases (inr h) =
             absurd (omega (
               arith,
-              leb-false (slice_index starts 0) index (point.1 0 0 h (omega (arith, long))),
-              sums 0 (omega arith),
+              leb-false (slice_index starts 0) index (point.1 0 0 h (omega (arith, long, any))),
+              sums 0 (omega (arith, any)),
               order.first_of-zero,
             ))
 
@@ -159,12 +159,12 @@ pips_found starts index above long low most sums point =
             sums (above - 1) (omega (arith, some, most, long)),
           )
 
-      inside : above < 92
-      inside = by_cases (cases_lt above 92) where
-        by_cases : (above < 92) ⊎ (92 ≤ above) → above < 92
+      inside : above < n
+      inside = by_cases (cases_lt above n) where
+        by_cases : (above < n) ⊎ (n ≤ above) → above < n
         by_cases (inl h) = h
         by_cases (inr h) =
-            absurd (omega (arith, h, low, from, totals.first_of-all (above - 1) (omega arith)))
+            absurd (omega (arith, low, from, ap (λ m. first_of (m - 1)) (le_antisymm (le_trans most (le_of_eq long)) h)))
 
       to : index < first_of above
       to =
@@ -179,9 +179,9 @@ pips_found starts index above long low most sums point =
       again = omega (arith, some)
 
 -- the counts of fewer pips rise
-pub starts_rise : (starts : List ℕ) → length starts ≡ 92 →
-    ((m : ℕ) → m < 92 → slice_index starts m ≡ first_of m) → IsNonDecreasingBy (λ x. x) starts
-starts_rise starts long sums i j d low high =
+pub starts_rise : (starts : List ℕ) (n : ℕ) → length starts ≡ n →
+    ((m : ℕ) → m < n → slice_index starts m ≡ first_of m) → IsNonDecreasingBy (λ x. x) starts
+starts_rise starts n long sums i j d low high =
     omega (
       arith,
       sums i (omega (arith, long)),

@@ -1,17 +1,19 @@
-use Rattle.std.proofs.Common.{◌≡◌, length, nat_le, rules}
+use Rattle.std.proofs.Common.{◌≡◌, length, nat_le, rules, arith}
 use Rattle.std.specs.List.Sorted.{IsNonDecreasingBy}
 use Rattle.std.proofs.lemmas.List.Sorted.{IsPartitionPoint-from_clause, IsPartitionedBy-leb}
+use Rattle.race_model.proofs.Ranks.PositionTotals.{first_of-all}
 use Rattle.ranking.proofs.Counting.{IsPipsOf, pips_found, starts_rise}
 use Rattle.ranking.proofs.ranks.Ranks.pips_of.Goals as goal
 
 -- where the counts of fewer pips pass the rank
 pips : (c : goal.After-partition_point-above) →
-    IsPipsOf c.args.index c.partition_point-above.result
+    IsPipsOf 92 c.args.index c.partition_point-above.result
 pips c =
     let long : length c.args.self.now.starts ≡ 92 = search rules in
     let rising : IsNonDecreasingBy (λ x. x) c.args.self.now.starts =
-    starts_rise c.args.self.now.starts long c.args.self.now.summed in
-    pips_found c.args.self.now.starts c.args.index c.partition_point-above.result long c.requires
+    starts_rise c.args.self.now.starts 92 long c.args.self.now.summed in
+    pips_found c.args.self.now.starts 92 c.args.index c.partition_point-above.result (omega arith)
+    long (omega (arith, c.requires, first_of-all 91 (omega arith)))
     c.partition_point-above.ensures.bound c.args.self.now.summed
     (IsPartitionPoint-from_clause (λ y. nat_le y c.args.index) _ _
     c.partition_point-above.ensures.partitioned
@@ -27,4 +29,4 @@ pub returns-clause-to : goal.returns-clause-to
 returns-clause-to c = (pips c).to
 
 pub returns-clause-range : goal.returns-clause-range
-returns-clause-range c = (pips c).range
+returns-clause-range c = omega (arith, (pips c).range)
