@@ -75,7 +75,8 @@ fault-cause r (Spread k) before now cause = cause
 fault-cause r Read before now cause = cause
 
 -- one record more is accepted
-pub accepted-more : (f : List ℕ) (r : ℕ) → ((z : Board) → IsPosition z → rank z < r → IsLocalAt f z)
+pub accepted-more : (f : List ℕ) (r : ℕ) →
+    ((z : Board) → IsPosition z → rank z < r → IsLocalAt f z)
     → IsLocalAt f (at_rank r) → (z : Board) → IsPosition z → rank z < r + 1 → IsLocalAt f z
 accepted-more f r accepted here z at low = ⊎_elim
     (λ less. accepted z at less)

@@ -147,7 +147,8 @@ total-before f n x small unfinished ends at meets wholes =
         all_rolls (λ v. ap (λ n. weight v * n) (share_at f (play f x v) j (omega arith)))))
 
 -- the recorded shares add up to the whole
-pub shares_whole : (f : List ℕ) (n : ℕ) (x : Board) → n ≤ 22 → EndsIn n x → IsPosition x → Meets f x
+pub shares_whole : (f : List ℕ) (n : ℕ) (x : Board) → n ≤ 22 → EndsIn n x → IsPosition x →
+    Meets f x
     → sum (shares_of (record_at f (rank x))) ≡ whole
 unfolding shares_at
 shares_whole f zero x small ends at meets = total-at_end f x ends (meets x at (omega arith))

@@ -55,7 +55,8 @@ module _ (f : List ℕ) (r : ℕ) (lt : r < count_to (bound_of f)) where
           subst (λ q. IsPlayed f (at_rank q) (roll_at i)) (sym same)
           (first.earlier i (omega arith)).0
       earlier (least_test q i) same before asks =
-          subst (λ q. IsBest f (at_rank q) (roll_at i)) (sym same) (first.earlier i (omega arith)).1
+          subst (λ q. IsBest f (at_rank q) (roll_at i)) (sym same)
+          (first.earlier i (omega arith)).1
       earlier (mean_test q) same before asks = absurd (omega (arith, first.is_roll))
       earlier (spread_test q k) same before asks = absurd (omega (arith, first.is_roll))
 
@@ -80,7 +81,8 @@ module _ (f : List ℕ) (r : ℕ) (lt : r < count_to (bound_of f)) where
           subst (λ i. IsPlayed f (at_rank r) (roll_at i)) (sym is) first.applies.0)
           (cases_lt i roll))
       earlier (least_test q i) same before asks =
-          subst (λ q. IsBest f (at_rank q) (roll_at i)) (sym same) (first.earlier i (omega arith)).1
+          subst (λ q. IsBest f (at_rank q) (roll_at i)) (sym same)
+          (first.earlier i (omega arith)).1
       earlier (mean_test q) same before asks = absurd (omega (arith, first.is_roll))
       earlier (spread_test q k) same before asks = absurd (omega (arith, first.is_roll))
 
@@ -162,7 +164,8 @@ pub record IsSummed (f : List ℕ) (x : Board) (sums : Totals) : Type 0 where
 
 module _ (f bytes : List ℕ) (r : ℕ) (sums : Totals) (lt : r < count_to (bound_of f))
     (small : bound_of f ≤ 44)
-    (lower : (z : Board) → IsPosition z → rank z < r → IsLocalAt f z) (lent : bytes ≡ record_at f r)
+    (lower : (z : Board) → IsPosition z → rank z < r → IsLocalAt f z) (lent : bytes
+    ≡ record_at f r)
     (known : IsSummed f (at_rank r) sums) where
   ranked : r ≡ rank (at_rank r)
   ranked = sym (rank-is (bound_of f) r lt)
@@ -191,7 +194,8 @@ module _ (f bytes : List ℕ) (r : ℕ) (sums : Totals) (lt : r < count_to (boun
 
   -- where all are those of the sums, the equations hold
   pub right-numbers : IsMeanOf (at_rank r) (mean_of bytes) sums
-      → ((k : ℕ) → k ≤ 22 → IsShareOf (at_rank r) (share_of bytes) sums k) → IsLocalAt f (at_rank r)
+      → ((k : ℕ) → k ≤ 22 → IsShareOf (at_rank r) (share_of bytes) sums k) →
+      IsLocalAt f (at_rank r)
   right-numbers mean shares = local-at f r lt known.held (holds-mean mean) (λ k few.
       share-holds f bytes (at_rank r) sums known.are
       (share-of_lent f bytes (at_rank r) r lent ranked) k few

@@ -127,7 +127,8 @@ on_err_of (Ok x) h = tt
 on_err_of (Err e) h = h
 
 -- where nothing waited at first, a prefix of what waited then is one of all that was taken
-pub takes_part : (old mid new : Option (List ℕ)) (waiting xs : List ℕ) → Takes old mid [] waiting xs
+pub takes_part : (old mid new : Option (List ℕ)) (waiting xs : List ℕ) →
+    Takes old mid [] waiting xs
     → AppendsPart mid new waiting → AppendsPart old new xs
 takes_part old mid new waiting xs a h =
     part_same old new (a.written ++ waiting) xs (sym a.joined)

@@ -113,7 +113,8 @@ more_means f first r least greatest n within are e fresh_least fresh_greatest = 
 
 -- the ranks of a pip count are those of its positions
 module _ (found : (x : Board) → IsPosition x → at_rank (rank x) ≡ x)
-    (within : (x : Board) (bound : ℕ) → IsPosition x → (rank x < count_to bound) ↔ (pips x ≤ bound))
+    (within : (x : Board) (bound : ℕ) → IsPosition x → (rank x < count_to bound)
+    ↔ (pips x ≤ bound))
     (position : (r : ℕ) → IsPosition (at_rank r))
     (under : (bound r : ℕ) → r < count_to bound → (rank (at_rank r) ≡ r)
     × (pips (at_rank r) ≤ bound))
@@ -204,5 +205,7 @@ level_line f p level is = record {
     written = refl;
   };
   written = ap₂
-      (λ m n. codes "pips " ++ decimal m ++ codes " positions " ++ decimal n ++ codes " least " ++ ratio_text level.least ++ codes " greatest " ++ ratio_text level.greatest) is.pips is.positions;
+      (λ m n. codes "pips " ++ decimal m ++ codes " positions " ++ decimal n ++ codes " least "
+      ++ ratio_text level.least ++ codes " greatest "
+      ++ ratio_text level.greatest) is.pips is.positions;
 }

@@ -173,7 +173,8 @@ ended done cut = ap (map without_return) cut ∙ map-append without_return (piec
     (rest_of done ∷ [])
 
 -- the first bytes of a rest with one byte more are those of its first bytes with that byte
-kept_more : (rest : List ℕ) (c : ℕ) → take 130 (take 130 rest ++ c ∷ []) ≡ take 130 (rest ++ c ∷ [])
+kept_more : (rest : List ℕ) (c : ℕ) → take 130 (take 130 rest ++ c ∷ [])
+    ≡ take 130 (rest ++ c ∷ [])
 kept_more rest c = by (cases_lt 130 (length rest))
   where
     by : (130 < length rest) ⊎ (length rest ≤ 130) → take 130 (take 130 rest ++ c ∷ []) ≡ take 130
@@ -193,7 +194,8 @@ pub byte_kept : (f done : List ℕ) (start now : Option (List ℕ)) (kept new : 
     → IsAnswered f (done ++ c ∷ []) start now new × (length (whole_lines (done ++ c ∷ [])) ≡ length
     (whole_lines done) + 0)
 byte_kept f done start now kept new c is cut e =
-    let lines : whole_lines (done ++ c ∷ []) ≡ whole_lines done = ap (map without_return) cut.0 in (
+    let lines : whole_lines (done ++ c ∷ []) ≡ whole_lines done =
+    ap (map without_return) cut.0 in (
       record {
         replies = subst (λ ls. HasReplies f ls start now) (sym lines) is.replies;
         held = e ∙ ap (λ k. take 130 (k ++ c ∷ [])) is.held ∙ kept_more (rest_of done) c
@@ -248,7 +250,8 @@ module _ (short : (line : List ℕ) (q : Query) → IsQuery line q → length li
           again _ (of_too_many q is many) = absurd (not_asked line q long is)
           again _ (of_over_bound q is few over) = absurd (not_asked line q long is)
           again _ (of_finished q is few within asks) = absurd (not_asked line q long is)
-          again _ (of_no_result q is few within unfinished none) = absurd (not_asked line q long is)
+          again _ (of_no_result q is few within unfinished none) =
+              absurd (not_asked line q long is)
 
   -- a line is itself
   itself : (f line other : List ℕ) → line ≡ other → IsHeardAs f line other
@@ -317,7 +320,8 @@ module _ (short : (line : List ℕ) (q : Query) → IsQuery line q → length li
       → IsStoppedAt f (whole_lines (done ++ 10 ∷ [])) start new fault
   line_stopped f done start mid new kept fault is stopped cut =
       let line = without_return (rest_of done) in
-      let here = subst (λ k. IsStoppedAt f (without_return k ∷ []) mid new fault) is.held stopped in
+      let here = subst (λ k. IsStoppedAt f (without_return k ∷ []) mid new fault) is.held stopped
+      in
       subst (λ ls. IsStoppedAt f ls start new fault) (sym (ended done cut))
       (stopped_after f (whole_lines done) line start mid new fault is.replies
       (stopped_as f (without_return (take 130 (rest_of done))) line mid new fault
@@ -356,8 +360,10 @@ pub no_last : (f done : List ℕ) (start now : Option (List ℕ)) (kept : List �
     → HasReplies f (lines_of done) start now
     × (length (lines_of done) ≡ length (whole_lines done) + 0)
 no_last f done start now kept is none =
-    let lines = none_left done kept is.held none in
-    (subst (λ ls. HasReplies f ls start now) (sym lines) is.replies, omega (arith, ap length lines))
+    let lines = none_left done kept is.held none in (
+      subst (λ ls. HasReplies f ls start now) (sym lines) is.replies,
+      omega (arith, ap length lines),
+    )
 
 -- one byte more of the input
 pub byte_next : (done chunk : List ℕ) (i : ℕ) → i < length chunk

@@ -38,7 +38,8 @@ choice_text choice = codes " " ++ position_text choice.to ++ codes ":" ++ ratio_
 -- the line of a level, without its line feed
 abbrev pub level_text : Level → List ℕ
 level_text level =
-    codes "pips " ++ decimal level.pips ++ codes " positions " ++ decimal level.positions ++ codes " least "
+    codes "pips " ++ decimal level.pips ++ codes " positions " ++ decimal level.positions
+    ++ codes " least "
     ++ ratio_text level.least ++ codes " greatest " ++ ratio_text level.greatest
 
 -- a mean and an effective pip count, which also stands there in thousandths
@@ -46,7 +47,8 @@ pub record IsMeanText (mean pips : Ratio) (text : List ℕ) : Type 0 where
   pub thousandths : ℕ
   pub rounded : IsThousandths pips.numerator pips.denominator thousandths
   pub written : text
-      ≡ codes "mean " ++ ratio_text mean ++ codes " epc " ++ ratio_text pips ++ codes " " ++ thousandths_text thousandths
+      ≡ codes "mean " ++ ratio_text mean ++ codes " epc " ++ ratio_text pips ++ codes " "
+      ++ thousandths_text thousandths
 
 -- the text of a reply, without its line feed
 abbrev pub IsTextOf : Reply → List ℕ → Type 0

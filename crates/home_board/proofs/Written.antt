@@ -65,16 +65,18 @@ short_text (suc (suc (suc (suc (suc (suc (suc (suc (suc (suc (suc zero))))))))))
   value = refl;
   apart = refl;
 }
-short_text (suc (suc (suc (suc (suc (suc (suc (suc (suc (suc (suc (suc zero)))))))))))) h = record {
-  short = lit≤ tt;
-  value = refl;
-  apart = refl;
-}
-short_text (suc (suc (suc (suc (suc (suc (suc (suc (suc (suc (suc (suc (suc zero))))))))))))) h = record {
-  short = lit≤ tt;
-  value = refl;
-  apart = refl;
-}
+short_text (suc (suc (suc (suc (suc (suc (suc (suc (suc (suc (suc (suc zero)))))))))))) h =
+    record {
+      short = lit≤ tt;
+      value = refl;
+      apart = refl;
+    }
+short_text (suc (suc (suc (suc (suc (suc (suc (suc (suc (suc (suc (suc (suc zero))))))))))))) h =
+    record {
+      short = lit≤ tt;
+      value = refl;
+      apart = refl;
+    }
 short_text (suc (suc (suc (suc (suc (suc (suc (suc (suc (suc (suc (suc (suc (suc zero))))))))))))))
     h = record {
       short = lit≤ tt;

@@ -1,6 +1,7 @@
 -- The lines of an input. A line ends at a line feed, and a carriage return just before it is
 -- dropped; what stands after
--- the last line feed is a last line, from which nothing is dropped. Source: this project's profile.
+-- the last line feed is a last line, from which nothing is dropped. Source: this project's
+-- profile.
 use Rattle.std.specs.Prelude.{◌≡◌, ◌≢◌, ℕ, ◌-◌, ◌==◌, if◌then◌else◌, List, [], ◌∷◌, ◌++◌, length, take, map, flat_map, slice_index, All}
 
 -- a byte before the first of some pieces

@@ -164,7 +164,12 @@ pips_found starts n index above any long low most sums point =
         by_cases : (above < n) ⊎ (n ≤ above) → above < n
         by_cases (inl h) = h
         by_cases (inr h) =
-            absurd (omega (arith, low, from, ap (λ m. first_of (m - 1)) (le_antisymm (le_trans most (le_of_eq long)) h)))
+            absurd (omega (
+              arith,
+              low,
+              from,
+              ap (λ m. first_of (m - 1)) (le_antisymm (le_trans most (le_of_eq long)) h),
+            ))
 
       to : index < first_of above
       to =

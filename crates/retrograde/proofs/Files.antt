@@ -98,7 +98,8 @@ module _ (bound : ℕ) (bytes : ℕ → List ℕ) (n : ℕ) (each : (r : ℕ) �
         let here : 0 + r ≡ r = omega arith in
         ap (take 426)
         (drop-front (header bound) (records_from bytes 0 n) 32 (426 * r) (header-length bound))
-        ∙ (subst (λ (bs : List ℕ). take 426 (drop (426 * r) bs) ≡ bytes (0 + r)) (append-nil (records_from bytes 0 n)) at
+        ∙ (subst (λ (bs : List ℕ). take 426 (drop (426 * r) bs) ≡ bytes (0 + r))
+        (append-nil (records_from bytes 0 n)) at
         ∙ ap bytes here)
 
     pub file-bound : bound ≤ 44 → bound_of (file_of bound bytes n) ≡ bound

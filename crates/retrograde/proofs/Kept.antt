@@ -41,6 +41,7 @@ kept-bytes full means spreads plays kept index place mean shares lt e mean_is sh
     let p = kept.plays_are index lt in
     let s = shares_is ∙ ap (shares_of_rank full) e in
     ap (λ m. record_of m (get_or plays index []) shares) m
-    ∙ (ap (λ (p : List ℕ). record_of (mean_of_rank full (length means - length plays + index)) p shares) p
+    ∙ (ap (λ (p : List ℕ). record_of
+    (mean_of_rank full (length means - length plays + index)) p shares) p
     ∙ ap (λ (s : List ℕ). record_of (mean_of_rank full (length means - length plays + index))
     (plays_of_rank full (length means - length plays + index)) s) s)

@@ -131,7 +131,8 @@ module _ (full : AllRecords) (bound : ℕ) (low : bound ≤ 44) where
       WritesPart bound old new
   header-written old new part =
       part-refused old new
-      (let first = take-front part.0 (header bound) (records_from (bytes_of_rank full) 0 (count_to bound)) in
+      (let first = take-front part.0 (header bound)
+      (records_from (bytes_of_rank full) 0 (count_to bound)) in
       (first.0, subst (λ (bs : List ℕ). Appends old new bs) first.1 part.1))
 
   -- the header and no record
@@ -160,7 +161,8 @@ module _ (full : AllRecords) (bound : ℕ) (low : bound ≤ 44) where
   more-written old mid new n m le before part =
       part-refused old new
       (subst (λ (bs : List ℕ). AppendsPart old new bs) (sym (built-split n m le))
-      (flat_map-take_more old mid new (built_to full bound n) (records_from (bytes_of_rank full) n m)
+      (flat_map-take_more old mid new (built_to full bound n)
+      (records_from (bytes_of_rank full) n m)
       (records_from (bytes_of_rank full) (n + m) (count_to bound - (n + m))) before part))
 
   -- .. and all of them

@@ -18,7 +18,8 @@ returns-in-Ok-clause-right g c file told =
 
 pub returns-in-Ok-clause-exactly : goal.returns-in-Ok-clause-exactly
 returns-in-Ok-clause-exactly g c file told none = (
-  λ _. c.law_right.ensures.right 44 file (omega arith) ((c.in-Ok.ensures {u = tt}).local file told),
+  λ _. c.law_right.ensures.right 44 file (omega arith)
+      ((c.in-Ok.ensures {u = tt}).local file told),
   λ _. refl,
 )
 

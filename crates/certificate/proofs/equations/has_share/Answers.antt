@@ -18,4 +18,5 @@ returns-then-is_finished c =
     ] in
     share-at_end c.args.position.now (share_of c.args.view.now) c.args.sums.now c.args.k
     c.spread-stored.result c.if-k-eq0.result ((c.if-is_finished.ensures {u = tt}).value.0 refl)
-    (c.spread-stored.ensures.share c.requires) (λ none. expected.0 none) (λ later. expected.1 later)
+    (c.spread-stored.ensures.share c.requires) (λ none. expected.0 none)
+    (λ later. expected.1 later)

@@ -121,7 +121,8 @@ loop-index-preserved g c =
           let here = subst (λ v. IsAdded c.loop-index.sums (weight v) (recorded_mean file x v)
           (shares_of bytes) c.add_numbers.new.sums)
           roll numbers in
-          c.law_sums.ensures.next (recorded_mean file x) (recorded_share file x) i c.loop-index.sums
+          c.law_sums.ensures.next (recorded_mean file x)
+          (recorded_share file x) i c.loop-index.sums
           c.add_numbers.new.sums (shares_of bytes) c.loop-index-test.true
           (before.totals file told unfinished)
           (λ k few. lent-share file bytes x v c.play-recorded.result k few lent read

@@ -9,7 +9,9 @@ use Rattle.epc_query.proofs.levels.audit_level.Goals as goal
 pub overflow_sub-result : goal.overflow_sub-result
 overflow_sub-result g c =
     let some : first_of c.args.pips < count_to c.args.pips =
-    some_rank c.law_rank.ensures.found c.law_rank.ensures.within c.law_at_rank.ensures.position c.law_at_rank.ensures.under c.law_counts.ensures.none c.law_counts.ensures.next
+    some_rank c.law_rank.ensures.found c.law_rank.ensures.within
+    c.law_at_rank.ensures.position c.law_at_rank.ensures.under c.law_counts.ensures.none
+    c.law_counts.ensures.next
     c.args.pips (omega (arith, c.if-pips-bound.false, c.bound.ensures.range)) in
     omega (arith, c.first_of-first.ensures, c.count_to-end.ensures)
 
@@ -26,10 +28,14 @@ returns-clause-level g c = λ file t.
       least = c.in_ok-means.means.least;
       greatest = c.in_ok-means.means.greatest;
       means =
-          level_means c.law_rank.ensures.found c.law_rank.ensures.within c.law_at_rank.ensures.position c.law_at_rank.ensures.under c.law_counts.ensures.none c.law_counts.ensures.next
+          level_means c.law_rank.ensures.found c.law_rank.ensures.within
+          c.law_at_rank.ensures.position c.law_at_rank.ensures.under
+          c.law_counts.ensures.none c.law_counts.ensures.next
           file p _ _ (omega (arith, c.if-pips-bound.false, c.bound.ensures.range)) here;
       least_is = let same = rw c.unwrap.ensures at c.new.ensures.value in
-          subst (λ n. IsMean n c.mean.result.numerator c.mean.result.denominator) same c.mean.ensures.value;
+          subst (λ n. IsMean n c.mean.result.numerator c.mean.result.denominator) same
+          c.mean.ensures.value;
       greatest_is = let same = rw c.unwrap-2.ensures at c.new-2.ensures.value in
-          subst (λ n. IsMean n c.mean-2.result.numerator c.mean-2.result.denominator) same c.mean-2.ensures.value;
+          subst (λ n. IsMean n c.mean-2.result.numerator c.mean-2.result.denominator) same
+          c.mean-2.ensures.value;
     }

@@ -26,7 +26,8 @@ loop-rank-preserved g c =
           let ranked = rw c.unwrap-position.ensures at c.unrank.ensures.ranked in
           let here = told.recorded file (c.loop-rank.invariant.stays ∙ t) in
           rw (c.min.ensures, c.max.ensures)
-          (more_means file c.args.first c.loop-rank.rank _ _ c.numerator-mean.result c.loop-rank.auto.rank
+          (more_means file c.args.first c.loop-rank.rank _ _ c.numerator-mean.result
+          c.loop-rank.auto.rank
           (c.loop-rank.invariant.means file t) (c.numerator-mean.ensures.value ∙ here
           ∙ ap (mean_at file) ranked)
           (λ e. omega (arith, (c.loop-rank.invariant.fresh e).0, c.numerator-mean.ensures.range))

@@ -14,7 +14,8 @@ returns-in_err-answer-clause-answered g c = λ file t done start is.
     let stopped = rw c.line.ensures at ((c.in_err-answer.ensures {u = tt}).answered file t) in
     let cut = c.law_input_lines.ensures.feed done in
     let here =
-    line_stopped c.law_lines.ensures.short file done start _ _ c.args.held.now fault is stopped cut.0 in
+    line_stopped c.law_lines.ensures.short file done start _ _ c.args.held.now fault is stopped
+    cut.0 in
     rw (same, c.if-byte-ne10.false) here
 
 pub returns-clause-answered : goal.returns-clause-answered
@@ -22,5 +23,6 @@ returns-clause-answered g c = λ file t done start is.
     let has = rw c.line.ensures at ((c.in_ok-answer.ensures {u = tt}).answered file t) in
     let cut = c.law_input_lines.ensures.feed done in
     let here =
-    line_ended c.law_lines.ensures.short file done start _ _ c.args.held.now _ is has cut c.clear.ensures in
+    line_ended c.law_lines.ensures.short file done start _ _ c.args.held.now _ is has cut
+    c.clear.ensures in
     rw c.if-byte-ne10.false here

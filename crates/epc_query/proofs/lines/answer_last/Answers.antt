@@ -11,7 +11,8 @@ returns-in_err-answer-clause-answered g c = λ file t done start is.
     let none = eqb-false _ _ (sym c.if-is_empty.ensures) in
     let some : 0 < length c.args.held.now = omega (arith, ap length c.rest-line.ensures) in
     rw same
-    (last_stopped c.law_lines.ensures.short file done start _ _ c.args.held.now fault is some stopped)
+    (last_stopped c.law_lines.ensures.short file done start _ _ c.args.held.now fault is some
+    stopped)
 
 pub returns-clause-answered : goal.returns-clause-answered
 returns-clause-answered g c = λ file t done start is.

@@ -18,7 +18,8 @@ returns-in-Some-clause-recorded g c = λ file t.
     let difference = (c.in-Some.ensures {u = tt}).value in
     let same : c.in-Some.difference ≡ loss file c.args.position.now c.args.roll c.args.to.now =
     omega (arith, least, after, difference) in
-    subst (λ n. IsFraction n whole c.mean.result.numerator c.mean.result.denominator) same c.mean.ensures.value
+    subst (λ n. IsFraction n whole c.mean.result.numerator c.mean.result.denominator) same
+    c.mean.ensures.value
 
 pub returns-in-None-clause-cause : goal.returns-in-None-clause-cause
 returns-in-None-clause-cause g c = λ file t.
@@ -29,7 +30,8 @@ returns-in-None-clause-cause g c = λ file t.
       right.1,
     ) in
     let low = c.law_loss.ensures.least 44 file
-    (lit≤ tt) right.0 c.args.position.now c.requires.position within c.args.roll c.args.to.now c.requires.legal in
+    (lit≤ tt) right.0 c.args.position.now c.requires.position within
+    c.args.roll c.args.to.now c.requires.legal in
     let least = (c.in_ok-least.ensures {u = tt}).recorded file t in
     let after = (c.in_ok-after.ensures {u = tt}).recorded file (c.least_mean.ensures.stays ∙ t) in
     let none = (c.in-None.ensures {u = tt}).some.1 (omega (arith, low, least, after)) in

@@ -15,7 +15,8 @@ loop-to-preserved g c =
           (c.numerator.ensures.range, c.rank.ensures.range) c.include.ensures.members;
       few = omega (arith, c.include.ensures.len, c.loop-to.invariant.few);
       members = λ file t cost.
-          one_more_cost file c.args.found.now i c.to-item.result cost _ _ _ _ c.loop-to-test.true c.to-item.is
+          one_more_cost file c.args.found.now i c.to-item.result cost _ _ _ _ c.loop-to-test.true
+          c.to-item.is
           (c.numerator.ensures.value ∙ told.recorded file (c.loop-to.invariant.stays
           ∙ t)) c.rank.ensures.value
           (c.include.ensures.members cost) (c.loop-to.invariant.members file t cost);

@@ -15,5 +15,6 @@ returns-in-Err-clause-ordered c =
     let bound = rw c.as_slice.ensures.value at (c.in-Err.ensures {u = tt}).bound in
     record {
       pairs = rw c.insert.ensures.items
-          (AllPairs-insert cost_cmp_total c.args.costs.now.items c.in-Err.place c.args.cost bound c.requires.ordered.pairs at.0 at.1);
+          (AllPairs-insert cost_cmp_total c.args.costs.now.items c.in-Err.place c.args.cost bound
+          c.requires.ordered.pairs at.0 at.1);
     }

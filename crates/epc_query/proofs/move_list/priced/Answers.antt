@@ -18,7 +18,8 @@ loop-cost-preserved c = record {
       ∙ ap (λ n. n + 1) c.loop-cost.invariant.count;
   room = omega (arith, c.loop-cost.invariant.room, c.push.ensures.capacity);
   each = λ k cost d low.
-      one_more_choice c.args.costs.now c.loop-cost.choices.items _ c.loop-cost.cost-index c.price-choice.result cost d k
+      one_more_choice c.args.costs.now c.loop-cost.choices.items _ c.loop-cost.cost-index
+      c.price-choice.result cost d k
       c.loop-cost.invariant.count (added c) (omega arith)
       (λ j small. c.loop-cost.invariant.each j cost d small)
       (rw (

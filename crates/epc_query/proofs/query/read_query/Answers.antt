@@ -15,7 +15,8 @@ returns-in_err-read_position-in-Mean c =
     let fault = c.in_err-read_position-in-Mean.field-0.0 in
     let same : c.from_residual.result ≡ Err fault = search rules in
     rw same
-    (refused_rest c.args.line.now c.in-Some.word.now c.in-Some.rest.now MeanKind fault c.law_lines.ensures.words
+    (refused_rest c.args.line.now c.in-Some.word.now c.in-Some.rest.now MeanKind fault
+    c.law_lines.ensures.words
     c.in-Some.ensures (c.in-Some-read_kind.ensures
     ∙ ap kind_text c.in-Mean.is) c.in_err-read_position-in-Mean.ensures)
 
@@ -25,7 +26,8 @@ returns-in_err-read_position-in-Dist c =
     let fault = c.in_err-read_position-in-Dist.field-0.0 in
     let same : c.from_residual-in_err-read_position-in-Dist.result ≡ Err fault = search rules in
     rw same
-    (refused_rest c.args.line.now c.in-Some.word.now c.in-Some.rest.now DistKind fault c.law_lines.ensures.words
+    (refused_rest c.args.line.now c.in-Some.word.now c.in-Some.rest.now DistKind fault
+    c.law_lines.ensures.words
     c.in-Some.ensures (c.in-Some-read_kind.ensures
     ∙ ap kind_text c.in-Dist.is) c.in_err-read_position-in-Dist.ensures)
 
@@ -35,7 +37,8 @@ returns-in_err-position-in-Play c =
     let fault = c.in_err-position-in-Play.field-0.0 in
     let same : c.from_residual-in_err-position-in-Play.result ≡ Err fault = search rules in
     rw same
-    (refused_rest c.args.line.now c.in-Some.word.now c.in-Some.rest.now PlayKind fault c.law_lines.ensures.words
+    (refused_rest c.args.line.now c.in-Some.word.now c.in-Some.rest.now PlayKind fault
+    c.law_lines.ensures.words
     c.in-Some.ensures (c.in-Some-read_kind.ensures
     ∙ ap kind_text c.in-Play.is) c.in_err-position-in-Play.ensures)
 
@@ -45,7 +48,8 @@ returns-in_err-position-in-Loss c =
     let fault = c.in_err-position-in-Loss.field-0.0 in
     let same : c.from_residual-in_err-position-in-Loss.result ≡ Err fault = search rules in
     rw same
-    (refused_rest c.args.line.now c.in-Some.word.now c.in-Some.rest.now LossKind fault c.law_lines.ensures.words
+    (refused_rest c.args.line.now c.in-Some.word.now c.in-Some.rest.now LossKind fault
+    c.law_lines.ensures.words
     c.in-Some.ensures (c.in-Some-read_kind.ensures
     ∙ ap kind_text c.in-Loss.is) c.in_err-position-in-Loss.ensures)
 
@@ -55,7 +59,8 @@ returns-in_err-position-in-Moves c =
     let fault = c.in_err-position-in-Moves.field-0.0 in
     let same : c.from_residual-in_err-position-in-Moves.result ≡ Err fault = search rules in
     rw same
-    (refused_rest c.args.line.now c.in-Some.word.now c.in-Some.rest.now MovesKind fault c.law_lines.ensures.words
+    (refused_rest c.args.line.now c.in-Some.word.now c.in-Some.rest.now MovesKind fault
+    c.law_lines.ensures.words
     c.in-Some.ensures (c.in-Some-read_kind.ensures
     ∙ ap kind_text c.in-Moves.is) c.in_err-position-in-Moves.ensures)
 
@@ -65,6 +70,7 @@ returns-in_err-read_position-in-Rank c =
     let fault = c.in_err-read_position-in-Rank.field-0.0 in
     let same : c.from_residual-in_err-read_position-in-Rank.result ≡ Err fault = search rules in
     rw same
-    (refused_rest c.args.line.now c.in-Some.word.now c.in-Some.rest.now RankKind fault c.law_lines.ensures.words
+    (refused_rest c.args.line.now c.in-Some.word.now c.in-Some.rest.now RankKind fault
+    c.law_lines.ensures.words
     c.in-Some.ensures (c.in-Some-read_kind.ensures
     ∙ ap kind_text c.in-Rank.is) c.in_err-read_position-in-Rank.ensures)

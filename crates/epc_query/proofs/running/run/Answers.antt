@@ -50,7 +50,8 @@ returns-in_err-count-2-clause-stopped g c = λ file t input u.
     (so_far.0 ++ take c.in-Ok.taken c.read.new.buf) front.0 in
     rw same (run_stopped file input _ _ _ fault
     (stopped_in file
-    (so_far.0 ++ take c.in-Ok.taken c.read.new.buf) front.0 input cut.0 _ _ fault front.1 cut.1 stopped))
+    (so_far.0 ++ take c.in-Ok.taken c.read.new.buf) front.0 input cut.0 _ _ fault front.1 cut.1
+    stopped))
 
 pub loop-turn-preserved : goal.loop-turn-preserved
 loop-turn-preserved g c =

@@ -7,4 +7,5 @@ returns-clause-bytes c =
     c.push_str.ensures.bytes
     ∙ ap (λ t. c.args.text.now.bytes ++ t)
     (c.as_str.ensures.value
-    ∙ position_text_is c.args.position.now _ c.checkers-checkers.ensures.position c.write_position.ensures)
+    ∙ position_text_is c.args.position.now _ c.checkers-checkers.ensures.position
+    c.write_position.ensures)

@@ -31,7 +31,8 @@ returns-in_err-write_record-clause-part g c =
     let new = g.W.Write.contents c.write_record.new.writer in
     let lt : index < count = omega (arith, c.deref-plays-items.ensures.len) in
     let place : c.len.result - c.len-2.result + index ≡ first + index = omega arith in
-    let bytes = kept-bytes g.full records.means records.spreads.items records.plays.items c.requires.1.0 index
+    let bytes = kept-bytes g.full records.means records.spreads.items records.plays.items
+    c.requires.1.0 index
     (c.len.result - c.len-2.result + index) c.unwrap-mean.result c.spread.result.now lt place
     (rw c.unwrap-mean.ensures at c.get.ensures.value) c.spread.ensures in
     let written = rw c.deref-plays-items.ensures.value at c.in_err-write_record.ensures.part in
@@ -40,8 +41,10 @@ returns-in_err-write_record-clause-part g c =
     let rest : List ℕ =
     records_from (bytes_of_rank g.full) (first + index + 1) (count - index - 1) in
     on-error c.from_residual.result
-    (subst (λ (bs : List ℕ). AppendsPart old new bs) (sym (records-apart g.full first index count lt))
-    (flat_map-take_more old mid new (records_from (bytes_of_rank g.full) first index) (bytes_of_rank g.full (first + index)) rest
+    (subst (λ (bs : List ℕ). AppendsPart old new bs)
+    (sym (records-apart g.full first index count lt))
+    (flat_map-take_more old mid new (records_from (bytes_of_rank g.full) first index)
+    (bytes_of_rank g.full (first + index)) rest
     c.loop-index.invariant part))
 
 pub loop-index-preserved : goal.loop-index-preserved
@@ -54,10 +57,12 @@ loop-index-preserved g c =
     let new = g.W.Write.contents c.write_record.new.writer in
     let lt : index < length records.plays.items = omega (arith, c.deref-plays-items.ensures.len) in
     let place : c.len.result - c.len-2.result + index ≡ first + index = omega arith in
-    let bytes = kept-bytes g.full records.means records.spreads.items records.plays.items c.requires.1.0 index
+    let bytes = kept-bytes g.full records.means records.spreads.items records.plays.items
+    c.requires.1.0 index
     (c.len.result - c.len-2.result + index) c.unwrap-mean.result c.spread.result.now lt place
     (rw c.unwrap-mean.ensures at c.get.ensures.value) c.spread.ensures in
     let written = rw c.deref-plays-items.ensures.value at c.in_ok-write_record.ensures.all in
     subst (λ (bs : List ℕ). Appends old new bs) (sym (records-next g.full first index))
-    (appends_twice old mid new (records_from (bytes_of_rank g.full) first index) (bytes_of_rank g.full (first + index))
+    (appends_twice old mid new (records_from (bytes_of_rank g.full) first index)
+    (bytes_of_rank g.full (first + index))
     c.loop-index.invariant (subst (λ (bs : List ℕ). Appends mid new bs) bytes written))
