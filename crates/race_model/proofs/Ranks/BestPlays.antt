@@ -1,13 +1,14 @@
 -- The best of some positions: what a throw or a run leads to has lower ranks, so the best goes by
--- the means of lower ranks alone.
+-- the means of lower ranks alone, and at the end it is rank 0.
 use Rattle.std.proofs.Common.{◌≡◌, ◌⊎◌, inl, inr, ⊎_elim, ℕ, ◌<◌, ◌≤◌, List, ◌∷◌, sym, ap, subst, ◌∙◌, arith}
 use Rattle.race_model.specs.Positions.{Board, IsPosition, IsFinished}
 use Rattle.race_model.specs.Dice.{Die, Throw}
 use Rattle.race_model.specs.Plays.{Run, Legal}
 use Rattle.race_model.specs.Ranks.{rank}
 use Rattle.race_model.specs.BestPlays.{IsBestOf, IsBestPlay}
-use Rattle.race_model.proofs.Plays.Results.{finished_or_not, run_to_position, run_fewer_pips, run_finished, legal_position, legal_fewer_pips, legal_finished}
+use Rattle.race_model.proofs.Plays.Results.{finished_or_not, only_finished, run_to_position, run_fewer_pips, run_finished, run_stays, legal_position, legal_fewer_pips, legal_finished, legal_stays}
 use Rattle.race_model.proofs.Ranks.RankOrder.{rank-fewer}
+use Rattle.race_model.proofs.Ranks.PositionTotals.{rank-finished}
 
 -- what a run of a die or more leads to from an unfinished position has a lower rank
 pub run_lower : (d : Die) (dice : List Die) (x z : Board) → IsPosition x → ¬ IsFinished x →
@@ -73,3 +74,34 @@ play-agree mean other x v r at agree best = ⊎_elim
     (λ unfinished. best-agree mean other (Legal x v) r
     (λ z legal. agree (rank z) (legal_lower x v z at unfinished legal)) best)
     (finished_or_not x)
+
+-- the finished position has rank 0
+pub rank-finished_position : (x : Board) → IsPosition x → IsFinished x → rank x ≡ 0
+rank-finished_position x at none = ap rank (only_finished x at none) ∙ rank-finished
+
+-- where it alone is reached, the best is rank 0
+pub best-at_end : (mean : ℕ → ℕ) (Reached : Board → Type 0) (x : Board) → IsPosition x →
+    IsFinished x → Reached x → ((z : Board) → Reached z → z ≡ x) → IsBestOf mean Reached 0
+best-at_end mean Reached x at none stays alone =
+    record {
+      reached = (x, stays, rank-finished_position x at none);
+      least = λ z got. let e = ap mean (zero z got) in omega arith;
+      lowest = λ z got _. omega arith;
+    }
+  where
+    zero : (z : Board) → Reached z → rank z ≡ 0
+    zero z got = ap rank (alone z got) ∙ rank-finished_position x at none
+
+-- .. so it is after dice
+pub run-at_end : (mean : ℕ → ℕ) (dice : List Die) (x : Board) → IsPosition x → IsFinished x →
+    IsBestOf mean (Run x dice) 0
+run-at_end mean dice x at none =
+    best-at_end mean (Run x dice) x at none (run_stays dice x none)
+    (λ z run. run_finished dice x z none run)
+
+-- .. and with a throw
+pub play-at_end : (mean : ℕ → ℕ) (x : Board) (v : Throw) → IsPosition x → IsFinished x →
+    IsBestPlay mean x v 0
+play-at_end mean x v at none =
+    best-at_end mean (Legal x v) x at none (legal_stays x v none)
+    (λ z legal. legal_finished x v z none legal)
