@@ -4,6 +4,7 @@ pub mod PlayTests
 pub mod Accepted
 pub mod Lower
 pub mod PlayNumbers
+pub mod KeptMeans
 pub mod NumberTests
 pub mod RecordTests
 pub mod FileTests

@@ -6,6 +6,7 @@ use Rattle.race_model.specs.Plays.{Legal}
 use Rattle.race_model.specs.Ranks.{rank, at_rank}
 use Rattle.race_model.specs.Files.{mean, mean_at, play}
 use Rattle.race_model.specs.LocalEquations.{IsPlayed, IsBest}
+use Rattle.race_model.specs.BestPlays.{IsBestPlay}
 use Rattle.race_model.proofs.Plays.Results.{legal_position}
 use Rattle.race_model.proofs.Ranks.RankOrder.{at_rank-rank}
 use Rattle.race_model.proofs.Numbers.Members.{all_of_members, member_of_all, some_member}
@@ -62,3 +63,24 @@ module _ (x : Board) (v : Throw) (xs : List Board)
       let low = member_of_all (λ y. least ≤ mean f y) xs z all ((members z).1 legal) in
       let same = ap (mean_at f) read in
       omega arith
+
+-- the best play by the recorded means is played and least
+pub best-right : (x : Board) (v : Throw) (f : List ℕ) (p : ℕ) → p ≡ play f x v → IsPosition x
+    → IsBestPlay (mean_at f) x v p → IsPlayed f x v × IsBest f x v
+best-right x v f p read is best = (
+  record {
+    ranked = ap rank there ∙ ranked;
+    legal = subst (λ y. Legal x v y) (sym there) best.reached.1;
+  },
+  λ z legal.
+      let low = best.least z legal in
+      let same = ap (mean_at f) read in
+      omega arith,
+) where
+  ranked : rank best.reached.0 ≡ play f x v
+  ranked = best.reached.2 ∙ read
+
+  there : at_rank (play f x v) ≡ best.reached.0
+  there =
+      ap at_rank (sym ranked)
+      ∙ at_rank-rank best.reached.0 (legal_position x v best.reached.0 is best.reached.1)

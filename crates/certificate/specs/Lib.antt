@@ -4,3 +4,4 @@ pub mod RecordFaults
 pub mod CheckFaults
 pub mod Accepted
 pub mod QueryFaults
+pub mod LowerRecords

@@ -6,6 +6,7 @@ ghost use Rattle.db_reader.specs.Telling.{WhereTold};
 ghost use Rattle.certificate.specs.CheckFaults.{IsFirst, CheckCounted};
 
 use crate::check_fault::{CheckFault, fault_at};
+use crate::kept::LowerRecords;
 use crate::record_check::check_record;
 use db_layout::Header;
 use db_reader::{Record, Table, TableFault};
@@ -28,10 +29,13 @@ pub fn check_records<T: Table>(table: &mut T, ranks: &Ranks) -> Result<Header, C
         Err(TableFault::Bad(fault)) => return Err(CheckFault::Header(fault)),
         Err(TableFault::Read) => return Err(CheckFault::Read),
     };
+    let mut lower = LowerRecords::new();
     let mut own = Record::new();
     let mut room = Record::new();
     for rank in 0..header.count {
-        if let Err(fault) = check_record(table, ranks, header, rank, &mut own, &mut room) {
+        if let Err(fault) = check_record(
+            table, ranks, header, rank, &mut lower, &mut own, &mut room,
+        ) {
             return Err(fault_at(rank, fault));
         }
     }

@@ -5,6 +5,7 @@ ghost use Rattle.race_model.specs.Ranks.{rank as rank_of};
 ghost use Rattle.race_model.specs.Files.{mean, mean_at, play};
 ghost use Rattle.race_model.specs.Plays.{Legal};
 ghost use Rattle.race_model.specs.LocalEquations.{IsPlayed, IsBest};
+ghost use Rattle.race_model.specs.BestPlays.{IsBestPlay};
 ghost use Rattle.db_reader.specs.Telling.{WhereTold, Counted};
 ghost use Rattle.db_reader.specs.Reads.{HasRecord};
 ghost use Rattle.certificate.specs.PlayFaults.{Applies, PlayCounted};
@@ -126,6 +127,44 @@ pub fn check_play<T: Table>(
     match mean_at(table, recorded, room) {
         Ok(mean) if seen.least < mean => Err(PlayFault::NotLeast),
         Ok(_) => Ok(()),
+        Err(_) => Err(PlayFault::Read),
+    }
+}
+
+/// The same as `check_play`, where the best of the results is known: what is recorded is then
+/// looked at against the other results only where it is another.
+pub fn check_recorded<T: Table>(
+    table: &mut T,
+    ranks: &Ranks,
+    position: &Position,
+    roll: Roll,
+    recorded: u16,
+    best: u16,
+    room: &mut Record,
+) -> Result<(), PlayFault>
+    requires records { (y : Board) → Legal position.now roll y →
+        HasRecord (T.accepted table.old) (rank_of y) }
+    requires position { IsPosition position.now }
+    requires result_best { (y : Board) × (Legal position.now roll y) × (rank_of y ≡ best) }
+    requires best { WhereTold (T.tells table.old)
+        (λ file. IsBestPlay (mean_at file) position.now roll best) }
+    ensures stays { T.tells table.new ≡ T.tells table.old }
+    ensures accepted { T.accepted table.new ≡ T.accepted table.old }
+    ensures others { (bytes : List ℕ) (other : ℕ) →
+        T.ready table.old bytes other → T.ready table.new bytes other }
+    ensures ready { OnOk result (T.ready table.new room.new recorded) }
+    ensures right { WhereTold (T.tells table.old) (λ file. recorded ≡ play file position.now roll →
+        OnOk result (IsPlayed file position.now roll × IsBest file position.now roll)) }
+    ensures fault { WhereTold (T.tells table.old) (λ file. recorded ≡ play file position.now roll →
+        IfErr result (Applies file position.now roll)) }
+    ensures cause { WhereTold (T.tells table.old)
+        (λ _. PlayCounted (T.failures table.old) (T.failures table.new) result) }
+{
+    if recorded != best {
+        return check_play(table, ranks, position, roll, recorded, room);
+    }
+    match table.load(recorded, room) {
+        Ok(()) => Ok(()),
         Err(_) => Err(PlayFault::Read),
     }
 }

@@ -1,20 +1,24 @@
 //! The check of one record, with records of lower rank that were accepted.
-ghost use Rattle.std.specs.Prelude.{◌≡◌, ℕ, ◌+◌, ◌*◌, ◌<◌, ◌≤◌, List, Some, sum, IfOk, IfErr, OnOk, OnErr};
+ghost use Rattle.std.specs.Prelude.{◌≡◌, ℕ, ◌+◌, ◌*◌, ◌<◌, ◌≤◌, List, slice_index, Some, sum, IfOk, IfErr, OnOk, OnErr};
 ghost use Rattle.race_model.specs.Positions.{Board, IsPosition, IsFinished, pips};
 ghost use Rattle.race_model.specs.Dice.{roll_at, weight};
 ghost use Rattle.race_model.specs.Ranks.{rank as rank_of, at_rank};
-ghost use Rattle.race_model.specs.Files.{IsFileTo, bound_of, mean_of};
+ghost use Rattle.race_model.specs.Files.{IsFileTo, bound_of, mean_of, mean_at};
+ghost use Rattle.race_model.specs.Plays.{Legal};
+ghost use Rattle.race_model.specs.BestPlays.{IsBestPlay};
 ghost use Rattle.race_model.specs.LocalEquations.{whole, IsPlayed, IsBest, IsLocalAt};
 ghost use Rattle.fixed_fraction.specs.Totals.{IsAdded};
 ghost use Rattle.db_reader.specs.Telling.{WhereTold};
 ghost use Rattle.db_reader.specs.Reads.{HasRecord};
 ghost use Rattle.certificate.specs.PlayFaults.{FirstOfPlays};
+ghost use Rattle.certificate.specs.LowerRecords.{IsLower};
 ghost use Rattle.certificate.specs.RecordNumbers.{shares_of, AreSumsOf};
 ghost use Rattle.certificate.specs.RecordFaults.{IsFirstFaultAt, of_record, SumsCounted, RecordCounted};
 
 use crate::equations::{has_mean, wrong_share};
+use crate::kept::LowerRecords;
 use crate::numbers::{mean_in, spread_in};
-use crate::plays::{PlayFault, check_play};
+use crate::plays::{PlayFault, check_recorded};
 use db_layout::{Header, RecordView};
 use db_reader::{ReadFault, Record, Table};
 use fixed_fraction::{Sums, law_sums};
@@ -85,6 +89,7 @@ fn sum_plays<T: Table>(
     ranks: &Ranks,
     position: &Position,
     rank: u16,
+    best: &[u16; 21],
     own: &Record,
     room: &mut Record,
 ) -> Result<Sums, RefusedPlay>
@@ -96,6 +101,10 @@ fn sum_plays<T: Table>(
         HasRecord (T.accepted table.old) (rank_of y) }
     requires lower { WhereTold (T.tells table.old)
         (λ file. (z : Board) → IsPosition z → rank_of z < rank → IsLocalAt file z) }
+    requires results { (i : ℕ) → i < 21 →
+        (y : Board) × (Legal position.now (roll_at i) y) × (rank_of y ≡ slice_index best.now i) }
+    requires best { WhereTold (T.tells table.old) (λ file. (i : ℕ) → i < 21 →
+        IsBestPlay (mean_at file) position.now (roll_at i) (slice_index best.now i)) }
     ensures stays { T.tells table.new ≡ T.tells table.old }
     ensures accepted { T.accepted table.new ≡ T.accepted table.old }
     ensures others { (bytes : List ℕ) (other : ℕ) →
@@ -114,7 +123,8 @@ fn sum_plays<T: Table>(
     for index in 0..21 {
         let roll = Roll::from_index(index).unwrap();
         let recorded = table.lend(rank, own).play(roll);
-        if let Err(fault) = check_play(table, ranks, position, roll, recorded, room) {
+        let best = best[usize::from(index)];
+        if let Err(fault) = check_recorded(table, ranks, position, roll, recorded, best, room) {
             return Err(RefusedPlay { roll: index, fault });
         }
         if position.is_finished() {
@@ -130,12 +140,14 @@ fn sum_plays<T: Table>(
     Ok(sums)
 }
 
-/// Tests the record of a rank of a table in which each record of lower rank was accepted.
+/// Tests the record of a rank of a table in which each record of lower rank was accepted, and
+/// keeps of it what the records of higher rank are tested by.
 pub fn check_record<T: Table>(
     table: &mut T,
     ranks: &Ranks,
     header: Header,
     rank: u16,
+    lower: &mut LowerRecords,
     own: &mut Record,
     room: &mut Record,
 ) -> Result<(), RecordFault>
@@ -145,8 +157,10 @@ pub fn check_record<T: Table>(
         (λ file. IsFileTo 44 file × (header.bound ≡ bound_of file)) }
     requires lower { WhereTold (T.tells table.old)
         (λ file. (z : Board) → IsPosition z → rank_of z < rank → IsLocalAt file z) }
+    requires kept { IsLower (T.tells table.old) lower.old rank }
     ensures stays { T.tells table.new ≡ T.tells table.old }
     ensures accepted { T.accepted table.new ≡ T.accepted table.old }
+    ensures kept { OnOk result (IsLower (T.tells table.old) lower.new (rank + 1)) }
     ensures local { WhereTold (T.tells table.old)
         (λ file. OnOk result (IsLocalAt file (at_rank rank))) }
     ensures first { WhereTold (T.tells table.old)
@@ -161,7 +175,8 @@ pub fn check_record<T: Table>(
         return Err(RecordFault::Read);
     }
     let position = ranks.unrank(rank).unwrap();
-    let sums = match sum_plays(table, ranks, &position, rank, own, room) {
+    let best = lower.best_plays(ranks, &position);
+    let sums = match sum_plays(table, ranks, &position, rank, &best, own, room) {
         Ok(sums) => sums,
         Err(refused) => return Err(refused.of_record()),
     };
@@ -171,6 +186,9 @@ pub fn check_record<T: Table>(
     }
     match wrong_share(&position, &view, &sums) {
         Some(k) => Err(RecordFault::Spread { k }),
-        None => Ok(()),
+        None => {
+            lower.accept(rank, view.mean());
+            Ok(())
+        }
     }
 }

@@ -3,3 +3,4 @@ pub mod BoxCounts
 pub mod RankCounts
 pub mod RankOrder
 pub mod PositionTotals
+pub mod BestPlays

@@ -9,6 +9,7 @@ pub mod LocalEquations
 pub mod FirstFault
 pub mod Strategies
 pub mod RightFiles
+pub mod BestPlays
 pub mod BuiltFile
 pub mod Horizon
 pub mod Losses

@@ -6,21 +6,21 @@ use Rattle.race_model.specs.Dice.{Throw}
 use Rattle.race_model.specs.Plays.{Legal}
 use Rattle.race_model.specs.Ranks.{rank, first_of}
 use Rattle.race_model.proofs.Numbers.Members.{member_of_all, some_member}
-use Rattle.race_model.proofs.Plays.Results.{only_finished, legal_position, legal_fewer_pips, legal_finished, legal_stays}
+use Rattle.race_model.proofs.Plays.Results.{legal_position, legal_fewer_pips, legal_finished}
 use Rattle.race_model.proofs.Ranks.RankOrder.{rank_within, first_of-rises, first_of-suc}
-use Rattle.race_model.proofs.Ranks.PositionTotals.{rank-finished}
-use Rattle.retrograde.specs.BestPlays.{IsBestPlay}
+use Rattle.race_model.proofs.Ranks.BestPlays.{rank-finished_position}
+use Rattle.race_model.specs.BestPlays.{IsBestPlay}
 
 -- the best of the results is the best play
 pub best-of_results : (means : List ℕ) (x : Board) (v : Throw) (r : ℕ) (found : List Board) →
     ((y : List ℕ) → Contains found y ↔ Legal x v y) → Any (λ z. rank z ≡ r) found →
     All (λ z. slice_index means r ≤ slice_index means (rank z)) found →
     All (λ z. slice_index means (rank z) ≡ slice_index means r → r ≤ rank z) found →
-    IsBestPlay means x v r
+    IsBestPlay (slice_index means) x v r
 best-of_results means x v r found members some least lowest =
     let best = some_member (λ z. rank z ≡ r) found some in
     record {
-      legal = (best.0, (members best.0).0 best.1, best.2);
+      reached = (best.0, (members best.0).0 best.1, best.2);
       least =
           λ z legal.
           member_of_all (λ z. slice_index means r ≤ slice_index means (rank z)) found z least
@@ -41,18 +41,7 @@ legal-below x v z at unfinished legal =
     omega (arith, within, rises, first_of-suc (pips z))
 
 -- the finished position stays, at rank 0
-pub finished-rank : (x : Board) → IsPosition x → IsFinished x → rank x ≡ 0
-finished-rank x at none = ap rank (only_finished x at none) ∙ rank-finished
-
 pub finished-stays : (x : Board) (v : Throw) (z : Board) → IsPosition x → IsFinished x →
     Legal x v z → rank z ≡ 0
 finished-stays x v z at none legal =
-    ap rank (legal_finished x v z none legal) ∙ finished-rank x at none
-
-pub best-at_end : (means : List ℕ) (x : Board) (v : Throw) → IsPosition x → IsFinished x →
-    IsBestPlay means x v 0
-best-at_end means x v at none = record {
-  legal = (x, legal_stays x v none, finished-rank x at none);
-  least = λ z legal. le_of_eq (ap (slice_index means) (sym (finished-stays x v z at none legal)));
-  lowest = λ z legal _. omega arith;
-}
+    ap rank (legal_finished x v z none legal) ∙ rank-finished_position x at none

@@ -13,7 +13,7 @@ use Rattle.race_model.proofs.Ranks.RankOrder.{rank_bound, at_rank-rank, count_to
 use Rattle.race_model.proofs.Numbers.Sums.{sum_by-equal}
 use Rattle.race_model.proofs.Dice.Throws.{index_of_roll}
 use Rattle.race_model.proofs.Dice.RollSums.{roll_index-range}
-use Rattle.retrograde.specs.BestPlays.{IsBestPlay}
+use Rattle.race_model.specs.BestPlays.{IsBestPlay}
 use Rattle.retrograde.specs.BuiltRecords.{shares_of, sum_of_means, sum_of_shares, IsMade}
 use Rattle.retrograde.specs.AllRecords.{AllRecords, bytes_of_rank}
 use Rattle.retrograde.specs.BuiltBytes.{built_file}
@@ -116,20 +116,20 @@ module _ (full : AllRecords) (bound : ℕ) (low : bound ≤ 44) where
     unfolding number
     number-is v = play-read (rank x) (roll_index v) ranked (roll_index-range v)
 
-    best-by_index : (v : Throw) → IsBestPlay means x (roll_at (roll_index v)) (number v)
+    best-by_index : (v : Throw) → IsBestPlay (slice_index means) x (roll_at (roll_index v)) (number v)
     unfolding number
     best-by_index v = here.best (roll_index v) (roll_index-range v)
 
     number-ranked : (v : Throw) → number v < count_to bound
     number-ranked v =
         let best = best-by_index v in
-        let lt = result-ranked (roll_at (roll_index v)) best.legal.0 best.legal.1 in
-        let is = best.legal.2 in
+        let lt = result-ranked (roll_at (roll_index v)) best.reached.0 best.reached.1 in
+        let is = best.reached.2 in
         omega arith
 
-    best-of_roll : (v : Throw) → IsRoll v → IsBestPlay means x v (number v)
+    best-of_roll : (v : Throw) → IsRoll v → IsBestPlay (slice_index means) x v (number v)
     best-of_roll v is =
-        subst (λ (u : Throw). IsBestPlay means x u (number v)) (index_of_roll v is).1
+        subst (λ (u : Throw). IsBestPlay (slice_index means) x u (number v)) (index_of_roll v is).1
         (best-by_index v)
 
     played-mean : (v : Throw) → mean_at built (play built x v) ≡ slice_index means (number v)

@@ -23,10 +23,10 @@ use Rattle.race_model.proofs.Strategies.Horizons.{within_22}
 use Rattle.race_model.proofs.Strategies.Spreads.{counts_add_up}
 use Rattle.db_layout.specs.Records.{record_of, IsRecordOf}
 use Rattle.db_layout.proofs.Bytes.{record_reads, mean_fits}
-use Rattle.retrograde.specs.BestPlays.{IsBestPlay}
+use Rattle.race_model.specs.BestPlays.{IsBestPlay}
 use Rattle.retrograde.specs.BuiltRecords.{shares_of, sum_of_means, sum_of_shares, IsMade, IsReached, AreMade, HasRecords}
 use Rattle.retrograde.specs.AllRecords.{AllRecords}
-use Rattle.retrograde.proofs.Best.{best-at_end, finished-rank}
+use Rattle.race_model.proofs.Ranks.BestPlays.{rank-finished_position}
 use Rattle.retrograde.proofs.Next.{ReachedBelow, can-pull_mean, can-pull_shares, next-is_reached, made-at_end, made-before}
 use Rattle.retrograde.proofs.Turns.{stop-reached, total-small}
 use Rattle.retrograde.proofs.Grown.{one-more}
@@ -112,7 +112,7 @@ best_of_some means [] y h = absurd h
 best_of_some means (x ∷ xs) y h = best_in means x xs
 
 -- so each throw has a best play
-pub best-exists : (means : List ℕ) (x : Board) (v : Throw) → (r : ℕ) × IsBestPlay means x v r
+pub best-exists : (means : List ℕ) (x : Board) (v : Throw) → (r : ℕ) × IsBestPlay (slice_index means) x v r
 best-exists means x v =
     let some = legal_somewhere x v in
     play (best_of_some means (all_results x v) some.0 (listed_results x v some.0 some.1))
@@ -123,11 +123,11 @@ best-exists means x v =
     lowest : (m r n q : ℕ) → NoWorse m r n q → n ≡ m → r ≤ q
     lowest m r n q h e = ⊎_elim (λ less. absurd (omega arith)) (λ same. same.1) h
 
-    play : IsBestIn means (all_results x v) → (r : ℕ) × IsBestPlay means x v r
+    play : IsBestIn means (all_results x v) → (r : ℕ) × IsBestPlay (slice_index means) x v r
     play is = (
       rank is.best,
       record {
-        legal = (is.best, results_listed x v is.best is.member, refl);
+        reached = (is.best, results_listed x v is.best is.member, refl);
         least =
             λ z legal.
             at_most (slice_index means (rank is.best)) (rank is.best) (slice_index means (rank z))
@@ -204,9 +204,9 @@ next-of n means spreads mean played shares low small plays_len shares_len made r
       (λ inside.
       let best = made.best i inside in
       let at =
-      legal_position (at_rank n) (roll_at i) best.legal.0 (at_rank_position n)
-      best.legal.1 in
-      omega (arith, rank-range best.legal.0 at, best.legal.2))
+      legal_position (at_rank n) (roll_at i) best.reached.0 (at_rank_position n)
+      best.reached.1 in
+      omega (arith, rank-range best.reached.0 at, best.reached.2))
       (λ past. omega (arith, get_or_past played i 0 (omega arith)))
       (split i)
 
@@ -243,11 +243,11 @@ module _ (n : ℕ) (means : List ℕ) (spreads : List (List ℕ)) (low : pips (a
   unfolding played
   played-len = length-map-range_with_len play 0 21
 
-  best : (i : ℕ) → i < 21 → IsBestPlay means (at_rank n) (roll_at i) (slice_index played i)
+  best : (i : ℕ) → i < 21 → IsBestPlay (slice_index means) (at_rank n) (roll_at i) (slice_index played i)
   unfolding play played
   best i lt =
       let here = get_or-map-range_with_len play 0 21 i i 0 lt (omega arith) in
-      subst (λ (r : ℕ). IsBestPlay means (at_rank n) (roll_at i) r) (sym here)
+      subst (λ (r : ℕ). IsBestPlay (slice_index means) (at_rank n) (roll_at i) r) (sym here)
       (best-exists means (at_rank n) (roll_at i)).1
 
   mean : (mean : ℕ) × ((mean ≤ 22 * whole) × (36 * mean ≡ 36 * whole + sum_of_means means played))

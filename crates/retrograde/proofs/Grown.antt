@@ -14,34 +14,26 @@ use Rattle.race_model.proofs.Ranks.PositionTotals.{rank-at_rank}
 use Rattle.race_model.proofs.Numbers.Sums.{sum_by-equal}
 use Rattle.db_layout.specs.Records.{record_of, IsRecordOf}
 use Rattle.race_model.proofs.Dice.RollSums.{roll_index-range}
-use Rattle.retrograde.specs.BestPlays.{IsBestPlay}
+use Rattle.race_model.specs.BestPlays.{IsBestPlay}
 use Rattle.retrograde.specs.BuiltRecords.{shares_of, sum_of_means, sum_of_shares, IsMade, IsReached, AreMade}
-use Rattle.retrograde.proofs.Best.{best-at_end, finished-stays}
-use Rattle.retrograde.proofs.Next.{legal-lower}
+use Rattle.race_model.proofs.Ranks.BestPlays.{best-agree, legal_lower, play-at_end}
+use Rattle.retrograde.proofs.Best.{finished-stays}
 
 -- no throw leads to a higher rank
 legal-no_higher : (x : Board) (v : Throw) (z : Board) → IsPosition x → Legal x v z →
     rank z ≤ rank x
 legal-no_higher x v z at legal = ⊎_elim
     (λ none. omega (arith, finished-stays x v z at none legal))
-    (λ unfinished. omega (arith, legal-lower x v z at unfinished legal))
+    (λ unfinished. omega (arith, legal_lower x v z at unfinished legal))
     (finished_or_not x)
 
 -- the best play stays the best
 grown-best : (means more : List ℕ) (x : Board) (v : Throw) (r : ℕ) →
-    ((z : Board) → Legal x v z → rank z < length means) → IsBestPlay means x v r →
-    IsBestPlay (means ++ more) x v r
+    ((z : Board) → Legal x v z → rank z < length means) → IsBestPlay (slice_index means) x v r →
+    IsBestPlay (slice_index (means ++ more)) x v r
 grown-best means more x v r held best =
-    let lt : r < length means = omega (arith, held best.legal.0 best.legal.1, best.legal.2) in
-    let here : get_or (means ++ more) r 0 ≡ get_or means r 0 = get_or-append means more 0 r lt in
-    let there : (z :
-    Board) → Legal x v z → get_or (means ++ more) (rank z) 0 ≡ get_or means (rank z) 0 =
-    λ z legal. get_or-append means more 0 (rank z) (held z legal) in
-    record {
-      legal = best.legal;
-      least = λ z legal. let t = there z legal in let le = best.least z legal in omega arith;
-      lowest = λ z legal e. best.lowest z legal (sym (there z legal) ∙ (e ∙ here));
-    }
+    best-agree (slice_index means) (slice_index (means ++ more)) (Legal x v) r
+    (λ z legal. sym (get_or-append means more 0 (rank z) (held z legal))) best
 
 -- a record of results that are held stays right
 grown-made : (means more : List ℕ) (spreads others : List (List ℕ)) (x : Board) (mean : ℕ)
@@ -64,7 +56,7 @@ grown-made means more spreads others x mean plays shares same held made = record
   play : (v : Throw) → slice_index plays (roll_index v) < length means
   play v =
       let best = made.best (roll_index v) (roll_index-range v) in
-      omega (arith, held (roll_at (roll_index v)) best.legal.0 best.legal.1, best.legal.2)
+      omega (arith, held (roll_at (roll_index v)) best.reached.0 best.reached.1, best.reached.2)
 
   means_same : sum_of_means (means ++ more) plays ≡ sum_of_means means plays
   means_same =
@@ -96,9 +88,9 @@ made-anywhere means others spreads more x mean plays shares at none made = recor
   best = λ i lt.
       let best = made.best i lt in
       let stays : slice_index plays i ≡ 0 =
-      sym best.legal.2 ∙ finished-stays x (roll_at i) best.legal.0 at none best.legal.1 in
-      subst (λ (r : ℕ). IsBestPlay others x (roll_at i) r) (sym stays)
-      (best-at_end others x (roll_at i) at none);
+      sym best.reached.2 ∙ finished-stays x (roll_at i) best.reached.0 at none best.reached.1 in
+      subst (λ (r : ℕ). IsBestPlay (slice_index others) x (roll_at i) r) (sym stays)
+      (play-at_end (slice_index others) x (roll_at i) at none);
   mean_at_end = made.mean_at_end;
   mean_before = λ unfinished. absurd (unfinished none);
   start_at_end = made.start_at_end;
@@ -186,7 +178,7 @@ module _ (n : ℕ) (means : List ℕ) (plays spreads : List (List ℕ)) (mean : 
       grown-made means (mean ∷ []) spreads (shares ∷ []) (at_rank n) mean played shares
       (are.means_len ∙ sym are.spreads_len)
       (λ v z legal.
-      let lower = legal-lower (at_rank n) v z at unfinished legal in
+      let lower = legal_lower (at_rank n) v z at unfinished legal in
       omega (arith, rank-at_rank n low, are.means_len)) made)
       (finished_or_not (at_rank n)) in
       subst

@@ -10,26 +10,20 @@ use Rattle.race_model.proofs.Plays.Results.{legal_position, legal_fewer_pips}
 use Rattle.race_model.proofs.Ranks.RankOrder.{rank-fewer, at_rank-rank}
 use Rattle.race_model.proofs.Dice.Throws.{roll_of_index}
 use Rattle.race_model.proofs.Dice.RollSums.{roll_index-range}
-use Rattle.retrograde.specs.BestPlays.{IsBestPlay}
+use Rattle.race_model.specs.BestPlays.{IsBestPlay}
 use Rattle.retrograde.specs.BuiltRecords.{shares_of, sum_of_means, sum_of_shares, IsMade, IsReached}
-use Rattle.retrograde.proofs.Best.{best-at_end}
+use Rattle.race_model.proofs.Ranks.BestPlays.{legal_lower, play-at_end}
 use Rattle.retrograde.proofs.Turns.{mean-exact, shares-exact, no-last, pulled-reached}
-
--- what a throw leads to from an unfinished position has a lower rank
-pub legal-lower : (x : Board) (v : Throw) (z : Board) → IsPosition x → ¬ IsFinished x →
-    Legal x v z → rank z < rank x
-legal-lower x v z at unfinished legal =
-    rank-fewer z x (legal_position x v z at legal) at (legal_fewer_pips x v z unfinished legal)
 
 -- the best play leads to the position of its rank
 pub best-legal : (means : List ℕ) (x : Board) (v : Throw) (r : ℕ) → IsPosition x →
-    IsBestPlay means x v r → (Legal x v (at_rank r)) × (rank (at_rank r) ≡ r)
+    IsBestPlay (slice_index means) x v r → (Legal x v (at_rank r)) × (rank (at_rank r) ≡ r)
 best-legal means x v r at best =
-    let z = best.legal.0 in
-    let leads = best.legal.1 in
+    let z = best.reached.0 in
+    let leads = best.reached.1 in
     let found : at_rank r ≡ z =
-    ap at_rank (sym best.legal.2) ∙ at_rank-rank z (legal_position x v z at leads) in
-    (subst (λ (y : Board). Legal x v y) (sym found) leads, ap rank found ∙ best.legal.2)
+    ap at_rank (sym best.reached.2) ∙ at_rank-rank z (legal_position x v z at leads) in
+    (subst (λ (y : Board). Legal x v y) (sym found) leads, ap rank found ∙ best.reached.2)
 
 -- strategies have the means and the shares of the ranks below one
 abbrev pub ReachedBelow : ℕ → List ℕ → List (List ℕ) → Type 0
@@ -40,7 +34,7 @@ ReachedBelow n means spreads =
 module _ (x : Board) (at : IsPosition x) (unfinished : ¬ IsFinished x) (low : pips x ≤ 44)
     (means : List ℕ)
     (spreads : List (List ℕ)) (reached : ReachedBelow (rank x) means spreads) (plays : List ℕ)
-    (best : (i : ℕ) → i < 21 → IsBestPlay means x (roll_at i) (slice_index plays i)) where
+    (best : (i : ℕ) → i < 21 → IsBestPlay (slice_index means) x (roll_at i) (slice_index plays i)) where
   goes : (i : ℕ) → i < 21 → Legal x (roll_at i) (at_rank (slice_index plays i))
   goes i lt = (best-legal means x (roll_at i) (slice_index plays i) at (best i lt)).0
 
@@ -48,8 +42,8 @@ module _ (x : Board) (at : IsPosition x) (unfinished : ¬ IsFinished x) (low : p
   pub play-lower : (i : ℕ) → i < 21 → slice_index plays i < rank x
   play-lower i lt =
       let lower =
-      legal-lower x (roll_at i) (best i lt).legal.0 at unfinished (best i lt).legal.1 in
-      let is = (best i lt).legal.2 in
+      legal_lower x (roll_at i) (best i lt).reached.0 at unfinished (best i lt).reached.1 in
+      let is = (best i lt).reached.2 in
       omega arith
 
   -- where strategies go on
@@ -93,8 +87,8 @@ pub made-at_end :
 made-at_end means spreads x mean plays shares at none mean_is none_played start more = record {
   best =
       λ i lt.
-      subst (λ (r : ℕ). IsBestPlay means x (roll_at i) r) (sym (none_played i))
-      (best-at_end means x (roll_at i) at none);
+      subst (λ (r : ℕ). IsBestPlay (slice_index means) x (roll_at i) r) (sym (none_played i))
+      (play-at_end (slice_index means) x (roll_at i) at none);
   mean_at_end = λ _. mean_is;
   mean_before = λ unfinished. absurd (unfinished none);
   start_at_end = λ _. start;
@@ -106,7 +100,7 @@ made-at_end means spreads x mean plays shares at none mean_is none_played start 
 -- .. and that of another one
 pub made-before :
     (means : List ℕ) (spreads : List (List ℕ)) (x : Board) (mean : ℕ) (plays shares : List ℕ) →
-    ¬ IsFinished x → ((i : ℕ) → i < 21 → IsBestPlay means x (roll_at i) (slice_index plays i)) →
+    ¬ IsFinished x → ((i : ℕ) → i < 21 → IsBestPlay (slice_index means) x (roll_at i) (slice_index plays i)) →
     36 * mean ≡ 36 * whole + sum_of_means means plays → slice_index shares 0 ≡ 0 →
     ((k : ℕ) → k < 22 → 36 * slice_index shares (suc k) ≡ sum_of_shares spreads plays k) →
     IsMade means spreads x mean plays shares

@@ -8,51 +8,44 @@ use Rattle.race_model.specs.Ranks.{rank, at_rank, first_of, count_to}
 use Rattle.race_model.specs.LocalEquations.{whole}
 use Rattle.race_model.proofs.Plays.Results.{legal_position}
 use Rattle.race_model.proofs.Plays.Spent.{legal_takes}
+use Rattle.race_model.proofs.Ranks.BestPlays.{best-agree, legal_lower}
 use Rattle.race_model.proofs.Ranks.RankOrder.{rank_bound, at_rank-rank, rank_within, first_of-rises}
 use Rattle.race_model.proofs.Strategies.Horizons.{within_22}
 use Rattle.race_model.proofs.Numbers.Sums.{sum_by-equal}
 use Rattle.race_model.proofs.Dice.Throws.{roll_of_index}
 use Rattle.race_model.proofs.Dice.RollSums.{roll_index-range}
-use Rattle.retrograde.specs.BestPlays.{IsBestPlay}
+use Rattle.race_model.specs.BestPlays.{IsBestPlay}
 use Rattle.retrograde.specs.BuiltRecords.{shares_of, sum_of_means, sum_of_shares, IsMade, IsReached}
 use Rattle.retrograde.specs.AllRecords.{AllRecords, mean_of_rank, plays_of_rank, shares_of_rank}
 use Rattle.retrograde.specs.KeptRecords.{IsRecordOfRank}
 use Rattle.retrograde.proofs.Best.{finished-stays}
-use Rattle.retrograde.proofs.Next.{ReachedBelow, legal-lower, can-pull_shares, has-room}
+use Rattle.retrograde.proofs.Next.{ReachedBelow, can-pull_shares, has-room}
 use Rattle.retrograde.proofs.Turns.{total-small}
 
 -- a throw has one best play
-best-one : (means : List ℕ) (x : Board) (v : Throw) (r q : ℕ) → IsBestPlay means x v r →
-    IsBestPlay means x v q → r ≡ q
+best-one : (means : List ℕ) (x : Board) (v : Throw) (r q : ℕ) → IsBestPlay (slice_index means) x v r →
+    IsBestPlay (slice_index means) x v q → r ≡ q
 best-one means x v r q first second =
-    let there : slice_index means (rank second.legal.0) ≡ slice_index means q =
-    ap (slice_index means) second.legal.2 in
-    let here : slice_index means (rank first.legal.0) ≡ slice_index means r =
-    ap (slice_index means) first.legal.2 in
-    let a = first.least second.legal.0 second.legal.1 in
-    let b = second.least first.legal.0 first.legal.1 in
-    let low = first.lowest second.legal.0 second.legal.1 (omega arith) in
-    let high = second.lowest first.legal.0 first.legal.1 (omega arith) in
-    let at = second.legal.2 in
-    let of = first.legal.2 in
+    let there : slice_index means (rank second.reached.0) ≡ slice_index means q =
+    ap (slice_index means) second.reached.2 in
+    let here : slice_index means (rank first.reached.0) ≡ slice_index means r =
+    ap (slice_index means) first.reached.2 in
+    let a = first.least second.reached.0 second.reached.1 in
+    let b = second.least first.reached.0 first.reached.1 in
+    let low = first.lowest second.reached.0 second.reached.1 (omega arith) in
+    let high = second.lowest first.reached.0 first.reached.1 (omega arith) in
+    let at = second.reached.2 in
+    let of = first.reached.2 in
     omega arith
 
 -- the best play by the means of the results is the best by all means
 best-by_all : (means others : List ℕ) (x : Board) (v : Throw) (r : ℕ)
     → ((q : ℕ) → q < length means → slice_index means q ≡ slice_index others q)
-    → ((z : Board) → Legal x v z → rank z < length means) → IsBestPlay means x v r →
-    IsBestPlay others x v r
+    → ((z : Board) → Legal x v z → rank z < length means) → IsBestPlay (slice_index means) x v r →
+    IsBestPlay (slice_index others) x v r
 best-by_all means others x v r agree held best =
-    let lt : r < length means = omega (arith, held best.legal.0 best.legal.1, best.legal.2) in
-    let here = agree r lt in
-    record {
-      legal = best.legal;
-      least = λ z legal.
-          let there = agree (rank z) (held z legal) in
-          let le = best.least z legal in
-          omega arith;
-      lowest = λ z legal e. best.lowest z legal (agree (rank z) (held z legal) ∙ (e ∙ sym here));
-    }
+    best-agree (slice_index means) (slice_index others) (Legal x v) r
+    (λ z legal. agree (rank z) (held z legal)) best
 
 -- nothing adds up to nothing
 none-sum : sum_by (λ v. 0) all_rolls ≡ 0
@@ -116,7 +109,7 @@ module _ (full : AllRecords) (x : Board) (at : IsPosition x) (low : pips x ≤ 4
     stays : (i : ℕ) → i < 21 → slice_index (plays_of_rank full (rank x)) i ≡ 0
     stays i lt =
         let best = made.best i lt in
-        sym best.legal.2 ∙ finished-stays x (roll_at i) best.legal.0 at none best.legal.1
+        sym best.reached.2 ∙ finished-stays x (roll_at i) best.reached.0 at none best.reached.1
 
     each : (k : ℕ) → k < 23 → slice_index shares k ≡ slice_index (shares_of_rank full (rank x)) k
     each zero lt = start ∙ sym (made.start_at_end none)
@@ -127,12 +120,12 @@ module _ (full : AllRecords) (x : Board) (at : IsPosition x) (low : pips x ≤ 4
       (agree : (r : ℕ) → r < length means → slice_index means r ≡ mean_of_rank full r)
       (next : rank x ≡ length means)
       (plays : List ℕ) (len : length plays ≡ 21)
-      (best : (i : ℕ) → i < 21 → IsBestPlay means x (roll_at i) (slice_index plays i)) where
+      (best : (i : ℕ) → i < 21 → IsBestPlay (slice_index means) x (roll_at i) (slice_index plays i)) where
     pub results-held : (v : Throw) (z : Board) → Legal x v z → rank z < length means
-    results-held v z legal = omega (arith, legal-lower x v z at unfinished legal, next)
+    results-held v z legal = omega (arith, legal_lower x v z at unfinished legal, next)
 
     -- they are the best by all means
-    best-all : (i : ℕ) → i < 21 → IsBestPlay full.means x (roll_at i) (slice_index plays i)
+    best-all : (i : ℕ) → i < 21 → IsBestPlay (slice_index full.means) x (roll_at i) (slice_index plays i)
     best-all i lt =
         best-by_all means full.means x (roll_at i) (slice_index plays i) agree
         (results-held (roll_at i)) (best i lt)
@@ -144,13 +137,13 @@ module _ (full : AllRecords) (x : Board) (at : IsPosition x) (low : pips x ≤ 4
     -- they lead to ranks that are made
     pub plays-held : (i : ℕ) → i < 21 → slice_index plays i < length means
     plays-held i lt =
-        let leads = (best i lt).legal in
+        let leads = (best i lt).reached in
         omega (arith, results-held (roll_at i) leads.0 leads.1, leads.2)
 
     -- .. of the last 24 levels
     pub plays-recent : (i : ℕ) → i < 21 → first_of (pips x - 24) ≤ slice_index plays i
     plays-recent i lt =
-        let leads = (best i lt).legal in
+        let leads = (best i lt).reached in
         let z = leads.0 in
         let takes = legal_takes x (roll_at i) z leads.1 in
         let within = (rank_within z (legal_position x (roll_at i) z at leads.1)).0 in

@@ -8,7 +8,7 @@ use Rattle.race_model.specs.Ranks.{at_rank}
 use Rattle.race_model.specs.LocalEquations.{whole, weighted}
 use Rattle.race_model.specs.Strategies.{Strategy, Fits, total, count_of}
 use Rattle.db_layout.specs.Records.{record_of, IsRecordOf}
-use Rattle.retrograde.specs.BestPlays.{IsBestPlay}
+use Rattle.race_model.specs.BestPlays.{IsBestPlay}
 
 -- the shares of a rank, from none to 22 rolls
 abbrev pub shares_of : List (List ℕ) → ℕ → List ℕ
@@ -27,7 +27,7 @@ sum_of_shares spreads plays k =
 -- mean and its shares are those of its plays, one roll later
 pub record IsMade (means : List ℕ) (spreads : List (List ℕ)) (x : Board) (mean : ℕ)
     (plays shares : List ℕ) : Type 0 where
-  pub best : (i : ℕ) → i < 21 → IsBestPlay means x (roll_at i) (slice_index plays i)
+  pub best : (i : ℕ) → i < 21 → IsBestPlay (slice_index means) x (roll_at i) (slice_index plays i)
   pub mean_at_end : IsFinished x → mean ≡ 0
   pub mean_before : ¬ IsFinished x → 36 * mean ≡ 36 * whole + sum_of_means means plays
   pub start_at_end : IsFinished x → slice_index shares 0 ≡ whole

@@ -4,7 +4,8 @@ ghost use Rattle.std.specs.Prelude.{◌≡◌, ℕ, ◌+◌, ◌-◌, ◌<◌, �
 ghost use Rattle.std.specs.Io.KnownBytes.{Appends};
 ghost use Rattle.race_model.specs.Ranks.{first_of, count_to};
 ghost use Rattle.db_layout.specs.Writes.{AppendsPart};
-ghost use Rattle.retrograde.specs.AllRecords.{AllRecords, bytes_of_rank};
+ghost use Rattle.least_plays.specs.Known.{Knows};
+ghost use Rattle.retrograde.specs.AllRecords.{AllRecords, mean_of_rank, bytes_of_rank};
 ghost use Rattle.retrograde.specs.KeptRecords.{AreKept};
 ghost use Rattle.retrograde.specs.BuiltBytes.{records_from, WritesBuilt, IsRefusedBy};
 ghost use Rattle.retrograde.specs.declared.build_fault.BuildFault.TheVariants.{Memory};
@@ -14,6 +15,7 @@ use crate::pulling::next_record;
 use crate::records::Records;
 use db_layout::header::VERSION;
 use db_layout::{Header, WriteFault, write_header, write_record};
+use least_plays::LeastPlays;
 use ranking::Ranks;
 use std::alloc::Global;
 use std::io::Write;
@@ -40,11 +42,12 @@ pub fn build<W: Write>(alloc: Global, bound: u8, writer: &mut W) -> Result<(), B
     };
     let ranks = Ranks::new();
     let mut records = Records::new(alloc);
-    add_level(&mut records, &ranks, 0)?;
+    let mut least = LeastPlays::new();
+    add_level(&mut records, &mut least, &ranks, 0)?;
     write_header(&header, writer)?;
     write_level(&records, writer)?;
     for below in 0..bound {
-        add_level(&mut records, &ranks, below + 1)?;
+        add_level(&mut records, &mut least, &ranks, below + 1)?;
         write_level(&records, writer)?;
     }
     Ok(())
@@ -53,7 +56,12 @@ pub fn build<W: Write>(alloc: Global, bound: u8, writer: &mut W) -> Result<(), B
 /// Makes the records of the positions of a pip count, where those of fewer pips are made. Of the
 /// shares only those of the last 24 levels are kept, since a roll takes no more pips. Refused
 /// only for want of memory.
-fn add_level(records: &mut Records, ranks: &Ranks, pips: u8) -> Result<(), BuildFault>
+fn add_level(
+    records: &mut Records,
+    least: &mut LeastPlays,
+    ranks: &Ranks,
+    pips: u8,
+) -> Result<(), BuildFault>
     ghost full: { AllRecords }
     requires low { pips ≤ 44 }
     requires kept { AreKept full records.old.means records.old.spreads.items
@@ -61,6 +69,8 @@ fn add_level(records: &mut Records, ranks: &Ranks, pips: u8) -> Result<(), Build
     requires next { length records.old.means ≡ first_of pips }
     requires recent { length records.old.means
         ≤ first_of (pips - 24) + length records.old.spreads.items }
+    requires known { Knows (mean_of_rank full) least.old (first_of pips) }
+    ensures known { OnOk result (Knows (mean_of_rank full) least.new (count_to pips)) }
     ensures kept { OnOk result
         (AreKept full records.new.means records.new.spreads.items records.new.plays.items) }
     ensures made { OnOk result (length records.new.means ≡ count_to pips) }
@@ -75,7 +85,7 @@ fn add_level(records: &mut Records, ranks: &Ranks, pips: u8) -> Result<(), Build
     records.forget_before(ranks.first_of(pips.saturating_sub(MOST_PIPS_OF_A_ROLL)));
     for rank in ranks.first_of(pips)..ranks.count_to(pips) {
         let position = ranks.unrank(rank).unwrap();
-        let made = next_record(ranks, &position, records);
+        let made = next_record(ranks, &position, records, least);
         records.push(made)?;
     }
     Ok(())

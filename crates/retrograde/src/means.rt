@@ -59,6 +59,17 @@ impl Means {
     }
 }
 
+/// The means that were added: they are what the best plays go by.
+impl least_plays::Means for Means {
+    ghost mean = { λ means. slice_index means };
+
+    ghost count = { λ means. length means };
+
+    fn mean(&self, rank: u16) -> u128 {
+        self.get(rank).unwrap().numerator()
+    }
+}
+
 #[cfg(test)]
 mod tests {
     use super::*;

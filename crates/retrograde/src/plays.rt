@@ -2,7 +2,7 @@ ghost use Rattle.std.specs.Prelude.{◌≡◌, ℕ, ◌<◌, ◌≤◌, ◌⊎�
 ghost use Rattle.race_model.specs.Positions.{pips};
 ghost use Rattle.race_model.specs.Plays.{Legal};
 ghost use Rattle.race_model.specs.Ranks.{rank as rank_of, first_of};
-ghost use Rattle.retrograde.specs.BestPlays.{IsBestPlay};
+ghost use Rattle.race_model.specs.BestPlays.{IsBestPlay};
 
 use crate::means::Means;
 use home_board::Position;
@@ -14,7 +14,7 @@ use ranking::Ranks;
 /// profile.)
 pub fn best_play(position: &Position, roll: Roll, means: &Means) -> u16
     requires { first_of (pips position.now) ≤ length means.now }
-    ensures { IsBestPlay means.now position.now roll result }
+    ensures { IsBestPlay (slice_index means.now) position.now roll result }
 {
     if position.is_finished() {
         return 0;
@@ -25,7 +25,7 @@ pub fn best_play(position: &Position, roll: Roll, means: &Means) -> u16
 /// The best play, where the means hold each result.
 pub(crate) fn best_result(ranks: &Ranks, position: &Position, roll: Roll, means: &Means) -> u16
     requires { (z : List ℕ) → Legal position.now roll z → rank_of z < length means.now }
-    ensures { IsBestPlay means.now position.now roll result }
+    ensures { IsBestPlay (slice_index means.now) position.now roll result }
 {
     best_of(ranks, results(position, roll).as_slice(), means)
 }

@@ -5,23 +5,29 @@ ghost use Rattle.race_model.specs.Dice.{Throw, roll_at};
 ghost use Rattle.race_model.specs.Plays.{Legal};
 ghost use Rattle.race_model.specs.Ranks.{rank as rank_of, first_of};
 ghost use Rattle.race_model.specs.LocalEquations.{whole};
-ghost use Rattle.retrograde.specs.AllRecords.{AllRecords};
-ghost use Rattle.retrograde.specs.BestPlays.{IsBestPlay};
+ghost use Rattle.least_plays.specs.Known.{Knows};
+ghost use Rattle.retrograde.specs.AllRecords.{AllRecords, mean_of_rank};
+ghost use Rattle.race_model.specs.BestPlays.{IsBestPlay};
 ghost use Rattle.retrograde.specs.BuiltRecords.{sum_of_means, sum_of_shares};
 ghost use Rattle.retrograde.specs.KeptRecords.{AreKept, IsRecordOfRank};
 
 use crate::means::Means;
-use crate::plays::best_result;
 use crate::record::Record;
 use crate::records::Records;
 use fixed_fraction::sums::{Sums, law_sums};
 use fixed_fraction::{Scaled, Spread};
 use home_board::Position;
+use least_plays::LeastPlays;
 use legal_plays::Roll;
 use ranking::Ranks;
 
-/// The record of the position of the next rank.
-pub(crate) fn next_record(ranks: &Ranks, position: &Position, records: &Records) -> Record
+/// The record of the position of the next rank. The plays of the one after it can be found then.
+pub(crate) fn next_record(
+    ranks: &Ranks,
+    position: &Position,
+    records: &Records,
+    least: &mut LeastPlays,
+) -> Record
     ghost full: { AllRecords }
     requires position { IsPosition position.now }
     requires low { pips position.now ≤ 44 }
@@ -30,12 +36,15 @@ pub(crate) fn next_record(ranks: &Ranks, position: &Position, records: &Records)
     requires next { rank_of position.now ≡ length records.now.means }
     requires recent { length records.now.means
         ≤ first_of (pips position.now - 24) + length records.now.spreads.items }
-    ensures { IsRecordOfRank full (rank_of position.now) result.mean result.plays result.spread }
+    requires known { Knows (mean_of_rank full) least.old (rank_of position.now) }
+    ensures record_is { IsRecordOfRank full (rank_of position.now) result.mean result.plays
+        result.spread }
+    ensures known { Knows (mean_of_rank full) least.new (rank_of position.now + 1) }
 {
+    let plays = best_plays(ranks, position, &records.means, least);
     if position.is_finished() {
         return finished_record();
     }
-    let plays = best_plays(ranks, position, &records.means);
     let sums = sums_of(records, &plays);
     let mean = sums.mean().unwrap();
     let spread = sums.spread().unwrap();
@@ -63,19 +72,25 @@ fn finished_record() -> Record
     }
 }
 
-/// The best plays with the 21 rolls.
-fn best_plays(ranks: &Ranks, position: &Position, means: &Means) -> [u16; 21]
-    requires { (v : Throw) (z : List ℕ) → Legal position.now v z → rank_of z < length means.now }
+/// The best plays with the 21 rolls, by the means of lower ranks.
+fn best_plays(
+    ranks: &Ranks,
+    position: &Position,
+    means: &Means,
+    least: &mut LeastPlays,
+) -> [u16; 21]
+    ghost full: { AllRecords }
+    requires low { pips position.now ≤ 44 }
+    requires agree { (r : ℕ) → r < length means.now →
+        slice_index means.now r ≡ mean_of_rank full r }
+    requires next { rank_of position.now ≡ length means.now }
+    requires known { Knows (mean_of_rank full) least.old (rank_of position.now) }
+    ensures known { Knows (mean_of_rank full) least.new (rank_of position.now + 1) }
     ensures best { (i : ℕ) → i < 21 →
-        IsBestPlay means.now position.now (roll_at i) (slice_index result i) }
+        IsBestPlay (slice_index means.now) position.now (roll_at i) (slice_index result i) }
     ensures len { length result ≡ 21 }
 {
-    let mut plays = [0; 21];
-    for index in 0..21 {
-        let roll = Roll::from_index(index).unwrap();
-        plays[usize::from(index)] = best_result(ranks, position, roll, means);
-    }
-    plays
+    least.advance(ranks, position, means)
 }
 
 /// The means and the shares that the rolls play to, added up with the weights of the rolls.

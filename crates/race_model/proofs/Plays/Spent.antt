@@ -7,7 +7,7 @@ use Rattle.race_model.specs.Plays.{Step, Run, Legal, in_order, in_reverse, doubl
 use Rattle.race_model.proofs.Plays.Steps.{Change, moved, borne_off, changed}
 
 -- a die shows at most 6
-number_most : (d : Die) → number d ≤ 6
+pub number_most : (d : Die) → number d ≤ 6
 number_most one = omega arith
 number_most two = omega arith
 number_most three = omega arith

@@ -1,12 +1,12 @@
 -- How many positions there are, in all and to a pip count, by sums that are cheap to compute.
-use Rattle.std.proofs.Common.{◌≡◌, ℕ, zero, suc, ◌+◌, ◌-◌, ◌<◌, ◌≤◌, ◌⊎◌, Bool, true, false, cond, not, List, refl, sym, ◌∙◌, ap, subst, inl, inr, arith}
+use Rattle.std.proofs.Common.{◌≡◌, ℕ, zero, suc, ◌+◌, ◌-◌, ◌*◌, ◌<◌, ◌≤◌, ◌⊎◌, ⊎_elim, Bool, true, false, cond, not, ◌&&◌, List, refl, sym, ◌∙◌, ap, subst, inl, inr, arith}
 use Rattle.std.specs.Prelude.{nat_lt, nat_le, ◌==◌}
-use Rattle.std.proofs.lemmas.Bool.{le-leb, ltb-true, ltb-false, cases_lt}
+use Rattle.std.proofs.lemmas.Bool.{le-leb, leb-true, ltb-true, ltb-false, and_parts, cases_lt}
 use Rattle.race_model.specs.Positions.{Board, IsPosition, pips, finished}
 use Rattle.race_model.specs.Ranks.{count_positions, rank, first_of, count_to, position_count, at_rank}
 use Rattle.race_model.proofs.Ranks.BoxCounts.{within, within-nil, within-zero, within-suc, within-add, within-none_on}
 use Rattle.race_model.proofs.Ranks.RankCounts.{ways, ways-nil, ways-zero, ways-low, ways-more}
-use Rattle.race_model.proofs.Ranks.RankOrder.{count_to-step, first_of-suc, first_of-zero, count_to-rises, rank-later, rank_within, rank_bound, pips-range, at_rank_search, at_rank_position, at_rank-rank, rank_reached}
+use Rattle.race_model.proofs.Ranks.RankOrder.{count_to-step, first_of-suc, first_of-zero, count_to-rises, first_of-rises, rank-later, rank_within, rank_bound, pips-range, at_rank_search, at_rank_position, at_rank-rank, rank_reached}
 
 -- the sum of a function at 0 to k
 abbrev sum_to : (ℕ → ℕ) → ℕ → ℕ
@@ -267,3 +267,76 @@ first_of-59 = first_of-next 52 7
 pub count_to-58 : count_to 58 ≡ 46062
 count_to-58 =
     omega (arith, first_of-suc 58, first_of-59, first_of-52, first_of-suc 44, count_to-44)
+
+-- the levels of n pip counts from m on have at most so many positions each, by sums alone
+abbrev are_short : ℕ → ℕ → ℕ → Bool
+are_short most m zero = true
+are_short most m (suc n) = nat_le (ways_sum 6 1 15 m) most && are_short most (suc m) n
+
+-- .. so each of them has
+short-each : (most m n p : ℕ) → are_short most m n ≡ true → m ≤ p → p < m + n →
+    ways_sum 6 1 15 p ≤ most
+short-each most m zero p all low high = absurd (omega arith)
+short-each most m (suc n) p all low high =
+    let parts = and_parts (nat_le (ways_sum 6 1 15 m) most) (are_short most (suc m) n) all in
+    ⊎_elim
+    (λ more. short-each most (suc m) n p parts.1 more (omega arith))
+    (λ here.
+    let e : m ≡ p = omega arith in
+    subst (λ q. ways_sum 6 1 15 q ≤ most) e (leb-true (ways_sum 6 1 15 m) most parts.0))
+    (cases_lt m p)
+
+-- to 58 pips, 1,636 positions are the most of one pip count: here to 44 pips, to 51 and to 58
+short-44 : are_short 1636 0 45 ≡ true
+short-44 = refl
+
+short-51 : are_short 1636 45 7 ≡ true
+short-51 = refl
+
+short-58 : are_short 1636 52 7 ≡ true
+short-58 = refl
+
+-- to 58 pips no pip count has more than 1,636 positions
+pub level-most : (p : ℕ) → p ≤ 58 → first_of (suc p) ≤ first_of p + 1636
+level-most p low =
+    omega (arith, first_of-suc p, count_to-step p, ways-ways_sum 6 1 15 p (omega arith), short)
+  where
+    short : ways_sum 6 1 15 p ≤ 1636
+    short = by_place (cases_lt p 45) (cases_lt p 52) where
+      by_place : (p < 45) ⊎ (45 ≤ p) → (p < 52) ⊎ (52 ≤ p) → ways_sum 6 1 15 p ≤ 1636
+      by_place (inl below) later = short-each 1636 0 45 p short-44 (omega arith) (omega arith)
+      by_place (inr from) (inl below) = short-each 1636 45 7 p short-51 from (omega arith)
+      by_place (inr from) (inr later) = short-each 1636 52 7 p short-58 later (omega arith)
+
+-- .. so n levels have at most n times as many
+pub levels-most : (n p : ℕ) → n + p ≤ 59 → first_of (n + p) ≤ first_of p + n * 1636
+levels-most zero p low = let e : 0 + p ≡ p = omega arith in omega (arith, ap first_of e)
+levels-most (suc n) p low =
+    let e : suc n + p ≡ suc (n + p) = omega arith in
+    omega (arith, ap first_of e, level-most (n + p) (omega arith), levels-most n p (omega arith))
+
+-- a position of at most 58 pips, and one of at most 6 fewer, are less than 7 levels apart
+pub seven_levels : (x y : Board) → IsPosition x → IsPosition y → pips x ≤ 58 →
+    pips x ≤ pips y + 6 → rank x < rank y + 11452
+seven_levels x y at there low near = by_low (cases_lt (pips y) 52) where
+  upper : rank x < first_of (suc (pips x))
+  upper = omega (arith, (rank_within x at).1, first_of-suc (pips x))
+
+  by_low : (pips y < 52) ⊎ (52 ≤ pips y) → rank x < rank y + 11452
+  by_low (inl below) =
+      omega (
+        arith,
+        upper,
+        first_of-rises (suc (pips x)) (7 + pips y) (omega arith),
+        levels-most 7 (pips y) (omega arith),
+        (rank_within y there).0,
+      )
+  by_low (inr above) =
+      omega (
+        arith,
+        upper,
+        first_of-rises (suc (pips x)) 59 (omega arith),
+        levels-most 7 52 (omega arith),
+        first_of-rises 52 (pips y) above,
+        (rank_within y there).0,
+      )

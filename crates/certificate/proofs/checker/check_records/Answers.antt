@@ -1,6 +1,7 @@
-use Rattle.std.proofs.Common.{sym, ap, subst, ◌∙◌, arith}
+use Rattle.std.proofs.Common.{◌+◌, slice_index, sym, ap, subst, ◌∙◌, arith, rules}
 use Rattle.race_model.specs.Ranks.{count_to}
 use Rattle.certificate.specs.CheckFaults.{IsFirst}
+use Rattle.certificate.specs.LowerRecords.{IsLower}
 use Rattle.certificate.proofs.FileTests.{fault-of_file, accepted-more, accepted-all}
 use Rattle.certificate.proofs.checker.check_records.Goals as goal
 
@@ -24,6 +25,9 @@ loop-rank-preserved g c =
       stays = fine.stays ∙ before.stays;
       header = fine.accepted ∙ before.header;
       cause = λ file told. fine.cause file (before.stays ∙ told) ∙ before.cause file told;
+      kept =
+          subst (λ told. IsLower told c.check_record.new.lower (c.loop-rank.rank + 1)) before.stays
+          fine.kept;
       lower = λ file told. accepted-more file c.loop-rank.rank (before.lower file told)
           (fine.local file (before.stays ∙ told));
     }
@@ -34,3 +38,20 @@ returns-clause-local g c file told =
     let count = c.in-Ok.header.counted ∙ ap count_to said.1 in
     accepted-all file c.loop-rank.rank said.0 (omega (arith, count, c.loop-rank-test.false))
     (c.loop-rank.invariant.lower file told)
+
+pub check_record-requires-clause-kept : goal.check_record-requires-clause-kept
+check_record-requires-clause-kept g c =
+    subst (λ told. IsLower told c.loop-rank.lower c.loop-rank.rank)
+    (sym c.loop-rank.invariant.stays) c.loop-rank.invariant.kept
+
+pub loop-rank-init : goal.loop-rank-init
+loop-rank-init g c = record {
+  stays = search rules;
+  header = search rules;
+  cause = search rules;
+  kept = record {
+    known = c.new-lower.ensures (slice_index c.new-lower.result.means);
+    means_are = λ file told r lt. absurd (omega arith);
+  };
+  lower = λ file told z at lt. absurd (omega arith);
+}

@@ -3,6 +3,7 @@ use Rattle.race_model.specs.Positions.{Board, IsPosition}
 use Rattle.race_model.specs.Ranks.{rank}
 use Rattle.race_model.specs.LocalEquations.{IsLocalAt}
 use Rattle.db_reader.specs.Telling.{WhereTold}
+use Rattle.certificate.specs.LowerRecords.{IsLower}
 use Rattle.certificate.proofs.checker.check_records.Given as goal
 
 -- the records of lower rank are accepted, and no read failed
@@ -12,6 +13,7 @@ invariant-loop-rank g l = record {
   header : g.T.Table.accepted l.table ≡ Some l.header;
   cause : WhereTold (g.T.Table.tells l.fn.table)
       (λ _. g.T.Table.failures l.table ≡ g.T.Table.failures l.fn.table);
+  kept : IsLower (g.T.Table.tells l.fn.table) l.lower l.rank;
   lower : WhereTold (g.T.Table.tells l.fn.table)
       (λ file. (z : Board) → IsPosition z → rank z < l.rank → IsLocalAt file z);
 }

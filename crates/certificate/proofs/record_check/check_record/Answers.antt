@@ -1,13 +1,17 @@
-use Rattle.std.proofs.Common.{◌≡◌, ℕ, ◌<◌, ◌≤◌, true, false, sym, ap, subst, ◌∙◌, arith, rules, tests}
+use Rattle.std.proofs.Common.{◌≡◌, ℕ, ◌<◌, ◌≤◌, true, false, slice_index, sym, ap, subst, ◌∙◌, arith, rules, tests}
 use Rattle.race_model.specs.Positions.{Board}
 use Rattle.race_model.specs.Ranks.{count_to}
-use Rattle.race_model.specs.Files.{bound_of, mean_of, share_of}
+use Rattle.race_model.specs.Dice.{roll_at}
+use Rattle.race_model.specs.Files.{bound_of, mean_of, mean_at, share_of}
+use Rattle.race_model.proofs.Ranks.BestPlays.{play-agree}
 use Rattle.certificate.specs.PlayFaults.{FirstOfPlays, PlayCauses}
 use Rattle.certificate.specs.declared.plays.PlayFault.{PlayFault}
 use Rattle.certificate.specs.declared.plays.PlayFault.TheVariants.{NotLegal, NotLeast, Read}
 use Rattle.std.proofs.lemmas.Bool.{false≢true}
 use Rattle.certificate.specs.RecordNumbers.{IsMeanOf, IsShareOf}
 use Rattle.certificate.specs.RecordFaults.{IsFirstFaultAt, RecordCauses, of_record}
+use Rattle.certificate.proofs.RecordBytes.{mean-of_record}
+use Rattle.certificate.proofs.KeptMeans.{accepted-mean_more}
 use Rattle.certificate.proofs.RecordTests.{IsSummed, first-refused, wrong-mean, wrong-share, right-numbers}
 use Rattle.certificate.proofs.record_check.check_record.Goals as goal
 
@@ -143,3 +147,35 @@ returns-in-None-clause-local g c file told =
     (subst (λ (x : Board). IsMeanOf x (mean_of bytes) c.in-Ok.sums) same mean)
     (subst (λ (x : Board). (k : ℕ) → k ≤ 22 → IsShareOf x (share_of bytes) c.in-Ok.sums k) same
     (c.in-None.ensures {u = tt}).right)
+
+pub sum_plays-requires-clause-results : goal.sum_plays-requires-clause-results
+sum_plays-requires-clause-results g c i lt =
+    let y = (c.best_plays-best.ensures.best i lt).reached in
+    (y.0, y.1, y.2)
+
+pub sum_plays-requires-clause-best : goal.sum_plays-requires-clause-best
+sum_plays-requires-clause-best g c file told i lt =
+    let x = c.unwrap-position.result in
+    let ranked = rw c.unwrap-position.ensures at c.unrank.ensures.ranked in
+    let at = rw c.unwrap-position.ensures at c.unrank.ensures.position in
+    let now = sym (c.in_default.ensures {u = tt}).stays ∙ told in
+    play-agree (slice_index c.args.lower.now.means) (mean_at file) x (roll_at i)
+    (slice_index c.best_plays-best.result i) at
+    (λ q less. c.requires.kept.means_are file now q (omega (arith, ranked)))
+    (c.best_plays-best.ensures.best i lt)
+
+pub returns-in-None-clause-kept : goal.returns-in-None-clause-kept
+returns-in-None-clause-kept g c = record {
+  known = c.accept.ensures.known;
+  means_are = λ file told.
+      let now = (c.in_default.ensures {u = tt}).stays ∙ told in
+      let fine = c.in-Ok.ensures {u = tt} in
+      let before = c.args.lower.now.means in
+      let read = c.mean.ensures ∙ (ap mean_of (c.lend-view.ensures file (fine.stays ∙ now))
+      ∙ mean-of_record file c.args.rank) in
+      accepted-mean_more file before c.accept.new.self.means c.args.rank
+      (c.accept.ensures.mean ∙ read)
+      (λ r other. c.accept.ensures.others r other
+      ∙ ap (λ means. slice_index means r) c.best_plays-best.ensures.means)
+      (c.requires.kept.means_are file told);
+}

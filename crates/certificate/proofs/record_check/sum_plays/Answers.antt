@@ -1,8 +1,11 @@
-use Rattle.std.proofs.Common.{◌≡◌, ◌+◌, ◌<◌, refl, ap, subst, ◌∙◌, arith, below_more}
+use Rattle.std.proofs.Common.{◌≡◌, ◌+◌, ◌<◌, slice_index, refl, sym, ap, subst, ◌∙◌, arith, below_more}
 use Rattle.race_model.specs.Positions.{Board, IsPosition, IsFinished}
 use Rattle.race_model.specs.Dice.{roll_at, weight}
 use Rattle.race_model.specs.LocalEquations.{IsPlayed, IsBest, IsLocalAt}
 use Rattle.race_model.specs.Ranks.{rank}
+use Rattle.race_model.specs.Plays.{Legal}
+use Rattle.race_model.specs.Files.{mean_at}
+use Rattle.race_model.specs.BestPlays.{IsBestPlay}
 use Rattle.race_model.proofs.Plays.Results.{legal_position, legal_pips}
 use Rattle.fixed_fraction.specs.Totals.{IsAdded, AreTotals}
 use Rattle.certificate.specs.PlayFaults.{Applies}
@@ -11,8 +14,8 @@ use Rattle.certificate.proofs.Accepted.{play-of_lent}
 use Rattle.certificate.proofs.PlayNumbers.{play-lent, lent-mean, lent-share}
 use Rattle.certificate.proofs.record_check.sum_plays.Goals as goal
 
-pub check_play-requires-clause-records : goal.check_play-requires-clause-records
-check_play-requires-clause-records g c y legal =
+pub check_recorded-requires-clause-records : goal.check_recorded-requires-clause-records
+check_recorded-requires-clause-records g c y legal =
     let x = c.args.position.now in
     let is = legal_position x c.unwrap-roll.result y c.requires.position legal in
     rw c.loop-index.invariant.accepted
@@ -147,3 +150,23 @@ returns-clause-totals g c file told unfinished =
       each = λ k few. c.law_sums.ensures.shares (recorded_mean file x)
           (recorded_share file x) c.loop-index.sums k few are;
     }
+
+pub check_recorded-requires-clause-result_best : goal.check_recorded-requires-clause-result_best
+check_recorded-requires-clause-result_best g c =
+    let y = c.requires.results c.loop-index.index c.loop-index-test.true in
+    let roll = rw c.unwrap-roll.ensures at c.from_index.ensures.value in (
+      y.0,
+      subst (λ v. Legal c.args.position.now v y.0) (sym roll) y.1,
+      y.2 ∙ ap (λ i. slice_index c.args.best.now i) (sym c.from.ensures),
+    )
+
+pub check_recorded-requires-clause-best : goal.check_recorded-requires-clause-best
+check_recorded-requires-clause-best g c file told =
+    let x = c.args.position.now in
+    let roll = rw c.unwrap-roll.ensures at c.from_index.ensures.value in
+    let best = c.requires.best file (sym c.loop-index.invariant.stays ∙ told) c.loop-index.index
+    c.loop-index-test.true in
+    subst (λ v. IsBestPlay (mean_at file) x v (slice_index c.args.best.now c.from.result)) (sym roll)
+    (subst
+    (λ i. IsBestPlay (mean_at file) x (roll_at c.loop-index.index) (slice_index c.args.best.now i))
+    (sym c.from.ensures) best)

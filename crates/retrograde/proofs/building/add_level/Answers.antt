@@ -1,8 +1,10 @@
-use Rattle.std.proofs.Common.{◌≡◌, ◌-◌, ◌<◌, ◌≤◌, sym, ap, ◌∙◌, arith}
+use Rattle.std.proofs.Common.{◌≡◌, ◌-◌, ◌<◌, ◌≤◌, sym, ap, subst, ◌∙◌, arith}
 use Rattle.race_model.specs.Positions.{pips}
 use Rattle.race_model.specs.Ranks.{first_of, count_to}
 use Rattle.race_model.proofs.Ranks.RankOrder.{first_of-rises}
 use Rattle.race_model.proofs.Ranks.PositionTotals.{count_to-most}
+use Rattle.least_plays.specs.Known.{Knows}
+use Rattle.retrograde.specs.AllRecords.{mean_of_rank}
 use Rattle.retrograde.proofs.Levels.{pips-at_rank, level-end}
 use Rattle.retrograde.proofs.building.add_level.Goals as goal
 
@@ -28,7 +30,10 @@ next_record-made-requires g c =
           c.loop-rank.invariant.kept,
           (
             ranked ∙ sym c.loop-rank.invariant.made,
-            rw level (omega (arith, c.loop-rank.invariant.recent, c.loop-rank.invariant.made)),
+            (
+              rw level (omega (arith, c.loop-rank.invariant.recent, c.loop-rank.invariant.made)),
+              rw ranked c.loop-rank.invariant.known,
+            ),
           ),
         ),
       ),
@@ -53,3 +58,15 @@ returns-clause-few g c =
       c.loop-rank.invariant.level,
       first_of-rises (c.args.pips - 24) c.args.pips (omega arith),
     )
+
+pub returns-clause-known : goal.returns-clause-known
+returns-clause-known g c =
+    let all : c.loop-rank.rank ≡ count_to c.args.pips =
+    omega (
+      arith,
+      c.loop-rank.invariant.level,
+      c.count_to-rank-end.ensures,
+      c.first_of-rank.ensures,
+      level-end c.args.pips,
+    ) in
+    subst (Knows (mean_of_rank g.full) c.loop-rank.least) all c.loop-rank.invariant.known

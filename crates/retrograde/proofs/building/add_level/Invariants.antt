@@ -1,5 +1,7 @@
 use Rattle.std.proofs.Common.{◌≡◌, ◌+◌, ◌-◌, ◌≤◌, length}
 use Rattle.race_model.specs.Ranks.{first_of}
+use Rattle.least_plays.specs.Known.{Knows}
+use Rattle.retrograde.specs.AllRecords.{mean_of_rank}
 use Rattle.retrograde.specs.KeptRecords.{AreKept}
 use Rattle.retrograde.proofs.building.add_level.Given as goal
 
@@ -18,5 +20,6 @@ invariant-loop-rank g l = record {
   kept : AreKept g.full l.records.means l.records.spreads.items l.records.plays.items;
   made : length l.records.means ≡ l.rank;
   recent : l.rank ≤ first_of (l.pips - 24) + length l.records.spreads.items;
+  known : Knows (mean_of_rank g.full) l.least l.rank;
   level : first_of l.pips + length l.records.plays.items ≡ l.rank;
 }

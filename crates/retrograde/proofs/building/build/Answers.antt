@@ -5,7 +5,7 @@ use Rattle.race_model.specs.Files.{header}
 use Rattle.race_model.proofs.Ranks.RankOrder.{first_of-zero, first_of-suc, first_of-rises, count_to-rises}
 use Rattle.db_layout.specs.Writes.{AppendsPart}
 use Rattle.std.proofs.KnownBytes.{Appends-nil}
-use Rattle.retrograde.specs.AllRecords.{bytes_of_rank}
+use Rattle.retrograde.specs.AllRecords.{mean_of_rank, bytes_of_rank}
 use Rattle.retrograde.specs.BuiltBytes.{records_from, built_to, WritesPart, IsRefusedBy}
 use Rattle.retrograde.specs.declared.build_fault.BuildFault.TheVariants.{Memory, Write}
 use Rattle.retrograde.proofs.Existence.{all-records}
@@ -19,8 +19,16 @@ first_of-one p = let next : p + 1 ≡ suc p = omega arith in rw next (first_of-s
 
 pub add_level-requires : goal.add_level-requires
 add_level-requires g c =
-    let none : length c.new-records.result.means ≡ 0 = ap length c.new-records.ensures.means in
-    (omega arith, (c.new-records.ensures.kept, (none ∙ sym first_of-zero, omega (arith, none))))
+    let none : length c.new-records.result.means ≡ 0 = ap length c.new-records.ensures.means in (
+      omega arith,
+      (
+        c.new-records.ensures.kept,
+        (
+          none ∙ sym first_of-zero,
+          (omega (arith, none), rw first_of-zero (c.new-least.ensures (mean_of_rank all-records))),
+        ),
+      ),
+    )
 
 pub returns-in_err-add_level-clause-refused : goal.returns-in_err-add_level-clause-refused
 returns-in_err-add_level-clause-refused g c =
@@ -94,6 +102,7 @@ loop-below-init g c =
     (header-first all-records bound low old mid headed) in
     record {
       kept = level.kept;
+      known = rw (first_of-suc 0) level.known;
       made = level.made ∙ sym (first_of-suc 0);
       recent = level.recent;
       written = subst (λ (n : ℕ). Appends old new (built_to all-records bound n)) all
@@ -110,7 +119,10 @@ add_level-requires-in-loop-below g c =
         is.kept,
         (
           is.made,
-          omega (arith, is.recent, first_of-rises (below - 24) (below + 1 - 24) (omega arith)),
+          (
+            omega (arith, is.recent, first_of-rises (below - 24) (below + 1 - 24) (omega arith)),
+            is.known,
+          ),
         ),
       ),
     )
@@ -178,6 +190,7 @@ loop-below-preserved g c =
     subst (λ (n : ℕ). Appends old mid (built_to all-records bound n)) start is.written in
     record {
       kept = level.kept;
+      known = rw (first_of-one (below + 1)) level.known;
       made = level.made ∙ sym (first_of-one (below + 1));
       recent = level.recent;
       written = subst (λ (n : ℕ). Appends old new (built_to all-records bound n)) all

@@ -1,11 +1,12 @@
-use Rattle.std.proofs.Common.{arith}
+use Rattle.std.proofs.Common.{slice_index, arith}
 use Rattle.race_model.specs.Positions.{IsFinished}
-use Rattle.retrograde.proofs.Best.{legal-below, best-at_end}
+use Rattle.race_model.proofs.Ranks.BestPlays.{play-at_end}
+use Rattle.retrograde.proofs.Best.{legal-below}
 use Rattle.retrograde.proofs.plays.best_play.Goals as goal
 
 pub returns-then-is_finished : goal.returns-then-is_finished
 returns-then-is_finished c =
-    best-at_end c.args.means.now c.args.position.now c.args.roll c.is_finished.ensures.position
+    play-at_end (slice_index c.args.means.now) c.args.position.now c.args.roll c.is_finished.ensures.position
     (c.is_finished.ensures.value.0 c.if-is_finished.true)
 
 pub best_result-requires : goal.best_result-requires

@@ -1,23 +1,19 @@
-use Rattle.std.proofs.Common.{length-set, subst, ◌∙◌, arith}
-use Rattle.race_model.specs.Dice.{Throw, roll_at}
-use Rattle.retrograde.specs.BestPlays.{IsBestPlay}
-use Rattle.race_model.proofs.Numbers.Members.{set_next}
+-- The means of lower ranks are those of the one list of records, so what is known goes by both.
+use Rattle.std.proofs.Common.{◌+◌, slice_index, sym, arith}
+use Rattle.race_model.specs.Ranks.{rank}
+use Rattle.least_plays.proofs.Knowing.{knows_agree}
+use Rattle.retrograde.specs.AllRecords.{mean_of_rank}
 use Rattle.retrograde.proofs.pulling.best_plays.Goals as goal
 
-pub loop-index-preserved : goal.loop-index-preserved
-loop-index-preserved c =
-    let means = c.args.means.now in
-    let x = c.args.position.now in
-    let r = c.best_result.result in
-    let roll = rw c.unwrap-roll.ensures at c.from_index.ensures.value in
-    record {
-      len = length-set c.loop-index.plays c.from.result r ∙ c.loop-index.invariant.len;
-      best =
-          set_next (λ j play. IsBestPlay means x (roll_at j) play) c.loop-index.plays
-          c.loop-index.index c.from.result r 0 c.from.ensures
-          (omega (arith, c.loop-index.invariant.len)) c.loop-index.invariant.best
-          (subst (λ (v : Throw). IsBestPlay means x v r) roll c.best_result.ensures);
-    }
+pub advance-requires-clause-known : goal.advance-requires-clause-known
+advance-requires-clause-known g c =
+    knows_agree (mean_of_rank g.full) (slice_index c.args.means.now) c.args.least.now
+    (rank c.args.position.now)
+    (λ q lt. let next = c.requires.1.1.0 in sym (c.requires.1.0 q (omega arith))) c.requires.1.1.1
 
-pub returns-clause-best : goal.returns-clause-best
-returns-clause-best c = λ i lt. c.loop-index.invariant.best i (omega arith)
+pub returns-clause-known : goal.returns-clause-known
+returns-clause-known g c =
+    knows_agree (slice_index c.args.means.now) (mean_of_rank g.full) c.advance.new.self
+    (rank c.args.position.now + 1)
+    (λ q lt. let next = c.requires.1.1.0 in c.requires.1.0 q (omega arith))
+    c.advance.ensures.known

@@ -3,7 +3,7 @@ use Rattle.std.specs.Prelude.{slice_index}
 use Rattle.race_model.specs.Positions.{IsFinished}
 use Rattle.race_model.specs.LocalEquations.{whole}
 use Rattle.retrograde.specs.BuiltRecords.{sum_of_means, sum_of_shares}
-use Rattle.retrograde.proofs.Next.{legal-lower}
+use Rattle.race_model.proofs.Ranks.BestPlays.{legal_lower}
 use Rattle.retrograde.proofs.Unique.{record-at_end, plays-held, plays-recent, mean-exact, shares-exact, no-last, record-before}
 use Rattle.retrograde.proofs.pulling.next_record.Goals as goal
 
@@ -13,18 +13,19 @@ returns-then-is_finished g c =
     c.is_finished.ensures.value.0 c.if-is_finished.true in
     let is = c.finished_record.ensures in
     let made = c.finished_record.result in
-    record-at_end g.full c.args.position.now c.requires.0 c.requires.1.0 none made.mean made.plays
-    made.spread
-    is.mean is.plays is.plays_len is.start is.shares is.shares_len
+    record {
+      record_is =
+          record-at_end g.full c.args.position.now c.requires.0 c.requires.1.0 none made.mean made.plays
+          made.spread
+          is.mean is.plays is.plays_len is.start is.shares is.shares_len;
+      known = c.best_plays-plays.ensures.known;
+    }
 
 pub best_plays-plays-requires : goal.best_plays-plays-requires
-best_plays-plays-requires g c = λ v z legal.
-    let unfinished : ¬ IsFinished c.args.position.now =
-    λ none.
-    let yes = c.is_finished.ensures.value.1 none in
-    let not = c.if-is_finished.false in cc in
-    let next = c.requires.1.1.1.0 in
-    omega (arith, legal-lower c.args.position.now v z c.requires.0 unfinished legal, next)
+best_plays-plays-requires g c = (
+  c.requires.1.0,
+  (c.requires.1.1.0.means_are, (c.requires.1.1.1.0, c.requires.1.1.1.1.1)),
+)
 
 pub sums_of-sums-requires : goal.sums_of-sums-requires
 sums_of-sums-requires g c =
@@ -35,7 +36,7 @@ sums_of-sums-requires g c =
     let not = c.if-is_finished.false in cc in
     let agree = c.requires.1.1.0.means_are in
     let next = c.requires.1.1.1.0 in
-    let recent = c.requires.1.1.1.1 in
+    let recent = c.requires.1.1.1.1.0 in
     let best = c.best_plays-plays.ensures in (
       c.requires.1.1.0,
       (
@@ -100,7 +101,11 @@ returns g c =
     (rw c.unwrap-mean.ensures at c.mean.ensures.value) ∙ ap (λ n. 36 * whole + n) sums.mean in
     let start = rw c.unwrap-spread.ensures at c.spread.ensures.start in
     let moved = rw c.unwrap-spread.ensures at c.spread.ensures.moved in
-    record-before g.full x c.requires.0 c.requires.1.0 unfinished c.args.records.now.means
-    c.requires.1.1.0.means_are c.requires.1.1.1.0 c.best_plays-plays.result best.len best.best
-    c.unwrap-mean.result c.unwrap-spread.result mean start
-    (λ k lt. moved k lt ∙ sums.shares k (omega arith)) c.at-start.ensures.len
+    record {
+      record_is =
+          record-before g.full x c.requires.0 c.requires.1.0 unfinished c.args.records.now.means
+          c.requires.1.1.0.means_are c.requires.1.1.1.0 c.best_plays-plays.result best.len best.best
+          c.unwrap-mean.result c.unwrap-spread.result mean start
+          (λ k lt. moved k lt ∙ sums.shares k (omega arith)) c.at-start.ensures.len;
+      known = c.best_plays-plays.ensures.known;
+    }

@@ -1,0 +1,107 @@
+-- What is known of the positions before the next rank: nothing at first, one position more after
+-- each, and by means that agree on lower ranks the same.
+use Rattle.std.proofs.Common.{◌≡◌, ◌≢◌, ⊎_elim, ℕ, zero, suc, ◌+◌, ◌-◌, ◌%◌, ◌<◌, ◌≤◌, List, [], ◌∷◌, length, replicate, get_or, set, sym, ap, subst, ◌∙◌, arith, get_or-set_other, get_or-set_same}
+use Rattle.std.specs.Prelude.{slice_index, slice_index_or}
+use Rattle.std.proofs.lemmas.Bool.{cases_lt}
+use Rattle.race_model.specs.Positions.{Board, IsPosition}
+use Rattle.race_model.specs.Dice.{Die, one, two, three, four, five, six, number}
+use Rattle.race_model.specs.Ranks.{rank}
+use Rattle.race_model.proofs.Plays.MostPlays.{get_or-zeros}
+use Rattle.race_model.proofs.Ranks.RankOrder.{rank_apart}
+use Rattle.race_model.proofs.Ranks.BestPlays.{run-agree}
+use Rattle.least_plays.specs.Known.{number_in, IsBestAfter, Knows}
+use Rattle.least_plays.specs.declared.room.Row.{Row}
+use Rattle.least_plays.specs.declared.room.LeastPlays.{LeastPlays}
+
+-- before the first rank there is nothing to know
+pub knows_nothing : (mean : ℕ → ℕ) (plays : LeastPlays) → Knows mean plays 0
+knows_nothing mean plays = record { each = λ y at lower. absurd (omega arith) }
+
+-- ranks that are less than 11,452 apart have rows of their own
+rows_apart : (r n : ℕ) → r < n → n < r + 11452 → r % 11452 ≢ n % 11452
+rows_apart r n below near e = omega arith
+
+-- what a row keeps
+kept_in : Row → Die → ℕ → ℕ
+kept_in row d n = slice_index (slice_index_or row.after (number d - 1) []) n
+
+-- a row that is written leaves the others
+number_in-other : (rows : List Row) (place r : ℕ) (row : Row) (d : Die) (n : ℕ) →
+    r % 11452 ≢ place → number_in (set rows place row) r d (suc n) ≡ number_in rows r d (suc n)
+unfolding number_in kept_in
+number_in-other rows place r row d n apart =
+    ap (λ row. kept_in row d n)
+    (get_or-set_other {A = Row} rows place (r % 11452) row (record { after = [] }) apart)
+
+-- .. and has what was written
+number_in-same : (rows : List Row) (place r : ℕ) (row : Row) (d : Die) (n : ℕ) →
+    r % 11452 ≡ place → place < length rows →
+    number_in (set rows place row) r d (suc n)
+    ≡ slice_index (slice_index_or row.after (number d - 1) []) n
+unfolding number_in kept_in
+number_in-same rows place r row d n same inside =
+    ap (λ q. kept_in (get_or (set rows place row) q (record { after = [] })) d n) same
+    ∙ ap (λ row. kept_in row d n)
+    (get_or-set_same {A = Row} rows place row (record { after = [] }) inside)
+
+-- the position of the next rank is known once its row is written
+pub knows_more : (mean : ℕ → ℕ) (plays : LeastPlays) (x : Board) (place : ℕ) (row : Row) →
+    IsPosition x → place ≡ rank x % 11452 → place < length plays.rows →
+    Knows mean plays (rank x) →
+    ((d : Die) (n : ℕ) → n < 3 →
+    IsBestAfter mean x (d ∷ replicate n d)
+    (slice_index (slice_index_or row.after (number d - 1) []) n)) →
+    Knows mean (record plays { rows = set plays.rows place row }) (rank x + 1)
+knows_more mean plays x place row at placed inside known best = record { each = each } where
+  each : (y : Board) → IsPosition y → rank y < rank x + 1 → rank x + 1 ≤ rank y + 11452 →
+      (d : Die) (n : ℕ) → n < 3 →
+      IsBestAfter mean y (d ∷ replicate n d)
+      (number_in (set plays.rows place row) (rank y) d (suc n))
+  each y there lower near d n few = ⊎_elim
+      (λ below.
+      let apart : rank y % 11452 ≢ place =
+      λ e. rows_apart (rank y) (rank x) below (omega arith) (e ∙ placed) in
+      subst (λ r. IsBestAfter mean y (d ∷ replicate n d) r)
+      (sym (number_in-other plays.rows place (rank y) row d n apart))
+      (known.each y there below (omega arith) d n few))
+      (λ here.
+      let e : rank x ≡ rank y = omega arith in
+      let same : rank y % 11452 ≡ place = ap (λ r. r % 11452) (sym e) ∙ sym placed in
+      subst (λ r. IsBestAfter mean y (d ∷ replicate n d) r)
+      (sym (number_in-same plays.rows place (rank y) row d n same inside))
+      (subst
+      (λ z. IsBestAfter mean z (d ∷ replicate n d)
+      (slice_index (slice_index_or row.after (number d - 1) []) n))
+      (rank_apart x y at there e) (best d n few)))
+      (cases_lt (rank y) (rank x))
+
+-- the same is known by means that agree below the last rank
+pub knows_agree : (mean other : ℕ → ℕ) (plays : LeastPlays) (next : ℕ) →
+    ((q : ℕ) → q + 1 < next → mean q ≡ other q) → Knows mean plays next → Knows other plays next
+knows_agree mean other plays next agree known = record {
+  each = λ y at lower near d n few.
+      run-agree mean other d (replicate n d) y (number_in plays.rows (rank y) d (suc n)) at
+      (λ q lt. agree q (omega arith)) (known.each y at lower near d n few);
+}
+
+-- what is kept, by the places in a row
+pub number_in-some : (rows : List Row) (r : ℕ) (d : Die) (n place i j : ℕ) → place ≡ r →
+    i ≡ number d - 1 → j + 1 ≡ n →
+    number_in rows r d n
+    ≡ slice_index
+    (slice_index_or (slice_index_or rows (place % 11452) (record { after = [] })).after i []) j
+unfolding number_in kept_in
+number_in-some rows r d zero place i j at first second = absurd (omega arith)
+number_in-some rows r d (suc n) place i j at first second =
+    let e : n ≡ j = omega arith in
+    rw (at, first, e)
+
+-- the row of the finished position has rank 0 everywhere
+pub finished_row : (d : Die) (n : ℕ) →
+    slice_index (slice_index_or (replicate 6 (replicate 3 0)) (number d - 1) []) n ≡ 0
+finished_row one n = get_or-zeros 3 n
+finished_row two n = get_or-zeros 3 n
+finished_row three n = get_or-zeros 3 n
+finished_row four n = get_or-zeros 3 n
+finished_row five n = get_or-zeros 3 n
+finished_row six n = get_or-zeros 3 n

@@ -1,0 +1,4 @@
+pub mod Best
+pub mod StepRanks
+pub mod Rolls
+pub mod Knowing

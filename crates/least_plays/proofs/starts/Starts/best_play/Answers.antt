@@ -1,0 +1,55 @@
+-- The places of the two dice, and the better of their two orders.
+use Rattle.std.proofs.Common.{◌≡◌, ◌-◌, ◌⊎◌, inl, inr, ⊎_elim, ap, sym, ◌∙◌, [], arith}
+use Rattle.race_model.specs.Dice.{number}
+use Rattle.least_plays.specs.declared.starts.Start.{Start}
+use Rattle.least_plays.proofs.Rolls.{play_held, double_best, apart_best}
+use Rattle.least_plays.proofs.starts.Starts.best_play.Goals as goal
+
+-- where nothing is kept
+none : Start
+none = record { after = []; plays = [] }
+
+pub returns-then-high-low : goal.returns-then-high-low
+unfolding none
+returns-then-high-low g c =
+    let high = ap number c.high.ensures.value in
+    let low = ap number c.low.ensures.value in
+    double_best (g.M.Means.mean c.args.means.now) (g.M.Means.count c.args.means.now)
+    c.args.self.now c.requires none c.args.roll (c.from-high.result - 1) (c.from-low.result - 1)
+    (omega (arith, c.from-high.ensures, c.number.ensures.value))
+    (omega (arith, c.from-low.ensures, c.number-2.ensures.value)) c.if-high-low.true
+
+pub of-best-requires : goal.of-best-requires
+unfolding none
+of-best-requires g c =
+    let high = ap number c.high.ensures.value in
+    let low = ap number c.low.ensures.value in
+    play_held (g.M.Means.mean c.args.means.now) (g.M.Means.count c.args.means.now)
+    c.args.self.now c.requires none c.args.roll.first c.args.roll.second
+    (c.from-high.result - 1) (c.from-low.result - 1)
+    (omega (arith, c.from-high.ensures, c.number.ensures.value))
+    (omega (arith, c.from-low.ensures, c.number-2.ensures.value))
+
+pub offer-requires-clause-held : goal.offer-requires-clause-held
+unfolding none
+offer-requires-clause-held g c =
+    let high = ap number c.high.ensures.value in
+    let low = ap number c.low.ensures.value in
+    play_held (g.M.Means.mean c.args.means.now) (g.M.Means.count c.args.means.now)
+    c.args.self.now c.requires none c.args.roll.second c.args.roll.first
+    (c.from-low.result - 1) (c.from-high.result - 1)
+    (omega (arith, c.from-low.ensures, c.number-2.ensures.value))
+    (omega (arith, c.from-high.ensures, c.number.ensures.value))
+
+pub returns : goal.returns
+unfolding none
+returns g c =
+    let high = ap number c.high.ensures.value in
+    let low = ap number c.low.ensures.value in
+    apart_best (g.M.Means.mean c.args.means.now) (g.M.Means.count c.args.means.now)
+    c.args.self.now c.requires none c.args.roll (c.from-high.result - 1) (c.from-low.result - 1)
+    c.offer.new.self.rank
+    (omega (arith, c.from-high.ensures, c.number.ensures.value))
+    (omega (arith, c.from-low.ensures, c.number-2.ensures.value)) c.if-high-low.false
+    (⊎_elim (λ was. inl (was ∙ c.of-best.ensures.rank)) (λ is. inr is) c.offer.ensures.one)
+    (rw (sym c.of-best.ensures.rank) c.offer.ensures.before) c.offer.ensures.now

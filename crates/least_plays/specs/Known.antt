@@ -1,0 +1,56 @@
+-- What is known of the positions of the last levels of pips. Source: this project's profile.
+use Rattle.std.specs.Prelude.{◌≡◌, ℕ, zero, suc, ◌+◌, ◌-◌, ◌%◌, ◌<◌, ◌≤◌, ◌==◌, if◌then◌else◌, List, [], ◌∷◌, replicate, slice_index, slice_index_or}
+use Rattle.race_model.specs.Positions.{Board, IsPosition, IsFinished, pips}
+use Rattle.race_model.specs.Dice.{Die, number}
+use Rattle.race_model.specs.Plays.{Run}
+use Rattle.race_model.specs.Ranks.{rank}
+use Rattle.race_model.specs.BestPlays.{IsBestOf}
+use Rattle.least_plays.specs.declared.room.Row.{Row}
+use Rattle.least_plays.specs.declared.room.LeastPlays.{LeastPlays}
+use Rattle.least_plays.specs.declared.starts.Start.{Start}
+use Rattle.least_plays.specs.declared.starts.Starts.{Starts}
+
+-- r is the best rank to which the dice, one after another, lead from x
+abbrev pub IsBestAfter : (ℕ → ℕ) → Board → List Die → ℕ → Type 0
+IsBestAfter mean x dice r = IsBestOf mean (Run x dice) r
+
+-- what is kept of a rank for a die that is played n times: nothing but the rank itself for none
+unfoldable pub number_in : List Row → ℕ → Die → ℕ → ℕ
+number_in rows r d zero = r
+number_in rows r d (suc n) =
+    slice_index
+    (slice_index_or (slice_index_or rows (r % 11452) (record { after = [] })).after (number d - 1) [])
+    n
+
+-- of each position below the next rank to which a step from there on can lead, the best ranks
+-- after each die once, twice and three times are kept
+pub record Knows (mean : ℕ → ℕ) (plays : LeastPlays) (next : ℕ) : Type 0 where
+  pub each : (y : Board) → IsPosition y → rank y < next → next ≤ rank y + 11452 →
+      (d : Die) (n : ℕ) → n < 3 →
+      IsBestAfter mean y (d ∷ replicate n d) (number_in plays.rows (rank y) d (suc n))
+
+-- x is the next position, it is unfinished, and the means of all lower ranks are there
+pub record IsNext (mean : ℕ → ℕ) (count : ℕ) (plays : LeastPlays) (x : Board) : Type 0 where
+  pub position : IsPosition x
+  pub unfinished : ¬ IsFinished x
+  pub low : pips x ≤ 58
+  pub held : rank x ≤ count
+  pub known : Knows mean plays (rank x)
+
+-- how often the other die of a roll is played after the first
+abbrev pub dice_left : Die → Die → ℕ
+dice_left a b = if number a == number b then 3 else 1
+
+-- the best ranks from x with a die first
+pub record IsStart (mean : ℕ → ℕ) (x : Board) (d : Die) (start : Start) : Type 0 where
+  pub after : (n : ℕ) → n < 3 → IsBestAfter mean x (d ∷ replicate n d) (slice_index start.after n)
+  pub plays : (e : Die) →
+      IsBestAfter mean x (d ∷ replicate (dice_left d e) e) (slice_index start.plays (number e - 1))
+
+-- the best ranks from an unfinished position with each die first
+pub record AreStarts (mean : ℕ → ℕ) (count : ℕ) (starts : Starts) : Type 0 where
+  pub position : IsPosition starts.position
+  pub unfinished : ¬ IsFinished starts.position
+  pub held : rank starts.position ≤ count
+  pub each : (d : Die) (other : Start) →
+      IsStart mean starts.position d (slice_index_or starts.dice (number d - 1) other)
