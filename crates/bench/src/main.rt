@@ -1,20 +1,36 @@
-//! The speed of the crates. Without a word of its own, the program turns each rank into its
-//! position and back, and then takes the results of all 21 rolls from every position of at most a
-//! number of pips (a number among the words, else 44), and the rank of each. It prints how many
-//! ranks came back, how many results there are, and how many of these have a lower rank than the
-//! position: all but those of the finished position. After the word `build` it builds the database
-//! of that bound in memory and prints how many bytes it has; after the word `check` it checks that
-//! database too. It rests on `certificate` and `retrograde`; nothing stands on it.
+//! The speed of the crates. It rests on `epc_query`, `certificate` and `retrograde`; nothing
+//! stands on it. Its words:
+//!
+//! - none, or `results`: it turns each rank into its position and back, and then takes the results
+//!   of all 21 rolls from every position, and the rank of each. It prints how many ranks came
+//!   back, how many results there are, and how many of these have a lower rank than the position:
+//!   all but those of the finished position.
+//! - `build`, `check`: it builds the database in memory and prints how many bytes it has, and
+//!   checks it.
+//! - `mean`, `dist`, `play`, `moves`: it answers so many lines of that kind, from memory into a
+//!   writer that only counts, and prints how many a second.
+//! - `text` and one of these: it writes the lines themselves.
+//!
+//! A number after a `-` is how many lines, any other one how many pips the positions have at most
+//! (else 44). After `pages` the database is read by pages that hold every record, and after
+//! `sorted` the lines come in the order of the ranks. Times are in microseconds; they and the
+//! rates differ from run to run.
 #![tactic(auto)]
 
-use certificate::check;
-use db_reader::Whole;
+use certificate::{Checked, check};
+use db_reader::{Paged, SliceSource, Table, Whole};
+use epc_query::run;
 use home_board::MAX_BOUND;
 use legal_plays::{Roll, results};
+use lines::{Counter, Kind, Order, lines_of};
 use ranking::Ranks;
 use retrograde::build;
 use std::alloc::Global;
+use std::io::Write;
+use std::time::{Clock, Instant};
 use std::{env, io};
+
+mod lines;
 
 /// What is measured.
 #[derive(Clone, Copy)]
@@ -22,6 +38,18 @@ enum Work {
     Results,
     Build,
     Check,
+    Answer(Kind),
+    Text(Kind),
+}
+
+/// What the words ask for.
+#[derive(Clone, Copy)]
+struct Request {
+    work: Work,
+    bound: u8,
+    count: u32,
+    order: Order,
+    is_paged: bool,
 }
 
 /// How many results there are, and how many of them have a lower rank than the position.
@@ -32,19 +60,48 @@ struct Tally {
 }
 
 fn main(rt: HostRuntime) -> io::Result<()> {
-    let mut work = Work::Results;
-    let mut bound = MAX_BOUND;
+    let mut request = Request {
+        work: Work::Results,
+        bound: MAX_BOUND,
+        count: 100_000,
+        order: Order::Random,
+        is_paged: false,
+    };
     for word in env::args(&rt)?.skip(1) {
-        match word.as_str() {
-            "build" => work = Work::Build,
-            "check" => work = Work::Check,
-            number => bound = number.parse().unwrap_or(bound),
-        }
+        read_word(&mut request, word.as_str());
     }
-    match work {
-        Work::Results => report_results(&rt, bound),
-        Work::Build => report_build(&rt, rt.alloc(), bound, false),
-        Work::Check => report_build(&rt, rt.alloc(), bound, true),
+    match request.work {
+        Work::Results => report_results(&rt, request.bound),
+        Work::Text(kind) => write_lines(&rt, rt.alloc(), kind, request),
+        _ => report_database(&rt, rt.alloc(), request),
+    }
+}
+
+/// Takes a word into the request; one that says nothing is left out.
+fn read_word(request: &mut Request, word: &str) {
+    match word {
+        "results" => request.work = Work::Results,
+        "build" => request.work = Work::Build,
+        "check" => request.work = Work::Check,
+        "text" => request.work = Work::Text(Kind::Mean),
+        "pages" => request.is_paged = true,
+        "sorted" => request.order = Order::Sorted,
+        word => read_kind_or_number(request, word),
+    }
+}
+
+/// Takes a word that names a kind of line, or a number.
+fn read_kind_or_number(request: &mut Request, word: &str) {
+    if let Some(kind) = Kind::of(word) {
+        request.work = match request.work {
+            Work::Text(_) => Work::Text(kind),
+            _ => Work::Answer(kind),
+        };
+        return;
+    }
+    match word.strip_prefix('-') {
+        Some(count) => request.count = count.parse().unwrap_or(request.count),
+        None => request.bound = word.parse().unwrap_or(request.bound),
     }
 }
 
@@ -59,19 +116,76 @@ fn report_results(rt: &impl Print, bound: u8) -> io::Result<()> {
     )
 }
 
-fn report_build(rt: &impl Print, alloc: Global, bound: u8, is_checked: bool) -> io::Result<()> {
+fn write_lines(rt: &impl Print, alloc: Global, kind: Kind, request: Request) -> io::Result<()> {
+    let lines = lines_of(alloc, kind, request.order, request.count, request.bound)?;
+    io::writer(rt).write_all(lines.as_slice())
+}
+
+/// Builds the database, and does what is asked for with it.
+fn report_database<R: Print + Clock>(rt: &R, alloc: Global, request: Request) -> io::Result<()> {
     let mut bytes = Vec::new(alloc);
-    if let Err(fault) = build(alloc, bound, &mut bytes) {
+    let start = Instant::now(rt)?;
+    if let Err(fault) = build(alloc, request.bound, &mut bytes) {
         return println!(rt; "{fault}");
     }
-    println!(rt; "pips {bound} bytes {}", bytes.len())?;
-    if !is_checked {
-        return Ok(());
+    let built = start.elapsed(rt)?.as_micros();
+    if let Work::Build = request.work {
+        println!(rt; "pips {} bytes {}", request.bound, bytes.len())?;
+        return println!(rt; "build {built} us");
     }
-    match check(Whole::new(bytes.as_slice())) {
-        Ok(checked) => println!(rt; "positions {}", checked.positions()),
+    if !request.is_paged {
+        return report_table(rt, alloc, request, Whole::new(bytes.as_slice()));
+    }
+    let positions = Ranks::new().count_to(request.bound);
+    match Paged::new(alloc, SliceSource::new(bytes.as_slice()), positions) {
+        Ok(pages) => report_table(rt, alloc, request, pages),
         Err((_, fault)) => println!(rt; "{fault}"),
     }
+}
+
+/// Checks a table, and does what is asked for with it.
+fn report_table<R: Print + Clock, T: Table + Drop>(
+    rt: &R,
+    alloc: Global,
+    request: Request,
+    table: T,
+) -> io::Result<()> {
+    let start = Instant::now(rt)?;
+    match check(table) {
+        Ok(mut checked) => {
+            let taken = start.elapsed(rt)?.as_micros();
+            match request.work {
+                Work::Answer(kind) => report_lines(rt, alloc, request, kind, &mut checked),
+                _ => println!(rt; "positions {}\ncheck {taken} us", checked.positions()),
+            }
+        }
+        Err((_, fault)) => println!(rt; "{fault}"),
+    }
+}
+
+/// Answers lines five times, and says how many a second in the fastest run.
+fn report_lines<R: Print + Clock, T: Table>(
+    rt: &R,
+    alloc: Global,
+    request: Request,
+    kind: Kind,
+    checked: &mut Checked<T>,
+) -> io::Result<()> {
+    let lines = lines_of(alloc, kind, request.order, request.count, request.bound)?;
+    let mut fastest = u128::MAX;
+    for _ in 0..5 {
+        let mut reader = lines.as_slice();
+        let mut counter = Counter { calls: 0, bytes: 0 };
+        let start = Instant::now(rt)?;
+        let told = run(alloc, checked, &mut reader, &mut counter, u64::MAX);
+        let taken = start.elapsed(rt)?.as_micros();
+        match told {
+            Ok(_) => fastest = fastest.min(taken),
+            Err(fault) => return println!(rt; "{fault}"),
+        }
+    }
+    let rate = u128::from(request.count) * 1_000_000 / fastest.max(1);
+    println!(rt; "{rate} lines a second")
 }
 
 /// How many numbers are the rank of the position that they lead to.

@@ -1,4 +1,5 @@
 pub mod Words
+pub mod Decimals
 pub mod Texts
 pub mod Held
 pub mod Answered

@@ -28,7 +28,7 @@ pub enum Stop {
     /// There was no memory for a list of moves.
     Memory,
 
-    /// A record could not be read.
+    /// A record could not be read, or holds numbers that no accepted record can hold.
     Read,
 }
 
@@ -44,6 +44,7 @@ fn refused(fault: QueryFault) -> Result<Reply, Stop>
         QueryFault::Read => Err(Stop::Read),
     }
 }
+
 /// What a query is answered with.
 fn ask<T: Table>(alloc: Global, checked: &mut Checked<T>, query: Query) -> Result<Reply, QueryFault>
     ensures answerable { OnOk result (IsAnswerable (bound_in (T.accepted checked.old))
@@ -101,7 +102,8 @@ fn rank<T: Table>(checked: &Checked<T>, position: &Position) -> Result<u16, Quer
 
 /// Answers a line, which comes without its line feed: with what the database says, or why it is
 /// refused. It is stopped as `Memory` only at a line that asks for a list of moves and has no
-/// refusal, and as `Read` where a record could not be read. The database stays as it was.
+/// refusal, and as `Read` where a record could not be read, or, read again, holds numbers that no
+/// accepted record can hold. The database stays as it was.
 pub fn answer_line<T: Table>(
     alloc: Global,
     checked: &mut Checked<T>,

@@ -17,7 +17,7 @@ use ranking::Ranks;
 
 /// How many positions have a pip count, and the least and the greatest of their means. Refused as
 /// `OverBound` where the pip count is over the bound, and as `Read` where a record could not be
-/// read.
+/// read, or, read again, holds numbers that no accepted record can hold.
 pub fn audit_level<T: Table>(checked: &mut Checked<T>, pips: u8) -> Result<Level, QueryFault>
     ensures within { OnOk result (pips ≤ bound_in (T.accepted checked.old)) }
     ensures fault { IfErr result (IsLevelFault (bound_in (T.accepted checked.old)) pips) }

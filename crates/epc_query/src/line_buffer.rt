@@ -5,13 +5,12 @@ ghost use Rattle.race_model.specs.InputLines.{without_return};
 use arrayvec::ArrayVec;
 use std::marker::Model;
 
-/// How many bytes of a line are kept: those of the longest line that is looked at, 128, of a
-/// carriage return after them, and one more, by which a longer line is told from it (this
-/// project's profile).
+/// How many bytes of a line are kept. No query has more than 55, so a line of which 130 are kept is
+/// none, whatever its other bytes are, and also without a carriage return at its end. (Lines of
+/// more than 128 bytes are refused: this project's profile.)
 const KEPT: usize = 130;
 
-/// The bytes that were read after the last line feed, of which the first 130 are kept: a line of
-/// more than 128 bytes is no query, whatever its other bytes are.
+/// The bytes that were read after the last line feed, of which the first 130 are kept.
 #[derive(Drop)]
 pub(crate) struct LineBuffer {
     bytes: ArrayVec<u8, KEPT>,

@@ -8,7 +8,8 @@ ghost use Rattle.epc_query.specs.Runs.{HasReplies, IsStoppedAt, IsAnswered, RunC
 use crate::answer::{Stop, answer_line};
 use crate::line_buffer::LineBuffer;
 use crate::run_fault::RunFault;
-use crate::writing::write_reply;
+use crate::text::Text;
+use crate::writing::write_reply_by;
 use certificate::Checked;
 use db_layout::WriteFault;
 use db_reader::Table;
@@ -16,11 +17,12 @@ use race_model::laws;
 use std::alloc::Global;
 use std::io::Write;
 
-/// Writes the reply to a line.
+/// Writes the reply to a line, by way of a text that the lines share.
 fn answer<T: Table, W: Write>(
     alloc: Global,
     checked: &mut Checked<T>,
     line: &[u8],
+    text: &mut Text,
     writer: &mut W,
 ) -> Result<(), RunFault>
     ensures answered { WhereTold (T.tells checked.old) (λ file. MatchResult result
@@ -35,7 +37,7 @@ fn answer<T: Table, W: Write>(
     crate::laws::law_reply_text();
     let _bound = checked.bound();
     match answer_line(alloc, checked, line) {
-        Ok(reply) => match write_reply(&reply, writer) {
+        Ok(reply) => match write_reply_by(text, &reply, writer) {
             Ok(()) => Ok(()),
             Err(WriteFault) => Err(RunFault::Write),
         },
@@ -51,6 +53,7 @@ fn answer_byte<T: Table, W: Write>(
     checked: &mut Checked<T>,
     held: &mut LineBuffer,
     byte: u8,
+    text: &mut Text,
     writer: &mut W,
 ) -> Result<u64, RunFault>
     ensures answered { WhereTold (T.tells checked.old)
@@ -71,7 +74,7 @@ fn answer_byte<T: Table, W: Write>(
         held.add(byte);
         return Ok(0);
     }
-    answer(alloc, checked, held.line(), writer)?;
+    answer(alloc, checked, held.line(), text, writer)?;
     held.clear();
     Ok(1)
 }
@@ -82,6 +85,7 @@ pub(crate) fn answer_chunk<T: Table, W: Write>(
     checked: &mut Checked<T>,
     held: &mut LineBuffer,
     chunk: &[u8],
+    text: &mut Text,
     writer: &mut W,
 ) -> Result<u64, RunFault>
     requires { length chunk.now < 2 ^ 32 }
@@ -100,7 +104,7 @@ pub(crate) fn answer_chunk<T: Table, W: Write>(
     laws::law_input_lines();
     let mut count = 0;
     for byte in chunk {
-        count += answer_byte(alloc, checked, held, *byte, writer)?;
+        count += answer_byte(alloc, checked, held, *byte, text, writer)?;
     }
     Ok(count)
 }
@@ -111,6 +115,7 @@ pub(crate) fn answer_last<T: Table, W: Write>(
     alloc: Global,
     checked: &mut Checked<T>,
     held: &LineBuffer,
+    text: &mut Text,
     writer: &mut W,
 ) -> Result<u64, RunFault>
     ensures answered { WhereTold (T.tells checked.old)
@@ -130,6 +135,6 @@ pub(crate) fn answer_last<T: Table, W: Write>(
     if line.is_empty() {
         return Ok(0);
     }
-    answer(alloc, checked, line, writer)?;
+    answer(alloc, checked, line, text, writer)?;
     Ok(1)
 }

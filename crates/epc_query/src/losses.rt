@@ -1,32 +1,29 @@
 //! What a play costs against the best one.
-ghost use Rattle.std.specs.Prelude.{◌≡◌, ℕ, ◌≤◌, List, IfOk, IfErr, OnOk, OnErr};
+ghost use Rattle.std.specs.Prelude.{◌≡◌, ◌≤◌, IfOk, IfErr, OnOk, OnErr};
 ghost use Rattle.race_model.specs.Positions.{IsPosition, IsFinished, pips};
 ghost use Rattle.race_model.specs.Plays.{Legal};
 ghost use Rattle.race_model.specs.Files.{mean as mean_of, mean_at, play};
 ghost use Rattle.race_model.specs.LocalEquations.{whole};
 ghost use Rattle.race_model.specs.Fractions.{IsFraction};
 ghost use Rattle.race_model.specs.Losses.{loss, IsLoss};
-ghost use Rattle.race_model.specs.Queries.{loss_query, moves_query, play_query};
+ghost use Rattle.race_model.specs.Queries.{loss_query};
 ghost use Rattle.db_reader.specs.Telling.{WhereTold};
 ghost use Rattle.certificate.specs.Accepted.{bound_in};
 ghost use Rattle.certificate.specs.QueryFaults.{QueryCounted};
-ghost use Rattle.epc_query.specs.Answers.{AreChoices};
 ghost use Rattle.epc_query.specs.Faults.{IsAnswerable, IsFaultOf};
 
-use crate::reply::Choice;
 use certificate::{Checked, QueryFault};
 use db_reader::Table;
 use fixed_fraction::{Fraction, Scaled, mean};
 use home_board::Position;
 use legal_plays::{Roll, play_to};
 use race_model::laws;
-use std::alloc::Global;
 
 /// What a result of a roll costs: the mean number of rolls after it less the least such mean
 /// among all results, in lowest terms. Refused as `OverBound` where the first position has more
 /// pips than the bound, else as `Finished` where no checker is left there, else as `NotLegal`
 /// where the roll doesn't lead to the second position, and as `Read` where a record could not be
-/// read.
+/// read, or, read again, holds numbers that no accepted record can hold.
 pub fn loss<T: Table>(
     checked: &mut Checked<T>,
     position: &Position,

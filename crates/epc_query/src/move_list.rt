@@ -32,7 +32,8 @@ type Cost = (u128, u16);
 /// Every result of a roll once, by rising loss and then by rising rank. Refused as `OverBound`
 /// where the position has more pips than the bound, else as `Finished` where no checker is left,
 /// and else as `Memory` where the list can't be had, or as `Read` where a record could not be
-/// read. The memory of the list is taken before the first read.
+/// read, or, read again, holds numbers that no accepted record can hold. The memory of the list is
+/// taken before the first read.
 pub fn moves<T: Table>(
     alloc: Global,
     checked: &mut Checked<T>,

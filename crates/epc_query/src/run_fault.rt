@@ -11,7 +11,8 @@ pub enum RunFault {
     #[error("the replies could not be written")]
     Write,
 
-    /// A record of the database could not be read.
+    /// A record of the database could not be read, or holds numbers that no accepted record can
+    /// hold.
     #[error("the table could not be read")]
     Table,
 

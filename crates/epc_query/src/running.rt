@@ -8,6 +8,7 @@ ghost use Rattle.epc_query.specs.Runs.{HasReplies, IsStoppedAt, IsAnswered, IsRu
 use crate::line_buffer::LineBuffer;
 use crate::lines::{answer_chunk, answer_last};
 use crate::run_fault::RunFault;
+use crate::text::Text;
 use certificate::Checked;
 use db_reader::Table;
 use race_model::laws;
@@ -51,16 +52,24 @@ pub fn run<T: Table, R: Read, W: Write>(
     laws::law_input_lines();
     let mut held = LineBuffer::new();
     let mut chunk = [0; 4096];
+    let mut text = Text::new();
     let mut count = 0;
     for _turn in 0..turns.min(MOST_TURNS) {
         let Ok(taken) = reader.read(&mut chunk) else {
             return Err(RunFault::Read);
         };
         if taken == 0 {
-            count += answer_end(alloc, checked, &held, writer)?;
+            count += answer_end(alloc, checked, &held, &mut text, writer)?;
             return Ok(count);
         }
-        count += answer_read(alloc, checked, &mut held, &chunk[..taken], writer)?;
+        count += answer_read(
+            alloc,
+            checked,
+            &mut held,
+            &chunk[..taken],
+            &mut text,
+            writer,
+        )?;
     }
     Err(RunFault::Turns)
 }
@@ -71,6 +80,7 @@ fn answer_read<T: Table, W: Write>(
     checked: &mut Checked<T>,
     held: &mut LineBuffer,
     bytes: &[u8],
+    text: &mut Text,
     writer: &mut W,
 ) -> Result<u64, RunFault>
     requires { length bytes.now < 2 ^ 32 }
@@ -86,7 +96,7 @@ fn answer_read<T: Table, W: Write>(
     ensures cause { WhereTold (T.tells checked.old)
         (λ _. RunCounted (T.failures checked.old) (T.failures checked.new) result) }
 {
-    let count = answer_chunk(alloc, checked, held, bytes, writer)?;
+    let count = answer_chunk(alloc, checked, held, bytes, text, writer)?;
     flush(writer)?;
     Ok(count)
 }
@@ -96,6 +106,7 @@ fn answer_end<T: Table, W: Write>(
     alloc: Global,
     checked: &mut Checked<T>,
     held: &LineBuffer,
+    text: &mut Text,
     writer: &mut W,
 ) -> Result<u64, RunFault>
     ensures answered { WhereTold (T.tells checked.old)
@@ -110,7 +121,7 @@ fn answer_end<T: Table, W: Write>(
     ensures cause { WhereTold (T.tells checked.old)
         (λ _. RunCounted (T.failures checked.old) (T.failures checked.new) result) }
 {
-    let count = answer_last(alloc, checked, held, writer)?;
+    let count = answer_last(alloc, checked, held, text, writer)?;
     flush(writer)?;
     Ok(count)
 }

@@ -1,5 +1,5 @@
 //! The texts of replies and levels.
-ghost use Rattle.std.specs.Prelude.{◌≡◌, ℕ, ◌+◌, ◌≤◌, ◌<◌, List, ◌++◌, flat_map, decimal, codes, slice_index};
+ghost use Rattle.std.specs.Prelude.{◌≡◌, ℕ, ◌+◌, ◌^◌, ◌≤◌, ◌<◌, List, ◌++◌, drop, flat_map, decimal, codes, slice_index};
 ghost use Rattle.arrayvec.specs.ArrayString.{array_string_len};
 ghost use Rattle.race_model.specs.FirstPlays.{move_text};
 ghost use Rattle.race_model.specs.Replies.{fraction_text, thousandths_text, refusal_text, IsSharePart, IsDistReply};
@@ -16,13 +16,34 @@ use legal_plays::{Play, write_play};
 /// Room for the text of any reply but a long list of moves.
 pub(crate) type Text = ArrayString<4096>;
 
+/// 10 ^ 18. A number of more than 18 digits is written in two parts, each by divisions of 64 bits.
+const HALF: u128 = 1_000_000_000_000_000_000;
+
 /// Adds a number in decimal.
 fn push_number(text: &mut Text, number: u128)
     requires { array_string_len text.old + 40 ≤ 4096 }
     ensures bytes { text.new.bytes ≡ text.old.bytes ++ decimal number }
     ensures len { array_string_len text.new ≤ array_string_len text.old + 40 }
 {
-    text.push_str(Buffer::new().format(number));
+    if number < HALF {
+        text.push_str(Buffer::new().format(number as u64));
+        return;
+    }
+    let high = number / HALF;
+    text.push_str(Buffer::new().format(high));
+    push_last_digits(text, (number - high * HALF) as u64);
+}
+
+/// Adds the last 18 digits of a number, given as their value, with the zeros in front.
+fn push_last_digits(text: &mut Text, rest: u64)
+    requires few { rest < 10 ^ 18 }
+    requires room { array_string_len text.old + 18 ≤ 4096 }
+    ensures bytes { text.new.bytes ≡ text.old.bytes ++ drop 1 (decimal (10 ^ 18 + rest)) }
+    ensures len { array_string_len text.new ≤ array_string_len text.old + 18 }
+{
+    let mut buffer = Buffer::new();
+    let digits = buffer.format(HALF as u64 + rest);
+    text.push_str(&digits[1..]);
 }
 
 /// Adds a fraction, as 5/4.
@@ -103,77 +124,72 @@ pub(crate) fn push_choice(text: &mut Text, choice: &Choice)
     push_fraction(text, choice.loss);
 }
 
-/// The text of a mean and an effective pip count.
-pub(crate) fn mean_text(mean: Fraction, epc: Fraction) -> Text
-    ensures text { IsMeanText mean epc result.bytes }
-    ensures len { array_string_len result ≤ 4000 }
+/// Makes a text that of a mean and an effective pip count.
+pub(crate) fn put_mean(text: &mut Text, mean: Fraction, epc: Fraction)
+    ensures text { IsMeanText mean epc text.new.bytes }
+    ensures len { array_string_len text.new ≤ 4000 }
 {
-    let mut text = Text::new();
+    text.clear();
     text.push_str("mean ");
-    push_fraction(&mut text, mean);
+    push_fraction(text, mean);
     text.push_str(" epc ");
-    push_fraction(&mut text, epc);
+    push_fraction(text, epc);
     text.push_str(" ");
-    push_thousandths(&mut text, thousandths(&epc));
-    text
+    push_thousandths(text, thousandths(&epc));
 }
 
-/// The text of the shares of 0 to 22 rolls.
-pub(crate) fn dist_text(spread: &Spread) -> Text
-    ensures text { IsDistReply (slice_index spread.now) result.bytes }
-    ensures len { array_string_len result ≤ 4000 }
+/// Makes a text that of the shares of 0 to 22 rolls.
+pub(crate) fn put_dist(text: &mut Text, spread: &Spread)
+    ensures text { IsDistReply (slice_index spread.now) text.new.bytes }
+    ensures len { array_string_len text.new ≤ 4000 }
 {
-    let mut text = Text::new();
+    text.clear();
     text.push_str("dist");
     for k in 0..23 {
-        push_share(&mut text, spread, k);
+        push_share(text, spread, k);
     }
-    text
 }
 
-/// The text of a play and the position that it leads to.
-pub(crate) fn play_text(play: &Play, to: &Position) -> Text
-    ensures text { result.bytes ≡ codes "play"
+/// Makes a text that of a play and the position that it leads to.
+pub(crate) fn put_play(text: &mut Text, play: &Play, to: &Position)
+    ensures text { text.new.bytes ≡ codes "play"
         ++ flat_map (λ m. codes " " ++ move_text m)
         (moves_of play.now.items) ++ codes " to " ++ position_text to.now }
-    ensures len { array_string_len result ≤ 4000 }
+    ensures len { array_string_len text.new ≤ 4000 }
 {
-    let mut text = Text::new();
+    text.clear();
     text.push_str("play");
-    push_play(&mut text, play);
+    push_play(text, play);
     text.push_str(" to ");
-    push_position(&mut text, to);
-    text
+    push_position(text, to);
 }
 
-/// The text of a loss.
-pub(crate) fn loss_text(loss: Fraction) -> Text
-    ensures text { result.bytes ≡ codes "loss " ++ ratio_text loss }
-    ensures len { array_string_len result ≤ 4000 }
+/// Makes a text that of a loss.
+pub(crate) fn put_loss(text: &mut Text, loss: Fraction)
+    ensures text { text.new.bytes ≡ codes "loss " ++ ratio_text loss }
+    ensures len { array_string_len text.new ≤ 4000 }
 {
-    let mut text = Text::new();
+    text.clear();
     text.push_str("loss ");
-    push_fraction(&mut text, loss);
-    text
+    push_fraction(text, loss);
 }
 
-/// The text of a rank.
-pub(crate) fn rank_text(rank: u16) -> Text
-    ensures text { result.bytes ≡ codes "rank " ++ decimal rank }
-    ensures len { array_string_len result ≤ 4000 }
+/// Makes a text that of a rank.
+pub(crate) fn put_rank(text: &mut Text, rank: u16)
+    ensures text { text.new.bytes ≡ codes "rank " ++ decimal rank }
+    ensures len { array_string_len text.new ≤ 4000 }
 {
-    let mut text = Text::new();
+    text.clear();
     text.push_str("rank ");
-    push_number(&mut text, u128::from(rank));
-    text
+    push_number(text, u128::from(rank));
 }
 
-/// The text of a refusal.
-pub(crate) fn refusal_text(refusal: Refusal) -> Text
-    ensures text { result.bytes ≡ refusal_text (why refusal) }
-    ensures len { array_string_len result ≤ 4000 }
+/// Makes a text that of a refusal.
+pub(crate) fn put_refusal(text: &mut Text, refusal: Refusal)
+    ensures text { text.new.bytes ≡ refusal_text (why refusal) }
+    ensures len { array_string_len text.new ≤ 4000 }
 {
-    let mut text = Text::new();
+    text.clear();
     text.push_str(match refusal {
         Refusal::BadLine => "error bad-line",
         Refusal::TooMany => "error too-many",
@@ -181,22 +197,48 @@ pub(crate) fn refusal_text(refusal: Refusal) -> Text
         Refusal::Finished => "error finished",
         Refusal::NotLegal => "error not-legal",
     });
-    text
 }
 
-/// The line of a level.
-pub(crate) fn level_text(level: &Level) -> Text
-    ensures text { result.bytes ≡ level_text level.now }
-    ensures len { array_string_len result ≤ 4000 }
+/// Makes a text the line of a level.
+pub(crate) fn put_level(text: &mut Text, level: &Level)
+    ensures text { text.new.bytes ≡ level_text level.now }
+    ensures len { array_string_len text.new ≤ 4000 }
 {
-    let mut text = Text::new();
+    text.clear();
     text.push_str("pips ");
-    push_number(&mut text, u128::from(level.pips));
+    push_number(text, u128::from(level.pips));
     text.push_str(" positions ");
-    push_number(&mut text, u128::from(level.positions));
+    push_number(text, u128::from(level.positions));
     text.push_str(" least ");
-    push_fraction(&mut text, level.least);
+    push_fraction(text, level.least);
     text.push_str(" greatest ");
-    push_fraction(&mut text, level.greatest);
-    text
+    push_fraction(text, level.greatest);
+}
+
+#[cfg(test)]
+mod tests {
+    use super::*;
+
+    #[test]
+    fn numbers_of_one_and_two_parts(rt: HostRuntime) {
+        for (number, expected) in [
+            (0, "0"),
+            (999999999999999999, "999999999999999999"),
+            (1000000000000000000, "1000000000000000000"),
+            (1000000000000000001, "1000000000000000001"),
+            (
+                17324272922341479351919144385642496,
+                "17324272922341479351919144385642496",
+            ),
+            (
+                700000000000000000000000000000000007,
+                "700000000000000000000000000000000007",
+            ),
+            (u128::MAX, "340282366920938463463374607431768211455"),
+        ] {
+            let mut text = Text::new();
+            push_number(&mut text, number);
+            assert_eq!(rt; text.as_str(), expected);
+        }
+    }
 }

@@ -8,8 +8,7 @@ ghost use Rattle.epc_query.specs.Held.{Takes};
 
 use crate::reply::{Choice, Level, Reply};
 use crate::text::{
-    Text, dist_text, level_text, loss_text, mean_text, play_text, push_choice, rank_text,
-    refusal_text,
+    Text, push_choice, put_dist, put_level, put_loss, put_mean, put_play, put_rank, put_refusal,
 };
 use db_layout::{WriteFault, write_bytes};
 use std::io::Write;
@@ -23,15 +22,29 @@ pub fn write_reply<W: Write>(reply: &Reply, writer: &mut W) -> Result<(), WriteF
     ensures part { OnErr result ((text : List ℕ) × IsTextOf reply.now text
         × AppendsPart (W.contents writer.old) (W.contents writer.new) (text ++ 10 ∷ [])) }
 {
-    let text = match reply {
-        Reply::Mean { mean, epc } => mean_text(*mean, *epc),
-        Reply::Dist(spread) => dist_text(spread),
-        Reply::Play { play, to } => play_text(play, to),
-        Reply::Loss(loss) => loss_text(*loss),
-        Reply::Moves(choices) => return write_moves(choices.as_slice(), writer),
-        Reply::Rank(rank) => rank_text(*rank),
-        Reply::Refused(refusal) => refusal_text(*refusal),
-    };
+    write_reply_by(&mut Text::new(), reply, writer)
+}
+
+/// Writes a reply and a line feed, by way of a text, which any replies can share.
+pub(crate) fn write_reply_by<W: Write>(
+    text: &mut Text,
+    reply: &Reply,
+    writer: &mut W,
+) -> Result<(), WriteFault>
+    ensures all { OnOk result ((text : List ℕ) × IsTextOf reply.now text
+        × Appends (W.contents writer.old) (W.contents writer.new) (text ++ 10 ∷ [])) }
+    ensures part { OnErr result ((text : List ℕ) × IsTextOf reply.now text
+        × AppendsPart (W.contents writer.old) (W.contents writer.new) (text ++ 10 ∷ [])) }
+{
+    match reply {
+        Reply::Mean { mean, epc } => put_mean(text, *mean, *epc),
+        Reply::Dist(spread) => put_dist(text, spread),
+        Reply::Play { play, to } => put_play(text, play, to),
+        Reply::Loss(loss) => put_loss(text, *loss),
+        Reply::Moves(choices) => return write_moves(text, choices.as_slice(), writer),
+        Reply::Rank(rank) => put_rank(text, *rank),
+        Reply::Refused(refusal) => put_refusal(text, *refusal),
+    }
     write_line(text, writer)
 }
 
@@ -44,33 +57,38 @@ pub fn write_level<W: Write>(level: &Level, writer: &mut W) -> Result<(), WriteF
         (AppendsPart (W.contents writer.old) (W.contents writer.new)
         (level_text level.now ++ 10 ∷ [])) }
 {
-    write_line(level_text(level), writer)
+    let mut text = Text::new();
+    put_level(&mut text, level);
+    write_line(&mut text, writer)
 }
 
 /// Writes a text and a line feed.
-fn write_line<W: Write>(text: Text, writer: &mut W) -> Result<(), WriteFault>
-    requires { array_string_len text + 1 ≤ 4096 }
+fn write_line<W: Write>(text: &mut Text, writer: &mut W) -> Result<(), WriteFault>
+    requires { array_string_len text.old + 1 ≤ 4096 }
     ensures all { OnOk result
-        (Appends (W.contents writer.old) (W.contents writer.new) (text.bytes ++ 10 ∷ [])) }
+        (Appends (W.contents writer.old) (W.contents writer.new) (text.old.bytes ++ 10 ∷ [])) }
     ensures part { OnErr result
-        (AppendsPart (W.contents writer.old) (W.contents writer.new) (text.bytes ++ 10 ∷ [])) }
+        (AppendsPart (W.contents writer.old) (W.contents writer.new) (text.old.bytes ++ 10 ∷ [])) }
 {
-    let mut line = text;
-    line.push_str("\n");
-    write_bytes(line.as_str().as_bytes(), writer)
+    text.push_str("\n");
+    write_bytes(text.as_str().as_bytes(), writer)
 }
 
 /// Writes a list of moves and a line feed.
-fn write_moves<W: Write>(choices: &[Choice], writer: &mut W) -> Result<(), WriteFault>
+fn write_moves<W: Write>(
+    text: &mut Text,
+    choices: &[Choice],
+    writer: &mut W,
+) -> Result<(), WriteFault>
     ensures all { OnOk result (Appends (W.contents writer.old) (W.contents writer.new)
         (codes "moves" ++ flat_map choice_text choices.now ++ 10 ∷ [])) }
     ensures part { OnErr result (AppendsPart (W.contents writer.old) (W.contents writer.new)
         (codes "moves" ++ flat_map choice_text choices.now ++ 10 ∷ [])) }
 {
-    let mut text = Text::new();
+    text.clear();
     text.push_str("moves");
     for choice in choices {
-        write_choice(&mut text, choice, writer)?;
+        write_choice(text, choice, writer)?;
     }
     write_line(text, writer)
 }

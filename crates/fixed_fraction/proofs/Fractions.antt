@@ -1,72 +1,42 @@
--- Fractions divided by the greatest common divisor.
-use Rattle.std.proofs.Common.{◌≡◌, ℕ, zero, suc, ◌*◌, ◌<◌, ◌≤◌, ◌/◌, ap, subst, arith}
+-- Fractions that a common factor was taken out of.
 use Prim.Native.Nat.{◌∣◌}
+use Rattle.std.proofs.Common.{◌≡◌, ℕ, zero, suc, ◌*◌, ◌<◌, ◌≤◌, ap, arith}
 use Rattle.std.specs.Int.{IsGcd}
-use Rattle.std.proofs.Math.Nat.{le_of_mul-le-mul_left, mul-div_cancel', eq-zero_of_zero-dvd, one-dvd, mul-dvd-mul_left, dvd_of_mul-dvd-mul_left}
+use Rattle.std.proofs.Math.Nat.{le_of_mul-le-mul_left, le_of_dvd, dvd-mul_left}
 use Rattle.race_model.specs.LocalEquations.{whole}
 use Rattle.race_model.specs.Fractions.{IsFraction}
-use Rattle.fixed_fraction.specs.Ratios.{IsSmallRatio}
+use Rattle.fixed_fraction.specs.Ratios.{IsSmallRatio, IsDivided}
+use Rattle.fixed_fraction.proofs.CommonFactors.{divided_positive}
 
--- a divisor of a number that is not 0 is not 0
-pub divisor_positive : (a b g : ℕ) → IsGcd a b g → 0 < b → 0 < g
-divisor_positive a b zero gcd positive = absurd (omega (arith, eq-zero_of_zero-dvd gcd.1))
-divisor_positive a b (suc g) gcd positive = omega arith
-
--- divided by their greatest common divisor, two numbers have none but 1
-lowest_by : (g n d : ℕ) → 0 < g → IsGcd (g * n) (g * d) g → IsGcd n d 1
-lowest_by g n d positive gcd = (
-  one-dvd n,
-  one-dvd d,
-  λ k p q.
-      dvd_of_mul-dvd-mul_left k positive
-      (subst (λ m. g * k ∣ m) (by_one g)
-      (gcd.2 (g * k) (mul-dvd-mul_left k g p) (mul-dvd-mul_left k g q))),
-)
-  where
-    by_one : (g : ℕ) → g ≡ g * 1
-    by_one g = omega arith
-
--- numbers g times as large as others, with the greatest common divisor g
-by_parts : (a b g n d : ℕ) → g * n ≡ a → g * d ≡ b → 0 < g → 0 < b → IsGcd a b g →
-    IsFraction a b n d
-by_parts a b g n d over under divisor positive gcd = record {
+-- numbers that a common factor was taken out of, in lowest terms, are the fraction
+pub lowest_fraction : (a b n d : ℕ) → 0 < b → IsDivided a b n d → IsGcd n d 1 → IsFraction a b n d
+lowest_fraction a b n d positive is lowest = record {
   same =
-      let left : n * (g * d) ≡ n * b = ap (λ m. n * m) under in
-      let right : g * n * d ≡ a * d = ap (λ m. m * d) over in omega (arith, left, right);
-  positive = denominator d under;
-  lowest = lowest_by g n d divisor (rw (over, under) gcd);
+      let left : n * (is.factor * d) ≡ n * b = ap (λ m. n * m) is.under in
+      let right : is.factor * n * d ≡ a * d = ap (λ m. m * d) is.over in
+      omega (arith, left, right);
+  positive = divided_positive a b n d is positive;
+  lowest = lowest;
+}
+
+-- .. and no larger
+pub small_fraction : (a b n d : ℕ) → 0 < b → a ≤ 180 * b → IsDivided a b n d → d ∣ 6 * whole →
+    IsGcd n d 1 → IsSmallRatio (record { numerator = n; denominator = d })
+unfolding whole
+small_fraction a b n d positive within is divides lowest = record {
+  positive = divided_positive a b n d is positive;
+  short = le_of_dvd (omega arith) divides;
+  within = by_factor is.factor is.over is.under;
+  lowest = lowest;
 }
   where
-    denominator : (d : ℕ) → g * d ≡ b → 0 < d
-    denominator zero e = omega (arith, e)
-    denominator (suc d) e = omega arith
+    by_factor : (g : ℕ) → g * n ≡ a → g * d ≡ b → n ≤ 180 * d
+    by_factor zero over under = absurd (omega (arith, under))
+    by_factor (suc g) over under =
+        let scaled : suc g * n ≤ suc g * (180 * d) = omega (arith, over, under) in
+        le_of_mul-le-mul_left scaled (omega arith)
 
--- a fraction divided by the greatest common divisor is in lowest terms
-pub reduced : (a b g : ℕ) → 0 < b → IsGcd a b g → IsFraction a b (a / g) (b / g)
-reduced a b g positive gcd =
-    by_parts a b g (a / g) (b / g) (mul-div_cancel' g gcd.0) (mul-div_cancel' g gcd.1)
-    (divisor_positive a b g gcd positive) positive gcd
-
--- .. and is no larger
-pub reduced_small : (a b g : ℕ) → 0 < b → b ≤ 6 * whole → a ≤ 180 * b → IsGcd a b g →
-    IsSmallRatio (record { numerator = a / g; denominator = b / g })
-reduced_small a b g positive short within gcd =
-    let lowest = reduced a b g positive gcd in
-    record {
-      positive = lowest.positive;
-      short = smaller g (b / g) (divisor_positive a b g gcd positive) (mul-div_cancel' g gcd.1);
-      within =
-          by_divisor g (a / g) (b / g) (divisor_positive a b g gcd positive)
-          (mul-div_cancel' g gcd.0) (mul-div_cancel' g gcd.1);
-      lowest = lowest.lowest;
-    }
-  where
-    smaller : (g d : ℕ) → 0 < g → g * d ≡ b → d ≤ 6 * whole
-    smaller zero d p e = absurd (omega arith)
-    smaller (suc g) d p e = omega (arith, e, short)
-
-    by_divisor : (g n d : ℕ) → 0 < g → g * n ≡ a → g * d ≡ b → n ≤ 180 * d
-    by_divisor g n d p over under = le_of_mul-le-mul_left (scaled g n d over under) p
-      where
-        scaled : (g n d : ℕ) → g * n ≡ a → g * d ≡ b → g * n ≤ g * (180 * d)
-        scaled g n d over under = omega (arith, over, under, within)
+-- the denominator of means and shares divides six times itself
+pub whole_divides : 17324272922341479351919144385642496 ∣ 6 * whole
+unfolding whole
+whole_divides = dvd-mul_left 17324272922341479351919144385642496 6

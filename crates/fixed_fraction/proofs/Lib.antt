@@ -2,3 +2,4 @@ pub mod Fractions
 pub mod Pulls
 pub mod Shares
 pub mod RollSums
+pub mod CommonFactors

@@ -1,5 +1,6 @@
 -- Fractions as contracts see them.
-use Rattle.std.specs.Prelude.{ℕ, ◌*◌, ◌<◌, ◌≤◌}
+use Prim.Native.Nat.{◌∣◌}
+use Rattle.std.specs.Prelude.{◌≡◌, ℕ, ◌*◌, ◌<◌, ◌≤◌}
 use Rattle.std.specs.Int.{IsGcd}
 use Rattle.race_model.specs.LocalEquations.{whole}
 
@@ -14,3 +15,13 @@ pub record IsSmallRatio (ratio : Ratio) : Type 0 where
   pub short : ratio.denominator ≤ 6 * whole
   pub within : ratio.numerator ≤ 180 * ratio.denominator
   pub lowest : IsGcd ratio.numerator ratio.denominator 1
+
+-- n and d are a and b divided by a common factor
+pub record IsDivided (a b n d : ℕ) : Type 0 where
+  pub factor : ℕ
+  pub over : factor * n ≡ a
+  pub under : factor * d ≡ b
+
+-- a number divides not both n and d
+abbrev pub AreApart : ℕ → ℕ → ℕ → Type 0
+AreApart p n d = ¬ ((p ∣ n) × (p ∣ d))

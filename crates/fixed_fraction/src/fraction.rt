@@ -1,11 +1,12 @@
+ghost use Prim.Native.Nat.{◌∣◌};
 ghost use Rattle.std.specs.Prelude.{◌≡◌, ◌*◌, ◌<◌, ◌≤◌, slice_index};
-ghost use Rattle.std.specs.Int.{IsGcd};
 ghost use Rattle.race_model.specs.LocalEquations.{whole};
 ghost use Rattle.race_model.specs.Fractions.{IsFraction, IsMean, IsEffectivePips, IsThousandths};
 ghost use Rattle.fixed_fraction.specs.Ratios.{Ratio, IsSmallRatio};
 
 use crate::scaled::{Scaled, WHOLE};
 use crate::spread::Spread;
+use crate::terms::{Terms, without_threes, without_twos};
 use std::marker::Model;
 
 /// A fraction in lowest terms, as replies print it: its denominator is 1
@@ -89,37 +90,28 @@ pub fn thousandths(fraction: &Fraction) -> u128
     ensures { IsThousandths fraction.now.numerator fraction.now.denominator result }
 {
     let units = fraction.numerator / fraction.denominator;
-    let rest = fraction.numerator % fraction.denominator;
+    let rest = fraction.numerator - units * fraction.denominator;
     1000 * units + (2000 * rest + fraction.denominator) / (2 * fraction.denominator)
 }
 
-/// A numerator over a denominator in lowest terms.
+/// A numerator over a denominator in lowest terms. The denominator is a product of twos and threes,
+/// so that these alone can be taken out.
 fn reduced(numerator: u128, denominator: u128) -> Fraction
     requires positive { 0 < denominator }
-    requires short { denominator ≤ 6 * whole }
+    requires divides { denominator ∣ 6 * whole }
     requires within { numerator ≤ 180 * denominator }
     ensures value { IsFraction numerator denominator result.numerator result.denominator }
     ensures ratio { IsSmallRatio result }
 {
-    let divisor = greatest_common_divisor(numerator, denominator);
+    let odd = without_twos(Terms {
+        numerator,
+        denominator,
+    });
+    let lowest = without_threes(odd);
     Fraction {
-        numerator: numerator / divisor,
-        denominator: denominator / divisor,
+        numerator: lowest.numerator,
+        denominator: lowest.denominator,
     }
-}
-
-/// The greatest number that divides both, by Euclid's algorithm.
-fn greatest_common_divisor(first: u128, second: u128) -> u128
-    ensures { IsGcd first second result }
-{
-    let mut larger = first;
-    let mut smaller = second;
-    while smaller != 0 {
-        let rest = larger % smaller;
-        larger = smaller;
-        smaller = rest;
-    }
-    larger
 }
 
 #[cfg(test)]

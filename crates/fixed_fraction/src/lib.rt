@@ -14,3 +14,4 @@ pub mod fraction;
 pub mod scaled;
 pub mod spread;
 pub mod sums;
+mod terms;

@@ -2,10 +2,10 @@ use Rattle.std.proofs.Common.{arith}
 use Rattle.epc_query.proofs.Runs.{one_reply, one_part}
 use Rattle.epc_query.proofs.lines.answer.Goals as goal
 
-pub returns-in-Ok-write_reply-clause-answered : goal.returns-in-Ok-write_reply-clause-answered
-returns-in-Ok-write_reply-clause-answered g c = λ file t.
+pub returns-in-Ok-write_reply_by-clause-answered : goal.returns-in-Ok-write_reply_by-clause-answered
+returns-in-Ok-write_reply_by-clause-answered g c = λ file t.
     let told = (c.in-Ok.ensures {u = tt}).reply file t in
-    let wrote = (c.in-Ok-write_reply.ensures {u = tt}).all in
+    let wrote = (c.in-Ok-write_reply_by.ensures {u = tt}).all in
     one_reply file c.args.line.now _ _ _
     (c.law_reply_text.ensures file c.args.line.now c.in-Ok.reply wrote.0 told wrote.1) wrote.2
 

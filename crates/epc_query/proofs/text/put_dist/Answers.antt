@@ -1,7 +1,7 @@
 use Rattle.std.proofs.Common.{arith, codes}
 use Rattle.std.specs.Prelude.{slice_index}
 use Rattle.epc_query.proofs.Texts.{one_more_share}
-use Rattle.epc_query.proofs.text.dist_text.Goals as goal
+use Rattle.epc_query.proofs.text.put_dist.Goals as goal
 
 pub loop-k-preserved : goal.loop-k-preserved
 loop-k-preserved c =

@@ -2,7 +2,7 @@ use Rattle.std.proofs.Common.{◌++◌, codes, ap}
 use Rattle.std.specs.Prelude.{flat_map}
 use Rattle.std.proofs.lemmas.Result.{on_ok_weaker, on_err_weaker}
 use Rattle.epc_query.specs.Texts.{choice_text}
-use Rattle.epc_query.proofs.writing.write_reply.Goals as goal
+use Rattle.epc_query.proofs.writing.write_reply_by.Goals as goal
 
 pub returns-in-Moves-clause-all : goal.returns-in-Moves-clause-all
 returns-in-Moves-clause-all g c =

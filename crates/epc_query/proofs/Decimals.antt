@@ -1,0 +1,94 @@
+-- Numbers in decimal, written in two parts.
+use Rattle.std.proofs.Common.{◌≡◌, ◌⊎◌, inl, inr, ℕ, zero, suc, ◌+◌, ◌*◌, ◌/◌, ◌%◌, ◌^◌, ◌<◌, ◌≤◌, List, [], ◌∷◌, ◌++◌, length, drop, ap, sym, ◌∙◌, refl, arith, append_assoc, length-append}
+use Rattle.std.specs.Prelude.{decimal}
+use Rattle.std.proofs.lemmas.Bool.{cases_lt}
+use Rattle.std.proofs.lemmas.Fmt.{decimal_step_wide, length-decimal-le_wide, decimal_digit}
+use Rattle.std.proofs.lemmas.List.{append-nil, drop-append-le}
+use Rattle.std.proofs.Math.Nat.{pow-succ', pow-zero, one-le-pow, le-mul_of_pos_right}
+
+-- a number has a digit
+pub some_digit : (n : ℕ) → n < 10 ^ 64 → 1 ≤ length (decimal n)
+some_digit n low = by_size (cases_lt n 10)
+  where
+    by_size : (n < 10) ⊎ (10 ≤ n) → 1 ≤ length (decimal n)
+    by_size (inl one) = omega (arith, ap length (decimal_digit n one))
+    by_size (inr more) = omega (
+      arith,
+      ap length (decimal_step_wide n more low),
+      length-append (decimal (n / 10)) ((48 + n % 10) ∷ []),
+    )
+
+-- the digits of ten times a number and a rest are those of the number and of the rest's tens, and
+-- then the rest's last
+last_digit : (n x rest : ℕ) → n ≡ 10 * x + rest → 0 < x → n < 10 ^ 64 →
+    decimal n ≡ decimal (x + rest / 10) ++ (48 + rest % 10) ∷ []
+last_digit n x rest e some low =
+    decimal_step_wide n (omega (arith, e)) low
+    ∙ ap (λ m. decimal m ++ (48 + n % 10) ∷ []) front
+    ∙ ap (λ d. decimal (x + rest / 10) ++ (48 + d) ∷ []) last
+  where
+    front : n / 10 ≡ x + rest / 10
+    front = omega (arith, e)
+
+    last : n % 10 ≡ rest % 10
+    last = omega (arith, e)
+
+-- a number times a positive one is no smaller
+le_more : (p h : ℕ) → 0 < h → p ≤ h * p
+le_more p zero none = absurd (omega arith)
+le_more p (suc h) one = omega arith
+
+-- ten times a factor is ten times the product
+ten_times : (h p r : ℕ) → h * (10 * p) + r ≡ 10 * (h * p) + r
+ten_times h p r = omega arith
+
+-- a tenth of a number below ten times another is below that
+tenth : (r p q : ℕ) → q ≡ 10 * p → r < q → r / 10 < p
+tenth r p q ten few = omega arith
+
+-- the digits of a number are those of its front, and then its last k, which are the digits of the
+-- same k after a one
+pub two_parts : (k high rest : ℕ) → 0 < high → rest < 10 ^ k → k < 64 →
+    high * 10 ^ k + rest < 10 ^ 64 →
+    decimal (high * 10 ^ k + rest) ≡ decimal high ++ drop 1 (decimal (10 ^ k + rest))
+two_parts zero high rest some few short low =
+    ap decimal whole
+    ∙ sym (append-nil (decimal high))
+    ∙ ap (λ t. decimal high ++ drop 1 t)
+    (sym (ap decimal one ∙ decimal_digit 1 (omega arith)))
+  where
+    none : rest ≡ 0
+    none = omega (arith, pow-zero 10)
+
+    whole : high * 10 ^ 0 + rest ≡ high
+    whole = ap (λ p. high * p + rest) (pow-zero 10) ∙ omega (arith, none)
+
+    one : 10 ^ 0 + rest ≡ 1
+    one = omega (arith, pow-zero 10, none)
+two_parts (suc k) high rest some few short low =
+    last_digit (high * 10 ^ suc k + rest) (high * 10 ^ k) rest whole front low
+    ∙ ap (λ t. t ++ (48 + rest % 10) ∷ [])
+    (two_parts k high (rest / 10) some (tenth rest (10 ^ k) (10 ^ suc k) ten few) (omega arith)
+    (omega (arith, whole, low)))
+    ∙ append_assoc (decimal high) (drop 1 (decimal (10 ^ k + rest / 10))) ((48 + rest % 10) ∷ [])
+    ∙ ap (λ t. decimal high ++ t)
+    (sym (drop-append-le 1 (decimal (10 ^ k + rest / 10)) ((48 + rest % 10) ∷ [])
+    (some_digit (10 ^ k + rest / 10) (omega (arith, least, whole, low)))))
+    ∙ ap (λ t. decimal high ++ drop 1 t)
+    (sym (last_digit (10 ^ suc k + rest) (10 ^ k) rest (omega (arith, ten)) power
+    (omega (arith, least, ten, whole, low))))
+  where
+    ten : 10 ^ suc k ≡ 10 * 10 ^ k
+    ten = pow-succ' 10 k
+
+    power : 0 < 10 ^ k
+    power = one-le-pow k 10 (omega arith)
+
+    least : 10 ^ k ≤ high * 10 ^ k
+    least = le_more (10 ^ k) high some
+
+    front : 0 < high * 10 ^ k
+    front = omega (arith, least, power)
+
+    whole : high * 10 ^ suc k + rest ≡ 10 * (high * 10 ^ k) + rest
+    whole = ap (λ p. high * p + rest) ten ∙ ten_times high (10 ^ k) rest

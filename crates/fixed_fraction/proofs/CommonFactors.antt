@@ -1,0 +1,249 @@
+-- Common factors: quotients by an inverse modulo 2 ^ 128, and what is left without twos and threes.
+use Prim.Native.Nat.{◌∣◌}
+use Rattle.std.proofs.Common.{◌≡◌, ℕ, zero, suc, ◌+◌, ◌-◌, ◌*◌, ◌/◌, ◌%◌, ◌^◌, ◌<◌, ◌≤◌, ap, sym, ◌∙◌, subst, refl, arith, mul_assoc, min, ◌⊎◌, inl, inr}
+use Rattle.std.specs.Int.{IsGcd, bit_at, trailing_zeros, w128}
+use Rattle.std.proofs.lemmas.Nat.Bits.{bit_at-zero, bit_at-trailing_zeros}
+use Rattle.std.proofs.lemmas.Nat.{mul-mod, mul-mod_second, mod-pow-add, le-div}
+use Rattle.std.proofs.Math.Nat.{mod-eq_of_lt, mul-div-le, mul-le-mul_left, mul-div_cancel', dvd-mul_left_of_dvd, mod-one, eq-or-lt_of_le, dvd_of_mod-eq-zero, mod-eq-zero_of_dvd, dvd-mul_right, dvd-mul_left, dvd_trans, one-dvd, mul-mod_right, mod-lt, emod_pos_of_not-dvd, eq_of_mul-eq-mul_left, pow-succ', pow-zero, one-mul}
+use Rattle.race_model.specs.LocalEquations.{whole}
+use Rattle.fixed_fraction.specs.Ratios.{IsDivided, AreApart}
+
+-- the factors of a product in another order
+swapped : (p m v : ℕ) → p * (m * v) ≡ m * (p * v)
+swapped p m v = omega arith
+
+-- .. and in a third
+swapped_first : (p k v : ℕ) → p * k * v ≡ k * (p * v)
+swapped_first p k v = omega arith
+
+-- a number times a product that is one in a modulus is the number there
+times_one : (k p v w : ℕ) → p * v % w ≡ 1 → k < w → k * (p * v) % w ≡ k
+times_one k p v w inverse low =
+    sym (mul-mod_second k (p * v) w)
+    ∙ ap (λ n. k * n % w) inverse
+    ∙ ap (λ n. n % w) (by_one k)
+    ∙ mod-eq_of_lt low
+  where
+    by_one : (k : ℕ) → k * 1 ≡ k
+    by_one k = omega arith
+
+-- a number times the inverse of another, where the product with it stays within the modulus, is
+-- the quotient
+pub quotient_by_inverse : (m p v w : ℕ) → p * v % w ≡ 1 → m < w →
+    m * v % w ≤ (w - 1) / p → p * (m * v % w) ≡ m
+quotient_by_inverse m p v w inverse low few =
+    sym (mod-eq_of_lt within)
+    ∙ mul-mod_second p (m * v) w
+    ∙ ap (λ n. n % w) (swapped p m v)
+    ∙ times_one m p v w inverse low
+  where
+    within : p * (m * v % w) < w
+    within =
+        let most = mul-le-mul_left p few in
+        let whole = mul-div-le (w - 1) p in
+        omega (arith, most, whole)
+
+-- .. and the quotient of a multiple stays there
+pub multiple_by_inverse : (k p v w : ℕ) → p * v % w ≡ 1 → 0 < p → p * k < w →
+    p * k * v % w ≤ (w - 1) / p
+multiple_by_inverse k p v w inverse some low =
+    subst (λ n. n ≤ (w - 1) / p) (sym same) (le-div k (w - 1) p some (omega arith))
+  where
+    less : (p k : ℕ) → 0 < p → p * k < w → k < w
+    less zero k none l = absurd (omega arith)
+    less (suc p) k one l = omega arith
+
+    same : p * k * v % w ≡ k
+    same = ap (λ n. n % w) (swapped_first p k v) ∙ times_one k p v w inverse (less p k some low)
+
+-- .. so that of a number that another divides
+pub quotient_of_multiple : (m p v w : ℕ) → p * v % w ≡ 1 → m < w → p ∣ m →
+    m * v % w ≤ (w - 1) / p
+quotient_of_multiple m zero v w inverse low divides = absurd (none w inverse)
+  where
+    none : (w : ℕ) → ¬ (0 * v % w ≡ 1)
+    none zero e = omega (arith, e)
+    none (suc w) e = omega (arith, e)
+quotient_of_multiple m (suc p) v w inverse low divides =
+    let whole : suc p * (m / suc p) ≡ m = mul-div_cancel' (suc p) divides in
+    subst (λ n. n * v % w ≤ (w - 1) / suc p) whole
+    (multiple_by_inverse (m / suc p) (suc p) v w inverse (omega arith) (omega (arith, whole)))
+
+-- nothing is taken out where nothing is divided
+pub not_divided : (a b : ℕ) → IsDivided a b a b
+not_divided a b = record { factor = 1; over = omega arith; under = omega arith }
+
+-- divided by one number and then by another, two numbers are divided by the product
+pub divided_twice : (a b n d m e : ℕ) → IsDivided a b n d → IsDivided n d m e → IsDivided a b m e
+divided_twice a b n d m e first second = record {
+  factor = first.factor * second.factor;
+  over = product first.factor second.factor m n a second.over first.over;
+  under = product first.factor second.factor e d b second.under first.under;
+}
+  where
+    product : (f g m n a : ℕ) → g * m ≡ n → f * n ≡ a → f * g * m ≡ a
+    product f g m n a inner outer = mul_assoc f g m ∙ ap (λ k. f * k) inner ∙ outer
+
+-- a number that divides not both of two numbers divides not both of what they are divided to
+pub apart_divided : (p a b n d : ℕ) → IsDivided a b n d → AreApart p a b → AreApart p n d
+apart_divided p a b n d is apart both = apart (
+  subst (λ m. p ∣ m) is.over (dvd-mul_left_of_dvd p both.0 is.factor),
+  subst (λ m. p ∣ m) is.under (dvd-mul_left_of_dvd p both.1 is.factor),
+)
+
+-- what a positive number is divided to is positive
+pub divided_positive : (a b n d : ℕ) → IsDivided a b n d → 0 < b → 0 < d
+divided_positive a b n zero is some = absurd (omega (arith, is.under))
+divided_positive a b n (suc d) is some = omega arith
+
+-- a number whose lowest bits are zeros is a multiple of a power of two
+low_zeros : (n t : ℕ) → ((i : ℕ) → i < t → bit_at n i ≡ 0) → n % 2 ^ t ≡ 0
+low_zeros n zero zeros = mod-one n
+low_zeros n (suc t) zeros =
+    ap (λ k. n % 2 ^ k) more
+    ∙ mod-pow-add n 1 t
+    ∙ ap (λ m. m * 2 ^ t + n % 2 ^ t) (zeros t (omega arith))
+    ∙ none (2 ^ t) (n % 2 ^ t)
+    ∙ low_zeros n t (λ i low. zeros i (omega arith))
+  where
+    more : suc t ≡ 1 + t
+    more = omega arith
+
+    none : (a b : ℕ) → 0 * a + b ≡ b
+    none a b = omega arith
+
+-- .. and so is each number with as many zeros at its end
+zeros_divide : (n t : ℕ) → n < 2 ^ 128 → t ≤ trailing_zeros w128 n → 2 ^ t * (n / 2 ^ t) ≡ n
+zeros_divide zero t low few =
+    mul-div_cancel' (2 ^ t) (dvd_of_mod-eq-zero (2 ^ t) (low_zeros 0 t (λ i below. bit_at-zero i)))
+zeros_divide (suc n) t low few =
+    let lowest = bit_at-trailing_zeros w128 (suc n) (omega arith) low in
+    mul-div_cancel' (2 ^ t) (dvd_of_mod-eq-zero (2 ^ t)
+    (low_zeros (suc n) t (λ i below. lowest.2 i (omega arith))))
+
+-- two numbers divided by the power of two with as many zeros as both have at their end
+pub twos_divided : (a b t : ℕ) → a < 2 ^ 128 → b < 2 ^ 128 →
+    t ≡ min (trailing_zeros w128 a) (trailing_zeros w128 b) →
+    IsDivided a b (a / 2 ^ t) (b / 2 ^ t)
+twos_divided a b t low low_b is = record {
+  factor = 2 ^ t;
+  over = zeros_divide a t low (omega arith);
+  under = zeros_divide b t low_b (omega arith);
+}
+
+-- a number with as many zeros at its end as the power of two is odd after that
+odd_after : (n : ℕ) → 0 < n → n < 2 ^ 128 → ¬ (2 ∣ n / 2 ^ trailing_zeros w128 n)
+odd_after n some low even =
+    let lowest = bit_at-trailing_zeros w128 n some low in
+    omega (arith, lowest.1, mod-eq-zero_of_dvd 2 even)
+
+-- .. and then 2 divides not both
+pub twos_apart : (a b t : ℕ) → a < 2 ^ 128 → b < 2 ^ 128 → 0 < b →
+    t ≡ min (trailing_zeros w128 a) (trailing_zeros w128 b) →
+    AreApart 2 (a / 2 ^ t) (b / 2 ^ t)
+unfolding lib.Count.count_trailing_zeros
+twos_apart a b t low low_b some is both = by_side (eq-or-lt_of_le within)
+  where
+    within : t ≤ trailing_zeros w128 b
+    within = omega arith
+
+    by_side : (t ≡ trailing_zeros w128 b) ⊎ (t < trailing_zeros w128 b) → ⊥
+    by_side (inl e) = odd_after b some low_b (subst (λ n. 2 ∣ b / 2 ^ n) e both.1)
+    by_side (inr l) = first a low is both.0 l
+      where
+        first : (a : ℕ) → a < 2 ^ 128 →
+            t ≡ min (trailing_zeros w128 a) (trailing_zeros w128 b) → 2 ∣ a / 2 ^ t →
+            t < trailing_zeros w128 b → ⊥
+        first zero low is even l =
+            let all : trailing_zeros w128 0 ≡ 128 = refl in
+            let fewer = (bit_at-trailing_zeros w128 b some low_b).0 in
+            omega (arith, all, fewer)
+        first (suc a) low is even l =
+            let same : t ≡ trailing_zeros w128 (suc a) = omega arith in
+            odd_after (suc a) (omega arith) low (subst (λ n. 2 ∣ suc a / 2 ^ n) same even)
+
+-- a product of rests is no multiple of a number unless the second is zero
+abbrev RestsApart : ℕ → Type 0
+RestsApart p = (r s : ℕ) → 0 < r → r < p → s < p → r * s % p ≡ 0 → s ≡ 0
+
+-- .. of two
+rests_of_two : RestsApart 2
+rests_of_two zero s some low small e = absurd (omega arith)
+rests_of_two (suc zero) zero some low small e = refl
+rests_of_two (suc zero) (suc zero) some low small e = absurd (omega (arith, e))
+rests_of_two (suc zero) (suc (suc s)) some low small e = absurd (omega arith)
+rests_of_two (suc (suc r)) s some low small e = absurd (omega arith)
+
+-- .. and of three
+rests_of_three : RestsApart 3
+rests_of_three zero s some low small e = absurd (omega arith)
+rests_of_three (suc zero) zero some low small e = refl
+rests_of_three (suc zero) (suc zero) some low small e = absurd (omega (arith, e))
+rests_of_three (suc zero) (suc (suc zero)) some low small e = absurd (omega (arith, e))
+rests_of_three (suc zero) (suc (suc (suc s))) some low small e = absurd (omega arith)
+rests_of_three (suc (suc zero)) zero some low small e = refl
+rests_of_three (suc (suc zero)) (suc zero) some low small e = absurd (omega (arith, e))
+rests_of_three (suc (suc zero)) (suc (suc zero)) some low small e = absurd (omega (arith, e))
+rests_of_three (suc (suc zero)) (suc (suc (suc s))) some low small e = absurd (omega arith)
+rests_of_three (suc (suc (suc r))) s some low small e = absurd (omega arith)
+
+-- a divisor of a product with such a number that is no multiple of it divides the other factor
+divides_other : (p g m : ℕ) → RestsApart p → 0 < p → ¬ (p ∣ g) → g ∣ p * m → g ∣ m
+divides_other p g m rests some apart divides =
+    subst (λ n. g ∣ n) (sym (eq_of_mul-eq-mul_left p some m (g * (k / p)) same))
+    (dvd-mul_right g (k / p))
+  where
+    k : ℕ
+    k = p * m / g
+
+    whole : g * k ≡ p * m
+    whole = mul-div_cancel' g divides
+
+    none : k % p ≡ 0
+    none = rests (g % p) (k % p) (emod_pos_of_not-dvd p apart) (mod-lt g some) (mod-lt k some)
+        (sym (mul-mod g k p) ∙ ap (λ n. n % p) whole ∙ mul-mod_right p m)
+
+    part : p * (k / p) ≡ k
+    part = mul-div_cancel' p (dvd_of_mod-eq-zero p none)
+
+    same : p * m ≡ p * (g * (k / p))
+    same = sym whole ∙ ap (λ n. g * n) (sym part) ∙ swapped g p (k / p)
+
+-- .. and so with a power of it
+divides_rest : (p g n m : ℕ) → RestsApart p → 0 < p → ¬ (p ∣ g) → g ∣ p ^ n * m → g ∣ m
+divides_rest p g zero m rests some apart divides = subst (λ k. g ∣ k) (one m) divides
+  where
+    one : (m : ℕ) → p ^ 0 * m ≡ m
+    one m = ap (λ k. k * m) (pow-zero p) ∙ one-mul m
+divides_rest p g (suc n) m rests some apart divides =
+    divides_rest p g n m rests some apart
+    (divides_other p g (p ^ n * m) rests some apart
+    (subst (λ k. g ∣ k) (ap (λ k. k * m) (pow-succ' p n) ∙ mul_assoc p (p ^ n) m) divides))
+
+-- the greatest denominator is a product of twos and threes
+factors : 6 * whole ≡ 2 ^ 45 * (3 ^ 45 * 1)
+unfolding whole
+factors = refl
+
+-- so numbers of which neither two nor three divides both are in lowest terms, where the second
+-- divides that denominator
+pub lowest_without : (n d : ℕ) → d ∣ 6 * whole → AreApart 2 n d → AreApart 3 n d → IsGcd n d 1
+lowest_without n d divides twos threes = (
+  one-dvd n,
+  one-dvd d,
+  λ g p q.
+      divides_rest 3 g 45 1 rests_of_three (omega arith)
+      (λ three. threes (dvd_trans 3 three p, dvd_trans 3 three q))
+      (divides_rest 2 g 45 (3 ^ 45 * 1) rests_of_two (omega arith)
+      (λ two. twos (dvd_trans 2 two p, dvd_trans 2 two q))
+      (subst (λ m. g ∣ m) factors (dvd_trans g q divides))),
+)
+
+-- .. and so are those that the twos, and then the threes, were taken out of
+pub lowest_taken_out : (a b m e n d : ℕ) → b ∣ 6 * whole → IsDivided a b m e → AreApart 2 m e →
+    IsDivided m e n d → AreApart 3 n d → (d ∣ 6 * whole) × IsGcd n d 1
+lowest_taken_out a b m e n d divides odd twos less threes =
+    let all = divided_twice a b m e n d odd less in
+    let within : d ∣ 6 * whole =
+    dvd_trans d (subst (λ k. d ∣ k) all.under (dvd-mul_left d all.factor)) divides in
+    (within, lowest_without n d within (apart_divided 2 m e n d less twos) threes)
