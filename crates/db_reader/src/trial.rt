@@ -1,7 +1,8 @@
-//! A table for tests of what stands on a table.
+//! A source and a table for tests of what stands on a source or a table.
 ghost use Rattle.std.specs.Prelude.{◌≡◌, ℕ, ◌+◌, ◌<◌, None, true, false, if◌then◌else◌};
 
 use crate::record::Record;
+use crate::source::{Source, SourceFault};
 use crate::table::{ReadFault, Table, TableFault};
 use db_layout::{Header, RecordView};
 
@@ -73,5 +74,65 @@ impl<T: Table> Table for FailOnce<T> {
 
     fn lend<'a>(&'a self, rank: u16, room: &'a Record) -> RecordView<'a> {
         self.table.lend(rank, room)
+    }
+}
+
+/// Another source, which fails once, at its `n`th call, and else answers as it does: for tests of
+/// what happens where one read fails (this project's profile). It tells the bytes that the other
+/// source tells, and counts the other's failures and its own.
+#[derive(Drop)]
+pub struct FailAt<S> {
+    source: S,
+    calls_left: u64,
+    has_failed: bool,
+    ghost later: { 0 < calls_left → has_failed ≡ false },
+}
+
+impl<S: Source> FailAt<S> {
+    /// A source over another that fails at its `n`th call of `length` or `read_at`, which are
+    /// numbered together from 1, and never where `n` is 0. Total.
+    pub fn new(source: S, n: u64) -> Self
+        ensures tells { ⟦<FailAt<S> as Source>⟧.tells result ≡ S.tells source }
+        ensures failures { ⟦<FailAt<S> as Source>⟧.failures result ≡ S.failures source }
+    {
+        FailAt {
+            source,
+            calls_left: n,
+            has_failed: false,
+        }
+    }
+
+    /// Counts one call down, and tells whether it is the one that fails.
+    fn is_due(&mut self) -> bool
+        ensures source { self.new.source ≡ self.old.source }
+        ensures due { ⟦<FailAt<S> as Source>⟧.failures self.new
+            ≡ ⟦<FailAt<S> as Source>⟧.failures self.old + (if result then 1 else 0) }
+    {
+        let is_due = self.calls_left == 1;
+        self.calls_left = self.calls_left.saturating_sub(1);
+        if is_due {
+            self.has_failed = true;
+        }
+        is_due
+    }
+}
+
+impl<S: Source> Source for FailAt<S> {
+    ghost tells = { λ trial. S.tells trial.source };
+
+    ghost failures = { λ trial. S.failures trial.source + (if trial.has_failed then 1 else 0) };
+
+    fn length(&mut self) -> Result<u64, SourceFault> {
+        if self.is_due() {
+            return Err(SourceFault);
+        }
+        self.source.length()
+    }
+
+    fn read_at(&mut self, offset: u64, into: &mut [u8]) -> Result<(), SourceFault> {
+        if self.is_due() {
+            return Err(SourceFault);
+        }
+        self.source.read_at(offset, into)
     }
 }
