@@ -116,7 +116,8 @@ module _ (full : AllRecords) (bound : ℕ) (low : bound ≤ 44) where
     unfolding number
     number-is v = play-read (rank x) (roll_index v) ranked (roll_index-range v)
 
-    best-by_index : (v : Throw) → IsBestPlay (slice_index means) x (roll_at (roll_index v)) (number v)
+    best-by_index : (v : Throw) →
+        IsBestPlay (slice_index means) x (roll_at (roll_index v)) (number v)
     unfolding number
     best-by_index v = here.best (roll_index v) (roll_index-range v)
 

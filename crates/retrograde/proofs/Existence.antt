@@ -112,7 +112,8 @@ best_of_some means [] y h = absurd h
 best_of_some means (x ∷ xs) y h = best_in means x xs
 
 -- so each throw has a best play
-pub best-exists : (means : List ℕ) (x : Board) (v : Throw) → (r : ℕ) × IsBestPlay (slice_index means) x v r
+pub best-exists : (means : List ℕ) (x : Board) (v : Throw) →
+    (r : ℕ) × IsBestPlay (slice_index means) x v r
 best-exists means x v =
     let some = legal_somewhere x v in
     play (best_of_some means (all_results x v) some.0 (listed_results x v some.0 some.1))
@@ -243,7 +244,8 @@ module _ (n : ℕ) (means : List ℕ) (spreads : List (List ℕ)) (low : pips (a
   unfolding played
   played-len = length-map-range_with_len play 0 21
 
-  best : (i : ℕ) → i < 21 → IsBestPlay (slice_index means) (at_rank n) (roll_at i) (slice_index played i)
+  best : (i : ℕ) → i < 21 →
+      IsBestPlay (slice_index means) (at_rank n) (roll_at i) (slice_index played i)
   unfolding play played
   best i lt =
       let here = get_or-map-range_with_len play 0 21 i i 0 lt (omega arith) in

@@ -44,7 +44,8 @@ grown-made : (means more : List ℕ) (spreads others : List (List ℕ)) (x : Boa
 grown-made means more spreads others x mean plays shares same held made = record {
   best =
       λ i lt.
-      grown-best means more x (roll_at i) (slice_index plays i) (held (roll_at i)) (made.best i lt);
+      grown-best means more x (roll_at i) (slice_index plays i) (held (roll_at i))
+      (made.best i lt);
   mean_at_end = made.mean_at_end;
   mean_before =
       λ unfinished. made.mean_before unfinished ∙ ap (λ n. 36 * whole + n) (sym means_same);

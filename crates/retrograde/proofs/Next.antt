@@ -34,7 +34,8 @@ ReachedBelow n means spreads =
 module _ (x : Board) (at : IsPosition x) (unfinished : ¬ IsFinished x) (low : pips x ≤ 44)
     (means : List ℕ)
     (spreads : List (List ℕ)) (reached : ReachedBelow (rank x) means spreads) (plays : List ℕ)
-    (best : (i : ℕ) → i < 21 → IsBestPlay (slice_index means) x (roll_at i) (slice_index plays i)) where
+    (best : (i : ℕ) → i < 21 →
+    IsBestPlay (slice_index means) x (roll_at i) (slice_index plays i)) where
   goes : (i : ℕ) → i < 21 → Legal x (roll_at i) (at_rank (slice_index plays i))
   goes i lt = (best-legal means x (roll_at i) (slice_index plays i) at (best i lt)).0
 
@@ -100,7 +101,8 @@ made-at_end means spreads x mean plays shares at none mean_is none_played start 
 -- .. and that of another one
 pub made-before :
     (means : List ℕ) (spreads : List (List ℕ)) (x : Board) (mean : ℕ) (plays shares : List ℕ) →
-    ¬ IsFinished x → ((i : ℕ) → i < 21 → IsBestPlay (slice_index means) x (roll_at i) (slice_index plays i)) →
+    ¬ IsFinished x →
+    ((i : ℕ) → i < 21 → IsBestPlay (slice_index means) x (roll_at i) (slice_index plays i)) →
     36 * mean ≡ 36 * whole + sum_of_means means plays → slice_index shares 0 ≡ 0 →
     ((k : ℕ) → k < 22 → 36 * slice_index shares (suc k) ≡ sum_of_shares spreads plays k) →
     IsMade means spreads x mean plays shares

@@ -23,7 +23,8 @@ use Rattle.retrograde.proofs.Next.{ReachedBelow, can-pull_shares, has-room}
 use Rattle.retrograde.proofs.Turns.{total-small}
 
 -- a throw has one best play
-best-one : (means : List ℕ) (x : Board) (v : Throw) (r q : ℕ) → IsBestPlay (slice_index means) x v r →
+best-one : (means : List ℕ) (x : Board) (v : Throw) (r q : ℕ) →
+    IsBestPlay (slice_index means) x v r →
     IsBestPlay (slice_index means) x v q → r ≡ q
 best-one means x v r q first second =
     let there : slice_index means (rank second.reached.0) ≡ slice_index means q =
@@ -120,12 +121,14 @@ module _ (full : AllRecords) (x : Board) (at : IsPosition x) (low : pips x ≤ 4
       (agree : (r : ℕ) → r < length means → slice_index means r ≡ mean_of_rank full r)
       (next : rank x ≡ length means)
       (plays : List ℕ) (len : length plays ≡ 21)
-      (best : (i : ℕ) → i < 21 → IsBestPlay (slice_index means) x (roll_at i) (slice_index plays i)) where
+      (best : (i : ℕ) → i < 21 →
+      IsBestPlay (slice_index means) x (roll_at i) (slice_index plays i)) where
     pub results-held : (v : Throw) (z : Board) → Legal x v z → rank z < length means
     results-held v z legal = omega (arith, legal_lower x v z at unfinished legal, next)
 
     -- they are the best by all means
-    best-all : (i : ℕ) → i < 21 → IsBestPlay (slice_index full.means) x (roll_at i) (slice_index plays i)
+    best-all : (i : ℕ) → i < 21 →
+        IsBestPlay (slice_index full.means) x (roll_at i) (slice_index plays i)
     best-all i lt =
         best-by_all means full.means x (roll_at i) (slice_index plays i) agree
         (results-held (roll_at i)) (best i lt)

@@ -1,8 +1,9 @@
 //! The builder of a bearoff database: from the finished position up, each position's record comes
 //! from the records of the positions that its rolls lead to, by the least mean. It rests on
-//! `db_layout` for the bytes, `legal_plays` for the results of a roll, `ranking` for their ranks
-//! and `fixed_fraction` for the exact numbers; the crates above may use that a build without a
-//! fault writes the built file of its bound and nothing else.
+//! `db_layout` for the bytes, `least_plays` for the best play of each roll, `legal_plays` for all
+//! results of one, `ranking` for their ranks and `fixed_fraction` for the exact numbers; the
+//! crates above may use that a build without a fault writes the built file of its bound and
+//! nothing else.
 #![tactic(auto)]
 
 pub use build_fault::BuildFault;

@@ -6,7 +6,8 @@ use Rattle.retrograde.proofs.plays.best_play.Goals as goal
 
 pub returns-then-is_finished : goal.returns-then-is_finished
 returns-then-is_finished c =
-    play-at_end (slice_index c.args.means.now) c.args.position.now c.args.roll c.is_finished.ensures.position
+    play-at_end (slice_index c.args.means.now) c.args.position.now c.args.roll
+    c.is_finished.ensures.position
     (c.is_finished.ensures.value.0 c.if-is_finished.true)
 
 pub best_result-requires : goal.best_result-requires

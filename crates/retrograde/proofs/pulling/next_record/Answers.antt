@@ -15,7 +15,8 @@ returns-then-is_finished g c =
     let made = c.finished_record.result in
     record {
       record_is =
-          record-at_end g.full c.args.position.now c.requires.0 c.requires.1.0 none made.mean made.plays
+          record-at_end g.full c.args.position.now c.requires.0 c.requires.1.0 none made.mean
+          made.plays
           made.spread
           is.mean is.plays is.plays_len is.start is.shares is.shares_len;
       known = c.best_plays-plays.ensures.known;
