@@ -1,10 +1,10 @@
 -- Numbers in decimal, written in two parts.
-use Rattle.std.proofs.Common.{◌≡◌, ◌⊎◌, inl, inr, ℕ, zero, suc, ◌+◌, ◌*◌, ◌/◌, ◌%◌, ◌^◌, ◌<◌, ◌≤◌, List, [], ◌∷◌, ◌++◌, length, drop, ap, sym, ◌∙◌, refl, arith, append_assoc, length-append}
+use Rattle.std.proofs.Common.{◌≡◌, ◌⊎◌, inl, inr, ℕ, zero, suc, ◌+◌, ◌*◌, ◌/◌, ◌%◌, ◌^◌, ◌<◌, ◌≤◌, [], ◌∷◌, ◌++◌, length, drop, ap, sym, ◌∙◌, arith, append_assoc, length-append}
 use Rattle.std.specs.Prelude.{decimal}
 use Rattle.std.proofs.lemmas.Bool.{cases_lt}
-use Rattle.std.proofs.lemmas.Fmt.{decimal_step_wide, length-decimal-le_wide, decimal_digit}
+use Rattle.std.proofs.lemmas.Fmt.{decimal_step_wide, decimal_digit}
 use Rattle.std.proofs.lemmas.List.{append-nil, drop-append-le}
-use Rattle.std.proofs.Math.Nat.{pow-succ', pow-zero, one-le-pow, le-mul_of_pos_right}
+use Rattle.std.proofs.Math.Nat.{pow-succ', pow-zero, one-le-pow}
 
 -- a number has a digit
 pub some_digit : (n : ℕ) → n < 10 ^ 64 → 1 ≤ length (decimal n)

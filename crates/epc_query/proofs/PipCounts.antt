@@ -1,10 +1,10 @@
 -- The ranks of the positions of one pip count, and the means of some ranks.
-use Rattle.std.proofs.Common.{◌≡◌, ◌↔◌, ◌⊎◌, inl, inr, ℕ, zero, suc, ◌+◌, ◌-◌, ◌*◌, ◌/◌, ◌%◌, ◌<◌, ◌≤◌, min, max, List, [], ◌∷◌, ◌++◌, codes, decimal, refl, ap, sym, subst, ◌∙◌, arith}
+use Rattle.std.proofs.Common.{◌≡◌, ◌↔◌, inl, inr, ℕ, zero, suc, ◌+◌, ◌*◌, ◌/◌, ◌%◌, ◌<◌, ◌≤◌, min, max, List, [], ◌∷◌, ◌++◌, codes, decimal, refl, ap, sym, subst, ◌∙◌, arith}
 use Rattle.std.proofs.lemmas.Bool.{cases_lt}
 use Rattle.std.proofs.Math.Path.{ap₂}
 use Rattle.race_model.specs.Positions.{Board, IsPosition, pips}
 use Rattle.race_model.specs.Ranks.{rank, at_rank, count_to, first_of}
-use Rattle.race_model.specs.Files.{mean, mean_at}
+use Rattle.race_model.specs.Files.{mean_at}
 use Rattle.race_model.specs.Levels.{IsLevel, IsLevelLine}
 use Rattle.epc_query.specs.declared.reply.Level.{Level}
 use Rattle.epc_query.specs.Texts.{ratio_text, level_text}

@@ -1,18 +1,19 @@
 -- The replies to the lines of an input, line by line.
-use Rattle.std.proofs.Common.{◌≡◌, ◌⊎◌, inl, inr, ℕ, zero, suc, ◌+◌, ◌-◌, ◌<◌, ◌≤◌, Bool, true, false, cond, eqb, List, [], ◌∷◌, ◌++◌, length, get_or, take, drop, map, Option, Some, None, refl, ap, sym, subst, ◌∙◌, arith, append_assoc, length-append}
+use Rattle.std.proofs.Common.{◌≡◌, ◌≢◌, ◌⊎◌, inl, inr, ℕ, zero, suc, ◌+◌, ◌-◌, ◌<◌, ◌≤◌, Bool, true, false, cond, eqb, List, [], ◌∷◌, ◌++◌, length, get_or, take, drop, map, Option, Some, None, refl, ap, sym, subst, ◌∙◌, arith, append_assoc, length-append}
 use Rattle.std.specs.Io.KnownBytes.{Appends, Keeps, Consumes, IsAtEnd}
-use Rattle.std.proofs.lemmas.List.{append-nil, take-append-le, take_all, length-take, map-append, get_or_append_left, get_or_push, length_push, take_more, take-append-drop}
-use Rattle.std.proofs.Math.Seq.{take-append-add}
+use Rattle.std.proofs.lemmas.List.{append-nil, take-append-le, take_all, length-take, map-append, get_or_append_left, get_or_push, length_push, take_more, take-append-drop, get_or-drop, length-drop}
+use Rattle.std.proofs.Math.Seq.{take-append-add, take-add}
 use Rattle.std.proofs.lemmas.Bool.{cases_lt}
 use Rattle.race_model.specs.Files.{bound_of}
 use Rattle.race_model.specs.Queries.{Query, IsQuery, IsRefused, no_query, of_too_many, of_over_bound, of_finished, of_no_result}
 use Rattle.race_model.specs.Replies.{IsReply, answered, refused}
-use Rattle.race_model.specs.InputLines.{pieces, rest_of, without_return, whole_lines, last_line, lines_of}
+use Rattle.std.proofs.lemmas.List.Elements.{All-head, All-tail}
+use Rattle.race_model.specs.InputLines.{pieces, rest_of, without_return, whole_lines, last_line, lines_of, HasNoFeed}
 use Rattle.db_layout.specs.Writes.{AppendsPart}
 use Rattle.db_layout.proofs.Known.{appends_none, appends_kept, appends_twice}
 use Rattle.epc_query.specs.declared.run_fault.RunFault.{RunFault}
 use Rattle.epc_query.specs.declared.run_fault.RunFault.TheVariants.{Read, Write, Table, Memory, Turns}
-use Rattle.epc_query.specs.Runs.{AreReplies, HasReplies, HasPart, IsMovesLine, IsStoppedAt, IsRunStopped, IsAnswered}
+use Rattle.epc_query.specs.Runs.{AreReplies, HasReplies, HasPart, IsMovesLine, IsStoppedAt, IsRunStopped, IsFirstFeed, IsAnswered}
 use Rattle.epc_query.proofs.Held.{appends_same, part_after, part_all}
 
 -- no replies
@@ -172,37 +173,57 @@ ended : (done : List ℕ) → pieces (done ++ 10 ∷ []) ≡ pieces done ++ rest
 ended done cut = ap (map without_return) cut ∙ map-append without_return (pieces done)
     (rest_of done ∷ [])
 
--- the first bytes of a rest with one byte more are those of its first bytes with that byte
-kept_more : (rest : List ℕ) (c : ℕ) → take 130 (take 130 rest ++ c ∷ [])
-    ≡ take 130 (rest ++ c ∷ [])
-kept_more rest c = by (cases_lt 130 (length rest))
+-- the first bytes of a rest with more bytes are those of its first bytes with these
+pub kept_more : (rest more : List ℕ) → take 130 (take 130 rest ++ more) ≡ take 130 (rest ++ more)
+kept_more rest more = by (cases_lt 130 (length rest))
   where
-    by : (130 < length rest) ⊎ (length rest ≤ 130) → take 130 (take 130 rest ++ c ∷ []) ≡ take 130
-        (rest ++ c ∷ [])
+    by : (130 < length rest) ⊎ (length rest ≤ 130) → take 130 (take 130 rest ++ more) ≡ take 130
+        (rest ++ more)
     by (inl long) =
         let whole : take 130 (take 130 rest) ≡ take 130 rest = take_all 130 (take 130 rest)
         (omega (arith, length-take 130 rest)) in
-        take-append-le 130 (take 130 rest) (c ∷ []) (omega (arith, length-take 130 rest)) ∙ whole
-        ∙ sym (take-append-le 130 rest (c ∷ []) (omega arith))
-    by (inr all) = ap (λ r. take 130 (r ++ c ∷ [])) (take_all 130 rest all)
+        take-append-le 130 (take 130 rest) more (omega (arith, length-take 130 rest)) ∙ whole
+        ∙ sym (take-append-le 130 rest more (omega arith))
+    by (inr all) = ap (λ r. take 130 (r ++ more)) (take_all 130 rest all)
 
--- any other byte is kept
-pub byte_kept : (f done : List ℕ) (start now : Option (List ℕ)) (kept new : List ℕ) (c : ℕ)
+-- bytes without a line feed belong to the rest
+pub rest_more : (other : (done : List ℕ) (c : ℕ) → c ≢ 10 → (pieces (done ++ c ∷ []) ≡ pieces done)
+    × (rest_of (done ++ c ∷ []) ≡ rest_of done ++ c ∷ []))
+    → (done more : List ℕ) → HasNoFeed more
+    → (pieces (done ++ more) ≡ pieces done) × (rest_of (done ++ more) ≡ rest_of done ++ more)
+rest_more other done [] none =
+    (ap pieces (append-nil done), ap rest_of (append-nil done) ∙ sym (append-nil (rest_of done)))
+rest_more other done (c ∷ more) none =
+    let one = other done c (All-head (λ b. b ≢ 10) c more none) in
+    let rest = rest_more other (done ++ c ∷ []) more (All-tail (λ b. b ≢ 10) c more none) in
+    let joined : done ++ c ∷ more ≡ (done ++ c ∷ []) ++ more = sym (append_assoc done (c ∷ []) more)
+    in (
+      ap pieces joined ∙ rest.0 ∙ one.0,
+      ap rest_of joined ∙ rest.1 ∙ ap (λ r. r ++ more) one.1
+          ∙ append_assoc (rest_of done) (c ∷ []) more,
+    )
+
+-- .. and are kept
+pub bytes_kept : (f done : List ℕ) (start now : Option (List ℕ)) (kept new more : List ℕ)
     → IsAnswered f done start now kept
-    → (pieces (done ++ c ∷ []) ≡ pieces done) × (rest_of (done ++ c ∷ []) ≡ rest_of done ++ c ∷ [])
-    → new ≡ take 130 (kept ++ c ∷ [])
-    → IsAnswered f (done ++ c ∷ []) start now new × (length (whole_lines (done ++ c ∷ [])) ≡ length
+    → (pieces (done ++ more) ≡ pieces done) × (rest_of (done ++ more) ≡ rest_of done ++ more)
+    → new ≡ take 130 (kept ++ more)
+    → IsAnswered f (done ++ more) start now new × (length (whole_lines (done ++ more)) ≡ length
     (whole_lines done) + 0)
-byte_kept f done start now kept new c is cut e =
-    let lines : whole_lines (done ++ c ∷ []) ≡ whole_lines done =
-    ap (map without_return) cut.0 in (
+bytes_kept f done start now kept new more is cut e =
+    let lines : whole_lines (done ++ more) ≡ whole_lines done = ap (map without_return) cut.0 in (
       record {
         replies = subst (λ ls. HasReplies f ls start now) (sym lines) is.replies;
-        held = e ∙ ap (λ k. take 130 (k ++ c ∷ [])) is.held ∙ kept_more (rest_of done) c
+        held = e ∙ ap (λ k. take 130 (k ++ more)) is.held ∙ kept_more (rest_of done) more
             ∙ ap (take 130) (sym cut.1);
       },
       omega (arith, ap length lines),
     )
+
+-- bytes without any are none
+pub none_of_length : (bytes : List ℕ) → length bytes ≡ 0 → [] ≡ bytes
+none_of_length [] none = refl
+none_of_length (c ∷ bytes) some = absurd (omega arith)
 
 -- where a byte is kept there is a last line
 last_is : (done kept : List ℕ) → kept ≡ take 130 (rest_of done) → 0 < length kept
@@ -250,8 +271,7 @@ module _ (short : (line : List ℕ) (q : Query) → IsQuery line q → length li
           again _ (of_too_many q is many) = absurd (not_asked line q long is)
           again _ (of_over_bound q is few over) = absurd (not_asked line q long is)
           again _ (of_finished q is few within asks) = absurd (not_asked line q long is)
-          again _ (of_no_result q is few within unfinished none) =
-              absurd (not_asked line q long is)
+          again _ (of_no_result q is few within unfinished none) = absurd (not_asked line q long is)
 
   -- a line is itself
   itself : (f line other : List ℕ) → line ≡ other → IsHeardAs f line other
@@ -320,8 +340,7 @@ module _ (short : (line : List ℕ) (q : Query) → IsQuery line q → length li
       → IsStoppedAt f (whole_lines (done ++ 10 ∷ [])) start new fault
   line_stopped f done start mid new kept fault is stopped cut =
       let line = without_return (rest_of done) in
-      let here = subst (λ k. IsStoppedAt f (without_return k ∷ []) mid new fault) is.held stopped
-      in
+      let here = subst (λ k. IsStoppedAt f (without_return k ∷ []) mid new fault) is.held stopped in
       subst (λ ls. IsStoppedAt f ls start new fault) (sym (ended done cut))
       (stopped_after f (whole_lines done) line start mid new fault is.replies
       (stopped_as f (without_return (take 130 (rest_of done))) line mid new fault
@@ -360,24 +379,51 @@ pub no_last : (f done : List ℕ) (start now : Option (List ℕ)) (kept : List �
     → HasReplies f (lines_of done) start now
     × (length (lines_of done) ≡ length (whole_lines done) + 0)
 no_last f done start now kept is none =
-    let lines = none_left done kept is.held none in (
-      subst (λ ls. HasReplies f ls start now) (sym lines) is.replies,
-      omega (arith, ap length lines),
-    )
+    let lines = none_left done kept is.held none in
+    (subst (λ ls. HasReplies f ls start now) (sym lines) is.replies, omega (arith, ap length lines))
 
--- one byte more of the input
-pub byte_next : (done chunk : List ℕ) (i : ℕ) → i < length chunk
-    → (done ++ take i chunk) ++ get_or chunk i 0 ∷ [] ≡ done ++ take (i + 1) chunk
-byte_next done chunk i low = append_assoc done (take i chunk) (get_or chunk i 0 ∷ [])
-    ∙ ap (λ t. done ++ t) (sym (take_more chunk i 0 low))
+-- the first bytes of a chunk, and those after them
+pub chunk_parts : (done chunk : List ℕ) (n : ℕ)
+    → (done ++ take n chunk) ++ drop n chunk ≡ done ++ chunk
+chunk_parts done chunk n =
+    append_assoc done (take n chunk) (drop n chunk)
+    ∙ ap (λ t. done ++ t) (take-append-drop n chunk)
+
+-- as many of what is left of some bytes as there are is all of it
+pub all_left : (bytes : List ℕ) (start : ℕ) → take (length bytes - start) (drop start bytes)
+    ≡ drop start bytes
+all_left bytes start = take_all (length bytes - start) (drop start bytes)
+    (omega (arith, length-drop start bytes))
+
+-- what is left of some bytes after a place is a piece, a line feed, and what is left after it
+pub piece_next : (chunk : List ℕ) (start place : ℕ) → IsFirstFeed (drop start chunk) place
+    → (take start chunk ++ take place (drop start chunk)) ++ 10 ∷ []
+    ≡ take (start + place + 1) chunk
+piece_next chunk start place is =
+    ap (λ t. t ++ 10 ∷ []) (sym (take-add start place chunk))
+    ∙ ap (λ c. take (start + place) chunk ++ c ∷ [])
+    (sym is.feed ∙ get_or-drop start chunk place 0)
+    ∙ sym (take_more chunk (start + place) 0 within)
+  where
+    within : start + place < length chunk
+    within = omega (arith, is.within, length-drop start chunk)
+
+-- .. so that what was read before grows by the piece and its line feed
+pub piece_joined : (done chunk : List ℕ) (start place : ℕ) → IsFirstFeed (drop start chunk) place
+    → ((done ++ take start chunk) ++ take place (drop start chunk)) ++ 10 ∷ []
+    ≡ done ++ take (start + place + 1) chunk
+piece_joined done chunk start place is =
+    ap (λ t. t ++ 10 ∷ []) (append_assoc done (take start chunk) (take place (drop start chunk)))
+    ∙ append_assoc done (take start chunk ++ take place (drop start chunk)) (10 ∷ [])
+    ∙ ap (λ t. done ++ t) (piece_next chunk start place is)
 
 -- what is left of a chunk comes after
-pub byte_rest : (done chunk : List ℕ) (i : ℕ) → i < length chunk
-    → ((done ++ take i chunk) ++ get_or chunk i 0 ∷ []) ++ drop (i + 1) chunk ≡ done ++ chunk
-byte_rest done chunk i low =
-    ap (λ t. t ++ drop (i + 1) chunk) (byte_next done chunk i low)
-    ∙ append_assoc done (take (i + 1) chunk) (drop (i + 1) chunk)
-    ∙ ap (λ t. done ++ t) (take-append-drop (i + 1) chunk)
+pub piece_rest : (done chunk : List ℕ) (start place : ℕ) → IsFirstFeed (drop start chunk) place
+    → (((done ++ take start chunk) ++ take place (drop start chunk)) ++ 10 ∷ [])
+    ++ drop (start + place + 1) chunk ≡ done ++ chunk
+piece_rest done chunk start place is =
+    ap (λ t. t ++ drop (start + place + 1) chunk) (piece_joined done chunk start place is)
+    ∙ chunk_parts done chunk (start + place + 1)
 
 -- what stopped the first bytes of an input stops more of it
 pub stopped_before : (f done more all : List ℕ) (later : List (List ℕ))

@@ -1,10 +1,10 @@
 -- What was written of the replies to the lines of an input. Source: this project's profile.
-use Rattle.std.specs.Prelude.{◌≡◌, ℕ, ◌<◌, ◌≤◌, List, [], ◌∷◌, ◌++◌, length, take, slice_index_or, Option, Some, Result, Ok, Err}
+use Rattle.std.specs.Prelude.{◌≡◌, ℕ, ◌<◌, ◌≤◌, List, [], ◌∷◌, ◌++◌, length, take, slice_index, slice_index_or, Option, Some, Result, Ok, Err}
 use Rattle.std.specs.Io.KnownBytes.{Appends, Consumes}
 use Rattle.race_model.specs.Files.{bound_of}
 use Rattle.race_model.specs.Queries.{Query, IsAccepted}
 use Rattle.race_model.specs.Replies.{IsReply}
-use Rattle.race_model.specs.InputLines.{rest_of, whole_lines, lines_of}
+use Rattle.race_model.specs.InputLines.{rest_of, whole_lines, lines_of, HasNoFeed}
 use Rattle.db_layout.specs.Writes.{AppendsPart}
 use Rattle.epc_query.specs.Faults.{AsksMoves}
 use Rattle.epc_query.specs.declared.run_fault.RunFault.{RunFault}
@@ -61,6 +61,12 @@ IsRunStopped f input left old new Write = IsStoppedAt f (lines_of input) old new
 IsRunStopped f input left old new Table = IsStoppedAt f (lines_of input) old new Table
 IsRunStopped f input left old new Memory = IsStoppedAt f (lines_of input) old new Memory
 IsRunStopped f input left old new Turns = HasAnswered f input left old new
+
+-- the first line feed of some bytes stands at a place
+pub record IsFirstFeed (bytes : List ℕ) (place : ℕ) : Type 0 where
+  pub within : place < length bytes
+  pub before : HasNoFeed (take place bytes)
+  pub feed : slice_index bytes place ≡ 10
 
 -- the replies to the whole lines of these bytes were written, and the first bytes of the rest are
 -- kept

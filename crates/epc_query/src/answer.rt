@@ -88,6 +88,7 @@ fn ask<T: Table>(alloc: Global, checked: &mut Checked<T>, query: Query) -> Resul
 }
 
 /// The rank of a position of at most the bound.
+#[inline(never)]
 fn rank<T: Table>(checked: &Checked<T>, position: &Position) -> Result<u16, QueryFault>
     ensures value { IfOk result (λ rank. rank ≡ rank_of position.now) }
     ensures answerable { OnOk result (pips position.now ≤ bound_in (T.accepted checked.now)) }

@@ -35,14 +35,13 @@ impl LineBuffer {
         }
     }
 
-    /// Adds a byte, which is kept where there are fewer than 130.
-    pub(crate) fn add(&mut self, byte: u8)
-        ensures { self.new ≡ take 130 (self.old ++ byte ∷ []) }
+    /// Adds bytes, of which as many are kept as make 130.
+    pub(crate) fn extend(&mut self, bytes: &[u8])
+        ensures { self.new ≡ take 130 (self.old ++ bytes.now) }
     {
-        if self.bytes.is_full() {
-            return;
-        }
-        self.bytes.push(byte);
+        let room = KEPT - self.bytes.len();
+        let kept = bytes.len().min(room);
+        self.bytes.try_extend_from_slice(&bytes[..kept]).unwrap();
     }
 
     /// Forgets the bytes.
@@ -63,9 +62,25 @@ impl LineBuffer {
     pub(crate) fn line(&self) -> &[u8]
         ensures { result.now ≡ without_return self.now }
     {
-        match self.bytes.as_slice() {
-            [line @ .., b'\r'] => line,
-            line => line,
-        }
+        without_return(self.bytes.as_slice())
+    }
+}
+
+/// The bytes of a line that are looked at: the first 130, without the carriage return at their
+/// end, if there is one.
+pub(crate) fn whole_line(bytes: &[u8]) -> &[u8]
+    ensures { result.now ≡ without_return (take 130 bytes.now) }
+{
+    let kept = bytes.len().min(KEPT);
+    without_return(&bytes[..kept])
+}
+
+/// Some bytes without the carriage return at their end, if there is one.
+fn without_return(bytes: &[u8]) -> &[u8]
+    ensures { result.now ≡ without_return bytes.now }
+{
+    match bytes {
+        [line @ .., b'\r'] => line,
+        line => line,
     }
 }

@@ -1,12 +1,12 @@
 //! The lines of an input, answered as soon as they are whole.
-ghost use Rattle.std.specs.Prelude.{◌≡◌, ℕ, ◌+◌, ◌^◌, ◌<◌, ◌≤◌, List, [], ◌∷◌, ◌++◌, length, Option, Some, MatchResult, IfOk};
+ghost use Rattle.std.specs.Prelude.{◌≡◌, ℕ, ◌+◌, ◌^◌, ◌<◌, ◌≤◌, List, [], ◌∷◌, ◌++◌, length, Option, Some, MatchOption, MatchResult, IfOk};
 ghost use Rattle.std.specs.Io.KnownBytes.{Keeps};
-ghost use Rattle.race_model.specs.InputLines.{whole_lines, lines_of};
+ghost use Rattle.race_model.specs.InputLines.{HasNoFeed, whole_lines, lines_of};
 ghost use Rattle.db_reader.specs.Telling.{WhereTold};
-ghost use Rattle.epc_query.specs.Runs.{HasReplies, IsStoppedAt, IsAnswered, RunCounted};
+ghost use Rattle.epc_query.specs.Runs.{HasReplies, IsStoppedAt, IsFirstFeed, IsAnswered, RunCounted};
 
 use crate::answer::{Stop, answer_line};
-use crate::line_buffer::LineBuffer;
+use crate::line_buffer::{LineBuffer, whole_line};
 use crate::run_fault::RunFault;
 use crate::text::Text;
 use crate::writing::write_reply_by;
@@ -46,23 +46,36 @@ fn answer<T: Table, W: Write>(
     }
 }
 
-/// Takes one byte of the input: a line feed ends a line, which is answered, and any other byte is
-/// kept. It gives how many lines were answered.
-fn answer_byte<T: Table, W: Write>(
+/// Where the first line feed of some bytes stands.
+fn first_feed(bytes: &[u8]) -> Option<usize>
+    ensures { MatchOption result (HasNoFeed bytes.now) (IsFirstFeed bytes.now) }
+{
+    for (place, byte) in bytes.iter().enumerate() {
+        if *byte == b'\n' {
+            return Some(place);
+        }
+    }
+    None
+}
+
+/// Answers the line that some bytes without a line feed end, after those that are kept.
+fn answer_piece<T: Table, W: Write>(
     alloc: Global,
     checked: &mut Checked<T>,
     held: &mut LineBuffer,
-    byte: u8,
+    piece: &[u8],
     text: &mut Text,
     writer: &mut W,
-) -> Result<u64, RunFault>
+) -> Result<(), RunFault>
+    requires { HasNoFeed piece.now }
     ensures answered { WhereTold (T.tells checked.old)
         (λ file. (done : List ℕ) (start : Option (List ℕ))
         → IsAnswered file done start (W.contents writer.old) held.old → MatchResult result
-        (λ n. IsAnswered file (done ++ byte ∷ []) start (W.contents writer.new) held.new
-        × (length (whole_lines (done ++ byte ∷ [])) ≡ length (whole_lines done) + n))
-        (IsStoppedAt file (whole_lines (done ++ byte ∷ [])) start (W.contents writer.new))) }
-    ensures few { IfOk result (λ n. n ≤ 1) }
+        (λ _. IsAnswered file ((done ++ piece.now) ++ 10 ∷ []) start (W.contents writer.new)
+        held.new × (length (whole_lines ((done ++ piece.now) ++ 10 ∷ []))
+        ≡ length (whole_lines done) + 1))
+        (IsStoppedAt file (whole_lines ((done ++ piece.now) ++ 10 ∷ [])) start
+        (W.contents writer.new))) }
     ensures stays { T.tells checked.new ≡ T.tells checked.old }
     ensures accepted { T.accepted checked.new ≡ T.accepted checked.old }
     ensures cause { WhereTold (T.tells checked.old)
@@ -70,16 +83,18 @@ fn answer_byte<T: Table, W: Write>(
 {
     laws::law_lines();
     laws::law_input_lines();
-    if byte != b'\n' {
-        held.add(byte);
-        return Ok(0);
+    if held.rest().is_empty() {
+        answer(alloc, checked, whole_line(piece), text, writer)?;
+        return Ok(());
     }
+    held.extend(piece);
     answer(alloc, checked, held.line(), text, writer)?;
     held.clear();
-    Ok(1)
+    Ok(())
 }
 
-/// Takes the next bytes of the input, and gives how many lines were answered.
+/// Takes the next bytes of the input: a line feed ends a line, which is answered, and what stands
+/// after the last one is kept. It gives how many lines were answered.
 pub(crate) fn answer_chunk<T: Table, W: Write>(
     alloc: Global,
     checked: &mut Checked<T>,
@@ -102,10 +117,15 @@ pub(crate) fn answer_chunk<T: Table, W: Write>(
         (λ _. RunCounted (T.failures checked.old) (T.failures checked.new) result) }
 {
     laws::law_input_lines();
+    let mut start = 0;
     let mut count = 0;
-    for byte in chunk {
-        count += answer_byte(alloc, checked, held, *byte, text, writer)?;
+    while let Some(length) = first_feed(&chunk[start..]) {
+        let rest = &chunk[start..];
+        answer_piece(alloc, checked, held, &rest[..length], text, writer)?;
+        start = start + length + 1;
+        count += 1;
     }
+    held.extend(&chunk[start..]);
     Ok(count)
 }
 

@@ -24,6 +24,7 @@ use race_model::laws;
 /// pips than the bound, else as `Finished` where no checker is left there, else as `NotLegal`
 /// where the roll doesn't lead to the second position, and as `Read` where a record could not be
 /// read, or, read again, holds numbers that no accepted record can hold.
+#[inline(never)]
 pub fn loss<T: Table>(
     checked: &mut Checked<T>,
     position: &Position,

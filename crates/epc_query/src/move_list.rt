@@ -34,6 +34,7 @@ type Cost = (u128, u16);
 /// and else as `Memory` where the list can't be had, or as `Read` where a record could not be
 /// read, or, read again, holds numbers that no accepted record can hold. The memory of the list is
 /// taken before the first read.
+#[inline(never)]
 pub fn moves<T: Table>(
     alloc: Global,
     checked: &mut Checked<T>,
@@ -60,17 +61,19 @@ pub fn moves<T: Table>(
     if position.is_finished() {
         return Err(QueryFault::Finished);
     }
+    let ranks = Ranks::new();
     let found = results(position, roll);
     let Ok(choices) = Vec::with_capacity(alloc, found.len()) else {
         return Err(QueryFault::Memory);
     };
-    let costs = costs_of(checked, found.as_slice())?;
-    Ok(priced(choices, costs.as_slice()))
+    let costs = costs_of(checked, &ranks, found.as_slice())?;
+    Ok(priced(&ranks, choices, costs.as_slice()))
 }
 
 /// The results in order: the smaller mean first, and of equal means the lower rank.
 fn costs_of<T: Table>(
     checked: &mut Checked<T>,
+    ranks: &Ranks,
     found: &[Position],
 ) -> Result<ArrayVec<Cost, 1296>, QueryFault>
     requires few { length found.now ≤ 1296 }
@@ -87,7 +90,6 @@ fn costs_of<T: Table>(
     ensures cause { WhereTold (T.tells checked.old)
         (λ _. QueryCounted (T.failures checked.old) (T.failures checked.new) result) }
 {
-    let ranks = Ranks::new();
     let mut costs = ArrayVec::new();
     for to in found {
         let mean = recorded_mean(checked, to)?;
@@ -111,17 +113,16 @@ fn include(costs: &mut ArrayVec<Cost, 1296>, cost: Cost)
 }
 
 /// The results with what each costs against the first.
-fn priced(choices: Vec<Choice>, costs: &[Cost]) -> Vec<Choice>
+fn priced(ranks: &Ranks, choices: Vec<Choice>, costs: &[Cost]) -> Vec<Choice>
     requires none { choices.items ≡ [] }
     requires room { length costs.now ≤ vec_capacity choices }
     requires ordered { IsByCost costs.now }
     requires bounded { All IsCost costs.now }
     ensures { ArePriced costs.now result.items }
 {
-    let ranks = Ranks::new();
     let mut choices = choices;
     for cost in costs {
-        let choice = price(&ranks, *cost, costs[0]);
+        let choice = price(ranks, *cost, costs[0]);
         choices.push(choice).unwrap();
     }
     choices

@@ -1,8 +1,7 @@
-use Rattle.std.proofs.Common.{◌≡◌, ◌*◌, ◌≤◌, ap, subst, sym, ◌∙◌, lit≤, refl, inl, inr, arith}
+use Rattle.std.proofs.Common.{◌≡◌, ap, ◌∙◌, lit≤, refl, inl, inr, arith}
 use Rattle.std.proofs.lemmas.Bool.{cases_lt}
-use Rattle.race_model.specs.Files.{mean, mean_at}
+use Rattle.race_model.specs.Files.{mean_at}
 use Rattle.race_model.specs.LocalEquations.{whole}
-use Rattle.epc_query.specs.LevelMeans.{AreMeansOf}
 use Rattle.epc_query.proofs.PipCounts.{no_means, more_means}
 use Rattle.epc_query.proofs.levels.means_of.Goals as goal
 

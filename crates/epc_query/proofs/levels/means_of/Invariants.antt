@@ -1,4 +1,4 @@
-use Rattle.std.proofs.Common.{◌≡◌, ◌*◌, ◌≤◌, ℕ, List}
+use Rattle.std.proofs.Common.{◌≡◌, ◌*◌, ◌≤◌}
 use Rattle.race_model.specs.LocalEquations.{whole}
 use Rattle.db_reader.specs.Telling.{WhereTold}
 use Rattle.epc_query.specs.LevelMeans.{AreMeansOf}

@@ -1,22 +1,27 @@
-use Rattle.std.proofs.Common.{◌≡◌, ◌+◌, ◌≤◌, ℕ, List, ◌++◌, take, length, Option}
+use Rattle.std.proofs.Common.{◌≡◌, ◌+◌, ◌-◌, ◌≤◌, ℕ, List, ◌++◌, take, length, Option}
 use Rattle.race_model.specs.InputLines.{whole_lines}
 use Rattle.db_reader.specs.Telling.{WhereTold}
 use Rattle.epc_query.specs.Runs.{IsAnswered}
 use Rattle.epc_query.proofs.lines.answer_chunk.Given as goal
 
--- the bytes so far were taken
-abbrev pub invariant-loop-byte : goal.invariant-loop-byte
-invariant-loop-byte g l = record {
+-- the bytes before the next line were taken
+abbrev pub invariant-loop-length : goal.invariant-loop-length
+invariant-loop-length g l = record {
+  within : l.start ≤ length l.chunk;
   taken : WhereTold (g.T.Table.tells l.initial.checked)
       (λ file. (done : List ℕ) (start : Option (List ℕ))
       → IsAnswered file done start (g.W.Write.contents l.initial.writer) l.initial.held
-      → IsAnswered file (done ++ take l.byte-index l.chunk) start
+      → IsAnswered file (done ++ take l.start l.chunk) start
       (g.W.Write.contents l.writer) l.held
-      × (length (whole_lines (done ++ take l.byte-index l.chunk)) ≡ length
+      × (length (whole_lines (done ++ take l.start l.chunk)) ≡ length
       (whole_lines done) + l.count));
-  few : l.count ≤ l.byte-index;
+  few : l.count ≤ l.start;
   stays : g.T.Table.tells l.checked ≡ g.T.Table.tells l.initial.checked;
   accepted : g.T.Table.accepted l.checked ≡ g.T.Table.accepted l.initial.checked;
   count : WhereTold (g.T.Table.tells l.initial.checked)
       (λ _. g.T.Table.failures l.checked ≡ g.T.Table.failures l.initial.checked);
 }
+
+-- what is left of the chunk falls
+abbrev pub decreases-loop-length : goal.decreases-loop-length
+decreases-loop-length g l = length l.chunk - l.start

@@ -1,0 +1,7 @@
+use Rattle.std.proofs.Common.{take}
+use Rattle.race_model.specs.InputLines.{HasNoFeed}
+use Rattle.epc_query.proofs.lines.first_feed.Given as goal
+
+-- no line feed stands before this place
+abbrev pub invariant-loop-place : goal.invariant-loop-place
+invariant-loop-place l = HasNoFeed (take l.place l.bytes)
