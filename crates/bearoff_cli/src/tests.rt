@@ -130,6 +130,12 @@ fn builds_and_checks(rt: HostRuntime) -> Result<(), Fail> {
             "built pips 8 positions 64\n",
             "ok pips 8 positions 64\n",
         ),
+        (
+            "9",
+            38372,
+            "built pips 9 positions 90\n",
+            "ok pips 9 positions 90\n",
+        ),
     ] {
         assert_outcome(&rt, &["build", "--pips", bound, path], "", (0, built, ""));
         assert_eq!(rt; fs::read(&rt, path)?.len(), size);

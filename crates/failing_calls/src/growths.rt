@@ -1,4 +1,7 @@
-//! Calls that take memory, while a growth of memory is refused from outside.
+//! Calls that take memory, while a growth of memory is refused from outside, and a few short trials
+//! by a word.
+use crate::inputs::answer_endless;
+use crate::texts::{Text, fail_flush};
 use crate::wrong::{accepted, database};
 use certificate::{Checked, QueryFault, check};
 use db_reader::{Paged, PagedFault, SliceSource, Source, Table};
@@ -61,6 +64,8 @@ pub fn try_growths(alloc: Global, word: &str) -> Outcome {
                 "run" => try_run(alloc, file.as_slice()),
                 "pages" => try_pages(alloc, file.as_slice()),
                 "puts" => try_puts(alloc, file.as_slice()),
+                "flushes" => try_flushes(alloc, file.as_slice()),
+                "turns" => try_turns(alloc, file.as_slice()),
                 _ => Outcome::Wrong,
             }
         }
@@ -236,4 +241,25 @@ fn try_puts(alloc: Global, file: &[u8]) -> Outcome {
     let replies = "mean 1/1 epc 49/6 8.167\nerror bad-line\nrank 1\n\
         mean 11/6 epc 539/36 14.972\n";
     Outcome::Whole.or_wrong(is_answered(alloc, &mut checked, lines, replies))
+}
+
+/// Texts to writers whose flush fails: nobody but `run` asks for it.
+fn try_flushes(alloc: Global, file: &[u8]) -> Outcome {
+    for text in [
+        Text::Header,
+        Text::Record,
+        Text::Replies,
+        Text::Level,
+        Text::Build,
+    ] {
+        if fail_flush(alloc, file, text) != Ok(0) {
+            return Outcome::Wrong;
+        }
+    }
+    Outcome::Whole.or_wrong(fail_flush(alloc, file, Text::Run) == Ok(1))
+}
+
+/// An input that never ends: as many reads as turns.
+fn try_turns(alloc: Global, file: &[u8]) -> Outcome {
+    Outcome::Whole.or_wrong(answer_endless(alloc, file) == Ok(1000))
 }

@@ -17,7 +17,7 @@ pub enum Text {
     /// The header of 44 pips.
     Header,
 
-    /// A record.
+    /// A record of the greatest mean.
     Record,
 
     /// A reply of each kind.
@@ -192,7 +192,7 @@ fn write_a_header(writer: &mut Tired) -> bool {
 }
 
 fn write_a_record(writer: &mut Tired) -> bool {
-    match Scaled::new(WHOLE / 7) {
+    match Scaled::new(22 * WHOLE) {
         Some(mean) => write_record(mean, &[258; 21], &Spread::finished(), writer).is_ok(),
         None => false,
     }

@@ -1,0 +1,58 @@
+use certificate::QueryFault;
+use std::alloc::AllocError;
+
+/// What was not as it has to be.
+#[derive(Clone, Copy, Debug, PartialEq, Eq)]
+pub enum Difference {
+    /// The rank of a position and the number of positions that come before it.
+    Ranks,
+
+    /// The results of a roll and those of the plain program.
+    Results,
+
+    /// The mean of a position and that of its best results.
+    Means,
+
+    /// A text of a position and the position that is read from it.
+    Texts,
+
+    /// What the checker says of a file in memory and by pages.
+    Verdicts,
+
+    /// The replies to an input in memory and by pages, or in parts.
+    Replies,
+
+    /// There was no memory.
+    Memory,
+}
+
+impl Difference {
+    pub fn name(self) -> &'static str {
+        match self {
+            Difference::Ranks => "ranks",
+            Difference::Results => "results",
+            Difference::Means => "means",
+            Difference::Texts => "texts",
+            Difference::Verdicts => "verdicts",
+            Difference::Replies => "replies",
+            Difference::Memory => "memory",
+        }
+    }
+
+    /// Ok where something holds, and else this difference.
+    pub fn unless(self, holds: bool) -> Result<(), Difference> {
+        if holds { Ok(()) } else { Err(self) }
+    }
+}
+
+impl From<AllocError> for Difference {
+    fn from(_error: AllocError) -> Self {
+        Difference::Memory
+    }
+}
+
+impl From<QueryFault> for Difference {
+    fn from(_fault: QueryFault) -> Self {
+        Difference::Means
+    }
+}
