@@ -9,7 +9,7 @@ use Rattle.race_model.specs.Ranks.{rank}
 use Rattle.race_model.proofs.Plays.MostPlays.{get_or-zeros}
 use Rattle.race_model.proofs.Ranks.RankOrder.{rank_apart}
 use Rattle.race_model.proofs.Ranks.BestPlays.{run-agree}
-use Rattle.least_plays.specs.Known.{number_in, IsBestAfter, Knows}
+use Rattle.least_plays.specs.Known.{row_in, number_in, IsBestAfter, Knows}
 use Rattle.least_plays.specs.declared.room.Row.{Row}
 use Rattle.least_plays.specs.declared.room.LeastPlays.{LeastPlays}
 
@@ -28,7 +28,7 @@ kept_in row d n = slice_index (slice_index_or row.after (number d - 1) []) n
 -- a row that is written leaves the others
 number_in-other : (rows : List Row) (place r : ℕ) (row : Row) (d : Die) (n : ℕ) →
     r % 11452 ≢ place → number_in (set rows place row) r d (suc n) ≡ number_in rows r d (suc n)
-unfolding number_in kept_in
+unfolding number_in row_in kept_in
 number_in-other rows place r row d n apart =
     ap (λ row. kept_in row d n)
     (get_or-set_other {A = Row} rows place (r % 11452) row (record { after = [] }) apart)
@@ -38,7 +38,7 @@ number_in-same : (rows : List Row) (place r : ℕ) (row : Row) (d : Die) (n : �
     r % 11452 ≡ place → place < length rows →
     number_in (set rows place row) r d (suc n)
     ≡ slice_index (slice_index_or row.after (number d - 1) []) n
-unfolding number_in kept_in
+unfolding number_in row_in kept_in
 number_in-same rows place r row d n same inside =
     ap (λ q. kept_in (get_or (set rows place row) q (record { after = [] })) d n) same
     ∙ ap (λ row. kept_in row d n)
@@ -90,7 +90,7 @@ pub number_in-some : (rows : List Row) (r : ℕ) (d : Die) (n place i j : ℕ) �
     number_in rows r d n
     ≡ slice_index
     (slice_index_or (slice_index_or rows (place % 11452) (record { after = [] })).after i []) j
-unfolding number_in kept_in
+unfolding number_in row_in kept_in
 number_in-some rows r d zero place i j at first second = absurd (omega arith)
 number_in-some rows r d (suc n) place i j at first second =
     let e : n ≡ j = omega arith in

@@ -83,9 +83,11 @@ module _ (mean : ℕ → ℕ) (count : ℕ) (starts : Starts) (are : AreStarts m
       one)
       (λ y got. ⊎_elim
       (λ run. no_worse_on mean r (play i j) (rank y) before
-      (no_worse_of_best mean (Run starts.position (v.first ∷ v.second ∷ [])) (play i j) y here run))
+      (no_worse_of_best mean (Run starts.position (v.first ∷ v.second ∷ [])) (play i j) y here
+      run))
       (λ run. no_worse_on mean r (play j i) (rank y) now
-      (no_worse_of_best mean (Run starts.position (v.second ∷ v.first ∷ [])) (play j i) y there run))
+      (no_worse_of_best mean (Run starts.position (v.second ∷ v.first ∷ [])) (play j i) y there
+      run))
       ((legal y).1 got))
     where
       differ : number v.first ≢ number v.second

@@ -14,13 +14,15 @@ use Rattle.least_plays.specs.declared.starts.Starts.{Starts}
 abbrev pub IsBestAfter : (ℕ → ℕ) → Board → List Die → ℕ → Type 0
 IsBestAfter mean x dice r = IsBestOf mean (Run x dice) r
 
+-- the row of a rank: rows are used again, since those of the last levels alone are read
+unfoldable pub row_in : List Row → ℕ → Row
+row_in rows r = slice_index_or rows (r % 11452) (record { after = [] })
+
 -- what is kept of a rank for a die that is played n times: nothing but the rank itself for none
 unfoldable pub number_in : List Row → ℕ → Die → ℕ → ℕ
 number_in rows r d zero = r
 number_in rows r d (suc n) =
-    slice_index
-    (slice_index_or (slice_index_or rows (r % 11452) (record { after = [] })).after (number d - 1) [])
-    n
+    slice_index (slice_index_or (row_in rows r).after (number d - 1) []) n
 
 -- of each position below the next rank to which a step from there on can lead, the best ranks
 -- after each die once, twice and three times are kept

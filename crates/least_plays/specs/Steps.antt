@@ -9,4 +9,5 @@ use Rattle.race_model.specs.Ranks.{rank}
 pub record AreSteps (x : Board) (d : Die) (ranks : List ℕ) : Type 0 where
   pub each : (i : ℕ) → i < length ranks →
       (z : Board) × (Step x d z) × (rank z ≡ slice_index ranks i)
-  pub all : (z : Board) → Step x d z → (i : ℕ) × (i < length ranks) × (slice_index ranks i ≡ rank z)
+  pub all : (z : Board) → Step x d z →
+      (i : ℕ) × (i < length ranks) × (slice_index ranks i ≡ rank z)

@@ -99,8 +99,8 @@ impl LeastPlays {
         requires next { IsNext (M.mean means.now) (M.count means.now) self.now steps.now.position }
         requires steps { AreSteps steps.now.position steps.now.die steps.now.ranks.items }
         ensures best { (n : ℕ) → n < 3 →
-            IsBestAfter (M.mean means.now) steps.now.position (steps.now.die ∷ replicate n steps.now.die)
-            (slice_index result n) }
+            IsBestAfter (M.mean means.now) steps.now.position
+            (steps.now.die ∷ replicate n steps.now.die) (slice_index result n) }
         ensures len { length result ≡ 3 }
     {
         let mut after = [0; 3];

@@ -7,7 +7,9 @@ use Rattle.least_plays.proofs.room.LeastPlays.best_of.Goals as goal
 
 pub loop-rank-init : goal.loop-rank-init
 loop-rank-init g c = record {
-  mean = c.of-best.ensures.mean ∙ ap (g.M.Means.mean c.args.means.now) (sym c.of-best.ensures.rank);
+  mean =
+      c.of-best.ensures.mean
+      ∙ ap (g.M.Means.mean c.args.means.now) (sym c.of-best.ensures.rank);
   one = (0, c.requires.some, sym c.number.ensures ∙ sym c.of-best.ensures.rank);
   best = λ i lt. absurd (omega arith);
 }
