@@ -136,3 +136,47 @@ pub fn answer_endless(alloc: Global, file: &[u8]) -> Result<u64, Wrong> {
         Err(Wrong::At(0))
     }
 }
+
+/// Puts each byte before a line and after it, and asks another line after that one. It gives the
+/// number of inputs.
+pub fn answer_each_byte(alloc: Global, file: &[u8]) -> Result<u64, Wrong> {
+    let mut checked = database(file)?;
+    for byte in 0..=255 {
+        let one = [byte];
+        let (before, after) = match byte {
+            b'\n' => (
+                "error bad-line\nrank 1\nrank 1\n",
+                "rank 1\nerror bad-line\nrank 1\n",
+            ),
+            b'\r' => ("error bad-line\nrank 1\n", "rank 1\nrank 1\n"),
+            _ => ("error bad-line\nrank 1\n", "error bad-line\nrank 1\n"),
+        };
+        let is_right = is_answered(alloc, &mut checked, &one, LINE, before)?
+            && is_answered(alloc, &mut checked, LINE, &one, after)?;
+        if !is_right {
+            return Err(Wrong::At(u64::from(byte)));
+        }
+    }
+    Ok(512)
+}
+
+/// A line, without a line feed.
+const LINE: &[u8] = b"rank 1,0,0,0,0,0";
+
+/// A line of two parts and then another line are answered with these replies.
+fn is_answered<T: Table>(
+    alloc: Global,
+    checked: &mut Checked<T>,
+    first: &[u8],
+    second: &[u8],
+    replies: &str,
+) -> Result<bool, Wrong> {
+    let mut input = Vec::new(alloc);
+    for part in [first, second, b"\n".as_slice(), LINE, b"\n".as_slice()] {
+        input.extend_from_slice(part)?;
+    }
+    let mut reader = input.as_slice();
+    let mut written = Vec::new(alloc);
+    let told = run(alloc, checked, &mut reader, &mut written, 1 << 40);
+    Ok(told.is_ok() && written.as_slice() == replies.as_bytes())
+}

@@ -8,7 +8,7 @@
 
 use crate::damage::report_damage;
 use crate::growths::try_growths;
-use crate::inputs::{answer_endless, fail_reads};
+use crate::inputs::{answer_each_byte, answer_endless, fail_reads};
 use crate::sources::{Query, fail_check, fail_query, fail_run};
 use crate::texts::{Text, fail_flush, fail_writes};
 use crate::wrong::Wrong;
@@ -133,6 +133,8 @@ fn report_inputs(rt: &impl Print, alloc: Global, file: &[u8]) -> io::Result<()> 
         println!(rt; "in parts of {size} bytes")?;
         report(rt, "run", fail_reads(alloc, file, size))?;
     }
+    println!(rt; "each byte before a line and after it")?;
+    report(rt, "run", answer_each_byte(alloc, file))?;
     println!(rt; "that never ends")?;
     report(rt, "run", answer_endless(alloc, file))
 }
