@@ -196,7 +196,8 @@ rest_more other done [] none =
 rest_more other done (c ∷ more) none =
     let one = other done c (All-head (λ b. b ≢ 10) c more none) in
     let rest = rest_more other (done ++ c ∷ []) more (All-tail (λ b. b ≢ 10) c more none) in
-    let joined : done ++ c ∷ more ≡ (done ++ c ∷ []) ++ more = sym (append_assoc done (c ∷ []) more)
+    let joined : done ++ c ∷ more ≡ (done ++ c ∷ []) ++ more =
+    sym (append_assoc done (c ∷ []) more)
     in (
       ap pieces joined ∙ rest.0 ∙ one.0,
       ap rest_of joined ∙ rest.1 ∙ ap (λ r. r ++ more) one.1
@@ -271,7 +272,8 @@ module _ (short : (line : List ℕ) (q : Query) → IsQuery line q → length li
           again _ (of_too_many q is many) = absurd (not_asked line q long is)
           again _ (of_over_bound q is few over) = absurd (not_asked line q long is)
           again _ (of_finished q is few within asks) = absurd (not_asked line q long is)
-          again _ (of_no_result q is few within unfinished none) = absurd (not_asked line q long is)
+          again _ (of_no_result q is few within unfinished none) =
+              absurd (not_asked line q long is)
 
   -- a line is itself
   itself : (f line other : List ℕ) → line ≡ other → IsHeardAs f line other
@@ -340,7 +342,8 @@ module _ (short : (line : List ℕ) (q : Query) → IsQuery line q → length li
       → IsStoppedAt f (whole_lines (done ++ 10 ∷ [])) start new fault
   line_stopped f done start mid new kept fault is stopped cut =
       let line = without_return (rest_of done) in
-      let here = subst (λ k. IsStoppedAt f (without_return k ∷ []) mid new fault) is.held stopped in
+      let here = subst (λ k. IsStoppedAt f (without_return k ∷ []) mid new fault) is.held stopped
+      in
       subst (λ ls. IsStoppedAt f ls start new fault) (sym (ended done cut))
       (stopped_after f (whole_lines done) line start mid new fault is.replies
       (stopped_as f (without_return (take 130 (rest_of done))) line mid new fault
@@ -379,8 +382,10 @@ pub no_last : (f done : List ℕ) (start now : Option (List ℕ)) (kept : List �
     → HasReplies f (lines_of done) start now
     × (length (lines_of done) ≡ length (whole_lines done) + 0)
 no_last f done start now kept is none =
-    let lines = none_left done kept is.held none in
-    (subst (λ ls. HasReplies f ls start now) (sym lines) is.replies, omega (arith, ap length lines))
+    let lines = none_left done kept is.held none in (
+      subst (λ ls. HasReplies f ls start now) (sym lines) is.replies,
+      omega (arith, ap length lines),
+    )
 
 -- the first bytes of a chunk, and those after them
 pub chunk_parts : (done chunk : List ℕ) (n : ℕ)

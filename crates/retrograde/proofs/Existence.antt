@@ -226,7 +226,8 @@ next-at_end : (n : ℕ) (means : List ℕ) (spreads : List (List ℕ)) → pips 
     → HasNext n means spreads
 next-at_end n means spreads low none =
     next-of n means spreads 0 (replicate 21 0) (whole ∷ replicate 22 0) low (omega arith) refl refl
-    (made-at_end means spreads (at_rank n) 0 (replicate 21 0) (whole ∷ replicate 22 0) (at_rank_position n) none refl
+    (made-at_end means spreads (at_rank n) 0 (replicate 21 0) (whole ∷ replicate 22 0)
+    (at_rank_position n) none refl
     (zeros 21) refl (zeros 22))
     (stop-reached (at_rank n) 0 (whole ∷ replicate 22 0) none refl refl (zeros 22))
 
@@ -288,7 +289,8 @@ module _ (n : ℕ) (means : List ℕ) (spreads : List (List ℕ)) (low : pips (a
       next-of n means spreads mean.0 played shares low mean.1.0 played-len shares-len
       (made-before means spreads (at_rank n) mean.0 played shares unfinished best mean.1.1 start
       moved)
-      (next-is_reached (at_rank n) (at_rank_position n) unfinished low means spreads reached played best mean.0 shares
+      (next-is_reached (at_rank n) (at_rank_position n) unfinished low means spreads reached
+      played best mean.0 shares
       mean.1.1 start moved)
 
 -- so each rank has one
@@ -331,9 +333,11 @@ records-more n under has = more (next-exists n has.means has.plays has.spreads u
           (λ (m : ℕ). AreMade m (has.means ++ next.mean ∷ []) (has.plays ++ next.played ∷ [])
           (has.spreads ++ next.shares ∷ []))
           (omega arith)
-          (one-more n has.means has.plays has.spreads next.mean next.played next.shares low has.made next.made
+          (one-more n has.means has.plays has.spreads next.mean next.played next.shares low
+          has.made next.made
           next.reached next.reads);
-      plays_len = all-of n has.plays next.played 21 has.made.plays_len has.plays_len next.plays_len;
+      plays_len = all-of n has.plays next.played 21 has.made.plays_len has.plays_len
+          next.plays_len;
       shares_len =
           all-of n has.spreads next.shares 23 has.made.spreads_len has.shares_len next.shares_len;
     }

@@ -162,7 +162,8 @@ module _ (n : ℕ) (means : List ℕ) (plays spreads : List (List ℕ)) (mean : 
       IsMade (means ++ mean ∷ []) (spreads ++ shares ∷ []) (at_rank r) m
       (slice_index_or (plays ++ played ∷ []) r [])
       (shares_of (spreads ++ shares ∷ []) r)) (old_mean r lt)
-      (subst (λ (p : List ℕ). IsMade (means ++ mean ∷ []) (spreads ++ shares ∷ []) (at_rank r) (slice_index means r) p (shares_of (spreads ++ shares ∷ []) r)) (old_played r lt)
+      (subst (λ (p : List ℕ). IsMade (means ++ mean ∷ []) (spreads ++ shares ∷ []) (at_rank r)
+      (slice_index means r) p (shares_of (spreads ++ shares ∷ []) r)) (old_played r lt)
       (subst
       (λ (s : List ℕ).
       IsMade (means ++ mean ∷ []) (spreads ++ shares ∷ []) (at_rank r)
@@ -187,7 +188,8 @@ module _ (n : ℕ) (means : List ℕ) (plays spreads : List (List ℕ)) (mean : 
       IsMade (means ++ mean ∷ []) (spreads ++ shares ∷ []) (at_rank n) m
       (slice_index_or (plays ++ played ∷ []) n [])
       (shares_of (spreads ++ shares ∷ []) n)) new_mean
-      (subst (λ (p : List ℕ). IsMade (means ++ mean ∷ []) (spreads ++ shares ∷ []) (at_rank n) mean p (shares_of (spreads ++ shares ∷ []) n)) new_played
+      (subst (λ (p : List ℕ). IsMade (means ++ mean ∷ []) (spreads ++ shares ∷ [])
+      (at_rank n) mean p (shares_of (spreads ++ shares ∷ []) n)) new_played
       (subst
       (λ (s : List ℕ).
       IsMade (means ++ mean ∷ []) (spreads ++ shares ∷ []) (at_rank n) mean played s)
@@ -214,7 +216,9 @@ module _ (n : ℕ) (means : List ℕ) (plays spreads : List (List ℕ)) (mean : 
       (shares_of (spreads ++ shares ∷ []) r)) m
       (slice_index_or (plays ++ played ∷ []) r [])
       (shares_of (spreads ++ shares ∷ []) r)) (old_mean r lt)
-      (subst (λ (p : List ℕ). IsRecordOf (record_of (slice_index means r) p (shares_of (spreads ++ shares ∷ []) r)) (slice_index means r) p (shares_of (spreads ++ shares ∷ []) r)) (old_played r lt)
+      (subst (λ (p : List ℕ). IsRecordOf
+      (record_of (slice_index means r) p (shares_of (spreads ++ shares ∷ []) r))
+      (slice_index means r) p (shares_of (spreads ++ shares ∷ []) r)) (old_played r lt)
       (subst
       (λ (s : List ℕ).
       IsRecordOf (record_of (slice_index means r) (slice_index_or plays r []) s)
@@ -230,8 +234,11 @@ module _ (n : ℕ) (means : List ℕ) (plays spreads : List (List ℕ)) (mean : 
       (shares_of (spreads ++ shares ∷ []) n)) m
       (slice_index_or (plays ++ played ∷ []) n [])
       (shares_of (spreads ++ shares ∷ []) n)) new_mean
-      (subst (λ (p : List ℕ). IsRecordOf (record_of mean p (shares_of (spreads ++ shares ∷ []) n)) mean p (shares_of (spreads ++ shares ∷ []) n)) new_played
-      (subst (λ (s : List ℕ). IsRecordOf (record_of mean played s) mean played s) new_shares reads))
+      (subst (λ (p : List ℕ). IsRecordOf
+      (record_of mean p (shares_of (spreads ++ shares ∷ []) n)) mean p
+      (shares_of (spreads ++ shares ∷ []) n)) new_played
+      (subst (λ (s : List ℕ). IsRecordOf (record_of mean played s) mean played s) new_shares
+      reads))
 
   pub one-more : AreMade (n + 1) (means ++ mean ∷ []) (plays ++ played ∷ [])
       (spreads ++ shares ∷ [])

@@ -62,7 +62,8 @@ module _ (full : AllRecords) (x : Board) (at : IsPosition x) (low : pips x ≤ 4
   made : IsMade full.means full.spreads x (mean_of_rank full (rank x))
       (plays_of_rank full (rank x))
       (shares_of_rank full (rank x))
-  made = subst (λ (y : Board). IsMade full.means full.spreads y (mean_of_rank full (rank x)) (plays_of_rank full (rank x))
+  made = subst (λ (y : Board). IsMade full.means full.spreads y (mean_of_rank full (rank x))
+      (plays_of_rank full (rank x))
       (shares_of_rank full (rank x))) (at_rank-rank x at) (full.made.made (rank x) under)
 
   reached : IsReached x (mean_of_rank full (rank x)) (shares_of_rank full (rank x))
@@ -102,19 +103,21 @@ module _ (full : AllRecords) (x : Board) (at : IsPosition x) (low : pips x ≤ 4
       → ((i : ℕ) → slice_index plays i ≡ 0) → length plays ≡ 21 → slice_index shares 0 ≡ whole
       → ((k : ℕ) → slice_index shares (suc k) ≡ 0) → length shares ≡ 23
       → IsRecordOfRank full (rank x) mean plays shares
-  record-at_end none mean plays shares mean_is none_played plays_len start more shares_len = record {
-    mean_is = mean_is ∙ sym (made.mean_at_end none);
-    plays_are = plays-are plays plays_len (λ i lt. none_played i ∙ sym (stays i lt));
-    shares_are = shares-are shares shares_len each;
-  } where
-    stays : (i : ℕ) → i < 21 → slice_index (plays_of_rank full (rank x)) i ≡ 0
-    stays i lt =
-        let best = made.best i lt in
-        sym best.reached.2 ∙ finished-stays x (roll_at i) best.reached.0 at none best.reached.1
+  record-at_end none mean plays shares mean_is none_played plays_len start more shares_len =
+      record {
+        mean_is = mean_is ∙ sym (made.mean_at_end none);
+        plays_are = plays-are plays plays_len (λ i lt. none_played i ∙ sym (stays i lt));
+        shares_are = shares-are shares shares_len each;
+      } where
+        stays : (i : ℕ) → i < 21 → slice_index (plays_of_rank full (rank x)) i ≡ 0
+        stays i lt =
+            let best = made.best i lt in
+            sym best.reached.2 ∙ finished-stays x (roll_at i) best.reached.0 at none best.reached.1
 
-    each : (k : ℕ) → k < 23 → slice_index shares k ≡ slice_index (shares_of_rank full (rank x)) k
-    each zero lt = start ∙ sym (made.start_at_end none)
-    each (suc k) lt = more k ∙ sym (made.share_at_end none k)
+        each : (k : ℕ) → k < 23 → slice_index shares k
+            ≡ slice_index (shares_of_rank full (rank x)) k
+        each zero lt = start ∙ sym (made.start_at_end none)
+        each (suc k) lt = more k ∙ sym (made.share_at_end none k)
 
   -- .. and that of another one, with the best plays by the means of lower rank
   module _ (unfinished : ¬ IsFinished x) (means : List ℕ)
@@ -134,7 +137,8 @@ module _ (full : AllRecords) (x : Board) (at : IsPosition x) (low : pips x ≤ 4
         (results-held (roll_at i)) (best i lt)
 
     pub plays-same : plays ≡ plays_of_rank full (rank x)
-    plays-same = plays-are plays len (λ i lt. best-one full.means x (roll_at i) (slice_index plays i)
+    plays-same = plays-are plays len
+        (λ i lt. best-one full.means x (roll_at i) (slice_index plays i)
         (slice_index (plays_of_rank full (rank x)) i) (best-all i lt) (made.best i lt))
 
     -- they lead to ranks that are made
@@ -181,7 +185,8 @@ module _ (full : AllRecords) (x : Board) (at : IsPosition x) (low : pips x ≤ 4
         * slice_index (shares_of full.spreads (slice_index plays (roll_index v))) 22)
         (λ v. 0) all_rolls
         (λ v.
-        let room = has-room x at unfinished low full.means full.spreads reached-below plays best-all (
+        let room = has-room x at unfinished low full.means full.spreads reached-below plays
+        best-all (
         roll_index v)
         (roll_index-range v) in
         ap (λ n. weight v * n) room ∙ times-none (weight v))

@@ -98,10 +98,12 @@ fn write_level<W: Write>(records: &Records, writer: &mut W) -> Result<(), WriteF
         records.now.plays.items }
     requires few { length records.now.plays.items ≤ length records.now.spreads.items }
     ensures all { OnOk result (Appends (W.contents writer.old) (W.contents writer.new)
-        (records_from (bytes_of_rank full) (length records.now.means - length records.now.plays.items)
+        (records_from (bytes_of_rank full)
+        (length records.now.means - length records.now.plays.items)
         (length records.now.plays.items))) }
     ensures part { OnErr result (AppendsPart (W.contents writer.old) (W.contents writer.new)
-        (records_from (bytes_of_rank full) (length records.now.means - length records.now.plays.items)
+        (records_from (bytes_of_rank full)
+        (length records.now.means - length records.now.plays.items)
         (length records.now.plays.items))) }
 {
     let first = records.means.len() - records.plays.len() as u16;

@@ -2,7 +2,8 @@ use Rattle.std.proofs.Common.{arith}
 use Rattle.epc_query.proofs.Runs.{one_reply, one_part}
 use Rattle.epc_query.proofs.lines.answer.Goals as goal
 
-pub returns-in-Ok-write_reply_by-clause-answered : goal.returns-in-Ok-write_reply_by-clause-answered
+pub returns-in-Ok-write_reply_by-clause-answered :
+    goal.returns-in-Ok-write_reply_by-clause-answered
 returns-in-Ok-write_reply_by-clause-answered g c = λ file t.
     let told = (c.in-Ok.ensures {u = tt}).reply file t in
     let wrote = (c.in-Ok-write_reply_by.ensures {u = tt}).all in

@@ -17,7 +17,8 @@ returns-in_err-answer-clause-answered g c = λ file t done start is.
     (rest_more c.law_input_lines.ensures.other done piece c.requires) (alone held piece none) in
     let fault = c.in_err-answer.field-0.0 in
     let same : c.from_residual.result ≡ Err fault = search rules in
-    let stopped = rw c.whole_line.ensures at ((c.in_err-answer.ensures {u = tt}).answered file t) in
+    let stopped = rw c.whole_line.ensures at
+    ((c.in_err-answer.ensures {u = tt}).answered file t) in
     rw same (line_stopped c.law_lines.ensures.short file (done ++ piece) start _ _
     (take 130 piece) fault kept.0 stopped (c.law_input_lines.ensures.feed (done ++ piece)).0)
 

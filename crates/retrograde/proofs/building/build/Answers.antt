@@ -106,7 +106,8 @@ loop-below-init g c =
       made = level.made ∙ sym (first_of-suc 0);
       recent = level.recent;
       written = subst (λ (n : ℕ). Appends old new (built_to all-records bound n)) all
-          (level-written all-records bound low old mid new first (length records.plays.items) before
+          (level-written all-records bound low old mid new first
+          (length records.plays.items) before
           c.in_ok-write_level.ensures.all);
     }
 
@@ -194,7 +195,8 @@ loop-below-preserved g c =
       made = level.made ∙ sym (first_of-one (below + 1));
       recent = level.recent;
       written = subst (λ (n : ℕ). Appends old new (built_to all-records bound n)) all
-          (level-written all-records bound low old mid new first (length records.plays.items) before
+          (level-written all-records bound low old mid new first
+          (length records.plays.items) before
           c.in_ok-write_level-2.ensures.all);
     }
 

@@ -83,7 +83,8 @@ unwrap-spread-requires g c =
     let last = no-last g.full x c.requires.0 c.requires.1.0 unfinished c.args.records.now.means
     c.requires.1.1.0.means_are c.requires.1.1.1.0 c.best_plays-plays.result best.len best.best
     in
-    let exact = shares-exact g.full x c.requires.0 c.requires.1.0 unfinished c.args.records.now.means
+    let exact = shares-exact g.full x c.requires.0 c.requires.1.0 unfinished
+    c.args.records.now.means
     c.requires.1.1.0.means_are c.requires.1.1.1.0 c.best_plays-plays.result best.len best.best
     in
     c.spread.ensures.some.1
@@ -105,7 +106,8 @@ returns g c =
     record {
       record_is =
           record-before g.full x c.requires.0 c.requires.1.0 unfinished c.args.records.now.means
-          c.requires.1.1.0.means_are c.requires.1.1.1.0 c.best_plays-plays.result best.len best.best
+          c.requires.1.1.0.means_are c.requires.1.1.1.0 c.best_plays-plays.result best.len
+          best.best
           c.unwrap-mean.result c.unwrap-spread.result mean start
           (λ k lt. moved k lt ∙ sums.shares k (omega arith)) c.at-start.ensures.len;
       known = c.best_plays-plays.ensures.known;
