@@ -35,7 +35,8 @@ asked-rank f (least_test r roll) asks = asks.0
 asked-rank f (mean_test r) asks = asks
 asked-rank f (spread_test r k) asks = asks.0
 
--- the first fault of a record is the first of the file where the records of lower rank are accepted
+-- the first fault of a record is the first of the file where the records of lower rank are
+-- accepted
 first-of_file : (f : List ℕ) (r : ℕ) (t : Test)
     → ((z : Board) → IsPosition z → rank z < r → IsLocalAt f z) → IsFirstInRecord f r t
     → IsFirstFault (Asks f) f t

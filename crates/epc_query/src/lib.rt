@@ -1,10 +1,10 @@
-//! Questions about positions in lines of text, and the replies: what a play costs, all results of a
-//! roll by what they cost, the levels of an audit, the answer to a line, and the answers to all
+//! Questions about positions in lines of text, and the replies: what a play costs, all results of
+//! a roll by what they cost, the levels of an audit, the answer to a line, and the answers to all
 //! lines of an input. It rests on `certificate` for the answers of an accepted table, whatever
-//! table that is, and on `race_model` for what a line asks, what its reply is, and how an input is
-//! cut into lines. The crates above may use that a loss is the least mean after a result less the
-//! least such mean among all results, that `moves` has every result once, in order, and that `run`
-//! writes the replies to the lines that it read and nothing else.
+//! table that is, and on `race_model` for what a line asks, what its reply is, and how an input
+//! is cut into lines. The crates above may use that a loss is the least mean after a result less
+//! the least such mean among all results, that `moves` has every result once, in order, and that
+//! `run` writes the replies to the lines that it read and nothing else.
 #![tactic(auto)]
 
 mod answer;

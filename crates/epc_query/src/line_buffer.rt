@@ -5,9 +5,9 @@ ghost use Rattle.race_model.specs.InputLines.{without_return};
 use arrayvec::ArrayVec;
 use std::marker::Model;
 
-/// How many bytes of a line are kept. No query has more than 55, so a line of which 130 are kept is
-/// none, whatever its other bytes are, and also without a carriage return at its end. (Lines of
-/// more than 128 bytes are refused: this project's profile.)
+/// How many bytes of a line are kept. No query has more than 55, so a line of which 130 are kept
+/// is none, whatever its other bytes are, and also without a carriage return at its end. (Lines
+/// of more than 128 bytes are refused: this project's profile.)
 const KEPT: usize = 130;
 
 /// The bytes that were read after the last line feed, of which the first 130 are kept.

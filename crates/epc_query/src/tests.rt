@@ -1,5 +1,5 @@
-//! Lines and what is answered to them. The expected numbers come from the rules of backgammon, worked out by hand and with
-//! exact fractions, and not from this program.
+//! Lines and what is answered to them. The expected numbers come from the rules of backgammon,
+//! worked out by hand and with exact fractions, and not from this program.
 use super::*;
 use certificate::{CheckFault, QueryFault, check};
 use db_reader::Whole;

@@ -1,5 +1,5 @@
-//! Calls that take memory, while a growth of memory is refused from outside, and a few short trials
-//! by a word.
+//! Calls that take memory, while a growth of memory is refused from outside, and a few short
+//! trials by a word.
 use crate::inputs::answer_endless;
 use crate::texts::{Text, fail_flush};
 use crate::wrong::{accepted, database};

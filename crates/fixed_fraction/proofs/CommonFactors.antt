@@ -1,4 +1,5 @@
--- Common factors: quotients by an inverse modulo 2 ^ 128, and what is left without twos and threes.
+-- Common factors: quotients by an inverse modulo 2 ^ 128, and what is left without twos and
+-- threes.
 use Prim.Native.Nat.{◌∣◌}
 use Rattle.std.proofs.Common.{◌≡◌, ℕ, zero, suc, ◌+◌, ◌-◌, ◌*◌, ◌/◌, ◌%◌, ◌^◌, ◌<◌, ◌≤◌, ap, sym, ◌∙◌, subst, refl, arith, mul_assoc, min, ◌⊎◌, inl, inr}
 use Rattle.std.specs.Int.{IsGcd, bit_at, trailing_zeros, w128}

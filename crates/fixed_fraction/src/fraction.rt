@@ -94,8 +94,8 @@ pub fn thousandths(fraction: &Fraction) -> u128
     1000 * units + (2000 * rest + fraction.denominator) / (2 * fraction.denominator)
 }
 
-/// A numerator over a denominator in lowest terms. The denominator is a product of twos and threes,
-/// so that these alone can be taken out.
+/// A numerator over a denominator in lowest terms. The denominator is a product of twos and
+/// threes, so that these alone can be taken out.
 fn reduced(numerator: u128, denominator: u128) -> Fraction
     requires positive { 0 < denominator }
     requires divides { denominator ∣ 6 * whole }
