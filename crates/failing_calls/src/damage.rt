@@ -89,7 +89,7 @@ impl Part {
 }
 
 /// Damages the database of 3 pips in each way, and prints what the checker says.
-pub fn report_damage(rt: &impl Print, alloc: Global, file: &[u8]) -> io::Result<()> {
+pub(crate) fn report_damage(rt: &impl Print, alloc: Global, file: &[u8]) -> io::Result<()> {
     println!(rt; "cut after so many bytes")?;
     let mut runs = Runs::new();
     for length in 0..file.len() {

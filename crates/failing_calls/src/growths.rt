@@ -34,7 +34,7 @@ pub enum Outcome {
 }
 
 impl Outcome {
-    pub fn name(self) -> &'static str {
+    pub(crate) fn name(self) -> &'static str {
         match self {
             Outcome::Whole => "whole",
             Outcome::Memory => "memory",
@@ -50,7 +50,7 @@ impl Outcome {
 }
 
 /// Does what a word says.
-pub fn try_growths(alloc: Global, word: &str) -> Outcome {
+pub(crate) fn try_growths(alloc: Global, word: &str) -> Outcome {
     match word {
         "build" => try_build(alloc),
         "push" => try_push(alloc),

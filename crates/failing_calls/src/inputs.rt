@@ -76,7 +76,7 @@ impl Read for Endless {
 /// Fails each read of an input in turn, which comes in parts of so many bytes, and lets the reads
 /// run out there: the replies to all whole lines so far have to be written, and all where no read
 /// fails. It gives the number of reads.
-pub fn fail_reads(alloc: Global, file: &[u8], size: usize) -> Result<u64, Wrong> {
+pub(crate) fn fail_reads(alloc: Global, file: &[u8], size: usize) -> Result<u64, Wrong> {
     let mut checked = database(file)?;
     let mut given = 0;
     for call in 1..10_000 {
@@ -120,7 +120,7 @@ fn fail_read<T: Table>(
 
 /// Answers an input that never ends: there are no more reads than turns. It gives the number of
 /// reads.
-pub fn answer_endless(alloc: Global, file: &[u8]) -> Result<u64, Wrong> {
+pub(crate) fn answer_endless(alloc: Global, file: &[u8]) -> Result<u64, Wrong> {
     let mut checked = database(file)?;
     let mut reader = Endless { reads: 0 };
     let mut written = Vec::new(alloc);
@@ -139,7 +139,7 @@ pub fn answer_endless(alloc: Global, file: &[u8]) -> Result<u64, Wrong> {
 
 /// Puts each byte before a line and after it, and asks another line after that one. It gives the
 /// number of inputs.
-pub fn answer_each_byte(alloc: Global, file: &[u8]) -> Result<u64, Wrong> {
+pub(crate) fn answer_each_byte(alloc: Global, file: &[u8]) -> Result<u64, Wrong> {
     let mut checked = database(file)?;
     for byte in 0..=255 {
         let one = [byte];

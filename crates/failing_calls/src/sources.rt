@@ -24,7 +24,7 @@ fn pages(alloc: Global, file: &[u8], records: u16, call: u64) -> Result<Pages<'_
 
 /// Fails each read of a check in turn: it has to be told as such, and the table that is handed
 /// back has to be accepted at once and to answer. It gives the number of reads.
-pub fn fail_check(alloc: Global, file: &[u8], records: u16) -> Result<u64, Wrong> {
+pub(crate) fn fail_check(alloc: Global, file: &[u8], records: u16) -> Result<u64, Wrong> {
     answers_all(alloc, pages(alloc, file, records, 0)?, 0)?;
     for call in 1..10_000 {
         match check(pages(alloc, file, records, call)?) {
@@ -73,7 +73,12 @@ const QUERIES: [Query; 8] = [
 
 /// Fails each read of a query in turn: it has to be told as such, and the same query asked again
 /// has to be answered rightly. It gives the number of reads.
-pub fn fail_query(alloc: Global, file: &[u8], records: u16, query: Query) -> Result<u64, Wrong> {
+pub(crate) fn fail_query(
+    alloc: Global,
+    file: &[u8],
+    records: u16,
+    query: Query,
+) -> Result<u64, Wrong> {
     let before = fail_check(alloc, file, records)?;
     for call in 1..10_000 {
         let table = pages(alloc, file, records, before.saturating_add(call))?;
@@ -153,7 +158,7 @@ fn is_ratio(fraction: Fraction, numerator: u128, denominator: u128) -> bool {
 /// Fails each read of the answers to an input in turn: it has to be told as such after the
 /// replies to the lines before it, and the rest of the input has to be answered at once. It gives
 /// the number of reads.
-pub fn fail_run(alloc: Global, file: &[u8], records: u16) -> Result<u64, Wrong> {
+pub(crate) fn fail_run(alloc: Global, file: &[u8], records: u16) -> Result<u64, Wrong> {
     let before = fail_check(alloc, file, records)?;
     for call in 1..10_000 {
         let table = pages(alloc, file, records, before.saturating_add(call))?;

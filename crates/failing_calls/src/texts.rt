@@ -95,7 +95,12 @@ impl Write for Tired {
 /// Refuses each call of `write` in turn, as one that fails and as one that takes nothing: want of
 /// the writer has to be told at once, a prefix has to be written and no more asked of the writer;
 /// and the whole text where no call is refused. It gives the number of calls.
-pub fn fail_writes(alloc: Global, file: &[u8], text: Text, takes: usize) -> Result<u64, Wrong> {
+pub(crate) fn fail_writes(
+    alloc: Global,
+    file: &[u8],
+    text: Text,
+    takes: usize,
+) -> Result<u64, Wrong> {
     let mut checked = database(file)?;
     let mut whole = Tired::new(alloc, usize::MAX, 0, Refusal::Fails);
     if !write_text(alloc, &mut checked, text, &mut whole) {
@@ -142,7 +147,7 @@ fn refuse<T: Table>(
 /// Writes a text to a writer whose flush fails. Where nobody asks for a flush the whole text has
 /// to be written and no fault told; under `run` the fault has to be told after the replies. It
 /// gives the number of calls that were refused.
-pub fn fail_flush(alloc: Global, file: &[u8], text: Text) -> Result<u64, Wrong> {
+pub(crate) fn fail_flush(alloc: Global, file: &[u8], text: Text) -> Result<u64, Wrong> {
     let mut checked = database(file)?;
     let mut whole = Tired::new(alloc, usize::MAX, 0, Refusal::Fails);
     let is_written = write_text(alloc, &mut checked, text, &mut whole);

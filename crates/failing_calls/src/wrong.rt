@@ -19,7 +19,7 @@ impl From<AllocError> for Wrong {
 }
 
 /// The database of a table that has to be accepted.
-pub fn accepted<T: Table + Drop>(table: T, call: u64) -> Result<Checked<T>, Wrong> {
+pub(crate) fn accepted<T: Table + Drop>(table: T, call: u64) -> Result<Checked<T>, Wrong> {
     match check(table) {
         Ok(checked) => Ok(checked),
         Err(_) => Err(Wrong::At(call)),
@@ -27,12 +27,12 @@ pub fn accepted<T: Table + Drop>(table: T, call: u64) -> Result<Checked<T>, Wron
 }
 
 /// The database in these bytes.
-pub fn database(file: &[u8]) -> Result<Checked<Whole<'_>>, Wrong> {
+pub(crate) fn database(file: &[u8]) -> Result<Checked<Whole<'_>>, Wrong> {
     accepted(Whole::new(file), 0)
 }
 
 /// As much of a text as its first lines, each with its line feed.
-pub fn first_lines(text: &[u8], count: usize) -> &[u8] {
+pub(crate) fn first_lines(text: &[u8], count: usize) -> &[u8] {
     let mut left = count;
     for (place, byte) in text.iter().enumerate() {
         if left == 0 {
@@ -46,12 +46,12 @@ pub fn first_lines(text: &[u8], count: usize) -> &[u8] {
 }
 
 /// What stands after the first lines of a text.
-pub fn lines_after(text: &[u8], count: usize) -> &[u8] {
+pub(crate) fn lines_after(text: &[u8], count: usize) -> &[u8] {
     let first = first_lines(text, count).len();
     text.get(first..).unwrap_or(b"")
 }
 
 /// How many line feeds there are.
-pub fn count_lines(text: &[u8]) -> usize {
+pub(crate) fn count_lines(text: &[u8]) -> usize {
     text.iter().filter(|byte| **byte == b'\n').count()
 }

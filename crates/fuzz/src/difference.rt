@@ -27,7 +27,7 @@ pub enum Difference {
 }
 
 impl Difference {
-    pub fn name(self) -> &'static str {
+    pub(crate) fn name(self) -> &'static str {
         match self {
             Difference::Ranks => "ranks",
             Difference::Results => "results",
@@ -40,7 +40,7 @@ impl Difference {
     }
 
     /// Ok where something holds, and else this difference.
-    pub fn unless(self, holds: bool) -> Result<(), Difference> {
+    pub(crate) fn unless(self, holds: bool) -> Result<(), Difference> {
         if holds { Ok(()) } else { Err(self) }
     }
 }

@@ -16,7 +16,7 @@ const FAILURES: usize = 3;
 
 /// Damages the file, or leaves it as it is, and compares what the checker says of it in memory
 /// and by pages; where it is accepted, the replies to some lines.
-pub fn compare_files(
+pub(crate) fn compare_files(
     alloc: Global,
     random: &mut Random,
     ranks: &Ranks,

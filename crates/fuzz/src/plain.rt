@@ -11,7 +11,7 @@ use ranking::Ranks;
 use std::alloc::Global;
 
 /// Compares one position of each kind, chosen by the numbers.
-pub fn compare_positions(
+pub(crate) fn compare_positions(
     alloc: Global,
     random: &mut Random,
     ranks: &Ranks,

@@ -13,19 +13,19 @@ pub struct Random {
 }
 
 impl Random {
-    pub fn new(seed: u64) -> Self {
+    pub(crate) fn new(seed: u64) -> Self {
         Random {
             numbers: SplitMix64::seed_from_u64(seed),
         }
     }
 
     /// The next number.
-    pub fn next(&mut self) -> u64 {
+    pub(crate) fn next(&mut self) -> u64 {
         self.numbers.next_u64()
     }
 
     /// A number under a limit, and 0 where that is 0.
-    pub fn below(&mut self, limit: usize) -> usize {
+    pub(crate) fn below(&mut self, limit: usize) -> usize {
         match self.next().checked_rem(limit as u64) {
             Some(rest) => rest as usize,
             None => 0,
@@ -33,7 +33,7 @@ impl Random {
     }
 
     /// True once in so many times.
-    pub fn one_in(&mut self, times: usize) -> bool {
+    pub(crate) fn one_in(&mut self, times: usize) -> bool {
         self.below(times) == 0
     }
 }
@@ -44,7 +44,7 @@ const KINDS: [&str; 8] = [
 ];
 
 /// Adds lines, most of which ask something.
-pub fn add_lines(
+pub(crate) fn add_lines(
     random: &mut Random,
     ranks: &Ranks,
     count: usize,
@@ -95,7 +95,7 @@ fn add_position(random: &mut Random, ranks: &Ranks, input: &mut Vec<u8>) -> Resu
 }
 
 /// Changes so many bytes from a place on.
-pub fn damage(random: &mut Random, bytes: &mut [u8], start: usize, count: usize) {
+pub(crate) fn damage(random: &mut Random, bytes: &mut [u8], start: usize, count: usize) {
     for _ in 0..count {
         let place = random
             .below(bytes.len().saturating_sub(start))
@@ -115,7 +115,7 @@ pub struct Parts<'a> {
 }
 
 impl<'a> Parts<'a> {
-    pub fn new(input: &'a [u8], seed: u64) -> Self {
+    pub(crate) fn new(input: &'a [u8], seed: u64) -> Self {
         Parts {
             left: input,
             random: Random::new(seed),
