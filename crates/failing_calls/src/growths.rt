@@ -34,6 +34,7 @@ pub enum Outcome {
 }
 
 impl Outcome {
+    /// Its word, as it is printed.
     pub(crate) fn name(self) -> &'static str {
         match self {
             Outcome::Whole => "whole",
@@ -44,6 +45,7 @@ impl Outcome {
         }
     }
 
+    /// It where what has to hold does, and else `Wrong`.
     fn or_wrong(self, is_right: bool) -> Self {
         if is_right { self } else { Outcome::Wrong }
     }

@@ -50,16 +50,32 @@ fn answers_all<T: Table + Drop>(alloc: Global, table: T, call: u64) -> Result<()
 /// What is asked.
 #[derive(Clone, Copy)]
 pub enum Query {
+    /// The mean as a numerator.
     Scaled,
+
+    /// The mean as a fraction.
     Mean,
+
+    /// The effective pip count.
     Epc,
+
+    /// The shares of the numbers of rolls.
     Spread,
+
+    /// The recorded play of a roll.
     Play,
+
+    /// What a play loses.
     Loss,
+
+    /// Every result of a roll.
     Moves,
+
+    /// The least and the greatest mean of a pip count.
     Level,
 }
 
+/// All of them.
 const QUERIES: [Query; 8] = [
     Query::Scaled,
     Query::Mean,

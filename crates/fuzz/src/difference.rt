@@ -27,6 +27,7 @@ pub enum Difference {
 }
 
 impl Difference {
+    /// Its word, as it is printed.
     pub(crate) fn name(self) -> &'static str {
         match self {
             Difference::Ranks => "ranks",

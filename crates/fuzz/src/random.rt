@@ -13,6 +13,7 @@ pub struct Random {
 }
 
 impl Random {
+    /// The sequence of a seed.
     pub(crate) fn new(seed: u64) -> Self {
         Random {
             numbers: SplitMix64::seed_from_u64(seed),
@@ -115,6 +116,7 @@ pub struct Parts<'a> {
 }
 
 impl<'a> Parts<'a> {
+    /// The reader of an input, whose parts depend on a seed.
     pub(crate) fn new(input: &'a [u8], seed: u64) -> Self {
         Parts {
             left: input,
@@ -137,7 +139,10 @@ impl<'a> Read for Parts<'a> {
 /// A writer that takes any number of bytes a call.
 #[derive(Drop)]
 pub struct Takes {
+    /// What was taken.
     pub written: Vec<u8>,
+
+    /// How many bytes are taken depends on these numbers.
     pub random: Random,
 }
 
