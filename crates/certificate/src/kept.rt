@@ -89,7 +89,8 @@ impl LowerRecords {
         ensures known { Knows (slice_index self.new.means) self.new.plays
             (rank_of position.now + 1) }
         ensures best { (i : ℕ) → i < 21 →
-            IsBestPlay (slice_index self.old.means) position.now (roll_at i) (slice_index result i) }
+            IsBestPlay (slice_index self.old.means) position.now (roll_at i)
+            (slice_index result i) }
         ensures len { length result ≡ 21 }
     {
         self.plays.advance(ranks, position, &self.means)

@@ -165,7 +165,8 @@ check_recorded-requires-clause-best g c file told =
     let roll = rw c.unwrap-roll.ensures at c.from_index.ensures.value in
     let best = c.requires.best file (sym c.loop-index.invariant.stays ∙ told) c.loop-index.index
     c.loop-index-test.true in
-    subst (λ v. IsBestPlay (mean_at file) x v (slice_index c.args.best.now c.from.result)) (sym roll)
+    subst (λ v. IsBestPlay (mean_at file) x v (slice_index c.args.best.now c.from.result))
+    (sym roll)
     (subst
     (λ i. IsBestPlay (mean_at file) x (roll_at c.loop-index.index) (slice_index c.args.best.now i))
     (sym c.from.ensures) best)
