@@ -14,6 +14,8 @@ use ranking::Ranks;
 
 /// The header of a table whose records meet the local equations, or the first fault. It takes no
 /// memory, and adds a stored number to others only where it was accepted before.
+// so that its room is on the stack while it checks, and not while its caller goes on
+#[inline(never)]
 pub fn check_records<T: Table>(table: &mut T, ranks: &Ranks) -> Result<Header, CheckFault>
     ensures stays { T.tells table.new ≡ T.tells table.old }
     ensures accepted { IfOk result (λ header. T.accepted table.new ≡ Some header) }

@@ -31,6 +31,8 @@ const MOST_PIPS_OF_A_ROLL: u8 = 24;
 /// or took no byte: a prefix of the database was written. (What is counted is that of a one-sided
 /// database of the GNU Backgammon manual; the exact numbers, the file and the tie rule are this
 /// project's profile.)
+// so that its room is on the stack while it builds, and not while its caller goes on
+#[inline(never)]
 pub fn build<W: Write>(alloc: Global, bound: u8, writer: &mut W) -> Result<(), BuildFault>
     ensures built { OnOk result
         (WritesBuilt bound (W.contents writer.old) (W.contents writer.new)) }
