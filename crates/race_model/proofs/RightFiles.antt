@@ -6,5 +6,7 @@ pub mod RightFacts
 pub mod Bounded
 pub mod Recorded
 pub mod Built
+pub mod Places
+pub mod ToldRecords
 pub mod SameBytes
-pub mod Compact
+pub mod ToldShares

@@ -1,16 +1,19 @@
 -- The database file: a header, then a record for each rank. Source: this project's profile.
-use Rattle.std.specs.Prelude.{◌≡◌, ℕ, ◌+◌, ◌*◌, ◌<◌, ◌≤◌, List, ◌++◌, length, take, drop, replicate, slice_index, codes}
+use Rattle.std.specs.Prelude.{◌≡◌, ℕ, ◌+◌, ◌-◌, ◌*◌, ◌^◌, ◌<◌, ◌≤◌, ◌==◌, if◌then◌else◌, List, ◌++◌, length, take, drop, replicate, slice_index, sum_by, codes}
 use Rattle.std.specs.Int.{w16, w32, w128, from_be_bytes, to_be_bytes}
-use Rattle.race_model.specs.Positions.{Board}
+use Rattle.race_model.specs.Positions.{Board, pips}
 use Rattle.race_model.specs.Dice.{Throw, roll_index}
-use Rattle.race_model.specs.Ranks.{rank, count_to}
+use Rattle.race_model.specs.Ranks.{rank, at_rank, count_to, numbers_from}
+use Rattle.race_model.specs.Horizon.{most_rolls}
+use Rattle.race_model.specs.Versions.{Version, full, compact, version_number, version_by, greatest_bound, stated_length, record_length}
 
--- the header of the file of a bound: magic, version, bound,
--- count of records, bytes of a record, reserved
-abbrev pub header : ℕ → List ℕ
-header bound =
-    codes "EPCTABLE" ++ to_be_bytes w16 1 ++ to_be_bytes w16 bound
-    ++ to_be_bytes w32 (count_to bound) ++ to_be_bytes w32 426 ++ replicate 12 0
+-- the header of the file of a version and a bound: magic, version,
+-- bound, count of records, bytes of a record, reserved
+abbrev pub header : Version → ℕ → List ℕ
+header version bound =
+    codes "EPCTABLE" ++ to_be_bytes w16 (version_number version) ++ to_be_bytes w16 bound
+    ++ to_be_bytes w32 (count_to bound) ++ to_be_bytes w32 (stated_length version)
+    ++ replicate 12 0
 
 -- a list of bytes: each of its numbers is under 256, as is what one reads beyond its end
 abbrev pub IsBytes : List ℕ → Type 0
@@ -20,26 +23,51 @@ IsBytes f = (i : ℕ) → slice_index f i < 256
 abbrev pub bytes_at : List ℕ → ℕ → ℕ → List ℕ
 bytes_at f place n = take n (drop place f)
 
+-- the version that the header states
+unfoldable pub version_of : List ℕ → Version
+version_of f = version_by (from_be_bytes w16 (bytes_at f 8 2))
+
 -- the pip bound that the header states
 unfoldable pub bound_of : List ℕ → ℕ
 bound_of f = from_be_bytes w16 (bytes_at f 10 2)
 
--- a file whose bound is at most a limit: the header, a record of 426
--- bytes for each position of at most the bound, and nothing after them
-pub record IsFileTo (limit : ℕ) (f : List ℕ) : Type 0 where
-  pub bounded : bound_of f ≤ limit
-  pub headed : take 32 f ≡ header (bound_of f)
-  pub whole : length f ≡ 32 + 426 * count_to (bound_of f)
+-- where the record of a rank begins: after the header and the records of all lower ranks
+unfoldable pub record_place : Version → ℕ → ℕ
+record_place version r =
+    32 + sum_by (λ k. record_length version (pips (at_rank k))) (numbers_from 0 r)
 
--- where the record of a rank begins
-abbrev pub record_place : ℕ → ℕ
-record_place r = 32 + 426 * r
+-- a file: its header, a record for each position of at most its
+-- bound, which its version allows, and nothing after them
+pub record IsFile (f : List ℕ) : Type 0 where
+  pub bounded : bound_of f ≤ greatest_bound (version_of f)
+  pub headed : take 32 f ≡ header (version_of f) (bound_of f)
+  pub whole : length f ≡ record_place (version_of f) (count_to (bound_of f))
 
--- the bytes of the record of a rank
+-- the share of 0 rolls, as a full record stores it: the whole
+-- for the finished position, none for any other
+unfoldable pub share_before : ℕ → List ℕ
+share_before p = to_be_bytes w128 (if p == 0 then 36 ^ 22 else 0)
+
+-- the shares beyond the most rolls of the pip count, as a full record stores them: none
+unfoldable pub shares_after : ℕ → List ℕ
+shares_after p = replicate (16 * (22 - most_rolls p)) 0
+
+-- the full record that stored bytes stand for: a compact record leaves out these shares
+abbrev pub told_record : Version → ℕ → List ℕ → List ℕ
+told_record full p stored = stored
+told_record compact p stored =
+    take 58 stored ++ (share_before p ++ (drop 58 stored ++ shares_after p))
+
+-- the bytes that a file stores for a rank
+abbrev pub stored_at : List ℕ → ℕ → List ℕ
+stored_at f r =
+    bytes_at f (record_place (version_of f) r) (record_length (version_of f) (pips (at_rank r)))
+
+-- the full record of a rank
 abbrev pub record_at : List ℕ → ℕ → List ℕ
-record_at f r = bytes_at f (record_place r) 426
+record_at f r = told_record (version_of f) (pips (at_rank r)) (stored_at f r)
 
--- in the bytes of a record: the numerator over 36 ^ 22 of the mean number of rolls
+-- in the bytes of a full record: the numerator over 36 ^ 22 of the mean number of rolls
 unfoldable pub mean_of : List ℕ → ℕ
 mean_of record_bytes = from_be_bytes w128 (bytes_at record_bytes 0 16)
 

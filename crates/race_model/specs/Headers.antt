@@ -2,7 +2,8 @@
 use Rattle.std.specs.Prelude.{◌≡◌, ℕ, ◌+◌, ◌*◌, ◌<◌, ◌≤◌, List, length, replicate, codes}
 use Rattle.std.specs.Int.{w16, w32, from_be_bytes}
 use Rattle.race_model.specs.Ranks.{count_to}
-use Rattle.race_model.specs.Files.{bytes_at, bound_of}
+use Rattle.race_model.specs.Versions.{version_number, greatest_bound, stated_length}
+use Rattle.race_model.specs.Files.{bytes_at, version_of, bound_of, record_place}
 
 -- a question about a header
 pub data HeaderTest : Type 0 where
@@ -27,24 +28,27 @@ header_place reserved = 6
 header_place exact_length = 7
 
 -- the answer is yes, for the first bytes of a file and the file's length
-abbrev pub HeaderHolds : ℕ → List ℕ → ℕ → HeaderTest → Type 0
-HeaderHolds limit front size long_enough = (32 ≤ length front) × (32 ≤ size)
-HeaderHolds limit front size magic = bytes_at front 0 8 ≡ codes "EPCTABLE"
-HeaderHolds limit front size version = from_be_bytes w16 (bytes_at front 8 2) ≡ 1
-HeaderHolds limit front size bound = bound_of front ≤ limit
-HeaderHolds limit front size count =
+abbrev pub HeaderHolds : List ℕ → ℕ → HeaderTest → Type 0
+HeaderHolds front size long_enough = (32 ≤ length front) × (32 ≤ size)
+HeaderHolds front size magic = bytes_at front 0 8 ≡ codes "EPCTABLE"
+HeaderHolds front size version =
+    from_be_bytes w16 (bytes_at front 8 2) ≡ version_number (version_of front)
+HeaderHolds front size bound = bound_of front ≤ greatest_bound (version_of front)
+HeaderHolds front size count =
     from_be_bytes w32 (bytes_at front 12 4) ≡ count_to (bound_of front)
-HeaderHolds limit front size record_bytes = from_be_bytes w32 (bytes_at front 16 4) ≡ 426
-HeaderHolds limit front size reserved = bytes_at front 20 12 ≡ replicate 12 0
-HeaderHolds limit front size exact_length = size ≡ 32 + 426 * count_to (bound_of front)
+HeaderHolds front size record_bytes =
+    from_be_bytes w32 (bytes_at front 16 4) ≡ stated_length (version_of front)
+HeaderHolds front size reserved = bytes_at front 20 12 ≡ replicate 12 0
+HeaderHolds front size exact_length =
+    size ≡ record_place (version_of front) (count_to (bound_of front))
 
 -- all answers are yes
-abbrev pub IsHeader : ℕ → List ℕ → ℕ → Type 0
-IsHeader limit front size = (t : HeaderTest) → HeaderHolds limit front size t
+abbrev pub IsHeader : List ℕ → ℕ → Type 0
+IsHeader front size = (t : HeaderTest) → HeaderHolds front size t
 
 -- the first answer that is no
-pub record IsFirstHeaderFault (limit : ℕ) (front : List ℕ) (size : ℕ) (t : HeaderTest) : Type 0
+pub record IsFirstHeaderFault (front : List ℕ) (size : ℕ) (t : HeaderTest) : Type 0
   where
-    pub fails : ¬ HeaderHolds limit front size t
+    pub fails : ¬ HeaderHolds front size t
     pub earlier : (u : HeaderTest) → header_place u < header_place t →
-        HeaderHolds limit front size u
+        HeaderHolds front size u

@@ -3,6 +3,8 @@ pub mod Dice
 pub mod Plays
 pub mod PositionText
 pub mod Ranks
+pub mod Horizon
+pub mod Versions
 pub mod Files
 pub mod Headers
 pub mod LocalEquations
@@ -11,7 +13,6 @@ pub mod Strategies
 pub mod RightFiles
 pub mod BestPlays
 pub mod BuiltFile
-pub mod Horizon
 pub mod Losses
 pub mod MostDice
 pub mod Fractions
@@ -24,4 +25,4 @@ pub mod Levels
 pub mod SameNumbers
 pub mod Samples
 pub mod Enumerations
-pub mod CompactShares
+pub mod ToldShares

@@ -5,7 +5,7 @@ use Rattle.race_model.specs.Positions.{Board, IsPosition, IsFinished, pips}
 use Rattle.race_model.specs.Dice.{Throw, IsRoll, all_rolls, weight}
 use Rattle.race_model.specs.Plays.{Legal}
 use Rattle.race_model.specs.Ranks.{rank, at_rank}
-use Rattle.race_model.specs.Files.{IsFileTo, bound_of, mean, mean_at, play, spread, spread_at}
+use Rattle.race_model.specs.Files.{IsFile, bound_of, mean, mean_at, play, spread, spread_at}
 
 -- the denominator of every number in a file
 unfoldable pub whole : ℕ
@@ -55,6 +55,6 @@ pub record IsLocalAt (f : List ℕ) (x : Board) : Type 0 where
   pub shares : (k : ℕ) → k ≤ 22 → HasShare f x k
 
 -- a locally right file: the four equations hold for every position of at most its bound
-pub record IsLocal (limit : ℕ) (f : List ℕ) : Type 0 where
-  pub file : IsFileTo limit f
+pub record IsLocal (f : List ℕ) : Type 0 where
+  pub file : IsFile f
   pub at_each : (x : Board) → IsPosition x → pips x ≤ bound_of f → IsLocalAt f x

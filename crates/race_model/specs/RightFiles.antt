@@ -4,7 +4,7 @@
 use Rattle.std.specs.Prelude.{◌≡◌, ℕ, zero, suc, ◌≤◌, ◌==◌, if◌then◌else◌, List}
 use Rattle.race_model.specs.Positions.{Board, IsPosition, checkers, pips}
 use Rattle.race_model.specs.Dice.{Throw}
-use Rattle.race_model.specs.Files.{IsFileTo, bound_of, mean, spread}
+use Rattle.race_model.specs.Files.{IsFile, bound_of, mean, spread}
 use Rattle.race_model.specs.LocalEquations.{recorded, IsPlayed}
 use Rattle.race_model.specs.Strategies.{Strategy, stop, turn, Fits, total, count_of, IsLeast}
 
@@ -23,6 +23,6 @@ pub record IsRightAt (f : List ℕ) (x : Board) : Type 0 where
   pub spread_is : (k : ℕ) → k ≤ 22 → spread f x k ≡ count_of (follow f 22 x) k
 
 -- a right file: all that it records of each position of at most its bound is so
-pub record IsRight (limit : ℕ) (f : List ℕ) : Type 0 where
-  pub file : IsFileTo limit f
+pub record IsRight (f : List ℕ) : Type 0 where
+  pub file : IsFile f
   pub at_each : (x : Board) → IsPosition x → pips x ≤ bound_of f → IsRightAt f x

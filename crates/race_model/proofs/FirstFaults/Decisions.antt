@@ -4,7 +4,7 @@ use Rattle.race_model.specs.Positions.{Board, IsFinished}
 use Rattle.race_model.specs.Dice.{Throw, roll_at}
 use Rattle.race_model.specs.Plays.{Legal}
 use Rattle.race_model.specs.Ranks.{rank, at_rank, count_to}
-use Rattle.race_model.specs.Files.{IsFileTo, bound_of, mean, mean_at, play, spread, spread_at}
+use Rattle.race_model.specs.Files.{IsFile, bound_of, mean, mean_at, play, spread, spread_at}
 use Rattle.race_model.specs.LocalEquations.{whole, recorded, weighted, IsPlayed, IsBest, HasMean, HasShare, IsLocal}
 use Rattle.race_model.specs.FirstFault.{Test, play_test, least_test, mean_test, spread_test, rank_of, place_of, IsEarlier, Holds, Asks, IsFirstFault}
 use Rattle.race_model.specs.Enumerations.{all_results}
@@ -236,10 +236,10 @@ search_to f (suc n) le = ⊎_elim
         split m n h = grind arith
 
 -- a file is locally right, or has a first fault
-pub local_or_fault : (limit : ℕ) (f : List ℕ) → IsFileTo limit f →
-    IsLocal limit f ⊎ ((t : Test) × IsFirstFault (Asks f) f t)
-local_or_fault limit f file = ⊎_elim
-    (λ all. inl (local_of_answers limit f file (λ t asked. all t asked (last t asked))))
+pub local_or_fault : (f : List ℕ) → IsFile f →
+    IsLocal f ⊎ ((t : Test) × IsFirstFault (Asks f) f t)
+local_or_fault f file = ⊎_elim
+    (λ all. inl (local_of_answers f file (λ t asked. all t asked (last t asked))))
     (λ fault. inr fault)
     (search_to f (66 * count_to (bound_of f)) (omega arith))
   where

@@ -3,7 +3,7 @@ use Rattle.std.proofs.Common.{◌≡◌, ◌⊎◌, ⊎_elim, ℕ, ◌<◌, ◌�
 use Rattle.race_model.specs.Positions.{IsPosition, pips}
 use Rattle.race_model.specs.Dice.{roll_at}
 use Rattle.race_model.specs.Ranks.{rank, at_rank, count_to}
-use Rattle.race_model.specs.Files.{IsFileTo, bound_of}
+use Rattle.race_model.specs.Files.{IsFile, bound_of}
 use Rattle.race_model.specs.LocalEquations.{IsPlayed, IsBest, IsLocal, IsLocalAt}
 use Rattle.race_model.specs.FirstFault.{Test, play_test, least_test, mean_test, spread_test, rank_of, place_of, Holds, Asks, IsFirstFault}
 use Rattle.race_model.proofs.Dice.Throws.{roll_of_index, by_index}
@@ -23,25 +23,25 @@ within_bound bound r under = (
     below c h le = omega arith
 
 -- in a locally right file each question that is asked is answered yes
-pub answers : (limit : ℕ) (f : List ℕ) → IsLocal limit f → (t : Test) → Asks f t → Holds f t
-answers limit f local (play_test r i) asked =
+pub answers : (f : List ℕ) → IsLocal f → (t : Test) → Asks f t → Holds f t
+answers f local (play_test r i) asked =
     let place = within_bound (bound_of f) r asked.0 in
     (local.at_each (at_rank r) place.0 place.1).means.played (roll_at i)
     (roll_of_index i asked.1).0
-answers limit f local (least_test r i) asked =
+answers f local (least_test r i) asked =
     let place = within_bound (bound_of f) r asked.0 in
     (local.at_each (at_rank r) place.0 place.1).means.best (roll_at i) (roll_of_index i asked.1).0
-answers limit f local (mean_test r) asked =
+answers f local (mean_test r) asked =
     let place = within_bound (bound_of f) r asked in
     (local.at_each (at_rank r) place.0 place.1).means.mean_is
-answers limit f local (spread_test r k) asked =
+answers f local (spread_test r k) asked =
     let place = within_bound (bound_of f) r asked.0 in
     (local.at_each (at_rank r) place.0 place.1).shares k asked.1
 
 -- a file of which each question that is asked is answered yes is locally right
-pub local_of_answers : (limit : ℕ) (f : List ℕ) → IsFileTo limit f →
-    ((t : Test) → Asks f t → Holds f t) → IsLocal limit f
-local_of_answers limit f file yes_all = record {
+pub local_of_answers : (f : List ℕ) → IsFile f →
+    ((t : Test) → Asks f t → Holds f t) → IsLocal f
+local_of_answers f file yes_all = record {
   file = file;
   at_each =
       λ x at low.
@@ -60,9 +60,9 @@ local_of_answers limit f file yes_all = record {
     }
 
 -- a file that has a first fault is not locally right
-pub fault_refuses : (limit : ℕ) (f : List ℕ) (t : Test) → IsFirstFault (Asks f) f t →
-    ¬ IsLocal limit f
-fault_refuses limit f t fault local = fault.fails (answers limit f local t fault.is_asked)
+pub fault_refuses : (f : List ℕ) (t : Test) → IsFirstFault (Asks f) f t →
+    ¬ IsLocal f
+fault_refuses f t fault local = fault.fails (answers f local t fault.is_asked)
 
 -- two questions that are asked and of which neither is earlier are one
 pub same_question : (f : List ℕ) (t u : Test) → Asks f t → Asks f u → rank_of t ≡ rank_of u →

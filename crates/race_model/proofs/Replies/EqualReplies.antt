@@ -19,7 +19,7 @@ at_most : (n : ℕ) → ¬ (15 < n) → n ≤ 15
 at_most n few = grind arith
 
 -- two right files that hold the same numbers
-module _ (limit : ℕ) (f g : List ℕ) (right_f : IsRight limit f) (right_g : IsRight limit g)
+module _ (f g : List ℕ) (right_f : IsRight f) (right_g : IsRight g)
     (same : HasSameNumbers f g) where
   -- the losses of results are the same
   same_loss : (x : Board) (v : Throw) (y : Board) → IsPosition x → pips x ≤ bound_of f →

@@ -1,44 +1,40 @@
 -- The local equations hold of a file exactly where it is right.
-use Rattle.std.proofs.Common.{ℕ, ◌≤◌, List, le_trans}
+use Rattle.std.proofs.Common.{ℕ, ◌≤◌, List, le_trans, arith}
 use Rattle.race_model.specs.Positions.{Board, IsPosition, pips}
-use Rattle.race_model.specs.Files.{IsFileTo, bound_of}
-use Rattle.race_model.specs.LocalEquations.{IsLocal, IsLocalAt}
+use Rattle.race_model.specs.Versions.{Version, full, compact, greatest_bound}
+use Rattle.race_model.specs.Files.{IsFile, version_of, bound_of}
+use Rattle.race_model.specs.LocalEquations.{IsLocal}
 use Rattle.race_model.specs.Strategies.{EndsIn}
-use Rattle.race_model.specs.RightFiles.{IsRight, IsRightAt}
+use Rattle.race_model.specs.RightFiles.{IsRight}
 use Rattle.race_model.proofs.Strategies.Horizons.{ends_in_22}
 use Rattle.race_model.proofs.RightFiles.FromLocal.{right_at}
 use Rattle.race_model.proofs.RightFiles.FromRight.{local_at}
 
--- a position of at most the bound of a file to at most 58 pips is over within 22 rolls
-pub short : (limit : ℕ) (f : List ℕ) → limit ≤ 58 → IsFileTo limit f → (x : Board) → IsPosition x →
-    pips x ≤ bound_of f → EndsIn 22 x
-short limit f small file x at low = ends_in_22 x at (le_trans low (le_trans file.bounded small))
+-- no version has a bound over 58 pips
+pub greatest_bound-most : (version : Version) → greatest_bound version ≤ 58
+greatest_bound-most full = omega arith
+greatest_bound-most compact = omega arith
 
--- whatever the form of a file: the equations of its
--- positions say that what is recorded of them is right
-pub positions_right : (f : List ℕ) → bound_of f ≤ 58 →
-    ((x : Board) → IsPosition x → pips x ≤ bound_of f → IsLocalAt f x) → (x : Board) →
-    IsPosition x → pips x ≤ bound_of f → IsRightAt f x
-positions_right f small local x at low =
-    right_at f local x (ends_in_22 x at (le_trans low small)) at low
+-- no file has a bound over 58 pips
+pub bound_of-most : (f : List ℕ) → IsFile f → bound_of f ≤ 58
+bound_of-most f file = le_trans file.bounded (greatest_bound-most (version_of f))
 
--- .. and the other way round
-pub positions_local : (f : List ℕ) → bound_of f ≤ 58 →
-    ((x : Board) → IsPosition x → pips x ≤ bound_of f → IsRightAt f x) → (x : Board) →
-    IsPosition x → pips x ≤ bound_of f → IsLocalAt f x
-positions_local f small right = local_at f right (λ x at low. ends_in_22 x at (le_trans low small))
+-- a position of at most the bound of a file is over within 22 rolls
+pub short : (f : List ℕ) → IsFile f → (x : Board) → IsPosition x → pips x ≤ bound_of f →
+    EndsIn 22 x
+short f file x at low = ends_in_22 x at (le_trans low (bound_of-most f file))
 
 -- a file that meets the local equations is right
-pub right_of_local : (limit : ℕ) (f : List ℕ) → limit ≤ 58 → IsLocal limit f → IsRight limit f
-right_of_local limit f small local = record {
+pub right_of_local : (f : List ℕ) → IsLocal f → IsRight f
+right_of_local f local = record {
   file = local.file;
   at_each =
-      λ x at low. right_at f local.at_each x (short limit f small local.file x at low) at low;
+      λ x at low. right_at f local.at_each x (short f local.file x at low) at low;
 }
 
 -- a right file meets the local equations
-pub local_of_right : (limit : ℕ) (f : List ℕ) → limit ≤ 58 → IsRight limit f → IsLocal limit f
-local_of_right limit f small right = record {
+pub local_of_right : (f : List ℕ) → IsRight f → IsLocal f
+local_of_right f right = record {
   file = right.file;
-  at_each = local_at f right.at_each (short limit f small right.file);
+  at_each = local_at f right.at_each (short f right.file);
 }

@@ -20,7 +20,7 @@ use Rattle.race_model.proofs.Strategies.Spreads.{counts_add_up}
 use Rattle.race_model.proofs.Strategies.Totals.{total-turn}
 use Rattle.race_model.proofs.RightFiles.FromRight.{plan, plan_fits, plan_total, mean_before, best_before, one_changed, otherwise_at, otherwise_legal, otherwise_at-here}
 use Rattle.race_model.proofs.Dice.Faces.{is_throw, same_throw}
-use Rattle.race_model.proofs.RightFiles.Right.{short}
+use Rattle.race_model.proofs.RightFiles.Right.{bound_of-most, short}
 
 -- two least totals of one position are equal
 pub least_agree : (x : Board) (t u : ℕ) → IsLeast x t → IsLeast x u → t ≡ u
@@ -29,37 +29,36 @@ least_agree x t u a b =
     (subst (λ n. u ≤ n) a.reached.2 (b.least a.reached.0 a.reached.1))
 
 -- two right files agree on the mean of each position of both
-pub means_agree : (limit : ℕ) (f g : List ℕ) → IsRight limit f → IsRight limit g → (x : Board) →
+pub means_agree : (f g : List ℕ) → IsRight f → IsRight g → (x : Board) →
     IsPosition x → pips x ≤ bound_of f → pips x ≤ bound_of g → mean f x ≡ mean g x
-means_agree limit f g right_f right_g x at low_f low_g =
+means_agree f g right_f right_g x at low_f low_g =
     least_agree x (mean f x) (mean g x) (right_f.at_each x at low_f).least
     (right_g.at_each x at low_g).least
 
 -- a position of at most the bound of a right file has at most 58 pips
-pub within_limit : (limit : ℕ) (f : List ℕ) → limit ≤ 58 → IsRight limit f → (x : Board) →
-    pips x ≤ bound_of f → pips x ≤ 58
-within_limit limit f small right x low = le_trans low (le_trans right.file.bounded small)
+pub within_58 : (f : List ℕ) → IsRight f → (x : Board) → pips x ≤ bound_of f → pips x ≤ 58
+within_58 f right x low = le_trans low (bound_of-most f right.file)
 
 -- the recorded shares add up to the whole
-pub shares_add_up : (limit : ℕ) (f : List ℕ) → limit ≤ 58 → IsRight limit f → (x : Board) →
+pub shares_add_up : (f : List ℕ) → IsRight f → (x : Board) →
     IsPosition x → pips x ≤ bound_of f → sum_by (spread f x) (range_with_len 0 23) ≡ whole
-shares_add_up limit f small right x at low =
+shares_add_up f right x at low =
     let here = right.at_each x at low in
     let counts =
     counts_add_up (follow f 22 x)
-    (within_22 x (follow f 22 x) at (within_limit limit f small right x low) here.fits) in
+    (within_22 x (follow f 22 x) at (within_58 f right x low) here.fits) in
     sum_by-equal_within (spread f x) (count_of (follow f 22 x)) 0 23
     (λ k below. here.spread_is k (omega arith)) ∙ counts
 
 -- no share is recorded beyond the most rolls of the pip count
-pub no_share_beyond : (limit : ℕ) (f : List ℕ) → IsRight limit f → (x : Board) (k : ℕ) →
+pub no_share_beyond : (f : List ℕ) → IsRight f → (x : Board) (k : ℕ) →
     IsPosition x → pips x ≤ bound_of f → most_rolls (pips x) < k → k ≤ 22 → spread f x k ≡ 0
-no_share_beyond limit f right x k at low beyond le =
+no_share_beyond f right x k at low beyond le =
     let here = right.at_each x at low in
     here.spread_is k le ∙ count_of-beyond x (follow f 22 x) k at here.fits beyond
 
 -- a position of at most the bound: its results are so too
-module _ (limit : ℕ) (f : List ℕ) (small : limit ≤ 58) (right : IsRight limit f) (x : Board)
+module _ (f : List ℕ) (right : IsRight f) (x : Board)
     (at : IsPosition x) (low : pips x ≤ bound_of f) where
   -- what is recorded of a result is right
   result_right : (v : Throw) (y : Board) → Legal x v y → IsRightAt f y
@@ -83,8 +82,8 @@ module _ (limit : ℕ) (f : List ℕ) (small : limit ≤ 58) (right : IsRight li
 
       before : ¬ IsFinished x → mean f (recorded f x v) ≤ mean f y
       before unfinished =
-          best_before f right.at_each (short limit f small right.file) x at low unfinished
-          (short limit f small right.file x at low unfinished) v y leads
+          best_before f right.at_each (short f right.file) x at low unfinished
+          (short f right.file x at low unfinished) v y leads
 
   -- the loss by the file is the loss
   pub loss_is_loss : (v : Throw) (y : Board) → Legal x v y → IsLoss x v y (loss f x v y)
@@ -115,15 +114,15 @@ module _ (limit : ℕ) (f : List ℕ) (small : limit ≤ 58) (right : IsRight li
   module _ (unfinished : ¬ IsFinished x) where
     -- after a throw the game is over within 21 rolls
     ends : (v : Throw) (y : Board) → Legal x v y → EndsIn 21 y
-    ends = short limit f small right.file x at low unfinished
+    ends = short f right.file x at low unfinished
 
     -- where a result has no loss, the plan to play there and else as recorded is a least strategy
     pub begins : (v : Throw) (y : Board) → Legal x v y → loss f x v y ≡ 0 →
         (s : Strategy) × Fits s x × IsLeast x (total s) × BeginsWith s v y
     unfolding plan
     begins v y leads none = (
-      plan f right.at_each (short limit f small right.file) x at low unfinished ends to legal,
-      plan_fits f right.at_each (short limit f small right.file) x at low unfinished ends to legal,
+      plan f right.at_each (short f right.file) x at low unfinished ends to legal,
+      plan_fits f right.at_each (short f right.file) x at low unfinished ends to legal,
       subst (IsLeast x) (sym totals) (right.at_each x at low).least,
       otherwise_at-here v y (recorded f x),
     )
@@ -133,17 +132,17 @@ module _ (limit : ℕ) (f : List ℕ) (small : limit ≤ 58) (right : IsRight li
 
         legal : (u : Throw) → Legal x u (to u)
         legal =
-            otherwise_legal f right.at_each (short limit f small right.file) x at low unfinished
+            otherwise_legal f right.at_each (short f right.file) x at low unfinished
             ends v y leads
 
-        totals : total (plan f right.at_each (short limit f small right.file) x at low unfinished
+        totals : total (plan f right.at_each (short f right.file) x at low unfinished
             ends to legal) ≡ mean f x
         totals =
             let ours =
-            plan_total f right.at_each (short limit f small right.file) x at low unfinished
+            plan_total f right.at_each (short f right.file) x at low unfinished
             ends to legal in
             let theirs =
-            mean_before f right.at_each (short limit f small right.file) x at low unfinished
+            mean_before f right.at_each (short f right.file) x at low unfinished
             ends in
             let swapped = one_changed v (mean f) y (recorded f x) in
             let best = recorded_least v y leads in
@@ -172,7 +171,7 @@ module _ (limit : ℕ) (f : List ℕ) (small : limit ≤ 58) (right : IsRight li
                 mean f (cond b y (recorded f x u)) ≤ mean f (to u)
             at_test true e = le_of_eq (ap (mean f) (sym begun ∙ ap to (same_throw v u e)))
             at_test false e =
-                best_before f right.at_each (short limit f small right.file) x at low unfinished
+                best_before f right.at_each (short f right.file) x at low unfinished
                 ends u (to u) (leads u)
 
         under : mean f y ≤ mean_at f (play f x v)
@@ -182,7 +181,7 @@ module _ (limit : ℕ) (f : List ℕ) (small : limit ≤ 58) (right : IsRight li
             least_agree x (total (turn to next)) (mean f x) least
             (right.at_each x at low).least in
             let theirs =
-            mean_before f right.at_each (short limit f small right.file) x at low unfinished
+            mean_before f right.at_each (short f right.file) x at low unfinished
             ends in
             let swapped = one_changed v (mean f) y (recorded f x) in
             let low_sum =

@@ -12,13 +12,13 @@ ghost use Rattle.race_model.specs.Losses.{IsLoss, loss, BeginsWith};
 /// mean among all results of the throw. It is 0 exactly where some strategy of least mean begins
 /// with that play.
 pub fn law_loss()
-    ensures least { (limit : ℕ) (f : List ℕ) → limit ≤ 58 → IsRight limit f → (x : Board) →
+    ensures least { (f : List ℕ) → IsRight f → (x : Board) →
         IsPosition x → pips x ≤ bound_of f → (v : Throw) (y : Board) → Legal x v y →
         mean_at f (play f x v) ≤ mean f y }
-    ensures loss { (limit : ℕ) (f : List ℕ) → limit ≤ 58 → IsRight limit f → (x : Board) →
+    ensures loss { (f : List ℕ) → IsRight f → (x : Board) →
         IsPosition x → pips x ≤ bound_of f → (v : Throw) (y : Board) → Legal x v y →
         IsLoss x v y (loss f x v y) }
-    ensures none { (limit : ℕ) (f : List ℕ) → limit ≤ 58 → IsRight limit f → (x : Board) →
+    ensures none { (f : List ℕ) → IsRight f → (x : Board) →
         IsPosition x → pips x ≤ bound_of f → ¬ IsFinished x → (v : Throw) (y : Board) →
         Legal x v y →
         (loss f x v y ≡ 0) ↔ ((s : Strategy) × Fits s x × IsLeast x (total s) × BeginsWith s v y) }

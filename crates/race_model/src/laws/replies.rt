@@ -9,7 +9,7 @@ ghost use Rattle.race_model.specs.Replies.{IsReply};
 pub fn law_replies()
     ensures one { (f line text other : List ℕ) → IsReply f line text → IsReply f line other →
         text ≡ other }
-    ensures same { (limit : ℕ) (f g : List ℕ) → IsRight limit f → IsRight limit g →
+    ensures same { (f g : List ℕ) → IsRight f → IsRight g →
         HasSameNumbers f g → (line text : List ℕ) → IsReply f line text → IsReply g line text }
 {}
 

@@ -3,29 +3,22 @@ ghost use Rattle.std.specs.List.{range_with_len};
 ghost use Rattle.race_model.specs.Positions.{Board, IsPosition, IsFinished, pips};
 ghost use Rattle.race_model.specs.Dice.{Throw};
 ghost use Rattle.race_model.specs.Ranks.{rank, count_to};
-ghost use Rattle.race_model.specs.Files.{IsBytes, IsFileTo, bound_of, mean, play, spread};
+ghost use Rattle.race_model.specs.Versions.{Version};
+ghost use Rattle.race_model.specs.Files.{IsBytes, IsFile, version_of, bound_of, mean, play, spread};
 ghost use Rattle.race_model.specs.LocalEquations.{whole, recorded, IsPlayed, IsLocal, IsLocalAt};
 ghost use Rattle.race_model.specs.Strategies.{Strategy, Fits, total, count_of};
 ghost use Rattle.race_model.specs.RightFiles.{IsRight, IsRightAt};
 ghost use Rattle.race_model.specs.BuiltFile.{IsBuilt};
 ghost use Rattle.race_model.specs.SameNumbers.{HasSameNumbers};
-ghost use Rattle.race_model.specs.CompactShares.{told_share};
+ghost use Rattle.race_model.specs.ToldShares.{told_share};
 ghost use Rattle.race_model.specs.Horizon.{most_rolls};
 
 /// The local equations, which test each record against records of lower rank alone, hold of a list
 /// of bytes exactly where it is a right file: its means are the least over all strategies, also
 /// those that look at the history, its plays reach them, and its shares are those of its plays.
-/// The limit of the bound, 44 in version 1 of the file, may be any number up to 58. The same is
-/// said of the positions alone, whatever the form of the file.
 pub fn law_right()
-    ensures right { (limit : ℕ) (f : List ℕ) → limit ≤ 58 → IsLocal limit f → IsRight limit f }
-    ensures local { (limit : ℕ) (f : List ℕ) → limit ≤ 58 → IsRight limit f → IsLocal limit f }
-    ensures right_at { (f : List ℕ) → bound_of f ≤ 58 →
-        ((x : Board) → IsPosition x → pips x ≤ bound_of f → IsLocalAt f x) → (x : Board) →
-        IsPosition x → pips x ≤ bound_of f → IsRightAt f x }
-    ensures local_at { (f : List ℕ) → bound_of f ≤ 58 →
-        ((x : Board) → IsPosition x → pips x ≤ bound_of f → IsRightAt f x) → (x : Board) →
-        IsPosition x → pips x ≤ bound_of f → IsLocalAt f x }
+    ensures right { (f : List ℕ) → IsLocal f → IsRight f }
+    ensures local { (f : List ℕ) → IsRight f → IsLocal f }
 {}
 
 /// What a recorded play leads to, where the recorded number is the rank of a position to which the
@@ -44,18 +37,18 @@ pub fn law_recorded()
 {}
 
 /// Right files agree on the mean of each position of at most the bound of both. Built files of one
-/// bound hold the same numbers, since the builder records of the plays to the least mean the one
-/// to the lowest rank; and files of bytes that hold the same numbers are byte for byte one, so
-/// there is one built file of a bound.
+/// bound, whatever their versions, hold the same numbers, since the builder records of the plays
+/// to the least mean the one to the lowest rank; and files of bytes and of one version that hold
+/// the same numbers are byte for byte one, so there is one built file of a version and a bound.
 pub fn law_agree()
-    ensures right { (limit : ℕ) (f g : List ℕ) → IsRight limit f → IsRight limit g → (x : Board) →
+    ensures right { (f g : List ℕ) → IsRight f → IsRight g → (x : Board) →
         IsPosition x → pips x ≤ bound_of f → pips x ≤ bound_of g → mean f x ≡ mean g x }
-    ensures built { (limit bound : ℕ) (f g : List ℕ) → limit ≤ 58 → IsBuilt limit bound f →
-        IsBuilt limit bound g → HasSameNumbers f g }
-    ensures same_bytes { (limit : ℕ) (f g : List ℕ) → IsBytes f → IsBytes g → IsFileTo limit f →
-        IsFileTo limit g → HasSameNumbers f g → f ≡ g }
-    ensures one_built { (limit bound : ℕ) (f g : List ℕ) → limit ≤ 58 → IsBuilt limit bound f →
-        IsBuilt limit bound g → f ≡ g }
+    ensures built { (one other : Version) (bound : ℕ) (f g : List ℕ) → IsBuilt one bound f →
+        IsBuilt other bound g → HasSameNumbers f g }
+    ensures same_bytes { (f g : List ℕ) → IsBytes f → IsBytes g → IsFile f → IsFile g →
+        version_of f ≡ version_of g → HasSameNumbers f g → f ≡ g }
+    ensures one_built { (version : Version) (bound : ℕ) (f g : List ℕ) → IsBuilt version bound f →
+        IsBuilt version bound g → f ≡ g }
 {}
 
 /// The shares of a position. Those of a strategy from at most 58 pips add up to the whole, and
@@ -67,10 +60,10 @@ pub fn law_spread()
         sum_by (count_of s) (range_with_len 0 23) ≡ whole }
     ensures mean { (x : Board) (s : Strategy) → IsPosition x → pips x ≤ 58 → Fits s x →
         sum_by (λ k. count_of s k * k) (range_with_len 0 23) ≡ total s }
-    ensures recorded { (limit : ℕ) (f : List ℕ) → limit ≤ 58 → IsRight limit f → (x : Board) →
+    ensures recorded { (f : List ℕ) → IsRight f → (x : Board) →
         IsPosition x → pips x ≤ bound_of f → sum_by (spread f x) (range_with_len 0 23) ≡ whole }
-    ensures beyond { (limit : ℕ) (f : List ℕ) → IsRight limit f → (x : Board) (k : ℕ) →
+    ensures beyond { (f : List ℕ) → IsRight f → (x : Board) (k : ℕ) →
         IsPosition x → pips x ≤ bound_of f → most_rolls (pips x) < k → k ≤ 22 → spread f x k ≡ 0 }
-    ensures told { (f : List ℕ) (x : Board) (k : ℕ) → IsPosition x → IsRightAt f x → k ≤ 22 →
-        spread f x k ≡ told_share (pips x) (spread f x) k }
+    ensures told { (version : Version) (f : List ℕ) (x : Board) (k : ℕ) → IsPosition x →
+        IsRightAt f x → k ≤ 22 → spread f x k ≡ told_share version (pips x) (spread f x) k }
 {}

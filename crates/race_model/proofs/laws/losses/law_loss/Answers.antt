@@ -8,9 +8,9 @@ returns c = record {
   least = recorded_least;
   loss = loss_is_loss;
   none =
-      λ limit f small right x at low unfinished v y leads. (
-        begins limit f small right x at low unfinished v y leads,
+      λ f right x at low unfinished v y leads. (
+        begins f right x at low unfinished v y leads,
         λ found.
-            no_loss limit f small right x at low unfinished v y found.0 found.1 found.2 found.3,
+            no_loss f right x at low unfinished v y found.0 found.1 found.2 found.3,
       );
 }

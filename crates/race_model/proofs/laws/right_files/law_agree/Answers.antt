@@ -1,5 +1,6 @@
 -- A least total is one number; the lowest rank and the shares
 -- follow from the means, and the bytes from the numbers.
+use Rattle.std.proofs.Common.{sym, ◌∙◌}
 use Rattle.race_model.proofs.RightFiles.RightFacts.{means_agree}
 use Rattle.race_model.proofs.RightFiles.Built.{built_same}
 use Rattle.race_model.proofs.RightFiles.SameBytes.{one_file}
@@ -11,7 +12,8 @@ returns c = record {
   built = built_same;
   same_bytes = one_file;
   one_built =
-      λ limit bound f g low built_f built_g.
-      one_file limit f g built_f.bytes built_g.bytes built_f.local.file built_g.local.file
-      (built_same limit bound f g low built_f built_g);
+      λ version bound f g built_f built_g.
+      one_file f g built_f.bytes built_g.bytes built_f.local.file built_g.local.file
+      (built_f.version_is ∙ sym built_g.version_is)
+      (built_same version version bound f g built_f built_g);
 }

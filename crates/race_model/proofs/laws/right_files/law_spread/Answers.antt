@@ -2,7 +2,7 @@
 use Rattle.race_model.proofs.Strategies.Horizons.{within_22}
 use Rattle.race_model.proofs.Strategies.Spreads.{counts_add_up, counts_weigh}
 use Rattle.race_model.proofs.RightFiles.RightFacts.{shares_add_up, no_share_beyond}
-use Rattle.race_model.proofs.RightFiles.Compact.{told}
+use Rattle.race_model.proofs.RightFiles.ToldShares.{told}
 use Rattle.race_model.proofs.laws.right_files.law_spread.Goals as goal
 
 pub returns : goal.returns

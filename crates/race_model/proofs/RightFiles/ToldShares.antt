@@ -1,12 +1,13 @@
--- A compact record tells all shares of a position that is recorded right.
+-- A record of either version tells all shares of a position that is recorded right.
 use Rattle.std.proofs.Common.{◌≡◌, ⊎_elim, ℕ, zero, suc, ◌≤◌, Bool, true, false, cond, leb, List, refl, ap, sym, ◌∙◌, arith, eq-eqb, ne_eqb, leb-false}
 use Rattle.race_model.specs.Positions.{Board, IsPosition, IsFinished, checkers, pips}
+use Rattle.race_model.specs.Versions.{Version, full, compact}
 use Rattle.race_model.specs.Files.{spread}
 use Rattle.race_model.specs.LocalEquations.{whole}
 use Rattle.race_model.specs.Strategies.{count_of}
 use Rattle.race_model.specs.RightFiles.{follow, IsRightAt}
 use Rattle.race_model.specs.Horizon.{most_rolls}
-use Rattle.race_model.specs.CompactShares.{told_share}
+use Rattle.race_model.specs.ToldShares.{told_share}
 use Rattle.race_model.proofs.Plays.Results.{finished_or_not}
 use Rattle.race_model.proofs.Strategies.Horizons.{sum-at_most_pips, count_of-beyond}
 use Rattle.race_model.proofs.Strategies.Totals.{count_of-stop, count_of-turn_none}
@@ -21,9 +22,10 @@ some_pips x unfinished none = unfinished (empty (checkers x) (pips x) (sum-at_mo
     empty c p le e = omega arith
 
 -- each share is told
-pub told : (f : List ℕ) (x : Board) (k : ℕ) → IsPosition x → IsRightAt f x → k ≤ 22 →
-    spread f x k ≡ told_share (pips x) (spread f x) k
-told f x zero at right le = right.spread_is 0 le ∙ ⊎_elim
+pub told : (version : Version) (f : List ℕ) (x : Board) (k : ℕ) → IsPosition x →
+    IsRightAt f x → k ≤ 22 → spread f x k ≡ told_share version (pips x) (spread f x) k
+told full f x k at right le = refl
+told compact f x zero at right le = right.spread_is 0 le ∙ ⊎_elim
     (λ none.
     ap (λ s. count_of s 0) (follow-finished f 22 x none) ∙ count_of-stop
     ∙ sym (ap (λ b. cond b whole 0) (eq-eqb (pips x) 0 (no_pips x none))))
@@ -31,7 +33,7 @@ told f x zero at right le = right.spread_is 0 le ∙ ⊎_elim
     ap (λ s. count_of s 0) (follow-unfinished f 21 x unfinished) ∙ count_of-turn_none _ _
     ∙ sym (ap (λ b. cond b whole 0) (ne_eqb (pips x) 0 (some_pips x unfinished))))
     (finished_or_not x)
-told f x (suc k) at right le = by (leb (suc k) (most_rolls (pips x))) refl
+told compact f x (suc k) at right le = by (leb (suc k) (most_rolls (pips x))) refl
   where
     by : (b : Bool) → leb (suc k) (most_rolls (pips x)) ≡ b →
         spread f x (suc k) ≡ cond b (spread f x (suc k)) 0

@@ -1,0 +1,133 @@
+-- Where the records of a file stand: each behind the one before it.
+use Rattle.std.proofs.Common.{◌≡◌, ◌⊎◌, ⊎_elim, ℕ, zero, suc, ◌+◌, ◌-◌, ◌*◌, ◌<◌, ◌≤◌, List, ◌∷◌, length, drop, sum_by, refl, ap, sym, subst, ◌∙◌, arith, le_trans, le_of_eq, length-take, length-drop}
+use Rattle.std.proofs.lemmas.List.Sums.{sum_by-cons}
+use Rattle.race_model.specs.Positions.{pips}
+use Rattle.race_model.specs.Ranks.{at_rank, count_to, numbers_from}
+use Rattle.race_model.specs.Horizon.{most_rolls}
+use Rattle.race_model.specs.Versions.{Version, full, compact, record_length}
+use Rattle.race_model.specs.Files.{bytes_at, version_of, bound_of, record_place, IsFile, stored_at}
+use Rattle.race_model.proofs.Strategies.Horizons.{most_rolls-most}
+use Rattle.race_model.proofs.FirstFaults.Questions.{within_bound}
+
+-- so many bytes of a file that is long enough
+pub length-bytes_at : (f : List ℕ) (place n : ℕ) → place + n ≤ length f →
+    length (bytes_at f place n) ≡ n
+length-bytes_at f place n long = omega (arith, length-take n (drop place f), length-drop place f)
+
+-- no record begins in the header
+pub header_before : (version : Version) (r : ℕ) → 32 ≤ record_place version r
+unfolding record_place
+header_before version r = omega arith
+
+-- the length of the record of a rank
+abbrev pub length_at : Version → ℕ → ℕ
+length_at version r = record_length version (pips (at_rank r))
+
+-- a sum over one number more has the last one besides
+sum_by-numbers_next : (g : ℕ → ℕ) (a n : ℕ) →
+    sum_by g (numbers_from a (suc n)) ≡ sum_by g (numbers_from a n) + g (a + n)
+unfolding numbers_from
+sum_by-numbers_next g a zero = omega (arith, ap g (none a))
+  where
+    none : (a : ℕ) → a + 0 ≡ a
+    none a = omega arith
+sum_by-numbers_next g a (suc n) =
+    let whole = sum_by-cons g a (numbers_from (suc a) (suc n)) in
+    let part = sum_by-cons g a (numbers_from (suc a) n) in
+    let rest = sum_by-numbers_next g (suc a) n in
+    omega (arith, whole, part, rest, ap g (later a n))
+  where
+    later : (a n : ℕ) → suc a + n ≡ a + suc n
+    later a n = omega arith
+
+-- the first record stands behind the header
+pub record_place-first : (version : Version) → record_place version 0 ≡ 32
+unfolding record_place numbers_from
+record_place-first version = refl
+
+-- .. and each behind the one before it
+pub record_place-next : (version : Version) (r : ℕ) →
+    record_place version (suc r) ≡ record_place version r + length_at version r
+unfolding record_place
+record_place-next version r =
+    omega (
+      arith,
+      sum_by-numbers_next (length_at version) 0 r,
+      ap (length_at version) (none r),
+    )
+  where
+    none : (r : ℕ) → 0 + r ≡ r
+    none r = omega arith
+
+-- records that are all full stand 426 bytes apart
+pub record_place-full : (r : ℕ) → record_place full r ≡ 32 + 426 * r
+record_place-full zero = record_place-first full
+record_place-full (suc r) = omega (arith, record_place-next full r, record_place-full r)
+
+-- .. and those of one length that length apart
+pub record_place-level : (version : Version) (size r n : ℕ) →
+    ((k : ℕ) → r ≤ k → k < r + n → length_at version k ≡ size) →
+    record_place version (r + n) ≡ record_place version r + n * size
+record_place-level version size r zero same = omega (arith, ap (record_place version) (none r))
+  where
+    none : (r : ℕ) → r + 0 ≡ r
+    none r = omega arith
+record_place-level version size r (suc n) same =
+    omega (
+      arith,
+      ap (record_place version) (later r n),
+      record_place-next version (r + n),
+      record_place-level version size r n (λ k from under. same k from (omega arith)),
+      same (r + n) (omega arith) (omega arith),
+    )
+  where
+    later : (r n : ℕ) → r + suc n ≡ suc (r + n)
+    later r n = omega arith
+
+-- a record ends before any of higher rank begins
+pub record_place-rises : (version : Version) (r n : ℕ) →
+    record_place version r + length_at version r ≤ record_place version (suc r + n)
+record_place-rises version r zero =
+    omega (arith, record_place-next version r, ap (record_place version) (none r))
+  where
+    none : (r : ℕ) → suc r + 0 ≡ suc r
+    none r = omega arith
+record_place-rises version r (suc n) =
+    omega (
+      arith,
+      record_place-rises version r n,
+      record_place-next version (suc r + n),
+      ap (record_place version) (later r n),
+    )
+  where
+    later : (r n : ℕ) → suc r + suc n ≡ suc (suc r + n)
+    later r n = omega arith
+
+-- a record of at most 58 pips is never longer than a full one
+pub record_length-most : (version : Version) (p : ℕ) → p ≤ 58 → record_length version p ≤ 426
+record_length-most full p low = omega arith
+record_length-most compact p low = omega (arith, most_rolls-most p low)
+
+-- .. so no record of at most 58 pips begins later than full ones would
+pub record_place-most : (version : Version) (r : ℕ) → r ≤ count_to 58 →
+    record_place version r ≤ 32 + 426 * r
+record_place-most version zero under = omega (arith, record_place-first version)
+record_place-most version (suc r) under =
+    omega (
+      arith,
+      record_place-next version r,
+      record_place-most version r (le_trans (omega arith) under),
+      record_length-most version (pips (at_rank r)) (within_bound 58 r under).1,
+    )
+
+-- what a file stores for a rank is as long as the record of its pip count
+pub length-stored_at : (f : List ℕ) (r : ℕ) → IsFile f → r < count_to (bound_of f) →
+    length (stored_at f r) ≡ length_at (version_of f) r
+length-stored_at f r file under =
+    length-bytes_at f (record_place (version_of f) r) (length_at (version_of f) r)
+    (le_trans (record_place-rises (version_of f) r (count_to (bound_of f) - suc r))
+    (le_of_eq (ap (record_place (version_of f)) (parts (count_to (bound_of f)) under)
+    ∙ sym file.whole)))
+  where
+    parts : (c : ℕ) → r < c → suc r + (c - suc r) ≡ c
+    parts c h = omega (arith, h)
