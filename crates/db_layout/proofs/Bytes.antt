@@ -1,21 +1,25 @@
 -- The bytes of numbers, and what one reads in the bytes of a record.
-use Rattle.std.proofs.Common.{◌≡◌, ℕ, zero, suc, ◌+◌, ◌-◌, ◌*◌, ◌/◌, ◌%◌, ◌^◌, ◌<◌, ◌≤◌, List, [], ◌∷◌, ◌++◌, length, sum, take, drop, get_or, refl, sym, ap, ap₂, subst, ◌∙◌, arith, append_assoc}
+use Rattle.std.proofs.Common.{◌≡◌, ℕ, zero, suc, ◌+◌, ◌-◌, ◌*◌, ◌/◌, ◌%◌, ◌^◌, ◌<◌, ◌≤◌, List, [], ◌∷◌, ◌++◌, length, sum, take, drop, get_or, refl, sym, ap, ap₂, subst, ◌∙◌, arith, append_assoc, ⊎_elim, Bool, false, cond, leb}
 use Rattle.std.proofs.lemmas.Grind.{flat_map-append}
-use Rattle.std.proofs.lemmas.List.{length-append, append-nil, take_more}
+use Rattle.std.proofs.lemmas.List.{length-append, length-take, length-drop, get_or-take, get_or-drop, get_or_past, append-nil, take_more}
 use Rattle.std.proofs.Math.Nat.{div-add-mod, div-div-eq-div-mul, pow-suc}
 use Rattle.std.proofs.Math.Bool.{and-eq-true_iff}
 use Rattle.std.proofs.Math.Dec.{ltb}
-use Rattle.std.proofs.lemmas.Bool.{ltb-true}
+use Rattle.std.proofs.lemmas.Bool.{ltb-true, leb-true, cases_lt}
 use Rattle.std.specs.List.{list_all}
 use Rattle.std.proofs.Math.Seq.{take-append_seam, drop-append-add}
 use Rattle.std.specs.Prelude.{flat_map, replicate, codes, true}
 use Rattle.std.specs.Int.{w16, w32, w128, byte_at, byte_worth, bytes_high_first, sum_through, to_be_bytes, from_be_bytes}
 use Rattle.std.proofs.lemmas.Nat.{from_be_bytes-to_be_bytes_2}
 use Rattle.race_model.specs.Ranks.{count_to}
+use Rattle.race_model.specs.Horizon.{most_rolls}
+use Rattle.race_model.specs.Versions.{Version, full, compact, version_number, stated_length, first_share, share_count, record_length}
 use Rattle.race_model.specs.Files.{IsBytes, header, mean_of, play_of, share_of}
+use Rattle.race_model.specs.ToldShares.{told_share}
+use Rattle.race_model.proofs.RightFiles.ToldRecords.{told_mean, told_play, told_shares}
 use Rattle.race_model.specs.LocalEquations.{whole}
 use Rattle.fixed_fraction.proofs.Shares.{share_at_most_sum}
-use Rattle.db_layout.specs.Records.{short_bytes, wide_bytes, record_of, IsRecordOf}
+use Rattle.db_layout.specs.Records.{short_bytes, wide_bytes, stored_shares, record_of, IsHeld, IsRecordOf}
 
 -- a sum from its first number on
 sum_through-first : (f : ℕ → ℕ) (k : ℕ) →
@@ -117,79 +121,178 @@ take-part g w each (x ∷ xs) rest (suc i) lt =
     rw (next, append_assoc, drop-append-add (g x) (flat_map g xs ++ rest) (w * i))
     (take-part g w each xs rest i (omega arith))
 
--- what one reads in the bytes of a record
-pub record_reads : (mean : ℕ) (plays shares : List ℕ) → mean < 2 ^ 128 → length plays ≡ 21 →
-    ((i : ℕ) → get_or plays i 0 < 2 ^ 16) → length shares ≡ 23 →
-    ((k : ℕ) → get_or shares k 0 < 2 ^ 128) →
-    IsRecordOf (record_of mean plays shares) mean plays shares
-unfolding record_of mean_of play_of share_of
-record_reads mean plays shares small few low many short = record {
-  len =
+-- of the shares of 0 to 22 rolls some number from one on
+module _ (first count : ℕ) (shares : List ℕ) (room : first + count ≤ length shares) where
+  -- how many they are
+  pub length-stored : length (take count (drop first shares)) ≡ count
+  length-stored = omega (arith, room, length-take count (drop first shares), length-drop first shares)
+
+  -- .. and which
+  pub get_or-stored : (j : ℕ) → j < count →
+      get_or (take count (drop first shares)) j 0 ≡ get_or shares (first + j) 0
+  get_or-stored j inside =
+      get_or-take count (drop first shares) j 0 inside ∙ get_or-drop first shares j 0
+
+-- what one reads in the stored bytes of a record
+module _ (mean : ℕ) (plays stored : List ℕ) (small : mean < 2 ^ 128) (few : length plays ≡ 21)
+    (low : (i : ℕ) → get_or plays i 0 < 2 ^ 16)
+    (short : (k : ℕ) → get_or stored k 0 < 2 ^ 128) where
+  -- the bytes
+  abbrev pub stored_bytes : List ℕ
+  stored_bytes = wide_bytes mean ++ (flat_map short_bytes plays ++ flat_map wide_bytes stored)
+
+  -- their number
+  pub length-stored_bytes : length stored_bytes ≡ 58 + 16 * length stored
+  length-stored_bytes =
       omega (
         arith,
+        few,
         length-append (wide_bytes mean)
-            (flat_map short_bytes plays ++ flat_map wide_bytes shares),
-        length-append (flat_map short_bytes plays) (flat_map wide_bytes shares),
+            (flat_map short_bytes plays ++ flat_map wide_bytes stored),
+        length-append (flat_map short_bytes plays) (flat_map wide_bytes stored),
         length-wide_bytes mean,
         length-parts short_bytes 2 length-short_bytes plays,
-        length-parts wide_bytes 16 length-wide_bytes shares,
-      );
-  mean_is = ap (from_be_bytes w128) first ∙ from_be_bytes-wide mean small;
-  play_is =
-      λ i lt. ap (from_be_bytes w16) (play i lt) ∙ from_be_bytes-short (get_or plays i 0) (low i);
-  share_is =
-      λ k le.
-      ap (from_be_bytes w128) (share k le) ∙ from_be_bytes-wide (get_or shares k 0) (short k);
-} where
-  first : take 16 (wide_bytes mean ++ (flat_map short_bytes plays ++ flat_map wide_bytes shares))
-      ≡ wide_bytes mean
-  first =
-      subst
-      (λ (n : ℕ).
-      take n
-      (wide_bytes mean
-      ++ (flat_map short_bytes plays ++ flat_map wide_bytes shares))
-      ≡ wide_bytes mean) (length-wide_bytes mean)
+        length-parts wide_bytes 16 length-wide_bytes stored,
+      )
+
+  -- the mean
+  pub stored_mean : mean_of stored_bytes ≡ mean
+  unfolding mean_of
+  stored_mean =
+      ap (from_be_bytes w128) (subst (λ (n : ℕ). take n stored_bytes ≡ wide_bytes mean)
+      (length-wide_bytes mean)
       (take-append_seam (wide_bytes mean)
-      (flat_map short_bytes plays ++ flat_map wide_bytes shares))
+      (flat_map short_bytes plays ++ flat_map wide_bytes stored)))
+      ∙ from_be_bytes-wide mean small
 
-  play : (i : ℕ) → i < 21 →
-      take 2
-      (drop (16 + 2 * i)
-      (wide_bytes mean ++ (flat_map short_bytes plays ++ flat_map wide_bytes shares)))
-      ≡ short_bytes (get_or plays i 0)
-  play i lt =
-      rw (
-        ← length-wide_bytes mean,
-        drop-append-add (wide_bytes mean)
-            (flat_map short_bytes plays ++ flat_map wide_bytes shares) (2 * i),
-      )
-      (take-part short_bytes 2 length-short_bytes plays (flat_map wide_bytes shares) i
-      (omega arith))
+  -- a play
+  pub stored_play : (i : ℕ) → i < 21 → play_of stored_bytes i ≡ get_or plays i 0
+  unfolding play_of
+  stored_play i lt =
+      ap (from_be_bytes w16) part ∙ from_be_bytes-short (get_or plays i 0) (low i)
+    where
+      part : take 2 (drop (16 + 2 * i) stored_bytes) ≡ short_bytes (get_or plays i 0)
+      part =
+          rw (
+            ← length-wide_bytes mean,
+            drop-append-add (wide_bytes mean)
+                (flat_map short_bytes plays ++ flat_map wide_bytes stored) (2 * i),
+          )
+          (take-part short_bytes 2 length-short_bytes plays (flat_map wide_bytes stored) i
+          (omega (arith, few, lt)))
 
-  share : (k : ℕ) → k ≤ 22 →
-      take 16
-      (drop (58 + 16 * k)
-      (wide_bytes mean ++ (flat_map short_bytes plays ++ flat_map wide_bytes shares)))
-      ≡ wide_bytes (get_or shares k 0)
-  share k le =
-      let place : 58 + 16 * k ≡ length (wide_bytes
-      mean) + (length (flat_map short_bytes plays) + 16 * k) =
-      omega (
-        arith,
-        length-wide_bytes mean,
-        length-parts short_bytes 2 length-short_bytes plays,
-      ) in
-      let part = take-part wide_bytes 16 length-wide_bytes shares [] k (omega arith) in
-      rw (
-        place,
-        drop-append-add (wide_bytes mean)
-            (flat_map short_bytes plays ++ flat_map wide_bytes shares)
-            (length (flat_map short_bytes plays) + 16 * k),
-        drop-append-add (flat_map short_bytes plays) (flat_map wide_bytes shares) (16 * k),
-      )
-      (subst (λ (bs : List ℕ). take 16 (drop (16 * k) bs) ≡ wide_bytes (get_or shares k 0))
-      (append-nil (flat_map wide_bytes shares)) part)
+  -- a share
+  pub stored_share : (k : ℕ) → k < length stored → share_of stored_bytes k ≡ get_or stored k 0
+  unfolding share_of
+  stored_share k inside =
+      ap (from_be_bytes w128) part ∙ from_be_bytes-wide (get_or stored k 0) (short k)
+    where
+      part : take 16 (drop (58 + 16 * k) stored_bytes) ≡ wide_bytes (get_or stored k 0)
+      part =
+          let place : 58 + 16 * k ≡ length (wide_bytes
+          mean) + (length (flat_map short_bytes plays) + 16 * k) =
+          omega (
+            arith,
+            few,
+            length-wide_bytes mean,
+            length-parts short_bytes 2 length-short_bytes plays,
+          ) in
+          rw (
+            place,
+            drop-append-add (wide_bytes mean)
+                (flat_map short_bytes plays ++ flat_map wide_bytes stored)
+                (length (flat_map short_bytes plays) + 16 * k),
+            drop-append-add (flat_map short_bytes plays) (flat_map wide_bytes stored) (16 * k),
+          )
+          (subst (λ (bs : List ℕ). take 16 (drop (16 * k) bs) ≡ wide_bytes (get_or stored k 0))
+          (append-nil (flat_map wide_bytes stored))
+          (take-part wide_bytes 16 length-wide_bytes stored [] k inside))
+
+-- the shares that a record stores are some of the 23
+pub stored_room : (version : Version) (p : ℕ) → most_rolls p ≤ 22 →
+    first_share version + share_count version p ≤ 23
+stored_room full p few = omega arith
+stored_room compact p few = omega (arith, few)
+
+-- shares are told alike where those that are stored are alike
+told_alike : (version : Version) (p : ℕ) (g h : ℕ → ℕ) (k : ℕ) → k ≤ 22 →
+    ((n : ℕ) → first_share version ≤ n → n < first_share version + share_count version p →
+    g n ≡ h n) → told_share version p g k ≡ told_share version p h k
+told_alike full p g h k le each = each k (omega arith) (omega (arith, le))
+told_alike compact p g h zero le each = refl
+told_alike compact p g h (suc k) le each = by (leb (suc k) (most_rolls p)) refl
+  where
+    by : (b : Bool) → leb (suc k) (most_rolls p) ≡ b → cond b (g (suc k)) 0 ≡ cond b (h (suc k)) 0
+    by true e =
+        each (suc k) (omega arith) (omega (arith, leb-true (suc k) (most_rolls p) e))
+    by false e = refl
+
+-- what one reads in the bytes of a record of a pip count that has at most 22 rolls
+module _ (version : Version) (p mean : ℕ) (plays shares : List ℕ) (rolls : most_rolls p ≤ 22)
+    (held : IsHeld version p shares) (small : mean < 2 ^ 128) (few : length plays ≡ 21)
+    (low : (i : ℕ) → get_or plays i 0 < 2 ^ 16) (many : length shares ≡ 23)
+    (short : (k : ℕ) → get_or shares k 0 < 2 ^ 128) where
+  -- the stored shares
+  abbrev stored : List ℕ
+  stored = stored_shares version p shares
+
+  -- .. which are among the 23
+  room : first_share version + share_count version p ≤ length shares
+  room = omega (arith, many, stored_room version p rolls)
+
+  length-these : length stored ≡ share_count version p
+  length-these = length-stored (first_share version) (share_count version p) shares room
+
+  -- .. and no greater than these
+  fits : (k : ℕ) → get_or stored k 0 < 2 ^ 128
+  fits k = ⊎_elim
+      (λ inside.
+      subst (λ n. n < 2 ^ 128)
+      (sym (get_or-stored (first_share version) (share_count version p) shares room k inside))
+      (short (first_share version + k)))
+      (λ past.
+      subst (λ n. n < 2 ^ 128)
+      (sym (get_or_past stored k 0 (omega (arith, past, length-these)))) (omega arith))
+      (cases_lt k (share_count version p))
+
+  -- the length of the bytes
+  long : length (stored_bytes mean plays stored small few low fits) ≡ record_length version p
+  long = omega (arith, length-stored_bytes mean plays stored small few low fits, length-these)
+
+  -- a stored share
+  share_stored : (n : ℕ) → first_share version ≤ n →
+      n < first_share version + share_count version p →
+      share_of (stored_bytes mean plays stored small few low fits) (n - first_share version)
+      ≡ get_or shares n 0
+  share_stored n from under =
+      stored_share mean plays stored small few low fits (n - first_share version)
+      (omega (arith, from, under, length-these))
+      ∙ get_or-stored (first_share version) (share_count version p) shares room
+      (n - first_share version) (omega (arith, from, under))
+      ∙ ap (λ k. get_or shares k 0) (back n (first_share version) from)
+    where
+      back : (n first : ℕ) → first ≤ n → first + (n - first) ≡ n
+      back n first h = omega (arith, h)
+
+  pub record_reads : IsRecordOf version p (record_of version p mean plays shares) mean plays shares
+  unfolding record_of
+  record_reads = record {
+    len = long;
+    mean_is =
+        told_mean version p (stored_bytes mean plays stored small few low fits) rolls long
+        ∙ stored_mean mean plays stored small few low fits;
+    play_is =
+        λ i lt.
+        told_play version p (stored_bytes mean plays stored small few low fits) i rolls long lt
+        ∙ stored_play mean plays stored small few low fits i lt;
+    share_is =
+        λ k le.
+        told_shares version p (stored_bytes mean plays stored small few low fits) k rolls long le
+        ∙ told_alike version p
+        (λ n. share_of (stored_bytes mean plays stored small few low fits)
+        (n - first_share version)) (λ n. get_or shares n 0) k le share_stored
+        ∙ sym (held k le);
+  }
 
 -- the parts of one number more
 pub flat_map-take_more : (g : ℕ → List ℕ) (xs : List ℕ) (i : ℕ) → i < length xs →
@@ -219,12 +322,14 @@ unfolding whole
 mean_fits mean le = omega arith
 
 -- the bytes of a record, as they are added up
-pub record_is : (mean : ℕ) (plays shares : List ℕ) →
-    (wide_bytes mean ++ flat_map short_bytes plays) ++ flat_map wide_bytes shares
-    ≡ record_of mean plays shares
+pub record_is : (version : Version) (p mean : ℕ) (plays shares : List ℕ) →
+    (wide_bytes mean ++ flat_map short_bytes plays)
+    ++ flat_map wide_bytes (stored_shares version p shares)
+    ≡ record_of version p mean plays shares
 unfolding record_of
-record_is mean plays shares =
-    append_assoc (wide_bytes mean) (flat_map short_bytes plays) (flat_map wide_bytes shares)
+record_is version p mean plays shares =
+    append_assoc (wide_bytes mean) (flat_map short_bytes plays)
+    (flat_map wide_bytes (stored_shares version p shares))
 
 -- bytes before bytes are bytes
 pub small_append : (xs ys : List ℕ) → IsBytes xs → IsBytes ys → IsBytes (xs ++ ys)
@@ -258,13 +363,17 @@ small_parts g each (x ∷ xs) i =
     small_append (g x) (flat_map g xs) (each x) (small_parts g each xs) i
 
 -- a record is one of bytes
-pub small_record : (mean : ℕ) (plays shares : List ℕ) → IsBytes (record_of mean plays shares)
+pub small_record : (version : Version) (p mean : ℕ) (plays shares : List ℕ) →
+    IsBytes (record_of version p mean plays shares)
 unfolding record_of
-small_record mean plays shares =
-    small_append (wide_bytes mean) (flat_map short_bytes plays ++ flat_map wide_bytes shares)
+small_record version p mean plays shares =
+    small_append (wide_bytes mean)
+    (flat_map short_bytes plays ++ flat_map wide_bytes (stored_shares version p shares))
     (small_wide mean)
-    (small_append (flat_map short_bytes plays) (flat_map wide_bytes shares)
-    (small_parts short_bytes small_short plays) (small_parts wide_bytes small_wide shares))
+    (small_append (flat_map short_bytes plays)
+    (flat_map wide_bytes (stored_shares version p shares))
+    (small_parts short_bytes small_short plays)
+    (small_parts wide_bytes small_wide (stored_shares version p shares)))
 
 -- .. and so is a header
 small_none : IsBytes []
@@ -280,18 +389,19 @@ small_all (b ∷ bs) every =
     let both = (and-eq-true_iff (ltb b 256) (list_all (λ b. ltb b 256) bs)).0 every in
     small_more b bs (ltb-true b 256 both.0) (small_all bs both.1)
 
-pub small_header : (bound : ℕ) → IsBytes (header bound)
-small_header bound =
+pub small_header : (version : Version) (bound : ℕ) → IsBytes (header version bound)
+small_header version bound =
     let name = codes "EPCTABLE" in
-    let to_version = name ++ to_be_bytes w16 1 in
+    let to_version = name ++ to_be_bytes w16 (version_number version) in
     let to_bound = to_version ++ to_be_bytes w16 bound in
     let to_count = to_bound ++ to_be_bytes w32 (count_to bound) in
-    small_append (to_count ++ to_be_bytes w32 426) (replicate 12 0)
-    (small_append to_count (to_be_bytes w32 426)
+    small_append (to_count ++ to_be_bytes w32 (stated_length version)) (replicate 12 0)
+    (small_append to_count (to_be_bytes w32 (stated_length version))
     (small_append to_bound (to_be_bytes w32 (count_to bound))
     (small_append to_version (to_be_bytes w16 bound)
-    (small_append name (to_be_bytes w16 1) (small_all name refl) (small_bytes 2 1))
+    (small_append name (to_be_bytes w16 (version_number version)) (small_all name refl)
+    (small_bytes 2 (version_number version)))
     (small_bytes 2 bound))
     (small_bytes 4 (count_to bound)))
-    (small_bytes 4 426))
+    (small_bytes 4 (stated_length version)))
     (small_all (replicate 12 0) refl)

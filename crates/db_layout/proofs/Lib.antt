@@ -1,2 +1,4 @@
+pub mod Bounds
 pub mod Bytes
 pub mod Known
+pub mod RecordPlaces

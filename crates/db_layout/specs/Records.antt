@@ -1,7 +1,21 @@
 -- The bytes of a record. Source: this project's profile.
-use Rattle.std.specs.Prelude.{◌≡◌, ℕ, ◌<◌, ◌≤◌, List, ◌++◌, length, flat_map, slice_index}
+use Rattle.std.specs.Prelude.{◌≡◌, ℕ, ◌<◌, ◌≤◌, List, ◌++◌, length, take, drop, flat_map, slice_index}
 use Rattle.std.specs.Int.{w16, w128, to_be_bytes}
-use Rattle.race_model.specs.Files.{mean_of, play_of, share_of}
+use Rattle.race_model.specs.Ranks.{first_of}
+use Rattle.race_model.specs.Versions.{Version, version_by, version_number, first_share, share_count, record_length}
+use Rattle.race_model.specs.Files.{record_place, told_record, mean_of, play_of, share_of}
+use Rattle.race_model.specs.ToldShares.{told_share}
+
+-- a number that is one of a version
+abbrev pub IsVersion : ℕ → Type 0
+IsVersion n = n ≡ version_number (version_by n)
+
+-- two tables by pip count: how many positions have fewer pips, and where their records begin
+pub record IsPlacesTable (version : Version) (starts offsets : List ℕ) : Type 0 where
+  pub long : length starts ≡ 60
+  pub summed : (m : ℕ) → m < 60 → slice_index starts m ≡ first_of m
+  pub placed : (m : ℕ) → m < 60 →
+      slice_index offsets m ≡ record_place version (first_of m)
 
 -- a rank in 2 bytes, high byte first
 unfoldable pub short_bytes : ℕ → List ℕ
@@ -11,15 +25,28 @@ short_bytes n = to_be_bytes w16 n
 unfoldable pub wide_bytes : ℕ → List ℕ
 wide_bytes n = to_be_bytes w128 n
 
--- the mean, the ranks that are played to with the rolls, and the shares, one after another
-unfoldable pub record_of : ℕ → List ℕ → List ℕ → List ℕ
-record_of mean plays shares =
-    wide_bytes mean ++ (flat_map short_bytes plays ++ flat_map wide_bytes shares)
+-- of the shares of 0 to 22 rolls those that the record of a position of p pips stores
+abbrev pub stored_shares : Version → ℕ → List ℕ → List ℕ
+stored_shares version p shares = take (share_count version p) (drop (first_share version) shares)
 
--- 426 bytes in which one reads this mean, these ranks for
--- the rolls 0 to 20, and these shares of 0 to 22 rolls
-pub record IsRecordOf (bytes : List ℕ) (mean : ℕ) (plays shares : List ℕ) : Type 0 where
-  pub len : length bytes ≡ 426
-  pub mean_is : mean_of bytes ≡ mean
-  pub play_is : (i : ℕ) → i < 21 → play_of bytes i ≡ slice_index plays i
-  pub share_is : (k : ℕ) → k ≤ 22 → share_of bytes k ≡ slice_index shares k
+-- no share is lost: each is told by those that are stored
+abbrev pub IsHeld : Version → ℕ → List ℕ → Type 0
+IsHeld version p shares =
+    (k : ℕ) → k ≤ 22 → slice_index shares k ≡ told_share version p (slice_index shares) k
+
+-- the mean, the ranks that are played to with the rolls,
+-- and the shares that are stored, one after another
+unfoldable pub record_of : Version → ℕ → ℕ → List ℕ → List ℕ → List ℕ
+record_of version p mean plays shares =
+    wide_bytes mean
+    ++ (flat_map short_bytes plays ++ flat_map wide_bytes (stored_shares version p shares))
+
+-- as many bytes as the record of a position of p pips has, which tell
+-- this mean, these ranks for the rolls 0 to 20, and these shares of 0 to 22 rolls
+pub record IsRecordOf (version : Version) (p : ℕ) (bytes : List ℕ) (mean : ℕ)
+    (plays shares : List ℕ) : Type 0 where
+  pub len : length bytes ≡ record_length version p
+  pub mean_is : mean_of (told_record version p bytes) ≡ mean
+  pub play_is : (i : ℕ) → i < 21 → play_of (told_record version p bytes) i ≡ slice_index plays i
+  pub share_is : (k : ℕ) → k ≤ 22 →
+      share_of (told_record version p bytes) k ≡ slice_index shares k

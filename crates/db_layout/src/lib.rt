@@ -3,12 +3,14 @@
 //! them.
 #![tactic(auto)]
 
-pub use header::{Header, HeaderFault, parse_header};
+pub use header::{COMPACT_VERSION, Header, HeaderFault, VERSION, parse_header};
+pub use places::{Place, Places, record_length};
 pub use record::{HEADER_BYTES, RECORD_BYTES, RecordView};
 pub use write_fault::WriteFault;
 pub use writing::{law_record, write_bytes, write_header, write_record};
 
 pub mod header;
+pub mod places;
 pub mod record;
 pub mod write_fault;
 pub mod writing;

@@ -1,40 +1,72 @@
-ghost use Rattle.std.specs.Prelude.{◌≡◌, ℕ, ◌+◌, ◌*◌, ◌^◌, ◌<◌, ◌≤◌, ◌↔◌, List, length, IsSome, IfSome};
+ghost use Rattle.std.specs.Prelude.{◌≡◌, ℕ, ◌+◌, ◌-◌, ◌*◌, ◌^◌, ◌<◌, ◌≤◌, ◌↔◌, List, length, IsSome, IfSome};
 ghost use Rattle.race_model.specs.Dice.{roll_index};
-ghost use Rattle.race_model.specs.Files.{bytes_at, mean_of, play_of, share_of};
+ghost use Rattle.race_model.specs.Versions.{version_by, first_share, record_length};
+ghost use Rattle.race_model.specs.Files.{bytes_at, told_record, mean_of, play_of, share_of};
+ghost use Rattle.race_model.specs.ToldShares.{told_share};
 ghost use Rattle.std.specs.Int.{w16, w32, w128, from_be_bytes};
 
+use crate::header::{COMPACT_VERSION, Header};
+use crate::places::{most_rolls, record_length};
+use fixed_fraction::WHOLE;
 use legal_plays::Roll;
 use std::marker::Model;
 
 /// How many bytes a header has (this project's profile).
 pub const HEADER_BYTES: usize = 32;
 
-/// How many bytes a record has (this project's profile).
+/// How many bytes a full record has, the most that any has (this project's profile).
 pub const RECORD_BYTES: usize = 426;
 
 /// A record of the database, in bytes that it borrows: nothing is copied (this project's profile).
 #[derive(Drop)]
 pub struct RecordView<'a> {
     bytes: &'a [u8],
+    version: u16,
+    pips: u8,
 }
 
-// Clauses see the bytes.
+// Clauses see the full record that the bytes tell.
 impl<'a> Model for RecordView<'a> {
     ghost Value = { List ℕ };
 
-    ghost view = { λ seen. seen.bytes.now };
+    ghost view = { λ seen. told_record (version_by seen.version) seen.pips seen.bytes.now };
 
-    ghost invariant = { λ seen. length seen.bytes.now ≡ 426 };
+    ghost invariant = { λ seen. (length seen.bytes.now
+        ≡ record_length (version_by seen.version) seen.pips) × (seen.pips ≤ 58) };
 }
 
 impl<'a> RecordView<'a> {
-    /// The record in these bytes; none exactly where there are not 426 of them.
-    pub fn of(bytes: &'a [u8]) -> Option<Self>
-        ensures some { IsSome result ↔ (length bytes.now ≡ 426) }
-        ensures value { IfSome result (λ seen. seen ≡ bytes.now) }
+    /// The record of a position of so many pips in these bytes of a file with this header; none
+    /// exactly where the pips are over its bound or there are not as many bytes as such a record
+    /// has.
+    pub fn of(bytes: &'a [u8], header: &Header, pips: u8) -> Option<Self>
+        ensures some { IsSome result
+            ↔ ((pips ≤ header.now.bound)
+            × (length bytes.now ≡ record_length (version_by header.now.version) pips)) }
+        ensures value { IfSome result
+            (λ seen. seen ≡ told_record (version_by header.now.version) pips bytes.now) }
     {
-        if bytes.len() == RECORD_BYTES {
-            Some(RecordView { bytes })
+        if pips > header.bound {
+            return None;
+        }
+        RecordView::of_version(bytes, header.version, pips)
+    }
+
+    /// The record of a position of at most 58 pips in these bytes of a file of a version; none
+    /// exactly where there are not as many bytes as such a record has.
+    pub fn of_version(bytes: &'a [u8], version: u16, pips: u8) -> Option<Self>
+        requires { pips ≤ 58 }
+        ensures some { IsSome result
+            ↔ (length bytes.now ≡ record_length (version_by version) pips) }
+        ensures value { IfSome result
+            (λ seen. seen ≡ told_record (version_by version) pips bytes.now) }
+    {
+        if bytes.len() == record_length(version, pips) as usize {
+            Some(RecordView {
+                bytes,
+                version,
+                pips,
+            })
         } else {
             None
         }
@@ -42,24 +74,22 @@ impl<'a> RecordView<'a> {
 
     /// The numerator over 36 ^ 22 of the mean number of
     /// rolls. Any number of 128 bits may stand there.
-    #[tactic(auto, unfolding(race_model::specs::Files::mean_of))]
     pub fn mean(&self) -> u128
         ensures { result ≡ mean_of self.now }
     {
-        read_wide(self.bytes, 0)
+        read_mean(self.bytes)
     }
 
     /// The rank that is recorded for a roll. Any number of 16 bits may stand there.
-    #[tactic(auto, unfolding(race_model::specs::Files::play_of))]
     pub fn play(&self, roll: Roll) -> u16
         ensures { result ≡ play_of self.now (roll_index roll) }
     {
-        read_short(self.bytes, 16 + 2 * usize::from(roll.index()))
+        read_play(self.bytes, roll.index())
     }
 
-    /// The numerator over 36 ^ 22 of the share of exactly `k` rolls,
-    /// and 0 from 23 rolls on. Any number of 128 bits may stand there.
-    #[tactic(auto, unfolding(race_model::specs::Files::share_of))]
+    /// The numerator over 36 ^ 22 of the share of exactly `k` rolls, and 0 from 23 rolls on. Any
+    /// number of 128 bits may stand there, where it is stored; a share that a record of version 2
+    /// leaves out is the known one: the whole for no roll of the finished position, else 0.
     pub fn spread(&self, k: u8) -> u128
         ensures share { k ≤ 22 → result ≡ share_of self.now k }
         ensures beyond { 22 < k → result ≡ 0 }
@@ -67,8 +97,57 @@ impl<'a> RecordView<'a> {
         if k > 22 {
             return 0;
         }
-        read_wide(self.bytes, 58 + 16 * usize::from(k))
+        tell_share(self.bytes, self.version, self.pips, k)
     }
+}
+
+/// The mean in the bytes of a record.
+#[tactic(auto, unfolding(race_model::specs::Files::mean_of))]
+fn read_mean(bytes: &[u8]) -> u128
+    requires { 58 ≤ length bytes.now }
+    ensures { result ≡ mean_of bytes.now }
+{
+    read_wide(bytes, 0)
+}
+
+/// The rank for a roll in the bytes of a record.
+#[tactic(auto, unfolding(race_model::specs::Files::play_of))]
+fn read_play(bytes: &[u8], roll: u8) -> u16
+    requires long { 58 ≤ length bytes.now }
+    requires roll { roll < 21 }
+    ensures { result ≡ play_of bytes.now roll }
+{
+    read_short(bytes, 16 + 2 * usize::from(roll))
+}
+
+/// A share of exactly so many rolls, as the bytes of the record
+/// of a position of so many pips tell it.
+#[tactic(auto, unfolding(race_model::specs::LocalEquations::whole))]
+fn tell_share(bytes: &[u8], version: u16, pips: u8, k: u8) -> u128
+    requires long { length bytes.now ≡ record_length (version_by version) pips }
+    requires few { k ≤ 22 }
+    ensures { result ≡ told_share (version_by version) pips
+        (λ n. share_of bytes.now (n - first_share (version_by version))) k }
+{
+    if version != COMPACT_VERSION {
+        return read_share(bytes, k);
+    }
+    if k == 0 && pips == 0 {
+        return WHOLE;
+    }
+    if k == 0 || k > most_rolls(pips) {
+        return 0;
+    }
+    read_share(bytes, k - 1)
+}
+
+/// A share that stands at a place among those in the bytes of a record.
+#[tactic(auto, unfolding(race_model::specs::Files::share_of))]
+fn read_share(bytes: &[u8], place: u8) -> u128
+    requires { 58 + 16 * place + 16 ≤ length bytes.now }
+    ensures { result ≡ share_of bytes.now place }
+{
+    read_wide(bytes, 58 + 16 * usize::from(place))
 }
 
 /// The number in the 16 bytes from a place on, high byte first.

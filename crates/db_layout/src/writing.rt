@@ -2,11 +2,13 @@
 ghost use Rattle.std.specs.Prelude.{◌≡◌, ℕ, ◌+◌, ◌*◌, ◌<◌, ◌≤◌, List, ◌++◌, length, OnOk, OnErr};
 ghost use Rattle.arrayvec.specs.ArrayVec.{array_vec_len};
 ghost use Rattle.std.specs.Io.KnownBytes.{Appends};
+ghost use Rattle.race_model.specs.Versions.{Version, version_by};
 ghost use Rattle.race_model.specs.Files.{header as header_of};
-ghost use Rattle.db_layout.specs.Records.{record_of, IsRecordOf};
+ghost use Rattle.db_layout.specs.Records.{record_of, IsHeld, IsRecordOf};
 ghost use Rattle.db_layout.specs.Writes.{AppendsPart};
 
 use crate::header::{Header, MAGIC};
+use crate::places::{first_share, share_count};
 use crate::record::{HEADER_BYTES, RECORD_BYTES};
 use crate::write_fault::WriteFault;
 use arrayvec::ArrayVec;
@@ -16,39 +18,49 @@ use std::io::Write;
 /// Writes a header: 32 bytes. Refused only where a `write` fails
 /// or takes no byte; then a prefix of the header was written.
 pub fn write_header<W: Write>(header: &Header, writer: &mut W) -> Result<(), WriteFault>
-    ensures all { OnOk result
-        (Appends (W.contents writer.old) (W.contents writer.new) (header_of header.now.bound)) }
-    ensures part { OnErr result
-        (AppendsPart (W.contents writer.old) (W.contents writer.new)
-        (header_of header.now.bound)) }
+    ensures all { OnOk result (Appends (W.contents writer.old) (W.contents writer.new)
+        (header_of (version_by header.now.version) header.now.bound)) }
+    ensures part { OnErr result (AppendsPart (W.contents writer.old) (W.contents writer.new)
+        (header_of (version_by header.now.version) header.now.bound)) }
 {
     write_bytes(header_bytes(header).as_slice(), writer)
 }
 
-/// Writes a record: 426 bytes with the mean, the ranks that are played to with the rolls 0 to 20,
-/// and the shares of 0 to 22 rolls. Refused only where a `write` fails or takes no byte; then a
-/// prefix of the record was written.
+/// Writes the record of a position of so many pips: the mean, the ranks that are played to with
+/// the rolls 0 to 20, and the shares of 0 to 22 rolls that such a record stores, which have to tell
+/// the others. Refused only where a `write` fails or takes no byte; then a prefix of the record was
+/// written.
 pub fn write_record<W: Write>(
+    header: &Header,
+    pips: u8,
     mean: Scaled,
     plays: &[u16; 21],
     spread: &Spread,
     writer: &mut W,
 ) -> Result<(), WriteFault>
-    ensures all { OnOk result
-        (Appends (W.contents writer.old) (W.contents writer.new)
-        (record_of mean plays.now spread.now)) }
-    ensures part { OnErr result
-        (AppendsPart (W.contents writer.old) (W.contents writer.new)
-        (record_of mean plays.now spread.now)) }
-    ensures reads { IsRecordOf (record_of mean plays.now spread.now) mean plays.now spread.now }
+    requires low { pips ≤ header.now.bound }
+    requires held { IsHeld (version_by header.now.version) pips spread.now }
+    ensures all { OnOk result (Appends (W.contents writer.old) (W.contents writer.new)
+        (record_of (version_by header.now.version) pips mean plays.now spread.now)) }
+    ensures part { OnErr result (AppendsPart (W.contents writer.old) (W.contents writer.new)
+        (record_of (version_by header.now.version) pips mean plays.now spread.now)) }
+    ensures reads { IsRecordOf (version_by header.now.version) pips
+        (record_of (version_by header.now.version) pips mean plays.now spread.now)
+        mean plays.now spread.now }
 {
     law_record(mean, plays, spread);
-    write_bytes(record_bytes(mean, plays, spread).as_slice(), writer)
+    write_bytes(
+        record_bytes(header, pips, mean, plays, spread).as_slice(),
+        writer,
+    )
 }
 
-/// The bytes of a record, read again, give the mean, the ranks and the shares that were written.
+/// The bytes of a record of either version, read again, give the mean,
+/// the ranks and the shares that were written, where no share is lost.
 pub fn law_record(mean: Scaled, plays: &[u16; 21], spread: &Spread)
-    ensures { IsRecordOf (record_of mean plays.now spread.now) mean plays.now spread.now }
+    ensures { (version : Version) (p : ℕ) → p ≤ 58 → IsHeld version p spread.now →
+        IsRecordOf version p (record_of version p mean plays.now spread.now)
+        mean plays.now spread.now }
 {
     let _mean = mean.numerator();
     let _none = spread.at(0);
@@ -73,7 +85,7 @@ pub fn write_bytes<W: Write>(bytes: &[u8], writer: &mut W) -> Result<(), WriteFa
 
 /// The 32 bytes of a header.
 fn header_bytes(header: &Header) -> ArrayVec<u8, HEADER_BYTES>
-    ensures { result.items ≡ header_of header.now.bound }
+    ensures { result.items ≡ header_of (version_by header.now.version) header.now.bound }
 {
     let mut bytes = ArrayVec::new();
     add_bytes(&mut bytes, &MAGIC);
@@ -85,17 +97,26 @@ fn header_bytes(header: &Header) -> ArrayVec<u8, HEADER_BYTES>
     bytes
 }
 
-/// The 426 bytes of a record.
-fn record_bytes(mean: Scaled, plays: &[u16; 21], spread: &Spread) -> ArrayVec<u8, RECORD_BYTES>
-    ensures { result.items ≡ record_of mean plays.now spread.now }
+/// The bytes of the record of a position of so many pips.
+fn record_bytes(
+    header: &Header,
+    pips: u8,
+    mean: Scaled,
+    plays: &[u16; 21],
+    spread: &Spread,
+) -> ArrayVec<u8, RECORD_BYTES>
+    requires low { pips ≤ header.now.bound }
+    ensures { result.items
+        ≡ record_of (version_by header.now.version) pips mean plays.now spread.now }
 {
     let mut bytes = ArrayVec::new();
     add_bytes(&mut bytes, &mean.numerator().to_be_bytes());
     for play in plays {
         add_bytes(&mut bytes, &play.to_be_bytes());
     }
-    for k in 0..23 {
-        add_bytes(&mut bytes, &spread.at(k).to_be_bytes());
+    let first = first_share(header.version);
+    for place in 0..share_count(header.version, pips) {
+        add_bytes(&mut bytes, &spread.at(first + place).to_be_bytes());
     }
     bytes
 }
@@ -169,11 +190,12 @@ mod tests {
 
     #[test]
     fn records_to_writers_that_stop(rt: HostRuntime) -> Result<(), Fail> {
+        let header = Header::new(1, 44).ok_or("no header")?;
         let mean = Scaled::new(12345678901234567890).ok_or("over 22 rolls")?;
         let plays = [258; 21];
         let spread = Spread::finished();
         let mut whole = Vec::new(rt.alloc());
-        assert!(rt; write_record(mean, &plays, &spread, &mut whole).is_ok());
+        assert!(rt; write_record(&header, 0, mean, &plays, &spread, &mut whole).is_ok());
         assert_eq!(rt; whole.len(), 426);
         for left in 0..427 {
             for fails in [true, false] {
@@ -183,7 +205,7 @@ mod tests {
                     fails,
                     written,
                 };
-                let told = write_record(mean, &plays, &spread, &mut tired);
+                let told = write_record(&header, 0, mean, &plays, &spread, &mut tired);
                 assert_eq!(rt; told.is_ok(), left == 426, "after {left} bytes");
                 assert_eq!(rt; tired.written.len(), left);
                 assert!(rt; whole.as_slice().starts_with(tired.written.as_slice()));
@@ -205,13 +227,16 @@ mod tests {
 
     #[test]
     fn a_record_read_again(rt: HostRuntime) -> Result<(), Fail> {
+        let header = Header::new(1, 44).ok_or("no header")?;
         let mean = Scaled::new(12345678901234567890).ok_or("over 22 rolls")?;
         let mut plays = [0; 21];
         plays[1] = 258;
         plays[20] = 54263;
         let mut bytes = Vec::new(rt.alloc());
-        assert!(rt; write_record(mean, &plays, &Spread::finished(), &mut bytes).is_ok());
-        let seen = RecordView::of(bytes.as_slice()).ok_or("no record")?;
+        assert!(rt;
+            write_record(&header, 0, mean, &plays, &Spread::finished(), &mut bytes).is_ok()
+        );
+        let seen = RecordView::of(bytes.as_slice(), &header, 0).ok_or("no record")?;
         assert_eq!(rt; seen.mean(), 12345678901234567890);
         for (index, play) in [(0, 0), (1, 258), (19, 0), (20, 54263)] {
             let roll = Roll::from_index(index).ok_or("no roll")?;
@@ -219,6 +244,25 @@ mod tests {
         }
         assert_eq!(rt; seen.spread(0), WHOLE);
         assert_eq!(rt; seen.spread(22), 0);
+        Ok(())
+    }
+
+    #[test]
+    fn compact_records(rt: HostRuntime) -> Result<(), Fail> {
+        let header = Header::new(2, 58).ok_or("no header")?;
+        let mut bytes = Vec::new(rt.alloc());
+        assert!(rt; write_header(&header, &mut bytes).is_ok());
+        let expected =
+            *b"EPCTABLE\x00\x02\x00\x3a\x00\x00\xb3\xee\x00\x00\x00\x00\0\0\0\0\0\0\0\0\0\0\0\0";
+        assert_eq!(rt; bytes.as_slice(), expected.as_slice());
+
+        let mean = Scaled::new(0).ok_or("over 22 rolls")?;
+        let whole = Spread::finished();
+        let mut bytes = Vec::new(rt.alloc());
+        assert!(rt; write_record(&header, 0, mean, &[0; 21], &whole, &mut bytes).is_ok());
+        assert_eq!(rt; bytes.as_slice(), [0; 58].as_slice());
+        let seen = RecordView::of(bytes.as_slice(), &header, 0).ok_or("no record")?;
+        assert_eq!(rt; seen.spread(0), WHOLE);
         Ok(())
     }
 }

@@ -1,15 +1,15 @@
 -- The first 32 bytes of a file, or all where there are fewer.
-use Rattle.std.proofs.Common.{◌≡◌, ⊎_elim, ℕ, zero, suc, ◌+◌, ◌-◌, ◌*◌, ◌<◌, min, List, ◌++◌, take, length, length-take, length-append, replicate, get_or, subst, Result, Ok, Err, IfOk, OnOk, sym, ap, ◌∙◌, arith}
+use Rattle.std.proofs.Common.{◌≡◌, ⊎_elim, ℕ, zero, suc, ◌+◌, ◌-◌, ◌*◌, ◌<◌, min, List, ◌++◌, take, length, length-take, length-append, replicate, get_or, subst, Result, Ok, Err, IfOk, OnOk, sym, ap, ap₂, ◌∙◌, arith}
 use Rattle.std.proofs.lemmas.Bool.{cases_lt}
 use Rattle.std.proofs.lemmas.List.{take_all, length-replicate}
 use Rattle.std.proofs.Math.Seq.{take-append_seam}
 use Rattle.race_model.specs.Ranks.{count_to}
-use Rattle.race_model.specs.Files.{IsFileTo, bound_of, header}
+use Rattle.race_model.specs.Versions.{greatest_bound}
+use Rattle.race_model.specs.Files.{IsFile, version_of, bound_of, record_place, header}
 use Rattle.race_model.specs.Headers.{IsHeader, long_enough}
 use Rattle.db_layout.proofs.Bytes.{small_append}
-use Rattle.race_model.proofs.FirstFaults.HeaderFacts.{file_of_header, bound_of-front}
+use Rattle.race_model.proofs.FirstFaults.HeaderFacts.{file_of_header, bound_of-front, version_of-front}
 use Rattle.db_layout.specs.declared.header.Header.{Header}
-use Rattle.db_layout.specs.declared.header.HeaderFault.{HeaderFault}
 
 -- taking 32 bytes, or as many as there are
 pub take-within : (f : List ℕ) (n k : ℕ) → k ≡ min (length f) n → take k f ≡ take n f
@@ -18,27 +18,16 @@ take-within f n k is = ⊎_elim
     (λ more. let same : k ≡ n = omega arith in ap (λ m. take m f) same)
     (cases_lt (length f) n)
 
--- what an answer about the first 32 bytes says of the file
-pub front-file : (f : List ℕ) (r : Result Header HeaderFault) → ((i : ℕ) → get_or f i 0 < 256)
-    → IfOk r (λ header. IsHeader 44 (take 32 f) (length f) × (header.bound ≡ bound_of (take 32 f)))
-    → OnOk r (IsFileTo 44 f)
-front-file f (Ok header) small is = file_of_header 44 f small is.0
-front-file f (Err fault) small is = is
-
-pub front-bound : (f : List ℕ) (r : Result Header HeaderFault)
-    → IfOk r (λ header. IsHeader 44 (take 32 f) (length f) × (header.bound ≡ bound_of (take 32 f)))
-    → IfOk r (λ header. header.bound ≡ bound_of f)
-front-bound f (Ok header) is = is.1 ∙ bound_of-front f
-front-bound f (Err fault) is = is
-
 -- a file whose first bytes are under 256 and state its header: what follows them is not looked at
 pub front-is_file : (f : List ℕ) → ((i : ℕ) → get_or (take 32 f) i 0 < 256) →
-    IsHeader 44 (take 32 f) (length f)
-    → IsFileTo 44 f
+    IsHeader (take 32 f) (length f)
+    → IsFile f
 front-is_file f small is = record {
-  bounded = omega (arith, same-bound, padded-file.bounded);
-  headed = sym same-front ∙ (padded-file.headed ∙ ap header same-bound);
-  whole = sym same-length ∙ (padded-file.whole ∙ ap (λ b. 32 + 426 * count_to b) same-bound);
+  bounded = omega (arith, same-bound, padded-file.bounded, ap greatest_bound same-version);
+  headed = sym same-front ∙ (padded-file.headed ∙ ap₂ header same-version same-bound);
+  whole =
+      sym same-length
+      ∙ (padded-file.whole ∙ ap₂ (λ v b. record_place v (count_to b)) same-version same-bound);
 } where
   long : length (take 32 f) ≡ 32
   long = let le = (is long_enough).1 in omega (arith, length-take 32 f)
@@ -65,15 +54,19 @@ front-is_file f small is = record {
   zeros (suc m) zero = omega arith
   zeros (suc m) (suc i) = zeros m i
 
-  padded-header : IsHeader 44 (take 32 padded) (length padded)
+  padded-header : IsHeader (take 32 padded) (length padded)
   padded-header =
-      subst (λ (front : List ℕ). IsHeader 44 front (length padded)) (sym same-front)
-      (subst (λ (n : ℕ). IsHeader 44 (take 32 f) n) (sym same-length) is)
+      subst (λ (front : List ℕ). IsHeader front (length padded)) (sym same-front)
+      (subst (λ (n : ℕ). IsHeader (take 32 f) n) (sym same-length) is)
 
-  padded-file : IsFileTo 44 padded
+  padded-file : IsFile padded
   padded-file =
-      file_of_header 44 padded
+      file_of_header padded
       (small_append (take 32 f) rest small (zeros (length f - 32))) padded-header
 
   same-bound : bound_of padded ≡ bound_of f
   same-bound = sym (bound_of-front padded) ∙ (ap bound_of same-front ∙ bound_of-front f)
+
+  same-version : version_of padded ≡ version_of f
+  same-version =
+      sym (version_of-front padded) ∙ (ap version_of same-front ∙ version_of-front f)

@@ -1,19 +1,25 @@
 -- What a table answers.
 use Rattle.std.specs.Prelude.{◌≡◌, ℕ, ◌<◌, List, length, take, Option, Some, None, Result, Ok, Err}
 use Rattle.std.specs.Option.{IsSomeAnd}
-use Rattle.race_model.specs.Files.{IsFileTo, bound_of}
+use Rattle.race_model.specs.Versions.{version_by}
+use Rattle.race_model.specs.Files.{version_of, bound_of, IsFile}
 use Rattle.race_model.specs.Headers.{IsFirstHeaderFault}
 use Rattle.db_layout.specs.HeaderFaults.{test_of}
 use Rattle.db_layout.specs.declared.header.Header.{Header}
 use Rattle.db_reader.specs.declared.table.TableFault.{TableFault}
 use Rattle.db_reader.specs.declared.table.TableFault.TheVariants.{Bad, Read}
 
--- the answer about the header of these bytes: with a header they are a database of at most 44 pips
--- by their length and places, and the bound is theirs; else the first fault of the header
+-- a header whose version and bound are those of these bytes, which are a file
+pub record HasHeader (f : List ℕ) (header : Header) : Type 0 where
+  pub file : IsFile f
+  pub bound_is : header.bound ≡ bound_of f
+  pub version_is : version_by header.version ≡ version_of f
+
+-- the answer about the header of these bytes: the header that they have as a
+-- file by their length and places; else the first fault of the header
 abbrev pub IsHeaderOf : List ℕ → Result Header TableFault → Type 0
-IsHeaderOf file (Ok header) = IsFileTo 44 file × (header.bound ≡ bound_of file)
-IsHeaderOf file (Err (Bad fault)) = IsFirstHeaderFault 44 (take 32 file) (length file)
-    (test_of fault)
+IsHeaderOf file (Ok header) = HasHeader file header
+IsHeaderOf file (Err (Bad fault)) = IsFirstHeaderFault (take 32 file) (length file) (test_of fault)
 IsHeaderOf file (Err Read) = Unit {0}
 
 -- the header that a table has accepted by this answer

@@ -1,14 +1,14 @@
-ghost use Rattle.std.specs.Prelude.{◌≡◌, ◌≢◌, ℕ, ◌+◌, ◌*◌, ◌≤◌, ◌↔◌, List, Some, None, Contains, length, IsOk, IfOk, IfErr};
+ghost use Rattle.std.specs.Prelude.{◌≡◌, ◌≢◌, ℕ, ◌<◌, ◌↔◌, List, Some, None, Contains, IsOk, IfOk, IfErr};
 ghost use Rattle.race_model.specs.Files.{record_at};
 ghost use Rattle.db_layout.specs.declared.header.Header.{Header as HeaderValue};
-ghost use Rattle.db_reader.specs.Telling.{WhereTold};
-ghost use Rattle.db_reader.specs.Reads.{IsHeaderOf, HeaderCounted};
+ghost use Rattle.db_reader.specs.Telling.{WhereTold, Counted};
+ghost use Rattle.db_reader.specs.Reads.{HasHeader, IsHeaderOf, HeaderCounted};
 
 use crate::front::header_of;
 use crate::record::Record;
-use crate::source::Source;
+use crate::source::{Source, SourceFault};
 use crate::table::{ReadFault, Table, TableFault};
-use db_layout::{HEADER_BYTES, Header, RECORD_BYTES, RecordView};
+use db_layout::{HEADER_BYTES, Header, Places, RecordView};
 use lru::{DefaultHasher, LruCache};
 use std::alloc::{Allocator, Global};
 use std::num::NonZeroUsize;
@@ -33,10 +33,10 @@ pub enum PagedFault {
 #[derive(Drop)]
 pub struct Paged<S: Source, A: Allocator = Global> {
     source: S,
-    header: Option<Header>,
+    places: Option<Places>,
     records: LruCache<u16, Record, DefaultHasher, A>,
     ghost fits: { (file : List ℕ) (accepted : HeaderValue) → S.tells source ≡ Some file →
-        header ≡ Some accepted → 32 + 426 * accepted.count ≤ length file },
+        places ≡ Some accepted → HasHeader file accepted },
     ghost kept: { (file : List ℕ) (rank : ℕ) (bytes : List ℕ) → S.tells source ≡ Some file →
         Contains records.entries (rank, bytes) → bytes ≡ record_at file rank },
 }
@@ -62,7 +62,7 @@ impl<S: Source, A: Allocator + Clone> Paged<S, A> {
         match LruCache::new(alloc, count) {
             Ok(records) => Ok(Paged {
                 source,
-                header: None,
+                places: None,
                 records,
             }),
             Err(_) => Err((source, PagedFault::Memory)),
@@ -83,15 +83,15 @@ impl<S: Source, A: Allocator + Clone> Table for Paged<S, A> {
 
     ghost failures = { λ table. S.failures table.source };
 
-    ghost accepted = { λ table. table.header };
+    ghost accepted = { λ table. table.places };
 
     ghost ready = { λ table bytes rank.
         WhereTold (S.tells table.source) (λ file. bytes ≡ record_at file rank) };
 
     fn header(&mut self) -> Result<Header, TableFault> {
-        self.header = None;
+        self.places = None;
         let header = read_header(&mut self.source)?;
-        self.header = Some(header);
+        self.places = Some(Places::of(header));
         Ok(header)
     }
 
@@ -100,11 +100,12 @@ impl<S: Source, A: Allocator + Clone> Table for Paged<S, A> {
             room.copy_from(kept);
             return Ok(());
         }
-        let mut read = Record::new();
-        let place = HEADER_BYTES + RECORD_BYTES * usize::from(rank);
-        if read.read_from(&mut self.source, place as u64).is_err() {
+        let Some(places) = &self.places else {
+            unreachable!();
+        };
+        let Ok(read) = read_record(&mut self.source, places, rank) else {
             return Err(ReadFault);
-        }
+        };
         room.copy_from(&read);
         let _ = self.records.put(rank, read);
         Ok(())
@@ -131,4 +132,19 @@ fn read_header<S: Source>(source: &mut S) -> Result<Header, TableFault>
         return Err(TableFault::Read);
     }
     header_of(known, length)
+}
+
+/// The record of a rank, in one read of the bytes of a source that have this header.
+fn read_record<S: Source>(source: &mut S, places: &Places, rank: u16) -> Result<Record, SourceFault>
+    requires rank { rank < places.now.count }
+    requires file { WhereTold (S.tells source.old) (λ file. HasHeader file places.now) }
+    ensures stays { S.tells source.new ≡ S.tells source.old }
+    ensures told { WhereTold (S.tells source.old)
+        (λ file. IfOk result (λ read. read ≡ record_at file rank)) }
+    ensures cause { WhereTold (S.tells source.old)
+        (λ _. Counted (S.failures source.old) (S.failures source.new) result) }
+{
+    let mut read = Record::new();
+    read.read_from(source, places.header().version, places.find(rank))?;
+    Ok(read)
 }

@@ -1,9 +1,10 @@
 ghost use Rattle.std.specs.Prelude.{◌≡◌, ◌+◌, ◌≤◌, length, replicate, OnOk};
-ghost use Rattle.race_model.specs.Files.{bytes_at};
+ghost use Rattle.race_model.specs.Versions.{version_by, record_length};
+ghost use Rattle.race_model.specs.Files.{bytes_at, told_record};
 ghost use Rattle.db_reader.specs.Telling.{WhereTold, Counted};
 
 use crate::source::{Source, SourceFault};
-use db_layout::{RECORD_BYTES, RecordView};
+use db_layout::{Place, RECORD_BYTES, RecordView, VERSION, record_length};
 use std::marker::Model;
 
 /// Room for the bytes of one record, which a table that copies records loads into. A table that
@@ -11,17 +12,22 @@ use std::marker::Model;
 #[derive(Drop)]
 pub struct Record {
     bytes: [u8; RECORD_BYTES],
+    version: u16,
+    pips: u8,
 }
 
-// Clauses see the bytes.
+// Clauses see the full record that the bytes tell: those in front, as many as the record has.
 impl Model for Record {
-    ghost use Rattle.std.specs.Prelude.{◌≡◌, ℕ, List, length};
+    ghost use Rattle.std.specs.Prelude.{◌≡◌, ℕ, ◌≤◌, List, length, take};
+    ghost use Rattle.race_model.specs.Versions.{version_by, record_length};
+    ghost use Rattle.race_model.specs.Files.{told_record};
 
     ghost Value = { List ℕ };
 
-    ghost view = { λ room. room.bytes };
+    ghost view = { λ room. told_record (version_by room.version) room.pips
+        (take (record_length (version_by room.version) room.pips) room.bytes) };
 
-    ghost invariant = { λ room. length room.bytes ≡ 426 };
+    ghost invariant = { λ room. (length room.bytes ≡ 426) × (room.pips ≤ 58) };
 }
 
 impl Record {
@@ -31,24 +37,33 @@ impl Record {
     {
         Record {
             bytes: [0; RECORD_BYTES],
+            version: VERSION,
+            pips: 0,
         }
     }
 
-    /// Fills the room with the bytes of a source from an offset on, in one read. At a fault it
-    /// may hold any bytes.
+    /// Fills the room with the record that stands at a place in the bytes of a source, a file of
+    /// a version, in one read. At a fault it may hold any bytes.
     pub(crate) fn read_from<S: Source>(
         &mut self,
         source: &mut S,
-        offset: u64,
+        version: u16,
+        place: Place,
     ) -> Result<(), SourceFault>
-        requires { WhereTold (S.tells source.old) (λ file. offset + 426 ≤ length file) }
+        requires length { place.length ≡ record_length (version_by version) place.pips }
+        requires low { place.pips ≤ 58 }
+        requires inside { WhereTold (S.tells source.old)
+            (λ file. place.offset + place.length ≤ length file) }
         ensures stays { S.tells source.new ≡ S.tells source.old }
         ensures told { WhereTold (S.tells source.old)
-            (λ file. OnOk result (self.new ≡ bytes_at file offset 426)) }
+            (λ file. OnOk result (self.new ≡ told_record (version_by version) place.pips
+            (bytes_at file place.offset place.length))) }
         ensures cause { WhereTold (S.tells source.old)
             (λ _. Counted (S.failures source.old) (S.failures source.new) result) }
     {
-        source.read_at(offset, &mut self.bytes)
+        self.version = version;
+        self.pips = place.pips;
+        source.read_at(place.offset, &mut self.bytes[..place.length as usize])
     }
 
     /// Takes over the bytes of another room.
@@ -56,12 +71,15 @@ impl Record {
         ensures { self.new ≡ other.now }
     {
         self.bytes = other.bytes;
+        self.version = other.version;
+        self.pips = other.pips;
     }
 
     /// The record in this room.
     pub(crate) fn view(&self) -> RecordView<'_>
         ensures { result ≡ self.now }
     {
-        RecordView::of(&self.bytes).unwrap()
+        let length = record_length(self.version, self.pips) as usize;
+        RecordView::of_version(&self.bytes[..length], self.version, self.pips).unwrap()
     }
 }

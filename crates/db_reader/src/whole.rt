@@ -1,23 +1,23 @@
 ghost use Rattle.std.specs.Prelude.{◌≡◌, ℕ, ◌+◌, ◌*◌, ◌<◌, ◌≤◌, Some, None, List, length, take, IfOk, IfErr, OnOk};
 ghost use Rattle.db_layout.specs.declared.header.Header.{Header as HeaderValue};
-ghost use Rattle.race_model.specs.Files.{IsFileTo, bound_of};
+ghost use Rattle.race_model.specs.Files.{IsFile, bound_of};
 ghost use Rattle.race_model.specs.Headers.{IsFirstHeaderFault};
 ghost use Rattle.db_layout.specs.HeaderFaults.{test_of};
-ghost use Rattle.db_reader.specs.Reads.{HasRecord};
+ghost use Rattle.db_reader.specs.Reads.{HasHeader, HasRecord};
 
 use crate::front::header_of;
 use crate::record::Record;
 use crate::table::{ReadFault, Table, TableFault};
-use db_layout::{HEADER_BYTES, Header, RECORD_BYTES, RecordView};
+use db_layout::{HEADER_BYTES, Header, Places, RecordView};
 
 /// The table over the bytes of a whole database, in memory that it borrows. It tells these bytes,
 /// lends each record from them and copies none, and never fails.
 #[derive(Drop)]
 pub struct Whole<'a> {
     bytes: &'a [u8],
-    header: Option<Header>,
-    ghost fits: { (accepted : HeaderValue) → header ≡ Some accepted →
-        32 + 426 * accepted.count ≤ length bytes.now },
+    places: Option<Places>,
+    ghost fits: { (accepted : HeaderValue) → places ≡ Some accepted →
+        HasHeader bytes.now accepted },
 }
 
 impl<'a> Whole<'a> {
@@ -28,7 +28,7 @@ impl<'a> Whole<'a> {
     {
         Whole {
             bytes,
-            header: None,
+            places: None,
         }
     }
 }
@@ -38,16 +38,16 @@ impl<'a> Table for Whole<'a> {
 
     ghost failures = { λ table. 0 };
 
-    ghost accepted = { λ table. table.header };
+    ghost accepted = { λ table. table.places };
 
-    ghost ready = { λ table bytes rank. HasRecord table.header rank };
+    ghost ready = { λ table bytes rank. HasRecord table.places rank };
 
     fn header(&mut self) -> Result<Header, TableFault> {
-        self.header = None;
+        self.places = None;
         let front = &self.bytes[..self.bytes.len().min(HEADER_BYTES)];
         match header_of(front, self.bytes.len() as u64) {
             Ok(header) => {
-                self.header = Some(header);
+                self.places = Some(Places::of(header));
                 Ok(header)
             }
             Err(fault) => Err(fault),
@@ -59,7 +59,12 @@ impl<'a> Table for Whole<'a> {
     }
 
     fn lend<'b>(&'b self, rank: u16, _room: &'b Record) -> RecordView<'b> {
-        let place = HEADER_BYTES + RECORD_BYTES * usize::from(rank);
-        RecordView::of(&self.bytes[place..place + RECORD_BYTES]).unwrap()
+        let Some(places) = &self.places else {
+            unreachable!();
+        };
+        let place = places.find(rank);
+        let first = place.offset as usize;
+        let bytes = &self.bytes[first..first + place.length as usize];
+        RecordView::of_version(bytes, places.header().version, place.pips).unwrap()
     }
 }

@@ -3,7 +3,7 @@
 //! is read exactly where it is one.
 #![tactic(auto)]
 
-pub use position::{MAX_BOUND, Position, TooMany};
+pub use position::{MAX_BOUND, OLD_BOUND, Position, TooMany};
 pub use text::{PositionFault, parse_position, write_position};
 
 pub mod position;

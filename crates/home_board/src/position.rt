@@ -11,7 +11,10 @@ use std::marker::Model;
 use thiserror::Error;
 
 /// The greatest pip bound of a database, in pips (this project's profile).
-pub const MAX_BOUND: u8 = 44;
+pub const MAX_BOUND: u8 = 58;
+
+/// The greatest pip bound of a database of version 1, in pips (this project's profile).
+pub const OLD_BOUND: u8 = 44;
 
 /// The refusal of counts that add up to more than 15, the number of a player's checkers.
 #[derive(Clone, Copy, Debug, PartialEq, Eq, Error)]

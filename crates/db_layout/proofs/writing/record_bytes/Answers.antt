@@ -1,9 +1,13 @@
-use Rattle.std.proofs.Common.{◌≡◌, ◌++◌, length, get_or, take, sym, ap, ◌∙◌, arith, append_assoc, sum}
-use Rattle.std.proofs.lemmas.List.{append-nil, take_all}
+use Rattle.std.proofs.Common.{◌≡◌, ◌+◌, ◌<◌, ◌≤◌, ◌++◌, length, get_or, take, drop, sym, ap, ◌∙◌, arith, append_assoc, le_trans}
+use Rattle.std.proofs.lemmas.List.{append-nil, length-take, take_all}
 use Rattle.std.specs.Prelude.{flat_map}
-use Rattle.race_model.specs.LocalEquations.{whole}
-use Rattle.db_layout.specs.Records.{short_bytes, wide_bytes}
-use Rattle.db_layout.proofs.Bytes.{flat_map-take_more, record_is, short_is, wide_is, length-short_bytes, length-wide_bytes}
+use Rattle.arrayvec.specs.ArrayVec.{array_vec_len}
+use Rattle.std.specs.Int.{w128, to_be_bytes}
+use Rattle.race_model.specs.Versions.{version_by, first_share, share_count}
+use Rattle.db_layout.specs.Records.{short_bytes, wide_bytes, stored_shares}
+use Rattle.db_layout.proofs.Bytes.{flat_map-take_more, record_is, short_is, wide_is, length-short_bytes, length-wide_bytes, length-stored, get_or-stored, stored_room}
+use Rattle.race_model.proofs.Strategies.Horizons.{most_rolls-most}
+use Rattle.db_layout.proofs.Bounds.{bound-most}
 use Rattle.db_layout.proofs.writing.record_bytes.Goals as goal
 
 pub loop-play-init : goal.loop-play-init
@@ -43,39 +47,77 @@ loop-play-preserved c =
           (omega (arith, c.told-plays))))));
     }
 
-pub loop-k-preserved : goal.loop-k-preserved
-loop-k-preserved c =
-    let share = get_or c.args.spread.now c.loop-k.k 0 in
+pub loop-place-preserved : goal.loop-place-preserved
+loop-place-preserved c =
+    let version = version_by c.args.header.now.version in
+    let shares = c.args.spread.now in
+    let stored = stored_shares version c.args.pips shares in
+    let room =
+    stored_room version c.args.pips
+    (most_rolls-most c.args.pips (le_trans c.requires.low (bound-most c.args.header.now))) in
+    let inside : c.loop-place.place < share_count version c.args.pips =
+    omega (arith, c.loop-place-test.true, c.share_count-place-end.ensures) in
+    let fits : first_share version + share_count version c.args.pips ≤ length shares =
+    omega (arith, room, c.at.ensures.len) in
     let wide =
-    wide_is share c.to_be_bytes-in-loop-k.result
-    (rw (← c.at.ensures.value) c.to_be_bytes-in-loop-k.ensures) in
+    wide_is (get_or stored c.loop-place.place 0) c.to_be_bytes-in-loop-place.result
+    (c.to_be_bytes-in-loop-place.ensures
+    ∙ ap (to_be_bytes w128) (c.at.ensures.value
+    ∙ ap (λ n. get_or shares (n + c.loop-place.place) 0) c.first_share-first.ensures
+    ∙ sym (get_or-stored (first_share version) (share_count version c.args.pips) shares fits
+    c.loop-place.place inside))) in
     let front = wide_bytes c.args.mean ++ flat_map short_bytes c.args.plays.now in
     record {
       len =
           omega (
             arith,
-            c.add_bytes-in-loop-k.ensures.len,
-            c.loop-k.invariant.len,
+            c.add_bytes-in-loop-place.ensures.len,
+            c.loop-place.invariant.len,
             ap length wide,
-            length-wide_bytes share,
+            length-wide_bytes (get_or stored c.loop-place.place 0),
           );
       items =
-          c.add_bytes-in-loop-k.ensures.items
-          ∙ (rw (c.loop-k.invariant.items, wide)
-          (append_assoc front (flat_map wide_bytes (take c.loop-k.k c.args.spread.now))
-          (wide_bytes share)
+          c.add_bytes-in-loop-place.ensures.items
+          ∙ (rw (c.loop-place.invariant.items, wide)
+          (append_assoc front (flat_map wide_bytes (take c.loop-place.place stored))
+          (wide_bytes (get_or stored c.loop-place.place 0))
           ∙ ap (λ bs. front ++ bs)
-          (sym (flat_map-take_more wide_bytes c.args.spread.now c.loop-k.k
-          (omega (arith, c.at.ensures.len))))));
-      told = λ _. (c.at.ensures.len, c.at.ensures.total);
+          (sym (flat_map-take_more wide_bytes stored c.loop-place.place
+          (omega (
+            arith,
+            inside,
+            length-stored (first_share version) (share_count version c.args.pips) shares fits,
+          ))))));
     }
 
--- what was told of the spread
-told : (c : goal.After-loop-k) → (length c.args.spread.now ≡ 23) × (sum c.args.spread.now ≡ whole)
-told c = c.loop-k.invariant.told (omega arith)
+pub add_bytes-requires-in-loop-place : goal.add_bytes-requires-in-loop-place
+add_bytes-requires-in-loop-place c =
+    let room =
+    stored_room (version_by c.args.header.now.version) c.args.pips
+    (most_rolls-most c.args.pips (le_trans c.requires.low (bound-most c.args.header.now))) in
+    let fits : array_vec_len c.loop-place.bytes + length c.to_be_bytes-in-loop-place.result ≤ 426 =
+    omega (
+      arith,
+      room,
+      c.loop-place.invariant.len,
+      c.loop-place-test.true,
+      c.share_count-place-end.ensures,
+      ap length c.to_be_bytes-in-loop-place.ensures,
+    ) in
+    (omega arith, fits)
 
 pub returns : goal.returns
 returns c =
-    let all : take c.loop-k.k c.args.spread.now ≡ c.args.spread.now =
-    take_all c.loop-k.k c.args.spread.now (omega (arith, (told c).0)) in
-    c.loop-k.invariant.items ∙ (rw all (record_is c.args.mean c.args.plays.now c.args.spread.now))
+    let version = version_by c.args.header.now.version in
+    let stored = stored_shares version c.args.pips c.args.spread.now in
+    let all : take c.loop-place.place stored ≡ stored =
+    take_all c.loop-place.place stored (omega (
+      arith,
+      c.loop-place-test.false,
+      c.share_count-place-end.ensures,
+      length-take (share_count version c.args.pips)
+          (drop (first_share version) c.args.spread.now),
+    )) in
+    c.loop-place.invariant.items
+    ∙ (rw all
+    (record_is version c.args.pips c.args.mean c.args.plays.now c.args.spread.now))

@@ -1,8 +1,8 @@
 use Rattle.std.proofs.Common.{◌≡◌, ◌+◌, ◌*◌, ◌<◌, ◌++◌, take, length, sum}
 use Rattle.std.specs.Prelude.{flat_map}
 use Rattle.arrayvec.specs.ArrayVec.{array_vec_len}
-use Rattle.race_model.specs.LocalEquations.{whole}
-use Rattle.db_layout.specs.Records.{short_bytes, wide_bytes}
+use Rattle.race_model.specs.Versions.{version_by}
+use Rattle.db_layout.specs.Records.{short_bytes, wide_bytes, stored_shares}
 use Rattle.db_layout.proofs.writing.record_bytes.Given as goal
 
 -- the mean and the plays so far
@@ -13,11 +13,11 @@ invariant-loop-play l = record {
 }
 
 -- the mean, the plays and the shares so far
-abbrev pub invariant-loop-k : goal.invariant-loop-k
-invariant-loop-k l = record {
-  len : array_vec_len l.bytes ≡ 58 + 16 * l.k;
+abbrev pub invariant-loop-place : goal.invariant-loop-place
+invariant-loop-place l = record {
+  len : array_vec_len l.bytes ≡ 58 + 16 * l.place;
   items : l.bytes.items
       ≡ (wide_bytes l.fn.mean ++ flat_map short_bytes l.plays)
-      ++ flat_map wide_bytes (take l.k l.spread);
-  told : 0 < l.k → (length l.spread ≡ 23) × (sum l.spread ≡ whole);
+      ++ flat_map wide_bytes
+      (take l.place (stored_shares (version_by l.fn.header.version) l.fn.pips l.spread));
 }

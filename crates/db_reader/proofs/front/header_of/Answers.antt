@@ -1,8 +1,8 @@
 use Rattle.std.specs.Prelude.{slice_index}
 use Rattle.std.proofs.Common.{◌<◌, ℕ, length, take, ap, subst, ◌∙◌, arith}
 use Rattle.race_model.specs.Headers.{IsHeader, IsFirstHeaderFault}
-use Rattle.race_model.specs.Files.{bound_of}
-use Rattle.race_model.proofs.FirstFaults.HeaderFacts.{bound_of-front}
+use Rattle.race_model.specs.Files.{version_of, bound_of}
+use Rattle.race_model.proofs.FirstFaults.HeaderFacts.{bound_of-front, version_of-front}
 use Rattle.db_layout.specs.HeaderFaults.{test_of}
 use Rattle.db_reader.proofs.Fronts.{front-is_file}
 use Rattle.db_reader.proofs.front.header_of.Goals as goal
@@ -10,17 +10,20 @@ use Rattle.db_reader.proofs.front.header_of.Goals as goal
 pub returns-in-Ok-clause-told : goal.returns-in-Ok-clause-told
 returns-in-Ok-clause-told c = λ file front long.
     let is = c.in-Ok.ensures.header in
-    let h : IsHeader 44 (take 32 file) (length file) =
-    subst (λ n. IsHeader 44 (take 32 file) n) long
-    (subst (λ f. IsHeader 44 f c.args.size) front is.0) in (
-      front-is_file file
+    let h : IsHeader (take 32 file) (length file) =
+    subst (λ n. IsHeader (take 32 file) n) long
+    (subst (λ f. IsHeader f c.args.size) front is.0) in
+    record {
+      file =
+          front-is_file file
           (subst (λ f. (i : ℕ) → slice_index f i < 256) front
-          (λ i. let fits = c.type_inv.front i in omega arith)) h,
-      is.1 ∙ (ap bound_of front ∙ bound_of-front file),
-    )
+          (λ i. let fits = c.type_inv.front i in omega arith)) h;
+      bound_is = is.1 ∙ (ap bound_of front ∙ bound_of-front file);
+      version_is = is.2 ∙ (ap version_of front ∙ version_of-front file);
+    }
 
 pub returns-in-Err-clause-told : goal.returns-in-Err-clause-told
 returns-in-Err-clause-told c = λ file front long.
     let is = c.in-Err.ensures.fault in
-    subst (λ n. IsFirstHeaderFault 44 (take 32 file) n (test_of c.in-Err.fault)) long
-    (subst (λ f. IsFirstHeaderFault 44 f c.args.size (test_of c.in-Err.fault)) front is)
+    subst (λ n. IsFirstHeaderFault (take 32 file) n (test_of c.in-Err.fault)) long
+    (subst (λ f. IsFirstHeaderFault f c.args.size (test_of c.in-Err.fault)) front is)

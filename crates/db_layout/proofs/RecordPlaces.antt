@@ -1,0 +1,92 @@
+-- Where the records of one pip count stand: behind those of fewer pips, all of one length.
+use Rattle.std.proofs.Common.{◌≡◌, ℕ, ◌+◌, ◌-◌, ◌*◌, ◌<◌, ◌≤◌, List, length, slice_index, ap, subst, sym, ◌∙◌, arith, add-one}
+use Rattle.race_model.specs.Positions.{pips}
+use Rattle.race_model.specs.Ranks.{rank, at_rank, first_of, count_to}
+use Rattle.race_model.specs.Versions.{Version, record_length}
+use Rattle.race_model.specs.Files.{record_place}
+use Rattle.race_model.proofs.Ranks.RankOrder.{at_rank_position, first_of-zero, first_of-suc, first_of-rises}
+use Rattle.race_model.proofs.Ranks.PositionTotals.{rank-at_rank, count_to-most}
+use Rattle.race_model.proofs.RightFiles.Places.{record_place-first, record_place-level, record_place-most}
+use Rattle.ranking.proofs.Counting.{pips-are}
+use Rattle.ranking.proofs.Cells.{IsFilled}
+
+-- one position more than those of fewer pips begins the next pip count
+pub first_of-next : (p : ℕ) → first_of (p + 1) ≡ count_to p
+first_of-next p = ap first_of (add-one p) ∙ first_of-suc p
+
+-- the position of a rank between the counts has that many pips
+pub pips_between : (p k : ℕ) → first_of p ≤ k → k < first_of (p + 1) → pips (at_rank k) ≡ p
+pips_between p k from under =
+    pips-are (at_rank k) p (at_rank_position k) (omega (arith, from, is_rank))
+    (omega (arith, under, is_rank))
+  where
+    is_rank : rank (at_rank k) ≡ k
+    is_rank = rank-at_rank k (omega (arith, under, first_of-next p, count_to-most p))
+
+-- where the record of one of these positions stands
+pub place_between : (version : Version) (p n : ℕ) → first_of p + n ≤ first_of (p + 1) →
+    record_place version (first_of p + n)
+    ≡ record_place version (first_of p) + n * record_length version p
+place_between version p n room =
+    record_place-level version (record_length version p) (first_of p) n
+    (λ k from under.
+    ap (record_length version) (pips_between p k from (omega (arith, under, room))))
+
+-- .. and so the first of the next pip count
+pub place_beyond : (version : Version) (p : ℕ) →
+    record_place version (first_of (p + 1))
+    ≡ record_place version (first_of p)
+    + (first_of (p + 1) - first_of p) * record_length version p
+place_beyond version p =
+    ap (record_place version) (parts (first_of p) (first_of (p + 1)) rising)
+    ∙ place_between version p (first_of (p + 1) - first_of p) (omega (arith, rising))
+  where
+    rising : first_of p ≤ first_of (p + 1)
+    rising = first_of-rises p (p + 1) (omega arith)
+
+    parts : (a b : ℕ) → a ≤ b → b ≡ a + (b - a)
+    parts a b h = omega (arith, h)
+
+-- a table of 60 numbers whose first is what f says
+pub filled_first : (f : ℕ → ℕ) (xs : List ℕ) → length xs ≡ 60 → slice_index xs 0 ≡ f 0 →
+    IsFilled f 60 1 xs
+filled_first f xs long first = record {
+  long = long;
+  below = λ m under. subst (λ k. slice_index xs k ≡ f k) (none m under) first;
+} where
+  none : (m : ℕ) → m < 1 → 0 ≡ m
+  none m h = omega (arith, h)
+
+-- the first record of a file stands behind the header
+pub place_of_none : (version : Version) → 32 ≡ record_place version (first_of 0)
+place_of_none version =
+    sym (ap (record_place version) first_of-zero ∙ record_place-first version)
+
+-- no record to 58 pips stands beyond 32 bits
+pub place-fits : (version : Version) (p : ℕ) → p ≤ 59 →
+    record_place version (first_of p) < 4294967296
+place-fits version p low =
+    omega (
+      arith,
+      record_place-most version (first_of p) (omega (
+        arith,
+        first_of-rises p 59 low,
+        first_of-next 58,
+      )),
+      first_of-rises p 59 low,
+      first_of-next 58,
+      count_to-most 58,
+    )
+
+-- a record among those of its pip count
+pub place_of_rank : (version : Version) (p rank offset earlier size : ℕ) → first_of p ≤ rank →
+    rank ≤ first_of (p + 1) → offset ≡ record_place version (first_of p) →
+    earlier ≡ rank - first_of p → size ≡ record_length version p →
+    offset + earlier * size ≡ record_place version rank
+place_of_rank version p rank offset earlier size from under at_first before each =
+    rw (at_first, before, each)
+    (sym (place_between version p (rank - first_of p) (omega (arith, from, under)))
+    ∙ ap (record_place version) (parts (first_of p) rank from))
+  where
+    parts : (a b : ℕ) → a ≤ b → a + (b - a) ≡ b
+    parts a b h = omega (arith, h)
