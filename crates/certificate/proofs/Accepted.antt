@@ -13,7 +13,7 @@ use Rattle.race_model.proofs.Strategies.Horizons.{ends_in_22}
 use Rattle.race_model.proofs.RightFiles.Bounded.{mean_at_most}
 use Rattle.race_model.proofs.Ranks.RankOrder.{rank_bound}
 use Rattle.race_model.proofs.Plays.Results.{legal_position, legal_pips}
-use Rattle.race_model.proofs.RightFiles.Right.{right_of_local}
+use Rattle.race_model.proofs.RightFiles.Right.{bound_of-most, right_of_local}
 use Rattle.certificate.specs.RecordNumbers.{shares_of}
 use Rattle.certificate.proofs.RecordBytes.{mean-of_record, share-of_record, play-of_record}
 
@@ -35,11 +35,11 @@ module _ (f bytes : List ℕ) (x : Board) (r : ℕ) (lent : bytes ≡ record_at 
   pub total-of_lent : sum (shares_of bytes) ≡ sum (shares_of (record_at f (rank x)))
   total-of_lent = ap (λ b. sum (shares_of b)) (lent ∙ ap (record_at f) ranked)
 
-module _ (f : List ℕ) (local : IsLocal 44 f) (x : Board) (at : IsPosition x)
+module _ (f : List ℕ) (local : IsLocal f) (x : Board) (at : IsPosition x)
     (low : pips x ≤ bound_of f) where
   -- what is recorded of it is right
   pub accepted-right : IsRightAt f x
-  accepted-right = (right_of_local 44 f (omega arith) local).at_each x at low
+  accepted-right = (right_of_local f local).at_each x at low
 
   -- positions of no higher rank meet the equations
   accepted-lower : (z : Board) → IsPosition z → rank z ≤ rank x → IsLocalAt f z
@@ -50,7 +50,7 @@ module _ (f : List ℕ) (local : IsLocal 44 f) (x : Board) (at : IsPosition x)
   -- the recorded mean is within 22 rolls
   pub accepted-mean : mean f x ≤ 22 * whole
   accepted-mean =
-      mean_at_most f 22 x (ends_in_22 x at (omega (arith, local.file.bounded))) at
+      mean_at_most f 22 x (ends_in_22 x at (le_trans low (bound_of-most f local.file))) at
       (λ z is le. (accepted-lower z is le).means)
 
   -- the recorded shares add up to the whole
@@ -58,7 +58,7 @@ module _ (f : List ℕ) (local : IsLocal 44 f) (x : Board) (at : IsPosition x)
   unfolding shares_of spread_at
   accepted-total =
       sum-map (share_of (record_at f (rank x))) (range_with_len 0 23)
-      ∙ shares_add_up 44 f (omega arith) (right_of_local 44 f (omega arith) local) x at low
+      ∙ shares_add_up f (right_of_local f local) x at low
 
   -- the recorded rank of a roll is under the count, and its position is a result
   pub accepted-play : (v : Throw) → IsPlayed f x v

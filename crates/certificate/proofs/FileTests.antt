@@ -3,7 +3,7 @@ use Rattle.std.proofs.Common.{◌≡◌, ⊎_elim, ℕ, ◌+◌, ◌<◌, ◌≤
 use Rattle.std.proofs.lemmas.Bool.{cases_lt}
 use Rattle.race_model.specs.Positions.{Board, IsPosition}
 use Rattle.race_model.specs.Ranks.{rank, at_rank, count_to}
-use Rattle.race_model.specs.Files.{IsFileTo, bound_of}
+use Rattle.race_model.specs.Files.{IsFile, bound_of}
 use Rattle.race_model.specs.LocalEquations.{IsLocalAt, IsLocal}
 use Rattle.race_model.specs.FirstFault.{Test, play_test, least_test, mean_test, spread_test, rank_of, Holds, Asks, IsFirstFault}
 use Rattle.race_model.specs.RightFiles.{IsRight}
@@ -54,7 +54,7 @@ first-of_file f r t accepted first = record {
 }
 
 -- the same in the checker's words
-pub fault-of_file : (f : List ℕ) (r : ℕ) (fault : RecordFault) → IsFileTo 44 f
+pub fault-of_file : (f : List ℕ) (r : ℕ) (fault : RecordFault) → IsFile f
     → ((z : Board) → IsPosition z → rank z < r → IsLocalAt f z) → IsFirstFaultAt f r fault
     → IsFirst f (of_record_at r fault)
 fault-of_file f r (Play roll) file accepted first =
@@ -88,8 +88,8 @@ accepted-more f r accepted here z at low = ⊎_elim
     (cases_lt (rank z) r)
 
 -- where all are accepted the file is locally right
-pub accepted-all : (f : List ℕ) (r : ℕ) → IsFileTo 44 f → count_to (bound_of f) ≤ r
-    → ((z : Board) → IsPosition z → rank z < r → IsLocalAt f z) → IsLocal 44 f
+pub accepted-all : (f : List ℕ) (r : ℕ) → IsFile f → count_to (bound_of f) ≤ r
+    → ((z : Board) → IsPosition z → rank z < r → IsLocalAt f z) → IsLocal f
 accepted-all f r file all accepted = record {
   file = file;
   at_each = λ x at low. let lt = (rank_bound x (bound_of f) at).1 low in accepted x at
@@ -99,15 +99,15 @@ accepted-all f r file all accepted = record {
 -- a right file is refused by no fault but one of reading, and by that only where the count of
 -- failures rose
 pub none-of_right : (f : List ℕ) (before now : ℕ) (fault : CheckFault) → IsFirst f fault
-    → CheckCauses before now fault → now ≡ before → ¬ IsRight 44 f
+    → CheckCauses before now fault → now ≡ before → ¬ IsRight f
 none-of_right f before now (Header fault) first cause same = λ right.
-    header_fault_refuses 44 f (test_of fault) first right.file
+    header_fault_refuses f (test_of fault) first right.file
 none-of_right f before now (PlayAt rank roll) first cause same = λ right.
-    fault_refuses 44 f (play_test rank roll) first.1 (local_of_right 44 f (omega arith) right)
+    fault_refuses f (play_test rank roll) first.1 (local_of_right f right)
 none-of_right f before now (NotLeastAt rank roll) first cause same = λ right.
-    fault_refuses 44 f (least_test rank roll) first.1 (local_of_right 44 f (omega arith) right)
+    fault_refuses f (least_test rank roll) first.1 (local_of_right f right)
 none-of_right f before now (MeanAt rank) first cause same = λ right.
-    fault_refuses 44 f (mean_test rank) first.1 (local_of_right 44 f (omega arith) right)
+    fault_refuses f (mean_test rank) first.1 (local_of_right f right)
 none-of_right f before now (SpreadAt rank k) first cause same = λ right.
-    fault_refuses 44 f (spread_test rank k) first.1 (local_of_right 44 f (omega arith) right)
+    fault_refuses f (spread_test rank k) first.1 (local_of_right f right)
 none-of_right f before now ReadAt first cause same = absurd (omega arith)

@@ -12,7 +12,7 @@ use Rattle.certificate.specs.RecordNumbers.{shares_of, recorded_mean, recorded_s
 use Rattle.certificate.proofs.RecordBytes.{mean-of_record, share-of_record, get_or-shares_of}
 use Rattle.certificate.proofs.Lower.{shares_whole}
 
-module _ (f : List ℕ) (x : Board) (at : IsPosition x) (short : pips x ≤ 44)
+module _ (f : List ℕ) (x : Board) (at : IsPosition x) (short : pips x ≤ 58)
     (lower : (z : Board) → IsPosition z → rank z < rank x → IsLocalAt f z)
     (unfinished : ¬ IsFinished x) (v : Throw) (played : IsPlayed f x v) where
   after_is : IsPosition (recorded f x v)

@@ -142,7 +142,7 @@ module _ (f : List ℕ) (r : ℕ) (lt : r < count_to (bound_of f)) where
     local-at mean shares = record { means = least-mean mean; shares = shares }
 
     -- where the mean equation holds, the mean is within 22 rolls
-    pub mean-bounded : bound_of f ≤ 44 → ((z : Board) → IsPosition z → rank z < r → IsLocalAt f z)
+    pub mean-bounded : bound_of f ≤ 58 → ((z : Board) → IsPosition z → rank z < r → IsLocalAt f z)
         → HasMean f (at_rank r) → mean f (at_rank r) ≤ 22 * whole
     mean-bounded small lower has =
         let is = position-is (bound_of f) r lt in
@@ -163,7 +163,7 @@ pub record IsSummed (f : List ℕ) (x : Board) (sums : Totals) : Type 0 where
   pub are : ¬ IsFinished x → AreSumsOf f x sums
 
 module _ (f bytes : List ℕ) (r : ℕ) (sums : Totals) (lt : r < count_to (bound_of f))
-    (small : bound_of f ≤ 44)
+    (small : bound_of f ≤ 58)
     (lower : (z : Board) → IsPosition z → rank z < r → IsLocalAt f z) (lent : bytes
     ≡ record_at f r)
     (known : IsSummed f (at_rank r) sums) where

@@ -1,6 +1,7 @@
 -- What is kept of a table that was accepted.
 use Rattle.std.specs.Prelude.{◌≡◌, ℕ, List, Option, Some, None}
-use Rattle.race_model.specs.Files.{bound_of}
+use Rattle.race_model.specs.Versions.{version_by}
+use Rattle.race_model.specs.Files.{version_of, bound_of}
 use Rattle.race_model.specs.LocalEquations.{IsLocal}
 use Rattle.db_layout.specs.declared.header.Header.{Header}
 use Rattle.db_reader.specs.Telling.{WhereTold}
@@ -10,10 +11,11 @@ abbrev pub bound_in : Option Header → ℕ
 bound_in None = 0
 bound_in (Some header) = header.bound
 
--- the table has accepted this header, and the bytes that it tells meet the local equations and
--- have its bound
+-- the table has accepted this header, and the bytes that it tells
+-- meet the local equations and have its bound and its version
 pub record IsAccepted (told : Option (List ℕ)) (accepted : Option Header) (header : Header) :
     Type 0 where
   pub header_is : accepted ≡ Some header
-  pub local : WhereTold told (IsLocal 44)
+  pub local : WhereTold told (IsLocal)
   pub bound_is : WhereTold told (λ file. header.bound ≡ bound_of file)
+  pub version_is : WhereTold told (λ file. version_by header.version ≡ version_of file)

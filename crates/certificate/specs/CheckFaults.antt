@@ -1,6 +1,6 @@
 -- What a refusal of the checker means: the first fault of the file, in the checker's order.
 use Rattle.std.specs.Prelude.{◌≡◌, ℕ, ◌<◌, List, length, take, Result, Ok, Err}
-use Rattle.race_model.specs.Files.{IsFileTo}
+use Rattle.race_model.specs.Files.{IsFile}
 use Rattle.race_model.specs.Headers.{IsFirstHeaderFault}
 use Rattle.race_model.specs.FirstFault.{play_test, least_test, mean_test, spread_test, Asks, IsFirstFault}
 use Rattle.race_model.specs.FaultLines.{header_line, test_line, read_line}
@@ -12,11 +12,11 @@ use Rattle.certificate.specs.declared.record_check.RecordFault.TheVariants.{Play
 
 -- the fault is the first of the file; nothing is said of it where a read failed
 abbrev pub IsFirst : List ℕ → CheckFault → Type 0
-IsFirst f (Header fault) = IsFirstHeaderFault 44 (take 32 f) (length f) (test_of fault)
-IsFirst f (Play rank roll) = IsFileTo 44 f × IsFirstFault (Asks f) f (play_test rank roll)
-IsFirst f (NotLeast rank roll) = IsFileTo 44 f × IsFirstFault (Asks f) f (least_test rank roll)
-IsFirst f (Mean rank) = IsFileTo 44 f × IsFirstFault (Asks f) f (mean_test rank)
-IsFirst f (Spread rank k) = IsFileTo 44 f × IsFirstFault (Asks f) f (spread_test rank k)
+IsFirst f (Header fault) = IsFirstHeaderFault (take 32 f) (length f) (test_of fault)
+IsFirst f (Play rank roll) = IsFile f × IsFirstFault (Asks f) f (play_test rank roll)
+IsFirst f (NotLeast rank roll) = IsFile f × IsFirstFault (Asks f) f (least_test rank roll)
+IsFirst f (Mean rank) = IsFile f × IsFirstFault (Asks f) f (mean_test rank)
+IsFirst f (Spread rank k) = IsFile f × IsFirstFault (Asks f) f (spread_test rank k)
 IsFirst f Read = Unit {0}
 
 -- a fault of the record of a rank, as a fault of the file

@@ -2,9 +2,15 @@
 use Rattle.std.specs.Prelude.{◌≡◌, ℕ, ◌<◌, List, Result, Ok, Err}
 use Rattle.race_model.specs.Positions.{Board}
 use Rattle.race_model.specs.Dice.{Throw, roll_at}
+use Rattle.race_model.specs.Plays.{Legal}
+use Rattle.race_model.specs.Ranks.{rank, at_rank}
 use Rattle.race_model.specs.LocalEquations.{IsPlayed, IsBest}
 use Rattle.certificate.specs.declared.plays.PlayFault.{PlayFault}
 use Rattle.certificate.specs.declared.plays.PlayFault.TheVariants.{NotLegal, NotLeast, Read}
+
+-- the number is the rank of a result of the throw
+abbrev pub IsResult : Board → Throw → ℕ → Type 0
+IsResult x v r = Legal x v (at_rank r) × (rank (at_rank r) ≡ r)
 
 -- the play equation fails, or it holds and the least equation fails; nothing is said where a read
 -- failed

@@ -2,13 +2,15 @@ ghost use Rattle.std.specs.Prelude.{◌≡◌, ℕ, ◌<◌, ◌≤◌, ◌↔�
 ghost use Rattle.race_model.specs.Positions.{IsPosition, IsFinished, pips};
 ghost use Rattle.race_model.specs.Plays.{Legal};
 ghost use Rattle.race_model.specs.Ranks.{rank as rank_of, count_to};
-ghost use Rattle.race_model.specs.Files.{bound_of, mean as mean_of, spread as share_of};
+ghost use Rattle.race_model.specs.Versions.{version_number};
+ghost use Rattle.race_model.specs.Files.{version_of, bound_of, mean as mean_of, spread as share_of};
 ghost use Rattle.race_model.specs.LocalEquations.{recorded, IsLocal};
 ghost use Rattle.race_model.specs.RightFiles.{IsRight, follow};
 ghost use Rattle.race_model.specs.Fractions.{IsMean, IsEffectivePips};
 ghost use Rattle.race_model.specs.Strategies.{IsLeast, count_of};
 ghost use Rattle.race_model.specs.FirstPlays.{IsFirstPlay};
 ghost use Rattle.legal_plays.specs.MoveLists.{moves_of};
+ghost use Rattle.db_layout.specs.Records.{IsVersion};
 ghost use Rattle.db_reader.specs.Telling.{WhereTold};
 ghost use Rattle.certificate.specs.Accepted.{bound_in};
 ghost use Rattle.certificate.specs.CheckFaults.{IsFirst, CheckCauses};
@@ -56,17 +58,19 @@ impl<T: Table> Model for Checked<T> {
 }
 
 /// Checks a table. Where it tells its bytes and no read fails, it is accepted exactly where they
-/// are a right database of at most 44 pips, and else refused with the first fault of the bytes;
+/// are a right database of at most 58 pips, and else refused with the first fault of the bytes;
 /// it is refused as `Read` exactly where a read failed. The table is handed back with the fault
 /// and tells the same bytes. It takes no memory, and adds a stored number to others only where it
 /// was accepted before.
+// so that its room is not part of its caller's
+#[inline(never)]
 pub fn check<T: Table>(mut table: T) -> Result<Checked<T>, (T, CheckFault)>
     ensures told { IfOk result (λ checked. T.tells checked ≡ T.tells table) }
     ensures back { IfErr result (λ refused. T.tells refused.0 ≡ T.tells table) }
-    ensures right { WhereTold (T.tells table) (λ file. OnOk result (IsRight 44 file)) }
+    ensures right { WhereTold (T.tells table) (λ file. OnOk result (IsRight file)) }
     ensures exactly { WhereTold (T.tells table) (λ file.
         IfErr result (λ refused. T.failures refused.0 ≡ T.failures table) →
-        IsOk result ↔ IsRight 44 file) }
+        IsOk result ↔ IsRight file) }
     ensures first { WhereTold (T.tells table)
         (λ file. IfErr result (λ refused. IsFirst file refused.1)) }
     ensures ok_cause { WhereTold (T.tells table)
@@ -87,16 +91,25 @@ pub fn check<T: Table>(mut table: T) -> Result<Checked<T>, (T, CheckFault)>
 }
 
 impl<T: Table> Checked<T> {
-    /// The pip bound of the accepted header, 0 to 44. Where the table tells its bytes, they are a
+    /// The pip bound of the accepted header, 0 to 58. Where the table tells its bytes, they are a
     /// right database and it is their bound.
     pub fn bound(&self) -> u8
         ensures bound { result ≡ bound_in (T.accepted self.now) }
         ensures right { WhereTold (T.tells self.now)
-            (λ file. IsRight 44 file × (bound_in (T.accepted self.now) ≡ bound_of file)) }
-        ensures range { result ≤ 44 }
+            (λ file. IsRight file × (bound_in (T.accepted self.now) ≡ bound_of file)) }
+        ensures range { result ≤ 58 }
     {
         laws::law_right();
         self.header.bound
+    }
+
+    /// The version of the accepted header, 1 or 2. Where the table tells its bytes, it is theirs.
+    pub fn version(&self) -> u16
+        ensures known { IsVersion result }
+        ensures version { WhereTold (T.tells self.now)
+            (λ file. result ≡ version_number (version_of file)) }
+    {
+        self.header.version
     }
 
     /// How many positions the database has: those of at most the bound.
@@ -122,7 +135,7 @@ impl<T: Table> Checked<T> {
         ensures rank { IfOk result (λ rank. rank ≡ rank_of position.now) }
         ensures ready { IfOk result (λ rank. T.ready self.new room.new rank) }
         ensures local { WhereTold (T.tells self.old) (λ file. OnOk result
-            (IsLocal 44 file × (pips position.now ≤ bound_of file))) }
+            (IsLocal file × (pips position.now ≤ bound_of file))) }
         ensures stays { T.tells self.new ≡ T.tells self.old }
         ensures accepted { T.accepted self.new ≡ T.accepted self.old }
         ensures fault { IfErr result RefusesNumbers }

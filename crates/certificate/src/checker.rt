@@ -1,8 +1,10 @@
 //! The check of all records of a table, by rising rank.
 ghost use Rattle.std.specs.Prelude.{◌≡◌, ℕ, List, Some, IfOk, IfErr, OnOk};
-ghost use Rattle.race_model.specs.Files.{bound_of};
+ghost use Rattle.race_model.specs.Versions.{version_by};
+ghost use Rattle.race_model.specs.Files.{version_of, bound_of};
 ghost use Rattle.race_model.specs.LocalEquations.{IsLocal};
 ghost use Rattle.db_reader.specs.Telling.{WhereTold};
+ghost use Rattle.db_reader.specs.Reads.{HasHeader};
 ghost use Rattle.certificate.specs.CheckFaults.{IsFirst, CheckCounted};
 
 use crate::check_fault::{CheckFault, fault_at};
@@ -14,14 +16,14 @@ use ranking::Ranks;
 
 /// The header of a table whose records meet the local equations, or the first fault. It takes no
 /// memory, and adds a stored number to others only where it was accepted before.
-// so that its room is on the stack while it checks, and not while its caller goes on
-#[inline(never)]
 pub fn check_records<T: Table>(table: &mut T, ranks: &Ranks) -> Result<Header, CheckFault>
     ensures stays { T.tells table.new ≡ T.tells table.old }
     ensures accepted { IfOk result (λ header. T.accepted table.new ≡ Some header) }
-    ensures local { WhereTold (T.tells table.old) (λ file. OnOk result (IsLocal 44 file)) }
+    ensures local { WhereTold (T.tells table.old) (λ file. OnOk result (IsLocal file)) }
     ensures bound { WhereTold (T.tells table.old)
         (λ file. IfOk result (λ header. header.bound ≡ bound_of file)) }
+    ensures version { WhereTold (T.tells table.old)
+        (λ file. IfOk result (λ header. version_by header.version ≡ version_of file)) }
     ensures first { WhereTold (T.tells table.old) (λ file. IfErr result (IsFirst file)) }
     ensures cause { WhereTold (T.tells table.old)
         (λ _. CheckCounted (T.failures table.old) (T.failures table.new) result) }
@@ -31,6 +33,25 @@ pub fn check_records<T: Table>(table: &mut T, ranks: &Ranks) -> Result<Header, C
         Err(TableFault::Bad(fault)) => return Err(CheckFault::Header(fault)),
         Err(TableFault::Read) => return Err(CheckFault::Read),
     };
+    check_under(table, ranks, header)
+}
+
+/// The same, where the table has accepted this header.
+// so that its room is on the stack while it checks, and not while the header is read or its
+// caller goes on
+#[inline(never)]
+fn check_under<T: Table>(table: &mut T, ranks: &Ranks, header: Header) -> Result<Header, CheckFault>
+    requires header { T.accepted table.old ≡ Some header }
+    requires file { WhereTold (T.tells table.old)
+        (λ file. HasHeader file header) }
+    ensures stays { T.tells table.new ≡ T.tells table.old }
+    ensures header { IfOk result (λ same. same ≡ header) }
+    ensures accepted { T.accepted table.new ≡ T.accepted table.old }
+    ensures local { WhereTold (T.tells table.old) (λ file. OnOk result (IsLocal file)) }
+    ensures first { WhereTold (T.tells table.old) (λ file. IfErr result (IsFirst file)) }
+    ensures cause { WhereTold (T.tells table.old)
+        (λ _. CheckCounted (T.failures table.old) (T.failures table.new) result) }
+{
     let mut lower = LowerRecords::new();
     let mut own = Record::new();
     let mut room = Record::new();

@@ -12,8 +12,8 @@ use least_plays::{LeastPlays, Means};
 use ranking::Ranks;
 use std::marker::Model;
 
-/// How many positions have at most 44 pips.
-const RANKS: usize = 26314;
+/// How many positions have at most 58 pips.
+const RANKS: usize = 46062;
 
 /// The recorded means of the ranks whose records were accepted.
 #[derive(Drop)]
@@ -29,7 +29,7 @@ impl Model for AcceptedMeans {
 
     ghost view = { λ accepted. accepted.means };
 
-    ghost invariant = { λ accepted. length accepted.means ≡ 26314 };
+    ghost invariant = { λ accepted. length accepted.means ≡ 46062 };
 }
 
 impl AcceptedMeans {
@@ -40,7 +40,7 @@ impl AcceptedMeans {
 
     /// The mean of one rank more.
     fn set(&mut self, rank: u16, mean: u128)
-        requires { rank < 26314 }
+        requires { rank < 46062 }
         ensures mean { slice_index self.new rank ≡ mean }
         ensures others { (r : ℕ) → r ≢ rank → slice_index self.new r ≡ slice_index self.old r }
     {
@@ -52,7 +52,7 @@ impl AcceptedMeans {
 impl Means for AcceptedMeans {
     ghost mean = { λ accepted. slice_index accepted };
 
-    ghost count = { λ accepted. 26314 };
+    ghost count = { λ accepted. 46062 };
 
     fn mean(&self, rank: u16) -> u128 {
         self.means[usize::from(rank)]
@@ -60,7 +60,7 @@ impl Means for AcceptedMeans {
 }
 
 /// The means of the records that were accepted, and what the best plays of the next position are
-/// found by. It takes no memory but its own: 833,296 bytes, which lie where the value lies, as
+/// found by. It takes no memory but its own: 1,149,264 bytes, which lie where the value lies, as
 /// on the stack of `check`; so lend it by `&mut`.
 #[derive(Drop)]
 pub struct LowerRecords {
@@ -82,7 +82,7 @@ impl LowerRecords {
     /// The best plays of the 21 rolls from the next position, by the means of lower ranks.
     pub fn best_plays(&mut self, ranks: &Ranks, position: &Position) -> [u16; 21]
         requires position { IsPosition position.now }
-        requires low { pips position.now ≤ 44 }
+        requires low { pips position.now ≤ 58 }
         requires known { Knows (slice_index self.old.means) self.old.plays
             (rank_of position.now) }
         ensures means { self.new.means ≡ self.old.means }
@@ -98,7 +98,7 @@ impl LowerRecords {
 
     /// Keeps the mean of the record of this rank, whose best plays were found.
     pub fn accept(&mut self, rank: u16, mean: u128)
-        requires room { rank < 26314 }
+        requires room { rank < 46062 }
         requires known { Knows (slice_index self.old.means) self.old.plays (rank + 1) }
         ensures mean { slice_index self.new.means rank ≡ mean }
         ensures others { (r : ℕ) → r ≢ rank →

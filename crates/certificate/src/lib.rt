@@ -1,10 +1,10 @@
 //! The checker: whether a table has a right database, with the first fault where it hasn't, and
 //! the answers of one that has. It rests on `db_reader` for the records of a table, on
-//! `least_plays` for the best plays, on `legal_plays` and `ranking` for all results of a roll, on
-//! `fixed_fraction` for exact sums, and on `race_model` for the theorem that the local equations,
-//! which test each record against records of lower rank alone, hold exactly where a database is
-//! right. The crates above may use that an accepted table answers the least mean over all
-//! strategies; the builder of a database is not trusted.
+//! `least_plays` for the best plays, on `legal_plays` and `ranking` for whether another number is
+//! the rank of a result, on `fixed_fraction` for exact sums, and on `race_model` for the theorem
+//! that the local equations, which test each record against records of lower rank alone, hold
+//! exactly where a database is right. The crates above may use that an accepted table answers the
+//! least mean over all strategies; the builder of a database is not trusted.
 #![tactic(auto)]
 
 mod check_fault;

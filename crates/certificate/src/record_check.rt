@@ -3,13 +3,13 @@ ghost use Rattle.std.specs.Prelude.{◌≡◌, ℕ, ◌+◌, ◌*◌, ◌<◌, �
 ghost use Rattle.race_model.specs.Positions.{Board, IsPosition, IsFinished, pips};
 ghost use Rattle.race_model.specs.Dice.{roll_at, weight};
 ghost use Rattle.race_model.specs.Ranks.{rank as rank_of, at_rank};
-ghost use Rattle.race_model.specs.Files.{IsFileTo, bound_of, mean_of, mean_at};
+ghost use Rattle.race_model.specs.Files.{mean_of, mean_at};
 ghost use Rattle.race_model.specs.Plays.{Legal};
 ghost use Rattle.race_model.specs.BestPlays.{IsBestPlay};
 ghost use Rattle.race_model.specs.LocalEquations.{whole, IsPlayed, IsBest, IsLocalAt};
 ghost use Rattle.fixed_fraction.specs.Totals.{IsAdded};
 ghost use Rattle.db_reader.specs.Telling.{WhereTold};
-ghost use Rattle.db_reader.specs.Reads.{HasRecord};
+ghost use Rattle.db_reader.specs.Reads.{HasHeader, HasRecord};
 ghost use Rattle.certificate.specs.PlayFaults.{FirstOfPlays};
 ghost use Rattle.certificate.specs.LowerRecords.{IsLower};
 ghost use Rattle.certificate.specs.RecordNumbers.{shares_of, AreSumsOf};
@@ -94,7 +94,7 @@ fn sum_plays<T: Table>(
     room: &mut Record,
 ) -> Result<Sums, RefusedPlay>
     requires position { IsPosition position.now }
-    requires short { pips position.now ≤ 44 }
+    requires short { pips position.now ≤ 58 }
     requires rank { rank ≡ rank_of position.now }
     requires own { T.ready table.old own.now rank }
     requires records { (y : Board) → IsPosition y → pips y ≤ pips position.now →
@@ -154,7 +154,7 @@ pub fn check_record<T: Table>(
     requires header { T.accepted table.old ≡ Some header }
     requires rank { rank < header.count }
     requires file { WhereTold (T.tells table.old)
-        (λ file. IsFileTo 44 file × (header.bound ≡ bound_of file)) }
+        (λ file. HasHeader file header) }
     requires lower { WhereTold (T.tells table.old)
         (λ file. (z : Board) → IsPosition z → rank_of z < rank → IsLocalAt file z) }
     requires kept { IsLower (T.tells table.old) lower.old rank }

@@ -28,6 +28,31 @@ fn bound_one() -> [u8; 884]
     file
 }
 
+/// The same as a file of version 2, whose records leave out the known shares.
+fn compact_one() -> [u8; 164]
+    ensures { length result ≡ 164 }
+{
+    let mut file = [0; 164];
+    file[..12].copy_from_slice(b"EPCTABLE\x00\x02\x00\x01");
+    file[12..16].copy_from_slice(b"\x00\x00\x00\x02");
+    file[90..106].copy_from_slice(&WHOLE_BYTES);
+    file[148..164].copy_from_slice(&WHOLE_BYTES);
+    file
+}
+
+/// The fault of the file of version 2 of bound 1 with one byte changed.
+fn compact_fault_with(place: usize, byte: u8) -> Option<CheckFault> {
+    let mut file = compact_one();
+    file[place.min(163)] = byte;
+    fault_of(&file)
+}
+
+/// The fault of the file of version 2 of bound 1 cut down to a number of bytes.
+fn compact_fault_of_front(count: usize) -> Option<CheckFault> {
+    let file = compact_one();
+    fault_of(&file[..count.min(164)])
+}
+
 /// The fault of a table, and none where it is accepted.
 fn fault_of(file: &[u8]) -> Option<CheckFault> {
     match check(Whole::new(file)) {
@@ -86,9 +111,15 @@ fn damaged_files(rt: HostRuntime) {
         ),
         (
             9,
-            2,
+            3,
             CheckFault::Header(HeaderFault::BadVersion),
             "header bad-version",
+        ),
+        (
+            9,
+            2,
+            CheckFault::Header(HeaderFault::BadRecordBytes),
+            "header bad-record-bytes",
         ),
         (
             11,
@@ -159,6 +190,57 @@ fn damaged_files(rt: HostRuntime) {
         .as_str(),
         "not-least rank 65535 roll 255"
     );
+}
+
+#[test]
+fn damaged_files_of_version_2(rt: HostRuntime) {
+    assert_eq!(rt; compact_fault_of_front(164), None);
+    for count in 0..164 {
+        let fault = if count < 32 {
+            HeaderFault::TooShort
+        } else {
+            HeaderFault::BadLength
+        };
+        let expected = Some(CheckFault::Header(fault));
+        assert_eq!(rt; compact_fault_of_front(count), expected, "{count} bytes");
+    }
+    for (place, byte, fault) in [
+        (9, 3, CheckFault::Header(HeaderFault::BadVersion)),
+        (9, 1, CheckFault::Header(HeaderFault::BadRecordBytes)),
+        (11, 59, CheckFault::Header(HeaderFault::BadBound)),
+        (15, 3, CheckFault::Header(HeaderFault::BadCount)),
+        (18, 1, CheckFault::Header(HeaderFault::BadRecordBytes)),
+        (31, 1, CheckFault::Header(HeaderFault::BadReserved)),
+        (47, 1, CheckFault::Mean { rank: 0 }),
+        (49, 1, CheckFault::Play { rank: 0, roll: 0 }),
+        (105, 1, CheckFault::Mean { rank: 1 }),
+        (107, 1, CheckFault::Play { rank: 1, roll: 0 }),
+        (147, 1, CheckFault::Play { rank: 1, roll: 20 }),
+        (163, 1, CheckFault::Spread { rank: 1, k: 1 }),
+    ] {
+        assert_eq!(rt;
+            compact_fault_with(place, byte),
+            Some(fault),
+            "byte {place}"
+        );
+    }
+}
+
+#[test]
+fn the_version_and_the_answers_of_version_2(rt: HostRuntime) -> Result<(), Fail> {
+    let (file, old) = (compact_one(), bound_one());
+    let mut checked = check(Whole::new(&file)).ok().ok_or("refused")?;
+    assert_eq!(rt;
+        (checked.version(), checked.bound(), checked.positions()),
+        (2, 1, 2)
+    );
+    let ace = aces(1)?;
+    assert_eq!(rt; checked.scaled(&ace)?.numerator(), fixed_fraction::WHOLE);
+    assert_eq!(rt; checked.spread(&ace)?.at(1), fixed_fraction::WHOLE);
+    assert_eq!(rt; checked.spread(&aces(0)?)?.at(0), fixed_fraction::WHOLE);
+    let checked = check(Whole::new(&old)).ok().ok_or("refused")?;
+    assert_eq!(rt; checked.version(), 1);
+    Ok(())
 }
 
 #[test]

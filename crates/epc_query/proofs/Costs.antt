@@ -11,14 +11,14 @@ use Rattle.certificate.specs.declared.query_fault.QueryFault.TheVariants.{OverBo
 use Rattle.certificate.specs.QueryFaults.{RefusesNumbers, QueryCauses}
 
 -- the mean after the recorded play is that of the position that it leads to
-pub mean_after : (f : List ℕ) (x : Board) (v : Throw) → IsRight 44 f → IsPosition x
+pub mean_after : (f : List ℕ) (x : Board) (v : Throw) → IsRight f → IsPosition x
     → pips x ≤ bound_of f
     → mean f (recorded f x v) ≡ mean_at f (play f x v)
 mean_after f x v right is within = ap (mean_at f) ((right.at_each x is within).played v).ranked
 
 -- the loss, as a difference of recorded means
 pub loss_is : (f : List ℕ) (x : Board) (v : Throw) (y best : Board) (after least lost : ℕ)
-    → IsRight 44 f → IsPosition x
+    → IsRight f → IsPosition x
     → pips x ≤ bound_of f → best ≡ recorded f x v → least ≡ mean f best → after ≡ mean f y
     → lost + least ≡ after
     → lost ≡ loss f x v y

@@ -1,6 +1,6 @@
--- The records of the positions to 44 pips exist, whether or not anybody has made them: for each
+-- The records of the positions to 58 pips exist, whether or not anybody has made them: for each
 -- roll one of the results is the best, and what is pulled from the records of lower rank is exact.
-use Rattle.std.proofs.Common.{◌≡◌, ◌⊎◌, inl, inr, ⊎_elim, ℕ, zero, suc, ◌+◌, ◌*◌, ◌/◌, ◌%◌, ◌^◌, ◌<◌, ◌≤◌, List, [], ◌∷◌, ◌++◌, length, get_or, map, replicate, sum_by, refl, sym, ap, subst, ◌∙◌, arith}
+use Rattle.std.proofs.Common.{◌≡◌, ◌⊎◌, inl, inr, ⊎_elim, ℕ, zero, suc, ◌+◌, ◌*◌, ◌/◌, ◌%◌, ◌^◌, ◌<◌, ◌≤◌, List, [], ◌∷◌, ◌++◌, length, get_or, map, replicate, refl, sym, ap, subst, ◌∙◌, arith}
 use Rattle.std.specs.Prelude.{slice_index, slice_index_or}
 use Rattle.std.specs.List.{range_with_len}
 use Rattle.std.proofs.Math.ListN.{get_or-append}
@@ -10,7 +10,6 @@ use Rattle.std.proofs.lemmas.List.FromFn.{get_or-map-range_with_len, length-map-
 use Rattle.std.proofs.lemmas.List.Sums.{get_or-le-sum_by}
 use Rattle.race_model.specs.Positions.{Board, IsPosition, IsFinished, pips}
 use Rattle.race_model.specs.Dice.{Throw, roll_at}
-use Rattle.race_model.specs.Plays.{Legal}
 use Rattle.race_model.specs.Ranks.{rank, at_rank, count_to}
 use Rattle.race_model.specs.Enumerations.{all_results}
 use Rattle.race_model.specs.LocalEquations.{whole}
@@ -18,17 +17,16 @@ use Rattle.race_model.specs.Strategies.{count_of}
 use Rattle.race_model.proofs.Plays.Enumerated.{IsIn, results_listed, listed_results}
 use Rattle.race_model.proofs.Plays.Results.{finished_or_not, legal_somewhere, legal_position}
 use Rattle.race_model.proofs.Ranks.RankOrder.{at_rank_position}
-use Rattle.race_model.proofs.Ranks.PositionTotals.{rank-at_rank, rank-range, at_rank_under, count_to-44}
-use Rattle.race_model.proofs.Strategies.Horizons.{within_22}
+use Rattle.race_model.proofs.Ranks.PositionTotals.{rank-range, at_rank_under, count_to-58}
+use Rattle.race_model.proofs.Strategies.Horizons.{within_22, most_rolls-most}
 use Rattle.race_model.proofs.Strategies.Spreads.{counts_add_up}
-use Rattle.db_layout.specs.Records.{record_of, IsRecordOf}
 use Rattle.db_layout.proofs.Bytes.{record_reads, mean_fits}
 use Rattle.race_model.specs.BestPlays.{IsBestPlay}
-use Rattle.retrograde.specs.BuiltRecords.{shares_of, sum_of_means, sum_of_shares, IsMade, IsReached, AreMade, HasRecords}
+use Rattle.retrograde.specs.BuiltRecords.{sum_of_means, sum_of_shares, IsMade, IsReached, IsReadBack, AreMade, HasRecords}
 use Rattle.retrograde.specs.AllRecords.{AllRecords}
-use Rattle.race_model.proofs.Ranks.BestPlays.{rank-finished_position}
 use Rattle.retrograde.proofs.Next.{ReachedBelow, can-pull_mean, can-pull_shares, next-is_reached, made-at_end, made-before}
-use Rattle.retrograde.proofs.Turns.{stop-reached, total-small}
+use Rattle.retrograde.proofs.Turns.{stop-reached}
+use Rattle.retrograde.proofs.Held.{held}
 use Rattle.retrograde.proofs.Grown.{one-more}
 
 -- a mean and a rank are no worse than others: a smaller mean, or as great a one and no higher rank
@@ -143,7 +141,7 @@ best-exists means x v =
     )
 
 -- no share of a strategy is over the whole
-shares-whole : (x : Board) (mean : ℕ) (shares : List ℕ) → IsPosition x → pips x ≤ 44 →
+shares-whole : (x : Board) (mean : ℕ) (shares : List ℕ) → IsPosition x → pips x ≤ 58 →
     length shares ≡ 23
     → IsReached x mean shares → (k : ℕ) → slice_index shares k ≤ whole
 shares-whole x mean shares at low len reached k = ⊎_elim
@@ -178,13 +176,13 @@ pub record HasNext (n : ℕ) (means : List ℕ) (spreads : List (List ℕ)) : Ty
   pub shares : List ℕ
   pub made : IsMade means spreads (at_rank n) mean played shares
   pub reached : IsReached (at_rank n) mean shares
-  pub reads : IsRecordOf (record_of mean played shares) mean played shares
+  pub reads : IsReadBack (at_rank n) mean played shares
   pub plays_len : length played ≡ 21
   pub shares_len : length shares ≡ 23
 
 -- what was made of a position can be read again
 next-of : (n : ℕ) (means : List ℕ) (spreads : List (List ℕ)) (mean : ℕ) (played shares : List ℕ)
-    → pips (at_rank n) ≤ 44 → mean ≤ 22 * whole → length played ≡ 21 → length shares ≡ 23
+    → pips (at_rank n) ≤ 58 → mean ≤ 22 * whole → length played ≡ 21 → length shares ≡ 23
     → IsMade means spreads (at_rank n) mean played shares → IsReached (at_rank n) mean shares
     → HasNext n means spreads
 next-of n means spreads mean played shares low small plays_len shares_len made reached = record {
@@ -193,7 +191,12 @@ next-of n means spreads mean played shares low small plays_len shares_len made r
   shares = shares;
   made = made;
   reached = reached;
-  reads = record_reads mean played shares (mean_fits mean small) plays_len short shares_len wide;
+  reads =
+      λ version.
+      record_reads version (pips (at_rank n)) mean played shares
+      (most_rolls-most (pips (at_rank n)) low)
+      (held means spreads (at_rank n) mean played shares (at_rank_position n) made reached version)
+      (mean_fits mean small) plays_len short shares_len wide;
   plays_len = plays_len;
   shares_len = shares_len;
 } where
@@ -221,7 +224,7 @@ zeros zero i = omega arith
 zeros (suc m) zero = refl
 zeros (suc m) (suc i) = zeros m i
 
-next-at_end : (n : ℕ) (means : List ℕ) (spreads : List (List ℕ)) → pips (at_rank n) ≤ 44 →
+next-at_end : (n : ℕ) (means : List ℕ) (spreads : List (List ℕ)) → pips (at_rank n) ≤ 58 →
     IsFinished (at_rank n)
     → HasNext n means spreads
 next-at_end n means spreads low none =
@@ -232,7 +235,7 @@ next-at_end n means spreads low none =
     (stop-reached (at_rank n) 0 (whole ∷ replicate 22 0) none refl refl (zeros 22))
 
 -- .. and that of any other
-module _ (n : ℕ) (means : List ℕ) (spreads : List (List ℕ)) (low : pips (at_rank n) ≤ 44)
+module _ (n : ℕ) (means : List ℕ) (spreads : List (List ℕ)) (low : pips (at_rank n) ≤ 58)
     (unfinished : ¬ IsFinished (at_rank n))
     (reached : ReachedBelow (rank (at_rank n)) means spreads) where
   play : ℕ → ℕ
@@ -294,10 +297,10 @@ module _ (n : ℕ) (means : List ℕ) (spreads : List (List ℕ)) (low : pips (a
       mean.1.1 start moved)
 
 -- so each rank has one
-next-exists : (n : ℕ) (means : List ℕ) (plays spreads : List (List ℕ)) → n < count_to 44
+next-exists : (n : ℕ) (means : List ℕ) (plays spreads : List (List ℕ)) → n < count_to 58
     → AreMade n means plays spreads → HasNext n means spreads
 next-exists n means plays spreads under are =
-    let place = at_rank_under 44 n under in
+    let place = at_rank_under 58 n under in
     ⊎_elim
     (next-at_end n means spreads place.1)
     (λ unfinished. next-before n means spreads place.1 unfinished
@@ -318,11 +321,11 @@ all-of n xs y size len each last r lt = ⊎_elim
     split a b h = grind arith
 
 -- one rank more
-records-more : (n : ℕ) → n < count_to 44 → HasRecords n → HasRecords (suc n)
+records-more : (n : ℕ) → n < count_to 58 → HasRecords n → HasRecords (suc n)
 records-more n under has = more (next-exists n has.means has.plays has.spreads under has.made)
   where
     low : n < 54264
-    low = omega (arith, count_to-44)
+    low = omega (arith, count_to-58)
 
     more : HasNext n has.means has.spreads → HasRecords (suc n)
     more next = record {
@@ -343,7 +346,7 @@ records-more n under has = more (next-exists n has.means has.plays has.spreads u
     }
 
 -- the records of the first ranks
-records-to : (n : ℕ) → n ≤ count_to 44 → HasRecords n
+records-to : (n : ℕ) → n ≤ count_to 58 → HasRecords n
 records-to zero le = record {
   means = [];
   plays = [];
@@ -361,6 +364,6 @@ records-to zero le = record {
 }
 records-to (suc n) le = records-more n le (records-to n (omega arith))
 
--- .. and those of all positions of at most 44 pips
+-- .. and those of all positions of at most 58 pips
 pub all-records : AllRecords
-all-records = records-to (count_to 44) (omega arith)
+all-records = records-to (count_to 58) (omega arith)

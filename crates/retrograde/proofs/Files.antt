@@ -1,57 +1,19 @@
 -- The file that holds the records, and what one reads in it.
-use Rattle.std.proofs.Common.{◌≡◌, ℕ, zero, suc, ◌+◌, ◌*◌, ◌<◌, ◌≤◌, List, [], ◌++◌, length, take, drop, refl, sym, ap, subst, ◌∙◌, arith, append_assoc, length-append, ⊎_elim}
-use Rattle.std.proofs.lemmas.Bool.{cases_lt}
+use Rattle.std.proofs.Common.{◌≡◌, ℕ, zero, suc, ◌+◌, ◌-◌, ◌<◌, ◌≤◌, List, ◌++◌, length, take, drop, refl, sym, ap, subst, ◌∙◌, arith, append_assoc, length-append}
 use Rattle.std.proofs.lemmas.List.{append-nil}
-use Rattle.std.proofs.Math.Seq.{take-append_seam, drop-append_seam, drop-append-add}
-use Rattle.race_model.specs.Files.{IsBytes, header, bound_of, record_at}
+use Rattle.std.proofs.Math.Seq.{take-append_seam, drop-append_seam}
+use Rattle.race_model.specs.Versions.{Version, full, compact}
+use Rattle.race_model.specs.Files.{IsBytes, header, bytes_at, version_of, bound_of, record_place}
+use Rattle.race_model.proofs.RightFiles.Places.{length_at, record_place-first, record_place-next}
 use Rattle.db_layout.proofs.Bytes.{small_append, small_header}
 use Rattle.retrograde.specs.BuiltBytes.{records_from, file_of}
 
 -- a header has 32 bytes
-pub header-length : (bound : ℕ) → length (header bound) ≡ 32
-header-length bound = refl
+pub header-length : (version : Version) (bound : ℕ) → length (header version bound) ≡ 32
+header-length version bound = refl
 
--- what stands after a part of known length
-drop-front : (front rest : List ℕ) (n k : ℕ) → length front ≡ n →
-    drop (n + k) (front ++ rest) ≡ drop k rest
-drop-front front rest n k e =
-    subst (λ (m : ℕ). drop (m + k) (front ++ rest) ≡ drop k rest) e (drop-append-add front rest k)
-
--- records of 426 bytes each
+-- records, one after another
 module _ (bytes : ℕ → List ℕ) where
-  pub records-length : (r n : ℕ) → ((q : ℕ) → q < r + n → length (bytes q) ≡ 426)
-      → length (records_from bytes r n) ≡ 426 * n
-  unfolding records_from
-  records-length r zero each = omega arith
-  records-length r (suc n) each =
-      omega (
-        arith,
-        length-append (bytes r) (records_from bytes (suc r) n),
-        each r (omega arith),
-        records-length (suc r) n (λ q lt. each q (omega arith)),
-      )
-
-  pub records-at : (r n i : ℕ) (rest : List ℕ) → ((q : ℕ) → q < r + n → length (bytes q) ≡ 426) →
-      i < n
-      → take 426 (drop (426 * i) (records_from bytes r n ++ rest)) ≡ bytes (r + i)
-  unfolding records_from
-  records-at r zero i rest each lt = absurd (omega arith)
-  records-at r (suc n) zero rest each lt =
-      let start : 426 * 0 ≡ 0 = omega arith in
-      let here : r + 0 ≡ r = omega arith in
-      rw (start, here, append_assoc, ← each r (omega arith))
-      (take-append_seam (bytes r) (records_from bytes (suc r) n ++ rest))
-  records-at r (suc n) (suc i) rest each lt =
-      let next : 426 * suc i ≡ length (bytes r) + 426 * i = omega (arith, each r (omega arith)) in
-      let place : r + suc i ≡ suc r + i = omega arith in
-      rw (
-        next,
-        place,
-        append_assoc,
-        drop-append-add (bytes r) (records_from bytes (suc r) n ++ rest) (426 * i),
-      )
-      (records-at (suc r) n i rest (λ q lt. each q (omega arith)) (omega arith))
-
   -- one part after another
   pub records-split : (r m n : ℕ) →
       records_from bytes r (m + n) ≡ records_from bytes r m ++ records_from bytes (r + m) n
@@ -70,6 +32,25 @@ module _ (bytes : ℕ → List ℕ) where
   unfolding records_from
   records-one r = append-nil (bytes r)
 
+  -- the records of n ranks from a rank on, up to one of them and after it
+  pub records-apart : (r i n : ℕ) → i < n → records_from bytes r n
+      ≡ records_from bytes r i ++ (bytes (r + i) ++ records_from bytes (r + i + 1) (n - i - 1))
+  records-apart r i n lt =
+      let all : n ≡ i + (1 + (n - i - 1)) = omega arith in
+      ap (records_from bytes r) all
+      ∙ (records-split r i (1 + (n - i - 1))
+      ∙ ap (λ (bs : List ℕ). records_from bytes r i ++ bs)
+      (records-split (r + i) 1 (n - i - 1)
+      ∙ ap (λ (bs : List ℕ). bs ++ records_from bytes (r + i + 1) (n - i - 1))
+      (records-one (r + i))))
+
+  -- one record more
+  pub records-next : (r i : ℕ) →
+      records_from bytes r (i + 1) ≡ records_from bytes r i ++ bytes (r + i)
+  records-next r i =
+      records-split r i 1
+      ∙ ap (λ (bs : List ℕ). records_from bytes r i ++ bs) (records-one (r + i))
+
   -- all are bytes where each is
   pub records-bytes : ((r : ℕ) → IsBytes (bytes r)) → (r n : ℕ) → IsBytes (records_from bytes r n)
   unfolding records_from
@@ -78,35 +59,93 @@ module _ (bytes : ℕ → List ℕ) where
       small_append (bytes r) (records_from bytes (suc r) n) (each r) (records-bytes each (suc r) n)
       i
 
--- the file of such records
-module _ (bound : ℕ) (bytes : ℕ → List ℕ) (n : ℕ) (each : (r : ℕ) → r < n → length (bytes r) ≡ 426)
-  where
-    pub file-front : take 32 (file_of bound bytes n) ≡ header bound
-    file-front = take-append_seam (header bound) (records_from bytes 0 n)
+-- the file states its version
+pub file-version : (version : Version) (bound : ℕ) (bytes : ℕ → List ℕ) (n : ℕ) →
+    version_of (file_of version bound bytes n) ≡ version
+unfolding version_of
+file-version full bound bytes n = refl
+file-version compact bound bytes n = refl
 
-    pub file-length : length (file_of bound bytes n) ≡ 32 + 426 * n
-    file-length = omega (
-      arith,
-      length-append (header bound) (records_from bytes 0 n),
-      header-length bound,
-      records-length bytes 0 n (λ q lt. each q (omega arith)),
-    )
+-- .. and its bound
+pub file-bound : (version : Version) (bound : ℕ) (bytes : ℕ → List ℕ) (n : ℕ) → bound ≤ 58 →
+    bound_of (file_of version bound bytes n) ≡ bound
+unfolding bound_of
+file-bound version bound bytes n low = omega arith
 
-    pub file-record : (r : ℕ) → r < n → record_at (file_of bound bytes n) r ≡ bytes r
-    file-record r lt =
-        let at = records-at bytes 0 n r [] (λ q less. each q (omega arith)) lt in
-        let here : 0 + r ≡ r = omega arith in
-        ap (take 426)
-        (drop-front (header bound) (records_from bytes 0 n) 32 (426 * r) (header-length bound))
-        ∙ (subst (λ (bs : List ℕ). take 426 (drop (426 * r) bs) ≡ bytes (0 + r))
-        (append-nil (records_from bytes 0 n)) at
-        ∙ ap bytes here)
+-- the file of records, each as long as the version has it for its rank
+module _ (version : Version) (bound : ℕ) (bytes : ℕ → List ℕ) where
+  pub file-front : (n : ℕ) → take 32 (file_of version bound bytes n) ≡ header version bound
+  file-front n = take-append_seam (header version bound) (records_from bytes 0 n)
 
-    pub file-bound : bound ≤ 44 → bound_of (file_of bound bytes n) ≡ bound
-    unfolding bound_of
-    file-bound low = omega arith
+  -- its length is the place behind its last record
+  pub file-length : (n : ℕ) → ((r : ℕ) → r < n → length (bytes r) ≡ length_at version r) →
+      length (file_of version bound bytes n) ≡ record_place version n
+  unfolding records_from
+  file-length zero each =
+      omega (
+        arith,
+        length-append (header version bound) (records_from bytes 0 0),
+        header-length version bound,
+        record_place-first version,
+      )
+  file-length (suc n) each =
+      omega (
+        arith,
+        length-append (header version bound) (records_from bytes 0 (suc n)),
+        length-append (header version bound) (records_from bytes 0 n),
+        ap (λ k. length (records_from bytes 0 k)) (one-more n),
+        ap length (records-next bytes 0 n),
+        length-append (records_from bytes 0 n) (bytes (0 + n)),
+        ap (λ k. length (bytes k)) (from-none n),
+        each n (omega arith),
+        file-length n (λ r lt. each r (omega arith)),
+        record_place-next version n,
+      )
+    where
+      one-more : (n : ℕ) → suc n ≡ n + 1
+      one-more n = omega arith
 
-    pub file-bytes : ((r : ℕ) → IsBytes (bytes r)) → IsBytes (file_of bound bytes n)
-    file-bytes small =
-        small_append (header bound) (records_from bytes 0 n) (small_header bound)
-        (records-bytes bytes small 0 n)
+      from-none : (n : ℕ) → 0 + n ≡ n
+      from-none n = omega arith
+
+  -- up to a rank, its record, and the rest
+  file-apart : (r n : ℕ) → r < n → file_of version bound bytes n
+      ≡ file_of version bound bytes r ++ (bytes r ++ records_from bytes (r + 1) (n - r - 1))
+  file-apart r n lt =
+      ap (λ (bs : List ℕ). header version bound ++ bs)
+      (records-apart bytes 0 r n lt
+      ∙ ap
+      (λ k.
+      records_from bytes 0 r ++ (bytes k ++ records_from bytes (k + 1) (n - r - 1)))
+      (from-none r))
+      ∙ sym (append_assoc (header version bound) (records_from bytes 0 r)
+      (bytes r ++ records_from bytes (r + 1) (n - r - 1)))
+    where
+      from-none : (n : ℕ) → 0 + n ≡ n
+      from-none n = omega arith
+
+  -- the record of each rank stands at its place
+  pub file-record : (r n : ℕ) → r < n →
+      ((q : ℕ) → q < n → length (bytes q) ≡ length_at version q) →
+      bytes_at (file_of version bound bytes n) (record_place version r) (length_at version r)
+      ≡ bytes r
+  file-record r n lt each =
+      let rest = records_from bytes (r + 1) (n - r - 1) in
+      ap
+      (λ (bs : List ℕ). take (length_at version r) (drop (record_place version r) bs))
+      (file-apart r n lt)
+      ∙ (ap (take (length_at version r))
+      (subst
+      (λ (place : ℕ).
+      drop place (file_of version bound bytes r ++ (bytes r ++ rest)) ≡ bytes r ++ rest)
+      (file-length r (λ q less. each q (omega arith)))
+      (drop-append_seam (file_of version bound bytes r) (bytes r ++ rest)))
+      ∙ subst (λ (size : ℕ). take size (bytes r ++ rest) ≡ bytes r) (each r lt)
+      (take-append_seam (bytes r) rest))
+
+  -- it is one of bytes where its records are
+  pub file-bytes : ((r : ℕ) → IsBytes (bytes r)) → (n : ℕ) →
+      IsBytes (file_of version bound bytes n)
+  file-bytes small n =
+      small_append (header version bound) (records_from bytes 0 n) (small_header version bound)
+      (records-bytes bytes small 0 n)

@@ -1,5 +1,5 @@
 -- Records that were made stay right while more are added.
-use Rattle.std.proofs.Common.{◌≡◌, ⊎_elim, ℕ, ◌+◌, ◌*◌, ◌<◌, ◌≤◌, List, [], ◌∷◌, ◌++◌, length, get_or, sym, ap, subst, ◌∙◌, arith, below_more, length-append}
+use Rattle.std.proofs.Common.{◌≡◌, ⊎_elim, ℕ, ◌+◌, ◌*◌, ◌<◌, ◌≤◌, List, [], ◌∷◌, ◌++◌, length, sym, ap, subst, ◌∙◌, arith, below_more, length-append}
 use Rattle.std.proofs.Math.ListN.{get_or-append}
 use Rattle.std.proofs.Math.Seq.{get_or-append_seam}
 use Rattle.std.specs.Prelude.{slice_index, slice_index_or}
@@ -12,10 +12,9 @@ use Rattle.race_model.proofs.Plays.Results.{finished_or_not}
 use Rattle.race_model.proofs.Ranks.RankOrder.{at_rank_position}
 use Rattle.race_model.proofs.Ranks.PositionTotals.{rank-at_rank}
 use Rattle.race_model.proofs.Numbers.Sums.{sum_by-equal}
-use Rattle.db_layout.specs.Records.{record_of, IsRecordOf}
 use Rattle.race_model.proofs.Dice.RollSums.{roll_index-range}
 use Rattle.race_model.specs.BestPlays.{IsBestPlay}
-use Rattle.retrograde.specs.BuiltRecords.{shares_of, sum_of_means, sum_of_shares, IsMade, IsReached, AreMade}
+use Rattle.retrograde.specs.BuiltRecords.{shares_of, sum_of_means, sum_of_shares, IsMade, IsReached, IsReadBack, AreMade}
 use Rattle.race_model.proofs.Ranks.BestPlays.{best-agree, legal_lower, play-at_end}
 use Rattle.retrograde.proofs.Best.{finished-stays}
 
@@ -105,7 +104,7 @@ module _ (n : ℕ) (means : List ℕ) (plays spreads : List (List ℕ)) (mean : 
     (played shares : List ℕ) (low : n < 54264) (are : AreMade n means plays spreads)
     (made : IsMade means spreads (at_rank n) mean played shares)
     (reached : IsReached (at_rank n) mean shares)
-    (reads : IsRecordOf (record_of mean played shares) mean played shares) where
+    (reads : IsReadBack (at_rank n) mean played shares) where
   -- what is said of the record of a rank
   abbrev Made : ℕ → Type 0
   Made r =
@@ -120,11 +119,8 @@ module _ (n : ℕ) (means : List ℕ) (plays spreads : List (List ℕ)) (mean : 
 
   abbrev Reads : ℕ → Type 0
   Reads r =
-      IsRecordOf
-      (record_of (slice_index (means ++ mean ∷ []) r)
-      (slice_index_or (plays ++ played ∷ []) r []) (shares_of (spreads ++ shares ∷ []) r))
-      (slice_index (means ++ mean ∷ []) r) (slice_index_or (plays ++ played ∷ []) r [])
-      (shares_of (spreads ++ shares ∷ []) r)
+      IsReadBack (at_rank r) (slice_index (means ++ mean ∷ []) r)
+      (slice_index_or (plays ++ played ∷ []) r []) (shares_of (spreads ++ shares ∷ []) r)
 
   -- what was made stays where it was
   old_mean : (r : ℕ) → r < n → slice_index means r ≡ slice_index (means ++ mean ∷ []) r
@@ -211,34 +207,27 @@ module _ (n : ℕ) (means : List ℕ) (plays spreads : List (List ℕ)) (mean : 
   old_reads r lt =
       subst
       (λ (m : ℕ).
-      IsRecordOf
-      (record_of m (slice_index_or (plays ++ played ∷ []) r [])
-      (shares_of (spreads ++ shares ∷ []) r)) m
-      (slice_index_or (plays ++ played ∷ []) r [])
+      IsReadBack (at_rank r) m (slice_index_or (plays ++ played ∷ []) r [])
       (shares_of (spreads ++ shares ∷ []) r)) (old_mean r lt)
-      (subst (λ (p : List ℕ). IsRecordOf
-      (record_of (slice_index means r) p (shares_of (spreads ++ shares ∷ []) r))
-      (slice_index means r) p (shares_of (spreads ++ shares ∷ []) r)) (old_played r lt)
+      (subst
+      (λ (p : List ℕ).
+      IsReadBack (at_rank r) (slice_index means r) p (shares_of (spreads ++ shares ∷ []) r))
+      (old_played r lt)
       (subst
       (λ (s : List ℕ).
-      IsRecordOf (record_of (slice_index means r) (slice_index_or plays r []) s)
-      (slice_index means r) (slice_index_or plays r []) s) (old_shares r lt)
-      (are.reads r lt)))
+      IsReadBack (at_rank r) (slice_index means r) (slice_index_or plays r []) s)
+      (old_shares r lt) (are.reads r lt)))
 
   new_reads : Reads n
   new_reads =
       subst
       (λ (m : ℕ).
-      IsRecordOf
-      (record_of m (slice_index_or (plays ++ played ∷ []) n [])
-      (shares_of (spreads ++ shares ∷ []) n)) m
-      (slice_index_or (plays ++ played ∷ []) n [])
+      IsReadBack (at_rank n) m (slice_index_or (plays ++ played ∷ []) n [])
       (shares_of (spreads ++ shares ∷ []) n)) new_mean
-      (subst (λ (p : List ℕ). IsRecordOf
-      (record_of mean p (shares_of (spreads ++ shares ∷ []) n)) mean p
-      (shares_of (spreads ++ shares ∷ []) n)) new_played
-      (subst (λ (s : List ℕ). IsRecordOf (record_of mean played s) mean played s) new_shares
-      reads))
+      (subst
+      (λ (p : List ℕ).
+      IsReadBack (at_rank n) mean p (shares_of (spreads ++ shares ∷ []) n)) new_played
+      (subst (λ (s : List ℕ). IsReadBack (at_rank n) mean played s) new_shares reads))
 
   pub one-more : AreMade (n + 1) (means ++ mean ∷ []) (plays ++ played ∷ [])
       (spreads ++ shares ∷ [])

@@ -1,9 +1,14 @@
 -- What is kept of the records while shares are given up, and what the record of the next rank is.
-use Rattle.std.proofs.Common.{◌≡◌, ℕ, ◌+◌, ◌-◌, ◌<◌, ◌≤◌, List, [], length, drop, get_or, sym, ap, ◌∙◌, arith}
+use Rattle.std.proofs.Common.{◌≡◌, ℕ, ◌+◌, ◌-◌, ◌<◌, List, [], length, drop, get_or, sym, ap, subst, ◌∙◌, arith}
 use Rattle.std.proofs.lemmas.List.{get_or-drop, length-drop}
 use Rattle.retrograde.specs.AllRecords.{AllRecords, mean_of_rank, plays_of_rank, shares_of_rank, bytes_of_rank}
 use Rattle.std.specs.Prelude.{slice_index}
-use Rattle.db_layout.specs.Records.{record_of}
+use Rattle.race_model.specs.Positions.{pips}
+use Rattle.race_model.specs.Ranks.{at_rank, count_to}
+use Rattle.race_model.specs.Versions.{Version}
+use Rattle.race_model.proofs.Ranks.RankOrder.{at_rank_position}
+use Rattle.db_layout.specs.Records.{record_of, IsHeld}
+use Rattle.retrograde.proofs.Held.{held}
 use Rattle.retrograde.specs.KeptRecords.{AreKept}
 
 -- the first shares are given up
@@ -28,20 +33,38 @@ kept-fewer full means spreads others plays e some kept = record {
   place i = omega (arith, fewer, kept.spreads_few)
 
 -- the bytes of a record whose plays are kept
-pub kept-bytes : (full : AllRecords) (means : List ℕ) (spreads plays : List (List ℕ)) →
-    AreKept full means spreads plays
-    → (index place mean : ℕ) (shares : List ℕ) → index < length plays →
+pub kept-bytes : (version : Version) (full : AllRecords) (means : List ℕ)
+    (spreads plays : List (List ℕ)) → AreKept full means spreads plays
+    → (p index place mean : ℕ) (shares : List ℕ) → index < length plays →
     place ≡ length means - length plays + index
+    → pips (at_rank (length means - length plays + index)) ≡ p
     → mean ≡ slice_index means place → shares ≡ shares_of_rank full place
-    → record_of mean (get_or plays index []) shares
-    ≡ bytes_of_rank full (length means - length plays + index)
-kept-bytes full means spreads plays kept index place mean shares lt e mean_is shares_is =
+    → record_of version p mean (get_or plays index []) shares
+    ≡ bytes_of_rank version full (length means - length plays + index)
+kept-bytes version full means spreads plays kept p index place mean shares lt e pips_is mean_is
+    shares_is =
     let held : place < length means = omega (arith, kept.plays_few) in
+    let rank : ℕ = length means - length plays + index in
     let m = mean_is ∙ (kept.means_are place held ∙ ap (mean_of_rank full) e) in
-    let p = kept.plays_are index lt in
     let s = shares_is ∙ ap (shares_of_rank full) e in
-    ap (λ m. record_of m (get_or plays index []) shares) m
-    ∙ (ap (λ (p : List ℕ). record_of
-    (mean_of_rank full (length means - length plays + index)) p shares) p
-    ∙ ap (λ (s : List ℕ). record_of (mean_of_rank full (length means - length plays + index))
-    (plays_of_rank full (length means - length plays + index)) s) s)
+    ap (λ (q : ℕ). record_of version q mean (get_or plays index []) shares) (sym pips_is)
+    ∙ (ap (λ (m : ℕ). record_of version (pips (at_rank rank)) m (get_or plays index []) shares) m
+    ∙ (ap
+    (λ (ps : List ℕ).
+    record_of version (pips (at_rank rank)) (mean_of_rank full rank) ps shares)
+    (kept.plays_are index lt)
+    ∙ ap
+    (λ (xs : List ℕ).
+    record_of version (pips (at_rank rank)) (mean_of_rank full rank)
+    (plays_of_rank full rank) xs) s))
+
+-- .. and no share of it is lost
+pub kept-held : (version : Version) (full : AllRecords) (r p : ℕ) (shares : List ℕ) →
+    r < count_to 58 → pips (at_rank r) ≡ p → shares ≡ shares_of_rank full r →
+    IsHeld version p shares
+kept-held version full r p shares lt pips_is shares_is =
+    subst (λ (xs : List ℕ). IsHeld version p xs) (sym shares_is)
+    (subst (λ (q : ℕ). IsHeld version q (shares_of_rank full r)) pips_is
+    (held full.means full.spreads (at_rank r) (mean_of_rank full r) (plays_of_rank full r)
+    (shares_of_rank full r) (at_rank_position r) (full.made.made r lt) (full.made.reached r lt)
+    version))

@@ -1,7 +1,7 @@
 -- The ranks of the positions of one pip count.
 use Rattle.std.proofs.Common.{◌≡◌, ⊎_elim, ◌⊎◌, ℕ, suc, ◌<◌, ◌≤◌, arith}
 use Rattle.race_model.specs.Positions.{pips}
-use Rattle.race_model.specs.Ranks.{rank, at_rank, first_of, count_to}
+use Rattle.race_model.specs.Ranks.{at_rank, first_of, count_to}
 use Rattle.race_model.proofs.Ranks.RankOrder.{at_rank_position, rank_within, first_of-rises, first_of-suc}
 use Rattle.race_model.proofs.Ranks.PositionTotals.{at_rank_under}
 

@@ -3,6 +3,7 @@ pub mod BuiltFiles
 pub mod Existence
 pub mod Files
 pub mod Grown
+pub mod Held
 pub mod Kept
 pub mod Levels
 pub mod Next

@@ -1,13 +1,13 @@
 -- The record of an unfinished position, from the records of lower rank.
-use Rattle.std.proofs.Common.{◌≡◌, ℕ, suc, ◌+◌, ◌*◌, ◌%◌, ◌<◌, ◌≤◌, List, length, sym, ap, subst, ◌∙◌, arith}
+use Rattle.std.proofs.Common.{◌≡◌, ℕ, suc, ◌+◌, ◌*◌, ◌%◌, ◌<◌, ◌≤◌, List, sym, ap, subst, ◌∙◌, arith}
 use Rattle.std.specs.Prelude.{slice_index}
 use Rattle.race_model.specs.Positions.{Board, IsPosition, IsFinished, pips}
 use Rattle.race_model.specs.Dice.{Throw, roll_at, roll_index}
 use Rattle.race_model.specs.Plays.{Legal}
 use Rattle.race_model.specs.Ranks.{rank, at_rank}
 use Rattle.race_model.specs.LocalEquations.{whole}
-use Rattle.race_model.proofs.Plays.Results.{legal_position, legal_fewer_pips}
-use Rattle.race_model.proofs.Ranks.RankOrder.{rank-fewer, at_rank-rank}
+use Rattle.race_model.proofs.Plays.Results.{legal_position}
+use Rattle.race_model.proofs.Ranks.RankOrder.{at_rank-rank}
 use Rattle.race_model.proofs.Dice.Throws.{roll_of_index}
 use Rattle.race_model.proofs.Dice.RollSums.{roll_index-range}
 use Rattle.race_model.specs.BestPlays.{IsBestPlay}
@@ -31,7 +31,7 @@ ReachedBelow n means spreads =
     (r : ℕ) → r < n → IsReached (at_rank r) (slice_index means r) (shares_of spreads r)
 
 -- an unfinished position, the records of lower rank, and the best plays
-module _ (x : Board) (at : IsPosition x) (unfinished : ¬ IsFinished x) (low : pips x ≤ 44)
+module _ (x : Board) (at : IsPosition x) (unfinished : ¬ IsFinished x) (low : pips x ≤ 58)
     (means : List ℕ)
     (spreads : List (List ℕ)) (reached : ReachedBelow (rank x) means spreads) (plays : List ℕ)
     (best : (i : ℕ) → i < 21 →

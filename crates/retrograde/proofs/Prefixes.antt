@@ -1,18 +1,18 @@
 -- What was written of the built file, part by part.
-use Rattle.std.proofs.Common.{◌≡◌, ℕ, zero, suc, ◌+◌, ◌-◌, ◌<◌, ◌≤◌, List, [], ◌∷◌, ◌++◌, Option, length, take, refl, sym, ap, subst, ◌∙◌, arith, append_assoc}
+use Rattle.std.proofs.Common.{◌≡◌, ℕ, zero, suc, ◌+◌, ◌-◌, ◌≤◌, List, [], ◌∷◌, ◌++◌, Option, length, take, refl, sym, ap, subst, ◌∙◌, arith, append_assoc}
 use Rattle.std.specs.Prelude.{Result, Ok, Err, IfErr}
 use Rattle.std.specs.Result.{IsErrAnd}
 use Rattle.std.specs.Io.KnownBytes.{Appends}
 use Rattle.std.proofs.lemmas.List.{append-nil}
 use Rattle.std.proofs.Math.Seq.{take-append_seam}
 use Rattle.race_model.specs.Ranks.{count_to}
+use Rattle.race_model.specs.Versions.{Version, greatest_bound}
 use Rattle.race_model.specs.Files.{header}
 use Rattle.db_layout.specs.Writes.{AppendsPart}
 use Rattle.db_layout.proofs.Known.{appends_twice}
 use Rattle.retrograde.specs.AllRecords.{AllRecords, bytes_of_rank}
-use Rattle.retrograde.specs.BuiltBytes.{records_from, built_to, built_file, WritesBuilt, WritesPart, IsRefusedBy}
-use Rattle.retrograde.specs.declared.build_fault.BuildFault.TheVariants.{Memory, Write}
-use Rattle.retrograde.proofs.Files.{records-split, records-one}
+use Rattle.retrograde.specs.BuiltBytes.{records_from, built_to, built_file, WritesBuilt, WritesPart}
+use Rattle.retrograde.proofs.Files.{records-split}
 use Rattle.retrograde.proofs.BuiltFiles.{is-built}
 
 -- a prefix of a front of bytes is one of these bytes
@@ -57,132 +57,115 @@ pub nothing-part : (old new : Option (List ℕ)) (bytes : List ℕ) → Appends 
     AppendsPart old new bytes
 nothing-part old new bytes none = (0, none)
 
--- the records of n ranks from a rank on, up to one of them and after it
-pub records-apart : (full : AllRecords) (r i n : ℕ) → i < n → records_from (bytes_of_rank full) r n
-    ≡ records_from (bytes_of_rank full) r i
-    ++ (bytes_of_rank full (r + i)
-    ++ records_from (bytes_of_rank full) (r + i + 1) (n - i - 1))
-records-apart full r i n lt =
-    let all : n ≡ i + (1 + (n - i - 1)) = omega arith in
-    ap (records_from (bytes_of_rank full) r) all
-    ∙ (records-split (bytes_of_rank full) r i (1 + (n - i - 1))
-    ∙ ap (λ (bs : List ℕ). records_from (bytes_of_rank full) r i ++ bs)
-    (records-split (bytes_of_rank full) (r + i) 1 (n - i - 1)
-    ∙ ap (λ (bs : List ℕ). bs ++ records_from (bytes_of_rank full) (r + i + 1) (n - i - 1))
-    (records-one (bytes_of_rank full) (r + i))))
-
--- one record more
-pub records-next : (full : AllRecords) (r i : ℕ) → records_from (bytes_of_rank full) r (i + 1)
-    ≡ records_from (bytes_of_rank full) r i ++ bytes_of_rank full (r + i)
-records-next full r i =
-    records-split (bytes_of_rank full) r i 1
-    ∙ ap (λ (bs : List ℕ). records_from (bytes_of_rank full) r i ++ bs)
-    (records-one (bytes_of_rank full) (r + i))
-
--- the built file of a bound
-module _ (full : AllRecords) (bound : ℕ) (low : bound ≤ 44) where
+-- the built file of a version and a bound
+module _ (version : Version) (full : AllRecords) (bound : ℕ)
+    (low : bound ≤ greatest_bound version) where
   -- up to a rank, the records of more ranks, and the rest
-  pub built-split : (n m : ℕ) → n + m ≤ count_to bound → built_file full bound
-      ≡ built_to full bound n
-      ++ (records_from (bytes_of_rank full) n m
-      ++ records_from (bytes_of_rank full) (n + m) (count_to bound - (n + m)))
+  pub built-split : (n m : ℕ) → n + m ≤ count_to bound → built_file version full bound
+      ≡ built_to version full bound n
+      ++ (records_from (bytes_of_rank version full) n m
+      ++ records_from (bytes_of_rank version full) (n + m) (count_to bound - (n + m)))
   built-split n m le =
       let all : count_to bound ≡ n + (m + (count_to bound - (n + m))) = omega arith in
       let here : 0 + n ≡ n = omega arith in
-      ap (built_to full bound) all
-      ∙ (ap (λ (bs : List ℕ). header bound ++ bs)
-      (records-split (bytes_of_rank full) 0 n (m + (count_to bound - (n + m)))
+      ap (built_to version full bound) all
+      ∙ (ap (λ (bs : List ℕ). header version bound ++ bs)
+      (records-split (bytes_of_rank version full) 0 n (m + (count_to bound - (n + m)))
       ∙ ap
       (λ (r : ℕ).
-      records_from (bytes_of_rank full) 0 n
-      ++ records_from (bytes_of_rank full) r (m + (count_to bound - (n + m)))) here
-      ∙ ap (λ (bs : List ℕ). records_from (bytes_of_rank full) 0 n ++ bs)
-      (records-split (bytes_of_rank full) n m (count_to bound - (n + m))))
-      ∙ sym (append_assoc (header bound) (records_from (bytes_of_rank full) 0 n)
-      (records_from (bytes_of_rank full) n m
-      ++ records_from (bytes_of_rank full) (n + m) (count_to bound - (n + m)))))
+      records_from (bytes_of_rank version full) 0 n
+      ++ records_from (bytes_of_rank version full) r (m + (count_to bound - (n + m)))) here
+      ∙ ap (λ (bs : List ℕ). records_from (bytes_of_rank version full) 0 n ++ bs)
+      (records-split (bytes_of_rank version full) n m (count_to bound - (n + m))))
+      ∙ sym (append_assoc (header version bound) (records_from (bytes_of_rank version full) 0 n)
+      (records_from (bytes_of_rank version full) n m
+      ++ records_from (bytes_of_rank version full) (n + m) (count_to bound - (n + m)))))
 
   -- up to more ranks
   pub built-more : (n m : ℕ) →
-      built_to full bound n ++ records_from (bytes_of_rank full) n m ≡ built_to full bound (n + m)
+      built_to version full bound n ++ records_from (bytes_of_rank version full) n m
+      ≡ built_to version full bound (n + m)
   built-more n m =
       let here : 0 + n ≡ n = omega arith in
-      append_assoc (header bound) (records_from (bytes_of_rank full) 0 n)
-      (records_from (bytes_of_rank full) n m)
-      ∙ ap (λ (bs : List ℕ). header bound ++ bs)
-      (sym (records-split (bytes_of_rank full) 0 n m
+      append_assoc (header version bound) (records_from (bytes_of_rank version full) 0 n)
+      (records_from (bytes_of_rank version full) n m)
+      ∙ ap (λ (bs : List ℕ). header version bound ++ bs)
+      (sym (records-split (bytes_of_rank version full) 0 n m
       ∙ ap
       (λ (r : ℕ).
-      records_from (bytes_of_rank full) 0 n ++ records_from (bytes_of_rank full) r m)
+      records_from (bytes_of_rank version full) 0 n
+      ++ records_from (bytes_of_rank version full) r m)
       here))
 
   -- a prefix of the built file
-  pub part-refused : (old new : Option (List ℕ)) → AppendsPart old new (built_file full bound) →
-      WritesPart bound old new
-  part-refused old new part = (built_file full bound, is-built full bound low, part)
+  pub part-refused : (old new : Option (List ℕ)) →
+      AppendsPart old new (built_file version full bound) → WritesPart version bound old new
+  part-refused old new part =
+      (built_file version full bound, is-built version full bound low, part)
 
   -- nothing was written
-  pub nothing-written : (old new : Option (List ℕ)) → Appends old new [] → WritesPart bound old new
+  pub nothing-written : (old new : Option (List ℕ)) → Appends old new [] →
+      WritesPart version bound old new
   nothing-written old new none =
-      part-refused old new (nothing-part old new (built_file full bound) none)
+      part-refused old new (nothing-part old new (built_file version full bound) none)
 
   -- a prefix of the header
-  pub header-written : (old new : Option (List ℕ)) → AppendsPart old new (header bound) →
-      WritesPart bound old new
+  pub header-written : (old new : Option (List ℕ)) → AppendsPart old new (header version bound) →
+      WritesPart version bound old new
   header-written old new part =
       part-refused old new
-      (let first = take-front part.0 (header bound)
-      (records_from (bytes_of_rank full) 0 (count_to bound)) in
+      (let first = take-front part.0 (header version bound)
+      (records_from (bytes_of_rank version full) 0 (count_to bound)) in
       (first.0, subst (λ (bs : List ℕ). Appends old new bs) first.1 part.1))
 
   -- the header and no record
-  pub header-first : (old new : Option (List ℕ)) → Appends old new (header bound) →
-      Appends old new (built_to full bound 0)
+  pub header-first : (old new : Option (List ℕ)) → Appends old new (header version bound) →
+      Appends old new (built_to version full bound 0)
   unfolding records_from
   header-first old new all =
-      subst (λ (bs : List ℕ). Appends old new bs) (sym (append-nil (header bound))) all
+      subst (λ (bs : List ℕ). Appends old new bs) (sym (append-nil (header version bound))) all
 
   -- the file up to a rank
   pub ranks-written : (old new : Option (List ℕ)) (n : ℕ) → n ≤ count_to bound →
-      Appends old new (built_to full bound n)
-      → WritesPart bound old new
+      Appends old new (built_to version full bound n)
+      → WritesPart version bound old new
   ranks-written old new n le all =
       part-refused old new
       (subst (λ (bs : List ℕ). AppendsPart old new bs) (sym (built-split n 0 (omega arith)))
-      (front-part old new (built_to full bound n)
-      (records_from (bytes_of_rank full) n 0
-      ++ records_from (bytes_of_rank full) (n + 0) (count_to bound - (n + 0))) all))
+      (front-part old new (built_to version full bound n)
+      (records_from (bytes_of_rank version full) n 0
+      ++ records_from (bytes_of_rank version full) (n + 0) (count_to bound - (n + 0))) all))
 
   -- .. and a prefix of more ranks
   pub more-written : (old mid new : Option (List ℕ)) (n m : ℕ) → n + m ≤ count_to bound
-      → Appends old mid (built_to full bound n) →
-      AppendsPart mid new (records_from (bytes_of_rank full) n m)
-      → WritesPart bound old new
+      → Appends old mid (built_to version full bound n) →
+      AppendsPart mid new (records_from (bytes_of_rank version full) n m)
+      → WritesPart version bound old new
   more-written old mid new n m le before part =
       part-refused old new
       (subst (λ (bs : List ℕ). AppendsPart old new bs) (sym (built-split n m le))
-      (flat_map-take_more old mid new (built_to full bound n)
-      (records_from (bytes_of_rank full) n m)
-      (records_from (bytes_of_rank full) (n + m) (count_to bound - (n + m))) before part))
+      (flat_map-take_more old mid new (built_to version full bound n)
+      (records_from (bytes_of_rank version full) n m)
+      (records_from (bytes_of_rank version full) (n + m) (count_to bound - (n + m))) before part))
 
   -- .. and all of them
   pub level-written : (old mid new : Option (List ℕ)) (n m : ℕ) →
-      Appends old mid (built_to full bound n)
-      → Appends mid new (records_from (bytes_of_rank full) n m) →
-      Appends old new (built_to full bound (n + m))
+      Appends old mid (built_to version full bound n)
+      → Appends mid new (records_from (bytes_of_rank version full) n m) →
+      Appends old new (built_to version full bound (n + m))
   level-written old mid new n m before all =
       subst (λ (bs : List ℕ). Appends old new bs) (built-more n m)
-      (appends_twice old mid new (built_to full bound n) (records_from (bytes_of_rank full) n m)
-      before all)
+      (appends_twice old mid new (built_to version full bound n)
+      (records_from (bytes_of_rank version full) n m) before all)
 
   -- the whole file, and nothing else
   pub all-written : (old new : Option (List ℕ)) (n : ℕ) → n ≡ count_to bound →
-      Appends old new (built_to full bound n)
-      → WritesBuilt bound old new
+      Appends old new (built_to version full bound n)
+      → WritesBuilt version bound old new
   all-written old new n e all = (
-    built_file full bound,
-    is-built full bound low,
-    subst (λ (m : ℕ). Appends old new (built_to full bound m)) e all,
+    built_file version full bound,
+    is-built version full bound low,
+    subst (λ (m : ℕ). Appends old new (built_to version full bound m)) e all,
   )
 
 -- what holds of the one error that there can be

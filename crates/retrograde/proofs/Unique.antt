@@ -1,10 +1,10 @@
 -- The record of a position follows from those of lower rank: whoever makes it makes this one.
-use Rattle.std.proofs.Common.{◌≡◌, ⊎_elim, ℕ, zero, suc, ◌+◌, ◌-◌, ◌*◌, ◌%◌, ◌<◌, ◌≤◌, List, length, get_or, sum_by, refl, sym, ap, subst, ◌∙◌, arith, ext_get_or}
+use Rattle.std.proofs.Common.{◌≡◌, ℕ, zero, suc, ◌+◌, ◌-◌, ◌*◌, ◌%◌, ◌<◌, ◌≤◌, List, length, sum_by, refl, sym, ap, subst, ◌∙◌, arith, ext_get_or}
 use Rattle.std.specs.Prelude.{slice_index}
 use Rattle.race_model.specs.Positions.{Board, IsPosition, IsFinished, pips}
 use Rattle.race_model.specs.Dice.{Throw, all_rolls, roll_at, roll_index, weight}
 use Rattle.race_model.specs.Plays.{Legal}
-use Rattle.race_model.specs.Ranks.{rank, at_rank, first_of, count_to}
+use Rattle.race_model.specs.Ranks.{rank, first_of, count_to}
 use Rattle.race_model.specs.LocalEquations.{whole}
 use Rattle.race_model.proofs.Plays.Results.{legal_position}
 use Rattle.race_model.proofs.Plays.Spent.{legal_takes}
@@ -12,7 +12,6 @@ use Rattle.race_model.proofs.Ranks.BestPlays.{best-agree, legal_lower}
 use Rattle.race_model.proofs.Ranks.RankOrder.{rank_bound, at_rank-rank, rank_within, first_of-rises}
 use Rattle.race_model.proofs.Strategies.Horizons.{within_22}
 use Rattle.race_model.proofs.Numbers.Sums.{sum_by-equal}
-use Rattle.race_model.proofs.Dice.Throws.{roll_of_index}
 use Rattle.race_model.proofs.Dice.RollSums.{roll_index-range}
 use Rattle.race_model.specs.BestPlays.{IsBestPlay}
 use Rattle.retrograde.specs.BuiltRecords.{shares_of, sum_of_means, sum_of_shares, IsMade, IsReached}
@@ -53,10 +52,10 @@ none-sum : sum_by (λ v. 0) all_rolls ≡ 0
 unfolding all_rolls
 none-sum = refl
 
--- a position of at most 44 pips
-module _ (full : AllRecords) (x : Board) (at : IsPosition x) (low : pips x ≤ 44) where
-  under : rank x < count_to 44
-  under = (rank_bound x 44 at).1 low
+-- a position of at most 58 pips
+module _ (full : AllRecords) (x : Board) (at : IsPosition x) (low : pips x ≤ 58) where
+  under : rank x < count_to 58
+  under = (rank_bound x 58 at).1 low
 
   -- what is said of its record
   made : IsMade full.means full.spreads x (mean_of_rank full (rank x))

@@ -1,14 +1,16 @@
--- The records of all positions of at most 44 pips, by rank. There is one list of them, since each
--- record follows from those of lower rank: whatever the builder makes stands in it. Source: this
--- project's profile.
+-- The records of all positions of at most 58 pips, by rank. There is one list of them, since each
+-- record follows from those of lower rank: whatever the builder makes stands in it, for files of
+-- either version. Source: this project's profile.
 use Rattle.std.specs.Prelude.{ℕ, List, [], slice_index, slice_index_or}
-use Rattle.race_model.specs.Ranks.{count_to}
+use Rattle.race_model.specs.Positions.{pips}
+use Rattle.race_model.specs.Ranks.{at_rank, count_to}
+use Rattle.race_model.specs.Versions.{Version}
 use Rattle.db_layout.specs.Records.{record_of}
 use Rattle.retrograde.specs.BuiltRecords.{HasRecords, shares_of}
 
 -- all records
 abbrev pub AllRecords : Type 0
-AllRecords = HasRecords (count_to 44)
+AllRecords = HasRecords (count_to 58)
 
 -- the mean of a rank
 abbrev pub mean_of_rank : AllRecords → ℕ → ℕ
@@ -22,7 +24,8 @@ plays_of_rank full r = slice_index_or full.plays r []
 abbrev pub shares_of_rank : AllRecords → ℕ → List ℕ
 shares_of_rank full r = shares_of full.spreads r
 
--- the bytes of its record
-abbrev pub bytes_of_rank : AllRecords → ℕ → List ℕ
-bytes_of_rank full r =
-    record_of (mean_of_rank full r) (plays_of_rank full r) (shares_of_rank full r)
+-- the bytes of its record in a file of a version
+abbrev pub bytes_of_rank : Version → AllRecords → ℕ → List ℕ
+bytes_of_rank version full r =
+    record_of version (pips (at_rank r)) (mean_of_rank full r) (plays_of_rank full r)
+    (shares_of_rank full r)

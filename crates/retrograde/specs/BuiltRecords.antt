@@ -2,9 +2,10 @@
 -- equations that each meets over those of lower rank.
 -- Source: this project's profile.
 use Rattle.std.specs.Prelude.{◌≡◌, ℕ, suc, ◌+◌, ◌*◌, ◌<◌, ◌≤◌, List, [], length, slice_index, slice_index_or}
-use Rattle.race_model.specs.Positions.{Board, IsFinished}
+use Rattle.race_model.specs.Positions.{Board, IsFinished, pips}
 use Rattle.race_model.specs.Dice.{roll_at, roll_index}
 use Rattle.race_model.specs.Ranks.{at_rank}
+use Rattle.race_model.specs.Versions.{Version}
 use Rattle.race_model.specs.LocalEquations.{whole, weighted}
 use Rattle.race_model.specs.Strategies.{Strategy, Fits, total, count_of}
 use Rattle.db_layout.specs.Records.{record_of, IsRecordOf}
@@ -43,6 +44,12 @@ pub record IsReached (x : Board) (mean : ℕ) (shares : List ℕ) : Type 0 where
   pub total_is : total strategy ≡ mean
   pub counts : (k : ℕ) → k ≤ 22 → count_of strategy k ≡ slice_index shares k
 
+-- the bytes of the record of a position tell it, in files of either version
+abbrev pub IsReadBack : Board → ℕ → List ℕ → List ℕ → Type 0
+IsReadBack x mean plays shares =
+    (version : Version) → IsRecordOf version (pips x)
+    (record_of version (pips x) mean plays shares) mean plays shares
+
 -- the records of the first n ranks
 pub record AreMade (n : ℕ) (means : List ℕ) (plays spreads : List (List ℕ)) : Type 0 where
   pub means_len : length means ≡ n
@@ -53,9 +60,8 @@ pub record AreMade (n : ℕ) (means : List ℕ) (plays spreads : List (List ℕ)
       (shares_of spreads r)
   pub reached : (r : ℕ) → r < n → IsReached (at_rank r) (slice_index means r) (shares_of spreads r)
   pub reads : (r : ℕ) → r < n →
-      IsRecordOf
-      (record_of (slice_index means r) (slice_index_or plays r []) (shares_of spreads r))
-      (slice_index means r) (slice_index_or plays r []) (shares_of spreads r)
+      IsReadBack (at_rank r) (slice_index means r) (slice_index_or plays r [])
+      (shares_of spreads r)
 
 -- the records of the first n ranks, as three lists
 pub record HasRecords (n : ℕ) : Type 0 where

@@ -2,3 +2,4 @@ pub mod AllRecords
 pub mod BuiltBytes
 pub mod BuiltRecords
 pub mod KeptRecords
+pub mod UsualVersion

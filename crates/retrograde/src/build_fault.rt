@@ -7,7 +7,7 @@ use thiserror::Error;
 /// Why a build is refused.
 #[derive(Clone, Copy, Debug, PartialEq, Eq, Error)]
 pub enum BuildFault {
-    /// The pip bound is over 44.
+    /// The pip bound is over 58.
     #[error("over the greatest bound")]
     OverBound,
 

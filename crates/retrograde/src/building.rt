@@ -3,18 +3,21 @@
 ghost use Rattle.std.specs.Prelude.{◌≡◌, ℕ, ◌+◌, ◌-◌, ◌<◌, ◌≤◌, List, length, OnOk, OnErr, IfErr};
 ghost use Rattle.std.specs.Io.KnownBytes.{Appends};
 ghost use Rattle.race_model.specs.Ranks.{first_of, count_to};
+ghost use Rattle.race_model.specs.Versions.{compact, version_by};
+ghost use Rattle.db_layout.specs.Records.{IsVersion};
 ghost use Rattle.db_layout.specs.Writes.{AppendsPart};
 ghost use Rattle.least_plays.specs.Known.{Knows};
 ghost use Rattle.retrograde.specs.AllRecords.{AllRecords, mean_of_rank, bytes_of_rank};
 ghost use Rattle.retrograde.specs.KeptRecords.{AreKept};
 ghost use Rattle.retrograde.specs.BuiltBytes.{records_from, WritesBuilt, IsRefusedBy};
+ghost use Rattle.retrograde.specs.UsualVersion.{usual_version};
 ghost use Rattle.retrograde.specs.declared.build_fault.BuildFault.TheVariants.{Memory};
 
 use crate::build_fault::BuildFault;
 use crate::pulling::next_record;
 use crate::records::Records;
-use db_layout::header::VERSION;
-use db_layout::{Header, WriteFault, write_header, write_record};
+use db_layout::{COMPACT_VERSION, Header, VERSION, WriteFault, write_header, write_record};
+use home_board::OLD_BOUND;
 use least_plays::LeastPlays;
 use ranking::Ranks;
 use std::alloc::Global;
@@ -25,32 +28,74 @@ const MOST_PIPS_OF_A_ROLL: u8 = 24;
 
 /// Writes the database of a pip bound: for each position of at most so many pips the least mean
 /// number of rolls, for each roll the lowest rank of the results that reach it, and how the
-/// number of rolls is spread. Each level of pips is written as soon as it is made, and the
-/// growths of memory for it come before its first byte. `OverBound` where the bound is over 44:
-/// nothing was written. `Memory` where a growth was refused, and `Write` where a `write` failed
-/// or took no byte: a prefix of the database was written. (What is counted is that of a one-sided
-/// database of the GNU Backgammon manual; the exact numbers, the file and the tie rule are this
-/// project's profile.)
-// so that its room is on the stack while it builds, and not while its caller goes on
-#[inline(never)]
+/// number of rolls is spread. It is a file of version 1 for bounds to 44 pips, and of version 2
+/// for those of 45 to 58. Each level of pips is written as soon as it is made, and the growths of
+/// memory for it come before its first byte. `OverBound` where the bound is over 58: nothing was
+/// written. `Memory` where a growth was refused, and `Write` where a `write` failed or took no
+/// byte: a prefix of the database was written. (What is counted is that of a one-sided database
+/// of the GNU Backgammon manual; the exact numbers, the file and the tie rule are this project's
+/// profile.)
 pub fn build<W: Write>(alloc: Global, bound: u8, writer: &mut W) -> Result<(), BuildFault>
     ensures built { OnOk result
-        (WritesBuilt bound (W.contents writer.old) (W.contents writer.new)) }
+        (WritesBuilt (usual_version bound) bound (W.contents writer.old) (W.contents writer.new)) }
     ensures refused { IfErr result
-        (IsRefusedBy bound (W.contents writer.old) (W.contents writer.new)) }
+        (IsRefusedBy (usual_version bound) bound (W.contents writer.old)
+        (W.contents writer.new)) }
 {
-    let Some(header) = Header::new(VERSION, bound) else {
+    let Some(header) = Header::new(usual_version(bound), bound) else {
         return Err(BuildFault::OverBound);
     };
+    build_version(alloc, header, writer)
+}
+
+/// Writes the database of a pip bound of at most 58 as a file of version 2, whose records leave
+/// out the shares that are known without being stored. It tells the same means, plays and shares
+/// as the file that `build` writes, and the faults are those of `build`.
+pub fn build_compact<W: Write>(alloc: Global, bound: u8, writer: &mut W) -> Result<(), BuildFault>
+    ensures built { OnOk result
+        (WritesBuilt compact bound (W.contents writer.old) (W.contents writer.new)) }
+    ensures refused { IfErr result
+        (IsRefusedBy compact bound (W.contents writer.old) (W.contents writer.new)) }
+{
+    let Some(header) = Header::new(COMPACT_VERSION, bound) else {
+        return Err(BuildFault::OverBound);
+    };
+    build_version(alloc, header, writer)
+}
+
+/// The version of the file that `build` writes for a bound: 1 to 44 pips, and 2 beyond.
+fn usual_version(bound: u8) -> u16
+    ensures known { IsVersion result }
+    ensures version { version_by result ≡ usual_version bound }
+{
+    if bound > OLD_BOUND {
+        COMPACT_VERSION
+    } else {
+        VERSION
+    }
+}
+
+/// Writes the database of the version and the bound of a header. Refused only for want of memory,
+/// or where a `write` failed or took no byte.
+// so that its room is on the stack while it builds, and not while its caller goes on
+#[inline(never)]
+fn build_version<W: Write>(alloc: Global, header: Header, writer: &mut W) -> Result<(), BuildFault>
+    ensures built { OnOk result
+        (WritesBuilt (version_by header.version) header.bound (W.contents writer.old)
+        (W.contents writer.new)) }
+    ensures refused { IfErr result
+        (IsRefusedBy (version_by header.version) header.bound (W.contents writer.old)
+        (W.contents writer.new)) }
+{
     let ranks = Ranks::new();
     let mut records = Records::new(alloc);
     let mut least = LeastPlays::new();
     add_level(&mut records, &mut least, &ranks, 0)?;
     write_header(&header, writer)?;
-    write_level(&records, writer)?;
-    for below in 0..bound {
+    write_level(&records, &header, 0, writer)?;
+    for below in 0..header.bound {
         add_level(&mut records, &mut least, &ranks, below + 1)?;
-        write_level(&records, writer)?;
+        write_level(&records, &header, below + 1, writer)?;
     }
     Ok(())
 }
@@ -65,7 +110,7 @@ fn add_level(
     pips: u8,
 ) -> Result<(), BuildFault>
     ghost full: { AllRecords }
-    requires low { pips ≤ 44 }
+    requires low { pips ≤ 58 }
     requires kept { AreKept full records.old.means records.old.spreads.items
         records.old.plays.items }
     requires next { length records.old.means ≡ first_of pips }
@@ -93,18 +138,27 @@ fn add_level(
     Ok(())
 }
 
-/// Writes the records whose plays are kept: those of the last level.
-fn write_level<W: Write>(records: &Records, writer: &mut W) -> Result<(), WriteFault>
+/// Writes the records whose plays are kept, which are those of a pip count, into the file with
+/// this header.
+fn write_level<W: Write>(
+    records: &Records,
+    header: &Header,
+    pips: u8,
+    writer: &mut W,
+) -> Result<(), WriteFault>
     ghost full: { AllRecords }
+    requires low { pips ≤ header.now.bound }
     requires kept { AreKept full records.now.means records.now.spreads.items
         records.now.plays.items }
     requires few { length records.now.plays.items ≤ length records.now.spreads.items }
+    requires made { length records.now.means ≡ count_to pips }
+    requires level { first_of pips + length records.now.plays.items ≡ length records.now.means }
     ensures all { OnOk result (Appends (W.contents writer.old) (W.contents writer.new)
-        (records_from (bytes_of_rank full)
+        (records_from (bytes_of_rank (version_by header.now.version) full)
         (length records.now.means - length records.now.plays.items)
         (length records.now.plays.items))) }
     ensures part { OnErr result (AppendsPart (W.contents writer.old) (W.contents writer.new)
-        (records_from (bytes_of_rank full)
+        (records_from (bytes_of_rank (version_by header.now.version) full)
         (length records.now.means - length records.now.plays.items)
         (length records.now.plays.items))) }
 {
@@ -112,7 +166,7 @@ fn write_level<W: Write>(records: &Records, writer: &mut W) -> Result<(), WriteF
     for (index, plays) in records.plays.iter().enumerate() {
         let rank = first + index as u16;
         let mean = records.means.get(rank).unwrap();
-        write_record(mean, plays, records.spread(rank), writer)?;
+        write_record(header, pips, mean, plays, records.spread(rank), writer)?;
     }
     Ok(())
 }
@@ -121,7 +175,7 @@ fn write_level<W: Write>(records: &Records, writer: &mut W) -> Result<(), WriteF
 #[cfg(test)]
 mod tests {
     use super::*;
-    use db_layout::RecordView;
+    use db_layout::{Places, RecordView};
     use fixed_fraction::WHOLE;
     use home_board::Position;
     use std::alloc::AllocError;
@@ -133,14 +187,25 @@ mod tests {
     struct Tired {
         writes: u8,
         fails: bool,
-        written: usize,
+        written: Vec<u8>,
+    }
+
+    impl Tired {
+        /// One to which nothing was written yet.
+        fn new(alloc: Global, writes: u8, fails: bool) -> Self {
+            Tired {
+                writes,
+                fails,
+                written: Vec::new(alloc),
+            }
+        }
     }
 
     impl Write for Tired {
         fn write(&mut self, buf: &[u8]) -> io::Result<usize> {
             if self.writes > 0 {
                 self.writes -= 1;
-                self.written = self.written.saturating_add(buf.len());
+                self.written.extend_from_slice(buf)?;
                 return Ok(buf.len());
             }
             if self.fails {
@@ -227,16 +292,61 @@ mod tests {
     }
 
     #[test]
+    fn bytes_of_compact_0_and_1(rt: HostRuntime) -> Result<(), Fail> {
+        let zero = with_zeros(
+            rt.alloc(),
+            &[(
+                b"EPCTABLE\x00\x02\x00\x00\x00\x00\x00\x01\x00\x00\x00\x00",
+                12 + 58,
+            )],
+        )?;
+        let mut written = Vec::new(rt.alloc());
+        assert_eq!(rt; build_compact(rt.alloc(), 0, &mut written), Ok(()));
+        assert_eq!(rt; written.as_slice(), zero.as_slice());
+
+        let one = with_zeros(
+            rt.alloc(),
+            &[
+                (
+                    b"EPCTABLE\x00\x02\x00\x01\x00\x00\x00\x02\x00\x00\x00\x00",
+                    12 + 58,
+                ),
+                (WHOLE_BYTES, 42),
+                (WHOLE_BYTES, 0),
+            ],
+        )?;
+        let mut slow = Slow {
+            written: Vec::new(rt.alloc()),
+        };
+        assert_eq!(rt; build_compact(rt.alloc(), 1, &mut slow), Ok(()));
+        assert_eq!(rt; slow.written.as_slice(), one.as_slice());
+        Ok(())
+    }
+
+    #[test]
     fn sizes(rt: HostRuntime) {
         for (bound, size) in [(0, 458), (1, 884), (8, 27296)] {
             let mut bytes = Vec::new(rt.alloc());
             assert_eq!(rt; build(rt.alloc(), bound, &mut bytes), Ok(()));
             assert_eq!(rt; bytes.len(), size, "of {bound} pips");
         }
+        for (bound, size) in [(0, 90), (1, 164), (2, 344), (3, 614), (8, 7696)] {
+            let mut bytes = Vec::new(rt.alloc());
+            assert_eq!(rt; build_compact(rt.alloc(), bound, &mut bytes), Ok(()));
+            assert_eq!(rt; bytes.len(), size, "compact of {bound} pips");
+        }
+    }
+
+    #[test]
+    fn over_the_greatest_bound(rt: HostRuntime) {
         let mut bytes = Vec::new(rt.alloc());
-        for bound in [45, 255] {
+        for bound in [59, 255] {
             assert_eq!(rt;
                 build(rt.alloc(), bound, &mut bytes),
+                Err(BuildFault::OverBound)
+            );
+            assert_eq!(rt;
+                build_compact(rt.alloc(), bound, &mut bytes),
                 Err(BuildFault::OverBound)
             );
             assert_eq!(rt; bytes.len(), 0);
@@ -245,24 +355,49 @@ mod tests {
 
     #[test]
     fn refused_writes(rt: HostRuntime) {
-        for (writes, written) in [(0, 0), (1, 32), (2, 458)] {
+        for (writes, full, compact) in [(0, 0, 0), (1, 32, 32), (2, 458, 90)] {
             for fails in [true, false] {
-                let mut tired = Tired {
-                    writes,
-                    fails,
-                    written: 0,
-                };
-                assert_eq!(rt; build(rt.alloc(), 1, &mut tired), Err(BuildFault::Write));
-                assert_eq!(rt; tired.written, written, "after {writes} writes");
+                let mut writer = Tired::new(rt.alloc(), writes, fails);
+                assert_eq!(rt; build(rt.alloc(), 1, &mut writer), Err(BuildFault::Write));
+                assert_eq!(rt; writer.written.len(), full, "after {writes} writes");
+                let mut writer = Tired::new(rt.alloc(), writes, fails);
+                assert_eq!(rt;
+                    build_compact(rt.alloc(), 1, &mut writer),
+                    Err(BuildFault::Write)
+                );
+                assert_eq!(rt; writer.written.len(), compact, "after {writes} writes");
             }
         }
     }
 
-    /// The recorded mean of a rank, in a database of version 1.
-    fn mean_at(file: &[u8], rank: u16) -> Option<u128> {
-        let place = 32 + 426 * usize::from(rank);
-        let bytes = file.get(place..place + 426)?;
-        RecordView::of(bytes).map(|record| record.mean())
+    // Two bytes behind the first eight state the version.
+    #[test]
+    fn version_by_bound(rt: HostRuntime) {
+        for (bound, version) in [(0, 1), (44, 1), (45, 2), (58, 2)] {
+            let mut writer = Tired::new(rt.alloc(), 1, true);
+            assert_eq!(rt;
+                build(rt.alloc(), bound, &mut writer),
+                Err(BuildFault::Write)
+            );
+            assert_eq!(rt; writer.written.get(9), Some(&version), "of {bound} pips");
+            let mut writer = Tired::new(rt.alloc(), 1, true);
+            assert_eq!(rt;
+                build_compact(rt.alloc(), bound, &mut writer),
+                Err(BuildFault::Write)
+            );
+            assert_eq!(rt; writer.written.get(9), Some(&2), "compact of {bound} pips");
+        }
+    }
+
+    /// The recorded mean of a rank, in a database with this header.
+    fn mean_at(file: &[u8], header: Header, rank: u16) -> Option<u128> {
+        if rank >= header.count {
+            return None;
+        }
+        let place = Places::of(header).find(rank);
+        let bytes = file.get(place.offset as usize..)?;
+        let bytes = bytes.get(..place.length as usize)?;
+        RecordView::of(bytes, &header, place.pips).map(|record| record.mean())
     }
 
     #[test]
@@ -270,6 +405,11 @@ mod tests {
         let mut file = Vec::new(rt.alloc());
         build(rt.alloc(), 6, &mut file)?;
         assert_eq!(rt; file.len(), 12812);
+        let header = Header::new(VERSION, 6).ok_or("no header")?;
+        let mut compact_file = Vec::new(rt.alloc());
+        build_compact(rt.alloc(), 6, &mut compact_file)?;
+        assert_eq!(rt; compact_file.len(), 3228);
+        let compact_header = Header::new(COMPACT_VERSION, 6).ok_or("no header")?;
         for (rank, numerator, denominator) in [
             (0, 0u8, 1),
             (1, 1, 1),
@@ -302,13 +442,15 @@ mod tests {
             (28, 97, 36),
             (29, 97, 36),
         ] {
-            let mean = mean_at(file.as_slice(), rank).ok_or("no record")?;
+            let mean = mean_at(file.as_slice(), header, rank).ok_or("no record")?;
             let expected = u128::from(numerator) * WHOLE;
             assert_eq!(rt;
                 mean.checked_mul(denominator),
                 Some(expected),
                 "rank {rank}"
             );
+            let compact = mean_at(compact_file.as_slice(), compact_header, rank);
+            assert_eq!(rt; compact, Some(mean), "rank {rank}");
         }
         Ok(())
     }
@@ -318,7 +460,8 @@ mod tests {
         let mut file = Vec::new(rt.alloc());
         build(rt.alloc(), 15, &mut file)?;
         let rank = Ranks::new().rank(&Position::new([15, 0, 0, 0, 0, 0])?);
-        let mean = mean_at(file.as_slice(), rank);
+        let header = Header::new(VERSION, 15).ok_or("no header")?;
+        let mean = mean_at(file.as_slice(), header, rank);
         assert_eq!(rt; mean, Some(WHOLE / 279936 * 1953839));
         Ok(())
     }

@@ -2,12 +2,12 @@
 //! from the records of the positions that its rolls lead to, by the least mean. It rests on
 //! `db_layout` for the bytes, `least_plays` for the best play of each roll, `legal_plays` for all
 //! results of one, `ranking` for their ranks and `fixed_fraction` for the exact numbers; the
-//! crates above may use that a build without a fault writes the built file of its bound and
-//! nothing else.
+//! crates above may use that a build without a fault writes the built file of its version and its
+//! bound, and nothing else.
 #![tactic(auto)]
 
 pub use build_fault::BuildFault;
-pub use building::build;
+pub use building::{build, build_compact};
 pub use means::Means;
 pub use plays::best_play;
 

@@ -30,7 +30,7 @@ pub(crate) fn next_record(
 ) -> Record
     ghost full: { AllRecords }
     requires position { IsPosition position.now }
-    requires low { pips position.now ≤ 44 }
+    requires low { pips position.now ≤ 58 }
     requires kept { AreKept full records.now.means records.now.spreads.items
         records.now.plays.items }
     requires next { rank_of position.now ≡ length records.now.means }
@@ -80,7 +80,7 @@ fn best_plays(
     least: &mut LeastPlays,
 ) -> [u16; 21]
     ghost full: { AllRecords }
-    requires low { pips position.now ≤ 44 }
+    requires low { pips position.now ≤ 58 }
     requires agree { (r : ℕ) → r < length means.now →
         slice_index means.now r ≡ mean_of_rank full r }
     requires next { rank_of position.now ≡ length means.now }

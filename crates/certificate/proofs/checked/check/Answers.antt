@@ -10,15 +10,16 @@ invariant_of-result g c =
       header_is = said.accepted;
       local = λ file told. said.local file (sym said.stays ∙ told);
       bound_is = λ file told. said.bound file (sym said.stays ∙ told);
+      version_is = λ file told. said.version file (sym said.stays ∙ told);
     }
 
 pub returns-in-Ok-clause-right : goal.returns-in-Ok-clause-right
 returns-in-Ok-clause-right g c file told =
-    c.law_right.ensures.right 44 file (omega arith) ((c.in-Ok.ensures {u = tt}).local file told)
+    c.law_right.ensures.right file ((c.in-Ok.ensures {u = tt}).local file told)
 
 pub returns-in-Ok-clause-exactly : goal.returns-in-Ok-clause-exactly
 returns-in-Ok-clause-exactly g c file told none = (
-  λ _. c.law_right.ensures.right 44 file (omega arith)
+  λ _. c.law_right.ensures.right file
       ((c.in-Ok.ensures {u = tt}).local file told),
   λ _. refl,
 )

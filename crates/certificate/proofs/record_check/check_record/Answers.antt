@@ -1,9 +1,11 @@
-use Rattle.std.proofs.Common.{◌≡◌, ℕ, ◌<◌, ◌≤◌, true, false, slice_index, sym, ap, subst, ◌∙◌, arith, rules, tests}
+-- The tests of the record of one rank, from its plays to its shares.
+use Rattle.std.proofs.Common.{◌≡◌, ℕ, ◌<◌, ◌≤◌, List, Some, true, false, slice_index, sym, ap, subst, ◌∙◌, arith, rules, tests}
 use Rattle.race_model.specs.Positions.{Board}
-use Rattle.race_model.specs.Ranks.{count_to}
+use Rattle.race_model.specs.Ranks.{count_to, at_rank}
 use Rattle.race_model.specs.Dice.{roll_at}
-use Rattle.race_model.specs.Files.{bound_of, mean_of, mean_at, share_of}
+use Rattle.race_model.specs.Files.{bound_of, record_at, mean_of, mean_at, share_of}
 use Rattle.race_model.proofs.Ranks.BestPlays.{play-agree}
+use Rattle.race_model.proofs.RightFiles.Right.{bound_of-most}
 use Rattle.certificate.specs.PlayFaults.{FirstOfPlays, PlayCauses}
 use Rattle.certificate.specs.declared.plays.PlayFault.{PlayFault}
 use Rattle.certificate.specs.declared.plays.PlayFault.TheVariants.{NotLegal, NotLeast, Read}
@@ -13,6 +15,8 @@ use Rattle.certificate.specs.RecordFaults.{IsFirstFaultAt, RecordCauses, of_reco
 use Rattle.certificate.proofs.RecordBytes.{mean-of_record}
 use Rattle.certificate.proofs.KeptMeans.{accepted-mean_more}
 use Rattle.certificate.proofs.RecordTests.{IsSummed, first-refused, wrong-mean, wrong-share, right-numbers}
+use Rattle.certificate.proofs.record_check.check_record.Given.{Over}
+use Rattle.certificate.proofs.record_check.check_record.Goals.{After-has_mean}
 use Rattle.certificate.proofs.record_check.check_record.Goals as goal
 
 pub sum_plays-requires-clause-lower : goal.sum_plays-requires-clause-lower
@@ -31,7 +35,7 @@ returns-in-Err-sum_plays-clause-first g c file told =
     let same = rw c.unwrap-position.ensures at c.unrank.ensures.value in
     let whole = c.requires.file file told in
     let lt : c.args.rank < count_to (bound_of file) =
-    let count = ap count_to whole.1 in omega (
+    let count = ap count_to whole.bound_is in omega (
       arith,
       c.requires.rank,
       c.args.header.counted,
@@ -57,96 +61,79 @@ returns-in-Err-sum_plays-clause-cause g c file told =
     (subst (λ n. PlayCauses n
     (g.T.Table.failures c.sum_plays.new.table) refused.fault) before cause))
 
+-- what is known when the numbers of the record are tested, where the bytes are told
+module _ (g : Over) (c : After-has_mean g) (file : List ℕ)
+    (told : g.T.Table.tells c.args.table.now ≡ Some file) where
+  -- the rank has a record
+  below_count : c.args.rank < count_to (bound_of file)
+  below_count =
+      let count = ap count_to (c.requires.file file told).bound_is in
+      omega (arith, c.requires.rank, c.args.header.counted, count)
+
+  -- the position is that of the rank
+  position-is : c.unwrap-position.result ≡ at_rank c.args.rank
+  position-is = rw c.unwrap-position.ensures at c.unrank.ensures.value
+
+  -- the loaded bytes are the record
+  lent : c.lend-view.result ≡ record_at file c.args.rank
+  lent =
+      c.lend-view.ensures file
+      ((c.in-Ok.ensures {u = tt}).stays ∙ ((c.in_default.ensures {u = tt}).stays ∙ told))
+
+  -- its plays hold, and the sums are theirs
+  summed : IsSummed file (at_rank c.args.rank) c.in-Ok.sums
+  summed =
+      let now = (c.in_default.ensures {u = tt}).stays ∙ told in
+      let fine = c.in-Ok.ensures {u = tt} in
+      let here : IsSummed file c.unwrap-position.result c.in-Ok.sums =
+      record { held = fine.right file now; are = fine.totals file now } in
+      subst (λ (x : Board). IsSummed file x c.in-Ok.sums) position-is here
+
+  -- its mean is that of the sums where it is accepted
+  mean-accepted : c.has_mean.result ≡ true →
+      IsMeanOf (at_rank c.args.rank) (mean_of c.lend-view.result) c.in-Ok.sums
+  mean-accepted accepted =
+      subst (λ (x : Board). IsMeanOf x (mean_of c.lend-view.result) c.in-Ok.sums) position-is
+      (c.has_mean.ensures.0 accepted)
+
 pub returns-then-not-has_mean-clause-first : goal.returns-then-not-has_mean-clause-first
 returns-then-not-has_mean-clause-first g c file told =
-    let x = c.unwrap-position.result in
-    let same = rw c.unwrap-position.ensures at c.unrank.ensures.value in
-    let now = (c.in_default.ensures {u = tt}).stays ∙ told in
-    let whole = c.requires.file file told in
-    let lt : c.args.rank < count_to (bound_of file) =
-    let count = ap count_to whole.1 in omega (
-      arith,
-      c.requires.rank,
-      c.args.header.counted,
-      count,
-    ) in
-    let fine = c.in-Ok.ensures {u = tt} in
-    let known : IsSummed file x c.in-Ok.sums = record {
-      held = fine.right file now;
-      are =
-          fine.totals file now;
-    } in
+    let at = (goal.at.returns-then-not-has_mean-clause-first g c).After-has_mean in
+    let bytes = c.lend-view.result in
     let refused : c.has_mean.result ≡ false = search (rules, tests) in
-    let fails : ¬ IsMeanOf x (mean_of c.lend-view.result) c.in-Ok.sums = λ is.
-    false≢true (sym refused ∙ c.has_mean.ensures.1 is) in
-    wrong-mean file c.lend-view.result c.args.rank c.in-Ok.sums lt whole.0.bounded
-    (c.requires.lower file told)
-    (c.lend-view.ensures file (fine.stays ∙ now))
-    (subst (λ (x : Board). IsSummed file x c.in-Ok.sums) same known)
-    (subst (λ (x : Board). ¬ IsMeanOf x (mean_of c.lend-view.result) c.in-Ok.sums) same fails)
+    let fails : ¬ IsMeanOf c.unwrap-position.result (mean_of bytes) c.in-Ok.sums =
+    λ is. false≢true (sym refused ∙ c.has_mean.ensures.1 is) in
+    wrong-mean file bytes c.args.rank c.in-Ok.sums (below_count g at file told)
+    (bound_of-most file (c.requires.file file told).file) (c.requires.lower file told) (lent g at file told)
+    (summed g at file told)
+    (subst (λ (x : Board). ¬ IsMeanOf x (mean_of bytes) c.in-Ok.sums) (position-is g at file told)
+    fails)
 
 pub returns-in-Some-clause-first : goal.returns-in-Some-clause-first
 returns-in-Some-clause-first g c file told =
-    let x = c.unwrap-position.result in
-    let same = rw c.unwrap-position.ensures at c.unrank.ensures.value in
-    let now = (c.in_default.ensures {u = tt}).stays ∙ told in
-    let whole = c.requires.file file told in
-    let lt : c.args.rank < count_to (bound_of file) =
-    let count = ap count_to whole.1 in omega (
-      arith,
-      c.requires.rank,
-      c.args.header.counted,
-      count,
-    ) in
-    let fine = c.in-Ok.ensures {u = tt} in
-    let known : IsSummed file x c.in-Ok.sums = record {
-      held = fine.right file now;
-      are =
-          fine.totals file now;
-    } in
-    let accepted : c.has_mean.result ≡ true = search (rules, tests) in
-    let mean = c.has_mean.ensures.0 accepted in
-    let wrong = c.in-Some.ensures {u = tt} in
+    let at = (goal.at.returns-in-Some-clause-first g c).After-has_mean in
     let bytes = c.lend-view.result in
-    wrong-share file bytes c.args.rank c.in-Ok.sums lt whole.0.bounded (c.requires.lower file told)
-    (c.lend-view.ensures file (fine.stays ∙ now))
-    (subst (λ (x : Board). IsSummed file x c.in-Ok.sums) same known)
-    c.in-Some.k wrong.few
-    (subst (λ (x : Board). IsMeanOf x (mean_of bytes) c.in-Ok.sums) same mean)
-    (subst (λ (x : Board). (j : ℕ) → j < c.in-Some.k
-    → IsShareOf x (share_of bytes) c.in-Ok.sums j) same wrong.earlier)
-    (subst (λ (x : Board). ¬ IsShareOf x
-    (share_of bytes) c.in-Ok.sums c.in-Some.k) same wrong.wrong)
+    let accepted : c.has_mean.result ≡ true = search (rules, tests) in
+    let wrong = c.in-Some.ensures {u = tt} in
+    let same = position-is g at file told in
+    wrong-share file bytes c.args.rank c.in-Ok.sums (below_count g at file told)
+    (bound_of-most file (c.requires.file file told).file) (c.requires.lower file told) (lent g at file told)
+    (summed g at file told) c.in-Some.k wrong.few (mean-accepted g at file told accepted)
+    (subst (λ (x : Board). (j : ℕ) → j < c.in-Some.k →
+    IsShareOf x (share_of bytes) c.in-Ok.sums j) same wrong.earlier)
+    (subst (λ (x : Board). ¬ IsShareOf x (share_of bytes) c.in-Ok.sums c.in-Some.k) same
+    wrong.wrong)
 
 pub returns-in-None-clause-local : goal.returns-in-None-clause-local
 returns-in-None-clause-local g c file told =
-    let x = c.unwrap-position.result in
-    let same = rw c.unwrap-position.ensures at c.unrank.ensures.value in
-    let now = (c.in_default.ensures {u = tt}).stays ∙ told in
-    let whole = c.requires.file file told in
-    let lt : c.args.rank < count_to (bound_of file) =
-    let count = ap count_to whole.1 in omega (
-      arith,
-      c.requires.rank,
-      c.args.header.counted,
-      count,
-    ) in
-    let fine = c.in-Ok.ensures {u = tt} in
-    let known : IsSummed file x c.in-Ok.sums = record {
-      held = fine.right file now;
-      are =
-          fine.totals file now;
-    } in
-    let accepted : c.has_mean.result ≡ true = search (rules, tests) in
-    let mean = c.has_mean.ensures.0 accepted in
+    let at = (goal.at.returns-in-None-clause-local g c).After-has_mean in
     let bytes = c.lend-view.result in
-    right-numbers file bytes c.args.rank c.in-Ok.sums lt whole.0.bounded
-    (c.requires.lower file told)
-    (c.lend-view.ensures file (fine.stays ∙ now))
-    (subst (λ (x : Board). IsSummed file x c.in-Ok.sums) same known)
-    (subst (λ (x : Board). IsMeanOf x (mean_of bytes) c.in-Ok.sums) same mean)
-    (subst (λ (x : Board). (k : ℕ) → k ≤ 22 → IsShareOf x (share_of bytes) c.in-Ok.sums k) same
-    (c.in-None.ensures {u = tt}).right)
+    let accepted : c.has_mean.result ≡ true = search (rules, tests) in
+    right-numbers file bytes c.args.rank c.in-Ok.sums (below_count g at file told)
+    (bound_of-most file (c.requires.file file told).file) (c.requires.lower file told) (lent g at file told)
+    (summed g at file told) (mean-accepted g at file told accepted)
+    (subst (λ (x : Board). (k : ℕ) → k ≤ 22 → IsShareOf x (share_of bytes) c.in-Ok.sums k)
+    (position-is g at file told) (c.in-None.ensures {u = tt}).right)
 
 pub sum_plays-requires-clause-results : goal.sum_plays-requires-clause-results
 sum_plays-requires-clause-results g c i lt =

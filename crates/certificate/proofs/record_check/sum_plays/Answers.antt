@@ -1,10 +1,11 @@
-use Rattle.std.proofs.Common.{◌≡◌, ◌+◌, ◌<◌, slice_index, refl, sym, ap, subst, ◌∙◌, arith, below_more}
+-- The rolls one after another: what is recorded for each is accepted, and added up.
+use Rattle.std.proofs.Common.{◌≡◌, ℕ, ◌+◌, ◌<◌, List, Some, slice_index, refl, sym, ap, subst, ◌∙◌, arith, below_more}
 use Rattle.race_model.specs.Positions.{Board, IsPosition, IsFinished}
 use Rattle.race_model.specs.Dice.{roll_at, weight}
 use Rattle.race_model.specs.LocalEquations.{IsPlayed, IsBest, IsLocalAt}
 use Rattle.race_model.specs.Ranks.{rank}
 use Rattle.race_model.specs.Plays.{Legal}
-use Rattle.race_model.specs.Files.{mean_at}
+use Rattle.race_model.specs.Files.{mean_at, play}
 use Rattle.race_model.specs.BestPlays.{IsBestPlay}
 use Rattle.race_model.proofs.Plays.Results.{legal_position, legal_pips}
 use Rattle.fixed_fraction.specs.Totals.{IsAdded, AreTotals}
@@ -12,7 +13,37 @@ use Rattle.certificate.specs.PlayFaults.{Applies}
 use Rattle.certificate.specs.RecordNumbers.{shares_of, recorded_mean, recorded_share}
 use Rattle.certificate.proofs.Accepted.{play-of_lent}
 use Rattle.certificate.proofs.PlayNumbers.{play-lent, lent-mean, lent-share}
+use Rattle.certificate.proofs.record_check.sum_plays.Given.{Over}
+use Rattle.certificate.proofs.record_check.sum_plays.Goals.{After-check_recorded, In_default}
 use Rattle.certificate.proofs.record_check.sum_plays.Goals as goal
+
+-- the roll of a turn of the loop, and what is recorded for it
+module _ (g : Over) (c : After-check_recorded g) where
+  roll_is : c.unwrap-roll.result ≡ roll_at c.loop-index.index
+  roll_is = rw c.unwrap-roll.ensures at c.from_index.ensures.value
+
+  recorded_is : (file : List ℕ) → g.T.Table.tells c.args.table.now ≡ Some file →
+      c.play-recorded.result ≡ play file c.args.position.now c.unwrap-roll.result
+  recorded_is file told =
+      c.play-recorded.ensures
+      ∙ play-of_lent file c.lend.result c.args.position.now c.args.rank
+      (c.lend.ensures file (c.loop-index.invariant.stays ∙ told)) c.requires.rank
+      c.unwrap-roll.result
+
+-- where it is accepted, the plays of one roll more are played and least
+held_more : (g : Over) (c : In_default g) →
+    c.unwrap-roll.result ≡ roll_at c.loop-index.index → (file : List ℕ) →
+    g.T.Table.tells c.args.table.now ≡ Some file →
+    c.play-recorded.result ≡ play file c.args.position.now c.unwrap-roll.result →
+    (j : ℕ) → j < c.loop-index.index + 1 →
+    IsPlayed file c.args.position.now (roll_at j) × IsBest file c.args.position.now (roll_at j)
+held_more g c roll file told read =
+    let x = c.args.position.now in
+    let before = c.loop-index.invariant in
+    below_more (λ j. IsPlayed file x (roll_at j) × IsBest file x (roll_at j)) c.loop-index.index
+    (before.held file told)
+    (subst (λ v. IsPlayed file x v × IsBest file x v) roll
+    ((c.in_default.ensures {u = tt}).right file (before.stays ∙ told) read))
 
 pub check_recorded-requires-clause-records : goal.check_recorded-requires-clause-records
 check_recorded-requires-clause-records g c y legal =
@@ -23,41 +54,33 @@ check_recorded-requires-clause-records g c y legal =
 
 pub returns-in-Err-clause-fault : goal.returns-in-Err-clause-fault
 returns-in-Err-clause-fault g c file told =
-    let x = c.args.position.now in
-    let now = c.loop-index.invariant.stays ∙ told in
-    let roll = rw c.unwrap-roll.ensures at c.from_index.ensures.value in
-    let read = c.play-recorded.ensures
-    ∙ play-of_lent file c.lend.result x c.args.rank
-    (c.lend.ensures file now) c.requires.rank c.unwrap-roll.result in
+    let at = (goal.at.returns-in-Err-clause-fault g c).After-check_recorded in
+    let before = c.loop-index.invariant in
     record {
       is_roll = c.loop-index-test.true;
-      applies = subst (λ v. Applies file x v c.in-Err.fault) roll
-          ((c.in-Err.ensures {u = tt}).fault file now read);
-      earlier = c.loop-index.invariant.held file told;
+      applies =
+          subst (λ v. Applies file c.args.position.now v c.in-Err.fault) (roll_is g at)
+          ((c.in-Err.ensures {u = tt}).fault file (before.stays ∙ told)
+          (recorded_is g at file told));
+      earlier = before.held file told;
     }
 
 pub loop-index-preserved-then-is_finished : goal.loop-index-preserved-then-is_finished
 loop-index-preserved-then-is_finished g c =
-    let x = c.args.position.now in
+    let at = goal.at.loop-index-preserved-then-is_finished g c in
+    let after = at.After-check_recorded in
     let before = c.loop-index.invariant in
     let fine = c.in_default.ensures {u = tt} in
-    let i = c.loop-index.index in
-    let roll = rw c.unwrap-roll.ensures at c.from_index.ensures.value in
     let within =
-    c.law_sums.ensures.within i c.loop-index.sums.weight c.loop-index-test.true before.light in
+    c.law_sums.ensures.within c.loop-index.index c.loop-index.sums.weight c.loop-index-test.true
+    before.light in
     record {
       stays = fine.stays ∙ before.stays;
       accepted = fine.accepted ∙ before.accepted;
       others = λ bytes other ready. fine.others bytes other (before.others bytes other ready);
       cause = λ file told. fine.cause file (before.stays ∙ told) ∙ before.cause file told;
       held = λ file told.
-          let now = before.stays ∙ told in
-          let read = c.play-recorded.ensures
-          ∙ play-of_lent file c.lend.result x c.args.rank
-          (c.lend.ensures file now) c.requires.rank c.unwrap-roll.result in
-          below_more (λ j. IsPlayed file x (roll_at j) × IsBest file x (roll_at j)) i
-          (before.held file told)
-          (subst (λ v. IsPlayed file x v × IsBest file x v) roll (fine.right file now read));
+          held_more g at.In_default (roll_is g after) file told (recorded_is g after file told);
       light = omega (arith, within.1);
       totals = λ file told unfinished.
           absurd (unfinished ((c.if-is_finished.ensures {u = tt}).value.0 refl));
@@ -65,32 +88,31 @@ loop-index-preserved-then-is_finished g c =
 
 pub returns-in-Err-add_numbers-clause-cause : goal.returns-in-Err-add_numbers-clause-cause
 returns-in-Err-add_numbers-clause-cause g c file told =
+    let at = (goal.at.returns-in-Err-add_numbers-clause-cause g c).After-check_recorded in
     let x = c.args.position.now in
-    let v = c.unwrap-roll.result in
-    let before = c.loop-index.invariant in
     let fine = c.in_default.ensures {u = tt} in
-    let now = before.stays ∙ told in
-    let read = c.play-recorded.ensures
-    ∙ play-of_lent file c.lend.result x c.args.rank (c.lend.ensures file now) c.requires.rank v in
+    let now = c.loop-index.invariant.stays ∙ told in
+    let read = recorded_is g at file told in
     let unfinished : ¬ IsFinished x = λ end.
     let is = (c.if-is_finished.ensures {u = tt}).value.1 end in cc in
-    let lent = c.lend-in-loop-index.ensures file (fine.stays ∙ now) in
     let lower = subst (λ r. (z : Board) → IsPosition z → rank z < r
     → IsLocalAt file z) c.requires.rank
     (c.requires.lower file told) in
     absurd ((c.in-Err-add_numbers.ensures {u = tt}).refused
-    (play-lent file x c.requires.position c.requires.short lower unfinished v
-    (fine.right file now read).0
-    c.lend-in-loop-index.result c.play-recorded.result lent read))
+    (play-lent file x c.requires.position c.requires.short lower unfinished c.unwrap-roll.result
+    (fine.right file now read).0 c.lend-in-loop-index.result c.play-recorded.result
+    (c.lend-in-loop-index.ensures file (fine.stays ∙ now)) read))
 
 pub loop-index-preserved : goal.loop-index-preserved
 loop-index-preserved g c =
+    let at = goal.at.loop-index-preserved g c in
+    let after = at.After-check_recorded in
     let x = c.args.position.now in
     let v = c.unwrap-roll.result in
     let before = c.loop-index.invariant in
     let fine = c.in_default.ensures {u = tt} in
     let i = c.loop-index.index in
-    let roll = rw c.unwrap-roll.ensures at c.from_index.ensures.value in
+    let roll = roll_is g after in
     let within =
     c.law_sums.ensures.within i c.loop-index.sums.weight c.loop-index-test.true before.light in
     let added = (c.in_default-add_numbers.ensures {u = tt}).added in
@@ -101,22 +123,13 @@ loop-index-preserved g c =
       others = λ bytes other ready. fine.others bytes other (before.others bytes other ready);
       cause = λ file told. fine.cause file (before.stays ∙ told) ∙ before.cause file told;
       held = λ file told.
-          let now = before.stays ∙ told in
-          let read = c.play-recorded.ensures
-          ∙ play-of_lent file c.lend.result x c.args.rank
-          (c.lend.ensures file now) c.requires.rank v in
-          below_more (λ j. IsPlayed file x (roll_at j) × IsBest file x (roll_at j)) i
-          (before.held file told)
-          (subst (λ v. IsPlayed file x v × IsBest file x v) roll (fine.right file now read));
+          held_more g at.In_default (roll_is g after) file told (recorded_is g after file told);
       light =
           let more = added.weights ∙ ap (λ v. c.loop-index.sums.weight + weight v) roll in
           omega (arith, within.1, more);
       totals = λ file told unfinished.
-          let now = before.stays ∙ told in
-          let read = c.play-recorded.ensures
-          ∙ play-of_lent file c.lend.result x c.args.rank
-          (c.lend.ensures file now) c.requires.rank v in
-          let lent = c.lend-in-loop-index.ensures file (fine.stays ∙ now) in
+          let read = recorded_is g after file told in
+          let lent = c.lend-in-loop-index.ensures file (fine.stays ∙ (before.stays ∙ told)) in
           let mean = lent-mean file bytes x v c.play-recorded.result lent read in
           let numbers = subst (λ m. IsAdded c.loop-index.sums (weight v) m
           (shares_of bytes) c.add_numbers.new.sums)

@@ -11,6 +11,6 @@ returns-clause-lost g c = λ file t.
     let within : pips c.args.position.now ≤ bound_of file =
     omega (arith, c.if-pips-bound.false, c.pips.ensures.value, c.bound.ensures.bound, right.1) in
     let legal : Legal c.args.position.now c.args.roll c.args.to.now = search rules in
-    on_ok_of c.lost.result (c.law_loss.ensures.loss 44 file
-    (lit≤ tt) right.0 c.args.position.now c.pips.ensures.position within
+    on_ok_of c.lost.result (c.law_loss.ensures.loss file
+    right.0 c.args.position.now c.pips.ensures.position within
     c.args.roll c.args.to.now legal)

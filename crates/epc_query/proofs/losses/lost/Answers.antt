@@ -29,8 +29,8 @@ returns-in-None-clause-cause g c = λ file t.
       c.requires.within,
       right.1,
     ) in
-    let low = c.law_loss.ensures.least 44 file
-    (lit≤ tt) right.0 c.args.position.now c.requires.position within
+    let low = c.law_loss.ensures.least file
+    right.0 c.args.position.now c.requires.position within
     c.args.roll c.args.to.now c.requires.legal in
     let least = (c.in_ok-least.ensures {u = tt}).recorded file t in
     let after = (c.in_ok-after.ensures {u = tt}).recorded file (c.least_mean.ensures.stays ∙ t) in

@@ -50,5 +50,5 @@ returns-clause-choices g c = λ file t.
     ))
     priced
     (λ y is. c.law_rank.ensures.found y (c.law_results.ensures.position x v y position is))
-    (λ y is. c.law_loss.ensures.least 44 file (lit≤ tt) right.0 x position within v y is)
+    (λ y is. c.law_loss.ensures.least file right.0 x position within v y is)
     (recorded file x v) (at.played v).legal (mean_after file x v right.0 position within)

@@ -2,13 +2,20 @@ use Rattle.std.proofs.Common.{◌≡◌, ℕ, ◌+◌, ◌-◌, ◌<◌, List, l
 use Rattle.std.specs.Prelude.{Result, Ok, Err}
 use Rattle.std.specs.Result.{OnErr}
 use Rattle.std.specs.Io.KnownBytes.{Appends}
+use Rattle.race_model.specs.Positions.{pips}
+use Rattle.race_model.specs.Ranks.{at_rank, first_of, count_to}
+use Rattle.race_model.specs.Versions.{version_by}
+use Rattle.race_model.proofs.Ranks.RankOrder.{count_to-rises}
 use Rattle.db_layout.specs.Writes.{AppendsPart}
+use Rattle.db_layout.proofs.Bounds.{bound-most}
 use Rattle.db_layout.proofs.Known.{appends_twice}
 use Rattle.std.proofs.KnownBytes.{Appends-nil}
-use Rattle.retrograde.specs.AllRecords.{bytes_of_rank}
+use Rattle.retrograde.specs.AllRecords.{shares_of_rank, bytes_of_rank}
 use Rattle.retrograde.specs.BuiltBytes.{records_from}
-use Rattle.retrograde.proofs.Kept.{kept-bytes}
-use Rattle.retrograde.proofs.Prefixes.{records-apart, records-next, flat_map-take_more}
+use Rattle.retrograde.proofs.Files.{records-apart, records-next}
+use Rattle.retrograde.proofs.Kept.{kept-bytes, kept-held}
+use Rattle.retrograde.proofs.Levels.{pips-at_rank}
+use Rattle.retrograde.proofs.Prefixes.{flat_map-take_more}
 use Rattle.retrograde.proofs.building.write_level.Goals as goal
 
 -- what holds at an error holds on an error
@@ -16,12 +23,40 @@ on-error : {T E P : Type 0} (r : Result T E) → P → OnErr r P
 on-error (Ok x) p = tt
 on-error (Err e) p = p
 
+-- the ranks that are written are those of the pip count
+level-pips : (p means plays index : ℕ) → first_of p + plays ≡ means → means ≡ count_to p →
+    index < plays → pips (at_rank (means - plays + index)) ≡ p
+level-pips p means plays index level made lt =
+    pips-at_rank p (means - plays + index) (omega (arith, level))
+    (omega (arith, level, made, lt))
+
+pub write_record-requires : goal.write_record-requires
+write_record-requires g c =
+    let records = c.args.records.now in
+    let means : ℕ = length records.means in
+    let plays : ℕ = length records.plays.items in
+    let index = c.loop-index.index in
+    let lt : index < plays = omega (arith, c.deref-plays-items.ensures.len) in
+    let place : c.len.result - c.len-2.result + index ≡ means - plays + index = omega arith in
+    let rises =
+    count_to-rises c.args.pips 58 (omega (arith, c.requires.1.0, bound-most c.args.header.now))
+    in
+    record {
+      low = c.requires.1.0;
+      held =
+          kept-held (version_by c.args.header.now.version) g.full (means - plays + index)
+          c.args.pips c.spread.result.now (omega (arith, c.requires.1.1.1.1.0, lt, rises))
+          (level-pips c.args.pips means plays index c.requires.1.1.1.1.1 c.requires.1.1.1.1.0 lt)
+          (c.spread.ensures ∙ ap (shares_of_rank g.full) place);
+    }
+
 pub loop-index-init : goal.loop-index-init
 unfolding records_from
 loop-index-init g c = Appends-nil (g.W.Write.contents c.args.writer.now)
 
 pub returns-in_err-write_record-clause-part : goal.returns-in_err-write_record-clause-part
 returns-in_err-write_record-clause-part g c =
+    let version = version_by c.args.header.now.version in
     let records = c.args.records.now in
     let first : ℕ = length records.means - length records.plays.items in
     let index = c.loop-index.index in
@@ -31,38 +66,45 @@ returns-in_err-write_record-clause-part g c =
     let new = g.W.Write.contents c.write_record.new.writer in
     let lt : index < count = omega (arith, c.deref-plays-items.ensures.len) in
     let place : c.len.result - c.len-2.result + index ≡ first + index = omega arith in
-    let bytes = kept-bytes g.full records.means records.spreads.items records.plays.items
-    c.requires.1.0 index
+    let bytes = kept-bytes version g.full records.means records.spreads.items records.plays.items
+    c.requires.1.1.0 c.args.pips index
     (c.len.result - c.len-2.result + index) c.unwrap-mean.result c.spread.result.now lt place
+    (level-pips c.args.pips (length records.means) count index c.requires.1.1.1.1.1
+    c.requires.1.1.1.1.0 lt)
     (rw c.unwrap-mean.ensures at c.get.ensures.value) c.spread.ensures in
     let written = rw c.deref-plays-items.ensures.value at c.in_err-write_record.ensures.part in
-    let part : AppendsPart mid new (bytes_of_rank g.full (first + index)) =
+    let part : AppendsPart mid new (bytes_of_rank version g.full (first + index)) =
     subst (λ (bs : List ℕ). AppendsPart mid new bs) bytes written in
     let rest : List ℕ =
-    records_from (bytes_of_rank g.full) (first + index + 1) (count - index - 1) in
+    records_from (bytes_of_rank version g.full) (first + index + 1) (count - index - 1) in
     on-error c.from_residual.result
     (subst (λ (bs : List ℕ). AppendsPart old new bs)
-    (sym (records-apart g.full first index count lt))
-    (flat_map-take_more old mid new (records_from (bytes_of_rank g.full) first index)
-    (bytes_of_rank g.full (first + index)) rest
+    (sym (records-apart (bytes_of_rank version g.full) first index count lt))
+    (flat_map-take_more old mid new (records_from (bytes_of_rank version g.full) first index)
+    (bytes_of_rank version g.full (first + index)) rest
     c.loop-index.invariant part))
 
 pub loop-index-preserved : goal.loop-index-preserved
 loop-index-preserved g c =
+    let version = version_by c.args.header.now.version in
     let records = c.args.records.now in
     let first : ℕ = length records.means - length records.plays.items in
     let index = c.loop-index.index in
     let old = g.W.Write.contents c.args.writer.now in
     let mid = g.W.Write.contents c.loop-index.writer in
     let new = g.W.Write.contents c.write_record.new.writer in
-    let lt : index < length records.plays.items = omega (arith, c.deref-plays-items.ensures.len) in
+    let count : ℕ = length records.plays.items in
+    let lt : index < count = omega (arith, c.deref-plays-items.ensures.len) in
     let place : c.len.result - c.len-2.result + index ≡ first + index = omega arith in
-    let bytes = kept-bytes g.full records.means records.spreads.items records.plays.items
-    c.requires.1.0 index
+    let bytes = kept-bytes version g.full records.means records.spreads.items records.plays.items
+    c.requires.1.1.0 c.args.pips index
     (c.len.result - c.len-2.result + index) c.unwrap-mean.result c.spread.result.now lt place
+    (level-pips c.args.pips (length records.means) count index c.requires.1.1.1.1.1
+    c.requires.1.1.1.1.0 lt)
     (rw c.unwrap-mean.ensures at c.get.ensures.value) c.spread.ensures in
     let written = rw c.deref-plays-items.ensures.value at c.in_ok-write_record.ensures.all in
-    subst (λ (bs : List ℕ). Appends old new bs) (sym (records-next g.full first index))
-    (appends_twice old mid new (records_from (bytes_of_rank g.full) first index)
-    (bytes_of_rank g.full (first + index))
+    subst (λ (bs : List ℕ). Appends old new bs)
+    (sym (records-next (bytes_of_rank version g.full) first index))
+    (appends_twice old mid new (records_from (bytes_of_rank version g.full) first index)
+    (bytes_of_rank version g.full (first + index))
     c.loop-index.invariant (subst (λ (bs : List ℕ). Appends mid new bs) bytes written))

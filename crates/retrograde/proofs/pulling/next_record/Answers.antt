@@ -1,9 +1,6 @@
-use Rattle.std.proofs.Common.{◌≡◌, ℕ, suc, ◌+◌, ◌*◌, ◌%◌, ◌<◌, ◌≤◌, List, length, sym, ap, ◌∙◌, arith}
-use Rattle.std.specs.Prelude.{slice_index}
+use Rattle.std.proofs.Common.{◌+◌, ◌*◌, ◌%◌, sym, ap, ◌∙◌, arith}
 use Rattle.race_model.specs.Positions.{IsFinished}
 use Rattle.race_model.specs.LocalEquations.{whole}
-use Rattle.retrograde.specs.BuiltRecords.{sum_of_means, sum_of_shares}
-use Rattle.race_model.proofs.Ranks.BestPlays.{legal_lower}
 use Rattle.retrograde.proofs.Unique.{record-at_end, plays-held, plays-recent, mean-exact, shares-exact, no-last, record-before}
 use Rattle.retrograde.proofs.pulling.next_record.Goals as goal
 

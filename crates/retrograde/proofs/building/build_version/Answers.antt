@@ -1,17 +1,16 @@
-use Rattle.std.proofs.Common.{◌≡◌, ℕ, suc, ◌+◌, ◌-◌, ◌<◌, ◌≤◌, List, length, sym, ap, subst, ◌∙◌, arith}
+use Rattle.std.proofs.Common.{◌≡◌, ℕ, suc, ◌+◌, ◌-◌, ◌≤◌, length, sym, ap, subst, ◌∙◌, arith}
 use Rattle.std.specs.Io.KnownBytes.{Appends}
 use Rattle.race_model.specs.Ranks.{first_of, count_to}
-use Rattle.race_model.specs.Files.{header}
+use Rattle.race_model.specs.Versions.{version_by}
 use Rattle.race_model.proofs.Ranks.RankOrder.{first_of-zero, first_of-suc, first_of-rises, count_to-rises}
-use Rattle.db_layout.specs.Writes.{AppendsPart}
+use Rattle.db_layout.proofs.Bounds.{bound-most}
 use Rattle.std.proofs.KnownBytes.{Appends-nil}
-use Rattle.retrograde.specs.AllRecords.{mean_of_rank, bytes_of_rank}
-use Rattle.retrograde.specs.BuiltBytes.{records_from, built_to, WritesPart, IsRefusedBy}
+use Rattle.retrograde.specs.AllRecords.{mean_of_rank}
+use Rattle.retrograde.specs.BuiltBytes.{built_to, IsRefusedBy}
 use Rattle.retrograde.specs.declared.build_fault.BuildFault.TheVariants.{Memory, Write}
 use Rattle.retrograde.proofs.Existence.{all-records}
-use Rattle.retrograde.proofs.Levels.{level-end}
 use Rattle.retrograde.proofs.Prefixes.{nothing-written, header-written, header-first, ranks-written, more-written, level-written, all-written, one-error}
-use Rattle.retrograde.proofs.building.build.Goals as goal
+use Rattle.retrograde.proofs.building.build_version.Goals as goal
 
 -- a level begins where the one below ends
 first_of-one : (p : ℕ) → first_of (p + 1) ≡ count_to p
@@ -32,81 +31,80 @@ add_level-requires g c =
 
 pub returns-in_err-add_level-clause-refused : goal.returns-in_err-add_level-clause-refused
 returns-in_err-add_level-clause-refused g c =
+    let version = version_by c.args.header.version in
+    let bound = c.args.header.bound in
     let writer = g.W.Write.contents c.args.writer.now in
-    let low : c.args.bound ≤ 44 =
-    omega (arith, c.in-Some.header.bounded, c.in-Some.ensures.bound) in
-    let refused : IsRefusedBy c.args.bound writer writer Memory =
-    (low, nothing-written all-records c.args.bound low writer writer (Appends-nil writer)) in
+    let refused : IsRefusedBy version bound writer writer Memory = (
+      bound-most c.args.header,
+      nothing-written version all-records bound c.args.header.bounded writer writer
+          (Appends-nil writer),
+    ) in
     one-error c.from_residual.result c.in_err-add_level.field-0.0
-    (IsRefusedBy c.args.bound writer writer)
+    (IsRefusedBy version bound writer writer)
     c.from_residual.ensures.1
-    (subst (IsRefusedBy c.args.bound writer writer) (sym c.in_err-add_level.ensures.memory)
+    (subst (IsRefusedBy version bound writer writer) (sym c.in_err-add_level.ensures.memory)
     refused)
 
 pub returns-in_err-write_header-clause-refused : goal.returns-in_err-write_header-clause-refused
 returns-in_err-write_header-clause-refused g c =
+    let version = version_by c.args.header.version in
+    let bound = c.args.header.bound in
     let old = g.W.Write.contents c.args.writer.now in
     let new = g.W.Write.contents c.write_header.new.writer in
-    let low : c.args.bound ≤ 44 =
-    omega (arith, c.in-Some.header.bounded, c.in-Some.ensures.bound) in
-    let part : AppendsPart old new (header
-    c.args.bound) = subst (λ (b : ℕ). AppendsPart old new (header b))
-    c.in-Some.ensures.bound c.in_err-write_header.ensures.part in
-    one-error c.from_residual-in_err-write_header.result Write (IsRefusedBy c.args.bound old new)
-    c.from_residual-in_err-write_header.ensures.1
-    (low, header-written all-records c.args.bound low old new part)
+    one-error c.from_residual-in_err-write_header.result Write (IsRefusedBy version bound old new)
+    c.from_residual-in_err-write_header.ensures.1 (
+      bound-most c.args.header,
+      header-written version all-records bound c.args.header.bounded old new
+          c.in_err-write_header.ensures.part,
+    )
 
 pub returns-in_err-write_level-clause-refused : goal.returns-in_err-write_level-clause-refused
 returns-in_err-write_level-clause-refused g c =
-    let bound = c.args.bound in
+    let version = version_by c.args.header.version in
+    let bound = c.args.header.bound in
     let old = g.W.Write.contents c.args.writer.now in
     let mid = g.W.Write.contents c.write_header.new.writer in
     let new = g.W.Write.contents c.write_level.new.writer in
-    let low : bound ≤ 44 = omega (arith, c.in-Some.header.bounded, c.in-Some.ensures.bound) in
+    let low = c.args.header.bounded in
     let records = c.add_level.new.records in
     let level = c.in_ok-add_level.ensures in
     let first : ℕ = length records.means - length records.plays.items in
     let start : 0 ≡ first = omega (arith, level.level, first_of-zero) in
-    let headed : Appends old mid (header
-    bound) = subst (λ (b : ℕ). Appends old mid (header b)) c.in-Some.ensures.bound
-    c.in_ok-write_header.ensures.all in
-    let before : Appends old mid (built_to all-records bound first) =
-    subst (λ (n : ℕ). Appends old mid (built_to all-records bound n)) start
-    (header-first all-records bound low old mid headed) in
-    one-error c.from_residual-in_err-write_level.result Write (IsRefusedBy bound old new)
+    let before : Appends old mid (built_to version all-records bound first) =
+    subst (λ (n : ℕ). Appends old mid (built_to version all-records bound n)) start
+    (header-first version all-records bound low old mid c.in_ok-write_header.ensures.all) in
+    one-error c.from_residual-in_err-write_level.result Write (IsRefusedBy version bound old new)
     c.from_residual-in_err-write_level.ensures.1 (
-      low,
-      more-written all-records bound low old mid new first (length records.plays.items)
+      bound-most c.args.header,
+      more-written version all-records bound low old mid new first (length records.plays.items)
           (omega (arith, level.made, level.level, count_to-rises 0 bound (omega arith))) before
           c.in_err-write_level.ensures.part,
     )
 
 pub loop-below-init : goal.loop-below-init
 loop-below-init g c =
-    let bound = c.args.bound in
+    let version = version_by c.args.header.version in
+    let bound = c.args.header.bound in
     let old = g.W.Write.contents c.args.writer.now in
     let mid = g.W.Write.contents c.write_header.new.writer in
     let new = g.W.Write.contents c.write_level.new.writer in
-    let low : bound ≤ 44 = omega (arith, c.in-Some.header.bounded, c.in-Some.ensures.bound) in
+    let low = c.args.header.bounded in
     let records = c.add_level.new.records in
     let level = c.in_ok-add_level.ensures in
     let first : ℕ = length records.means - length records.plays.items in
     let start : 0 ≡ first = omega (arith, level.level, first_of-zero) in
     let all : first + length records.plays.items ≡ length records.means =
     omega (arith, level.level) in
-    let headed : Appends old mid (header
-    bound) = subst (λ (b : ℕ). Appends old mid (header b)) c.in-Some.ensures.bound
-    c.in_ok-write_header.ensures.all in
-    let before : Appends old mid (built_to all-records bound first) =
-    subst (λ (n : ℕ). Appends old mid (built_to all-records bound n)) start
-    (header-first all-records bound low old mid headed) in
+    let before : Appends old mid (built_to version all-records bound first) =
+    subst (λ (n : ℕ). Appends old mid (built_to version all-records bound n)) start
+    (header-first version all-records bound low old mid c.in_ok-write_header.ensures.all) in
     record {
       kept = level.kept;
       known = rw (first_of-suc 0) level.known;
       made = level.made ∙ sym (first_of-suc 0);
       recent = level.recent;
-      written = subst (λ (n : ℕ). Appends old new (built_to all-records bound n)) all
-          (level-written all-records bound low old mid new first
+      written = subst (λ (n : ℕ). Appends old new (built_to version all-records bound n)) all
+          (level-written version all-records bound low old mid new first
           (length records.plays.items) before
           c.in_ok-write_level.ensures.all);
     }
@@ -115,7 +113,7 @@ pub add_level-requires-in-loop-below : goal.add_level-requires-in-loop-below
 add_level-requires-in-loop-below g c =
     let is = c.loop-below.invariant in
     let below = c.loop-below.below in (
-      omega (arith, c.in-Some.header.bounded, c.in-Some.ensures.bound),
+      omega (arith, bound-most c.args.header),
       (
         is.kept,
         (
@@ -130,43 +128,45 @@ add_level-requires-in-loop-below g c =
 
 pub returns-in_err-add_level-2-clause-refused : goal.returns-in_err-add_level-2-clause-refused
 returns-in_err-add_level-2-clause-refused g c =
-    let bound = c.args.bound in
+    let version = version_by c.args.header.version in
+    let bound = c.args.header.bound in
     let old = g.W.Write.contents c.args.writer.now in
     let new = g.W.Write.contents c.loop-below.writer in
     let below = c.loop-below.below in
     let is = c.loop-below.invariant in
-    let low : bound ≤ 44 = omega (arith, c.in-Some.header.bounded, c.in-Some.ensures.bound) in
+    let low = c.args.header.bounded in
     let few : length c.loop-below.records.means ≤ count_to bound =
     omega (arith, is.made, first_of-one below, count_to-rises below bound (omega arith)) in
-    let refused : IsRefusedBy bound old new Memory = (
-      low,
-      ranks-written all-records bound low old new (length c.loop-below.records.means) few
+    let refused : IsRefusedBy version bound old new Memory = (
+      bound-most c.args.header,
+      ranks-written version all-records bound low old new (length c.loop-below.records.means) few
           is.written,
     ) in
     one-error c.from_residual-in_err-add_level-2.result c.in_err-add_level-2.field-0.0
-    (IsRefusedBy bound old new)
+    (IsRefusedBy version bound old new)
     c.from_residual-in_err-add_level-2.ensures.1
-    (subst (IsRefusedBy bound old new) (sym c.in_err-add_level-2.ensures.memory) refused)
+    (subst (IsRefusedBy version bound old new) (sym c.in_err-add_level-2.ensures.memory) refused)
 
 pub returns-in_err-write_level-2-clause-refused : goal.returns-in_err-write_level-2-clause-refused
 returns-in_err-write_level-2-clause-refused g c =
-    let bound = c.args.bound in
+    let version = version_by c.args.header.version in
+    let bound = c.args.header.bound in
     let old = g.W.Write.contents c.args.writer.now in
     let mid = g.W.Write.contents c.loop-below.writer in
     let new = g.W.Write.contents c.write_level-in-loop-below.new.writer in
     let below = c.loop-below.below in
     let is = c.loop-below.invariant in
-    let low : bound ≤ 44 = omega (arith, c.in-Some.header.bounded, c.in-Some.ensures.bound) in
+    let low = c.args.header.bounded in
     let records = c.add_level-in-loop-below.new.records in
     let level = c.in_ok-add_level-2.ensures in
     let first : ℕ = length records.means - length records.plays.items in
     let start : length c.loop-below.records.means ≡ first = omega (arith, level.level, is.made) in
-    let before : Appends old mid (built_to all-records bound first) =
-    subst (λ (n : ℕ). Appends old mid (built_to all-records bound n)) start is.written in
-    one-error c.from_residual-in_err-write_level-2.result Write (IsRefusedBy bound old new)
+    let before : Appends old mid (built_to version all-records bound first) =
+    subst (λ (n : ℕ). Appends old mid (built_to version all-records bound n)) start is.written in
+    one-error c.from_residual-in_err-write_level-2.result Write (IsRefusedBy version bound old new)
     c.from_residual-in_err-write_level-2.ensures.1 (
-      low,
-      more-written all-records bound low old mid new first (length records.plays.items)
+      bound-most c.args.header,
+      more-written version all-records bound low old mid new first (length records.plays.items)
           (omega (arith, level.made, level.level, count_to-rises (below + 1) bound (omega arith)))
           before
           c.in_err-write_level-2.ensures.part,
@@ -174,39 +174,41 @@ returns-in_err-write_level-2-clause-refused g c =
 
 pub loop-below-preserved : goal.loop-below-preserved
 loop-below-preserved g c =
-    let bound = c.args.bound in
+    let version = version_by c.args.header.version in
+    let bound = c.args.header.bound in
     let old = g.W.Write.contents c.args.writer.now in
     let mid = g.W.Write.contents c.loop-below.writer in
     let new = g.W.Write.contents c.write_level-in-loop-below.new.writer in
     let below = c.loop-below.below in
     let is = c.loop-below.invariant in
-    let low : bound ≤ 44 = omega (arith, c.in-Some.header.bounded, c.in-Some.ensures.bound) in
+    let low = c.args.header.bounded in
     let records = c.add_level-in-loop-below.new.records in
     let level = c.in_ok-add_level-2.ensures in
     let first : ℕ = length records.means - length records.plays.items in
     let start : length c.loop-below.records.means ≡ first = omega (arith, level.level, is.made) in
     let all : first + length records.plays.items ≡ length records.means =
     omega (arith, level.level) in
-    let before : Appends old mid (built_to all-records bound first) =
-    subst (λ (n : ℕ). Appends old mid (built_to all-records bound n)) start is.written in
+    let before : Appends old mid (built_to version all-records bound first) =
+    subst (λ (n : ℕ). Appends old mid (built_to version all-records bound n)) start is.written in
     record {
       kept = level.kept;
       known = rw (first_of-one (below + 1)) level.known;
       made = level.made ∙ sym (first_of-one (below + 1));
       recent = level.recent;
-      written = subst (λ (n : ℕ). Appends old new (built_to all-records bound n)) all
-          (level-written all-records bound low old mid new first
+      written = subst (λ (n : ℕ). Appends old new (built_to version all-records bound n)) all
+          (level-written version all-records bound low old mid new first
           (length records.plays.items) before
           c.in_ok-write_level-2.ensures.all);
     }
 
 pub returns-clause-built : goal.returns-clause-built
 returns-clause-built g c =
-    let bound = c.args.bound in
+    let version = version_by c.args.header.version in
+    let bound = c.args.header.bound in
     let old = g.W.Write.contents c.args.writer.now in
     let new = g.W.Write.contents c.loop-below.writer in
     let is = c.loop-below.invariant in
-    let low : bound ≤ 44 = omega (arith, c.in-Some.header.bounded, c.in-Some.ensures.bound) in
+    let low = c.args.header.bounded in
     let last : c.loop-below.below ≡ bound = omega arith in
-    all-written all-records bound low old new (length c.loop-below.records.means)
+    all-written version all-records bound low old new (length c.loop-below.records.means)
     (is.made ∙ (first_of-one c.loop-below.below ∙ ap count_to last)) is.written

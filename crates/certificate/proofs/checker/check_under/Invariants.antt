@@ -1,10 +1,11 @@
+-- What is known before the record of a rank is checked.
 use Rattle.std.proofs.Common.{◌≡◌, ◌<◌, Some}
 use Rattle.race_model.specs.Positions.{Board, IsPosition}
 use Rattle.race_model.specs.Ranks.{rank}
 use Rattle.race_model.specs.LocalEquations.{IsLocalAt}
 use Rattle.db_reader.specs.Telling.{WhereTold}
 use Rattle.certificate.specs.LowerRecords.{IsLower}
-use Rattle.certificate.proofs.checker.check_records.Given as goal
+use Rattle.certificate.proofs.checker.check_under.Given as goal
 
 -- the records of lower rank are accepted, and no read failed
 abbrev pub invariant-loop-rank : goal.invariant-loop-rank

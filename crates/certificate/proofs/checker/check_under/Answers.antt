@@ -1,9 +1,14 @@
+-- The records are checked by rising rank; each is accepted or has the first fault.
 use Rattle.std.proofs.Common.{◌+◌, slice_index, sym, ap, subst, ◌∙◌, arith, rules}
 use Rattle.race_model.specs.Ranks.{count_to}
 use Rattle.certificate.specs.CheckFaults.{IsFirst}
 use Rattle.certificate.specs.LowerRecords.{IsLower}
 use Rattle.certificate.proofs.FileTests.{fault-of_file, accepted-more, accepted-all}
-use Rattle.certificate.proofs.checker.check_records.Goals as goal
+use Rattle.certificate.proofs.checker.check_under.Goals as goal
+
+pub check_record-requires-clause-file : goal.check_record-requires-clause-file
+check_record-requires-clause-file g c file told =
+    c.requires.file file (sym c.loop-rank.invariant.stays ∙ told)
 
 pub check_record-requires-clause-lower : goal.check_record-requires-clause-lower
 check_record-requires-clause-lower g c file told =
@@ -12,7 +17,7 @@ check_record-requires-clause-lower g c file told =
 pub returns-in-Err-clause-first : goal.returns-in-Err-clause-first
 returns-in-Err-clause-first g c file told =
     let before = c.loop-rank.invariant in
-    let whole = ((c.in-Ok.ensures {u = tt}).told file told).0 in
+    let whole = (c.requires.file file told).file in
     let first = (c.in-Err.ensures {u = tt}).first file (before.stays ∙ told) in
     subst (IsFirst file) (sym c.fault_at.ensures)
     (fault-of_file file c.loop-rank.rank c.in-Err.fault whole (before.lower file told) first)
@@ -34,9 +39,9 @@ loop-rank-preserved g c =
 
 pub returns-clause-local : goal.returns-clause-local
 returns-clause-local g c file told =
-    let said = (c.in-Ok.ensures {u = tt}).told file told in
-    let count = c.in-Ok.header.counted ∙ ap count_to said.1 in
-    accepted-all file c.loop-rank.rank said.0 (omega (arith, count, c.loop-rank-test.false))
+    let said = c.requires.file file told in
+    let count = c.args.header.counted ∙ ap count_to said.bound_is in
+    accepted-all file c.loop-rank.rank said.file (omega (arith, count, c.loop-rank-test.false))
     (c.loop-rank.invariant.lower file told)
 
 pub check_record-requires-clause-kept : goal.check_record-requires-clause-kept

@@ -1,12 +1,13 @@
 use Rattle.std.proofs.Common.{◌≡◌, ◌+◌, ◌-◌, ◌≤◌, length}
 use Rattle.std.specs.Io.KnownBytes.{Appends}
 use Rattle.race_model.specs.Ranks.{first_of}
+use Rattle.race_model.specs.Versions.{version_by}
 use Rattle.least_plays.specs.Known.{Knows}
 use Rattle.retrograde.specs.AllRecords.{mean_of_rank}
 use Rattle.retrograde.specs.KeptRecords.{AreKept}
 use Rattle.retrograde.specs.BuiltBytes.{built_to}
 use Rattle.retrograde.proofs.Existence.{all-records}
-use Rattle.retrograde.proofs.building.build.Given as goal
+use Rattle.retrograde.proofs.building.build_version.Given as goal
 
 abbrev pub ghost-new : goal.ghost-new
 ghost-new g a = all-records
@@ -25,5 +26,6 @@ invariant-loop-below g l = record {
   made : length l.records.means ≡ first_of (l.below + 1);
   recent : length l.records.means ≤ first_of (l.below - 24) + length l.records.spreads.items;
   written : Appends (g.W.Write.contents l.fn.writer) (g.W.Write.contents l.writer)
-      (built_to all-records l.bound (length l.records.means));
+      (built_to (version_by l.header.version) all-records l.header.bound
+      (length l.records.means));
 }
