@@ -3,7 +3,7 @@ use crate::fault::{Fault, write_fault};
 use crate::files::{build_file, read_file};
 use crate::words::{Request, read_words};
 use arrayvec::ArrayString;
-use certificate::{Checked, check};
+use certificate::{CheckFault, Checked, check};
 use clap::Error;
 use clap::error::ErrorKind;
 use db_layout::write_bytes;
@@ -129,26 +129,32 @@ fn answer_pages<R: Files, I: Read, O: Write>(
 }
 
 /// Answers each line of the input over the database of a table.
+// a checked table takes 18 KB of stack: inlined, each function that checks would add one to the
+// room of its caller
+#[inline(never)]
 fn answer_lines<T: Table + Drop, I: Read, O: Write>(
     alloc: Global,
     table: T,
     input: &mut I,
     output: &mut O,
 ) -> Result<(), Fault> {
-    let mut checked = checked(table)?;
-    run(alloc, &mut checked, input, output, TURNS)?;
+    let mut told = check(table);
+    run(alloc, accepted(&mut told)?, input, output, TURNS)?;
     Ok(())
 }
 
-/// The database of a table, if it is one.
-fn checked<T: Table + Drop>(table: T) -> Result<Checked<T>, Fault> {
-    match check(table) {
+/// The database that a check has accepted, lent since a move would copy it.
+fn accepted<T: Table>(
+    told: &mut Result<Checked<T>, (T, CheckFault)>,
+) -> Result<&mut Checked<T>, Fault> {
+    match told {
         Ok(checked) => Ok(checked),
-        Err((_, fault)) => Err(Fault::from(fault)),
+        Err((_, fault)) => Err(Fault::from(*fault)),
     }
 }
 
 /// Writes the database of a pip bound into a file, and says so.
+#[inline(never)]
 fn write_database<R: Files, O: Write>(
     rt: &R,
     alloc: Global,
@@ -164,6 +170,7 @@ fn write_database<R: Files, O: Write>(
 }
 
 /// Checks the database in a file, and says that it was accepted.
+#[inline(never)]
 fn check_database<R: Files, O: Write>(
     rt: &R,
     alloc: Global,
@@ -171,11 +178,13 @@ fn check_database<R: Files, O: Write>(
     output: &mut O,
 ) -> Result<(), Fault> {
     let bytes = read_file(rt, alloc, path)?;
-    let checked = checked(Whole::new(bytes.as_slice()))?;
+    let mut told = check(Whole::new(bytes.as_slice()));
+    let checked = accepted(&mut told)?;
     write_count(Done::Checked, checked.bound(), checked.positions(), output)
 }
 
 /// Checks the database in a file, and writes a line for each pip count.
+#[inline(never)]
 fn audit_database<R: Files, O: Write>(
     rt: &R,
     alloc: Global,
@@ -183,9 +192,10 @@ fn audit_database<R: Files, O: Write>(
     output: &mut O,
 ) -> Result<(), Fault> {
     let bytes = read_file(rt, alloc, path)?;
-    let mut checked = checked(Whole::new(bytes.as_slice()))?;
+    let mut told = check(Whole::new(bytes.as_slice()));
+    let checked = accepted(&mut told)?;
     for pips in 0..=checked.bound() {
-        let Ok(level) = audit_level(&mut checked, pips) else {
+        let Ok(level) = audit_level(checked, pips) else {
             return Err(Fault::File);
         };
         if write_level(&level, output).is_err() {

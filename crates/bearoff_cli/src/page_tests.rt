@@ -7,7 +7,7 @@ use db_reader::trial::FailOnce;
 use db_reader::{FileSource, Paged, PagedFault, SliceSource, Source, SourceFault, Table, Whole};
 use epc_query::run;
 use home_board::Position;
-use retrograde::build;
+use retrograde::{build, build_compact};
 use std::alloc::Global;
 use std::process::Abort;
 use std::rt::Files;
@@ -117,6 +117,21 @@ fn a_record_is_read_once_where_there_is_room(rt: HostRuntime) -> Result<(), Fail
     assert_replies(&rt, &mut checked)?;
     let source = checked.into_table().into_source();
     assert!(rt; source.records > 64);
+    Ok(())
+}
+
+#[test]
+fn replies_do_not_depend_on_the_version(rt: HostRuntime) -> Result<(), Fail> {
+    let mut file = Vec::new(rt.alloc());
+    build_compact(rt.alloc(), 8, &mut file)?;
+    assert_eq!(rt; file.len(), 7696);
+    let mut checked = accepted(Whole::new(file.as_slice()))?;
+    assert_eq!(rt; checked.version(), 2);
+    assert_replies(&rt, &mut checked)?;
+    for records in [1, 2, 64] {
+        let source = SliceSource::new(file.as_slice());
+        assert_replies(&rt, &mut accepted(pages(rt.alloc(), source, records)?)?)?;
+    }
     Ok(())
 }
 

@@ -164,7 +164,7 @@ fn command_lines(rt: HostRuntime) -> Result<(), Fail> {
     let path = path_of(&rt, "command-lines")?;
     let path = path.as_str();
     let over = (2, "", "bearoff: over-bound\n");
-    assert_outcome(&rt, &["build", "--pips", "45", path], "", over);
+    assert_outcome(&rt, &["build", "--pips", "59", path], "", over);
     assert_outcome(&rt, &["build", "--pips", "255", path], "", over);
     assert_words_wrong(&rt, &["build", "--pips", "x", path]);
     assert_words_wrong(&rt, &["build", "--pips", "256", path]);
@@ -217,7 +217,8 @@ fn headers_that_are_refused(rt: HostRuntime) -> Result<(), Fail> {
     }
     for (place, byte, line) in [
         (0, 0, "bearoff: refused header bad-magic\n"),
-        (9, 2, "bearoff: refused header bad-version\n"),
+        (9, 3, "bearoff: refused header bad-version\n"),
+        (9, 2, "bearoff: refused header bad-record-bytes\n"),
         (11, 45, "bearoff: refused header bad-bound\n"),
         (15, 3, "bearoff: refused header bad-count\n"),
         (19, 0xab, "bearoff: refused header bad-record-bytes\n"),

@@ -31,7 +31,7 @@ lines of standard input over the positions of at most 8 pips.";
 
 const EXAMPLES: &str = "Examples:
   echo 'mean 0,0,0,0,0,1' | bearoff     answer over 8 pips, with no file
-  bearoff build --pips 44 race.db       write the database of 44 pips (11 MB)
+  bearoff build --pips 44 race.db       write the database of 44 pips (11 MB; of 58, 15 MB)
   bearoff check race.db                 is every mean in it the least?
   bearoff query race.db <lines          answer each line
   bearoff audit race.db                 least and greatest mean of each pip count
@@ -114,7 +114,7 @@ fn build_command<'a>(alloc: Global) -> Result<Command<'a>, AllocError> {
         .value_name("N")
         .required(true)
         .value_parser(value_parser!(u8))
-        .help("The greatest pip count of the database, 0 to 44");
+        .help("The greatest pip count of the database, 0 to 58");
     let file = Arg::new(alloc, "FILE").required(true).help(
         "Where the database is written; a file that stands there is replaced",
     );

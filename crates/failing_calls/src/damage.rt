@@ -1,6 +1,7 @@
 //! A database that is cut short or changed, and what the checker says of it.
 use arrayvec::ArrayString;
 use certificate::{check, fault_line};
+use db_layout::Header;
 use db_reader::{Paged, SliceSource, Table, Whole};
 use std::alloc::Global;
 use std::io;
@@ -78,18 +79,23 @@ enum Part {
 }
 
 impl Part {
-    /// The name of the part, its offset in the file for rank 0, and how many bytes it has.
-    fn place(self) -> (&'static str, usize, usize) {
+    /// The name of the part, its offset in the record, and how many of so many bytes it has.
+    fn place(self, length: usize) -> (&'static str, usize, usize) {
         match self {
-            Part::All => ("record", 32, 426),
-            Part::Mean => ("mean", 32, 16),
-            Part::Spread => ("spread", 90, 368),
+            Part::All => ("record", 0, length),
+            Part::Mean => ("mean", 0, 16),
+            Part::Spread => ("spread", 58, length.saturating_sub(58)),
         }
     }
 }
 
-/// Damages the database of 3 pips in each way, and prints what the checker says.
-pub(crate) fn report_damage(rt: &impl Print, alloc: Global, file: &[u8]) -> io::Result<()> {
+/// Damages a database with this header in each way, and prints what the checker says.
+pub(crate) fn report_damage(
+    rt: &impl Print,
+    alloc: Global,
+    file: &[u8],
+    header: &Header,
+) -> io::Result<()> {
     println!(rt; "cut after so many bytes")?;
     let mut runs = Runs::new();
     for length in 0..file.len() {
@@ -107,16 +113,17 @@ pub(crate) fn report_damage(rt: &impl Print, alloc: Global, file: &[u8]) -> io::
     }
     runs.end(rt)?;
     println!(rt; "all bits set in a part of a record")?;
-    for rank in 0..7 {
+    for rank in 0..header.count {
         for part in [Part::All, Part::Mean, Part::Spread] {
-            report_part(rt, alloc, file, rank, part)?;
+            report_part(rt, alloc, file, rank, header.place(rank), part)?;
         }
     }
     println!(rt; "all means zero")?;
     let mut damaged = Vec::new(alloc);
     damaged.extend_from_slice(file)?;
-    for rank in 0..7 {
-        put(&mut damaged, 32 + 426 * rank, 16, 0);
+    for rank in 0..header.count {
+        let (offset, _) = header.place(rank);
+        put(&mut damaged, offset as usize, 16, 0);
     }
     let line = verdict_of(alloc, damaged.as_slice());
     println!(rt; "{}", line.as_str())
@@ -127,13 +134,14 @@ fn report_part(
     rt: &impl Print,
     alloc: Global,
     file: &[u8],
-    rank: usize,
+    rank: u16,
+    (offset, length): (u64, u32),
     part: Part,
 ) -> io::Result<()> {
-    let (name, place, count) = part.place();
+    let (name, place, count) = part.place(length as usize);
     let mut damaged = Vec::new(alloc);
     damaged.extend_from_slice(file)?;
-    let start = rank.saturating_mul(426).saturating_add(place);
+    let start = (offset as usize).saturating_add(place);
     put(&mut damaged, start, count, 0xff);
     let line = verdict_of(alloc, damaged.as_slice());
     println!(rt; "{name} {rank}: {}", line.as_str())

@@ -12,7 +12,8 @@ use crate::inputs::{answer_each_byte, answer_endless, fail_reads};
 use crate::sources::{Query, fail_check, fail_query, fail_run};
 use crate::texts::{Text, fail_flush, fail_writes};
 use crate::wrong::Wrong;
-use retrograde::build;
+use db_layout::{COMPACT_VERSION, Header, VERSION};
+use retrograde::{build, build_compact};
 use std::alloc::Global;
 use std::{env, io};
 
@@ -32,7 +33,17 @@ fn main(rt: HostRuntime) -> io::Result<()> {
     if build(rt.alloc(), 3, &mut file).is_err() {
         return println!(rt; "no database");
     }
-    report_damage(&rt, rt.alloc(), file.as_slice())?;
+    let mut compact = Vec::new(rt.alloc());
+    if build_compact(rt.alloc(), 3, &mut compact).is_err() {
+        return println!(rt; "no database");
+    }
+    if let Some(header) = Header::new(VERSION, 3) {
+        report_damage(&rt, rt.alloc(), file.as_slice(), &header)?;
+    }
+    println!(rt; "version 2")?;
+    if let Some(header) = Header::new(COMPACT_VERSION, 3) {
+        report_damage(&rt, rt.alloc(), compact.as_slice(), &header)?;
+    }
     report_sources(&rt, rt.alloc(), file.as_slice())?;
     report_writers(&rt, rt.alloc(), file.as_slice())?;
     report_inputs(&rt, rt.alloc(), file.as_slice())

@@ -197,9 +197,15 @@ fn write_a_header(writer: &mut Tired) -> bool {
 }
 
 fn write_a_record(writer: &mut Tired) -> bool {
+    let Some(header) = Header::new(1, 44) else {
+        return false;
+    };
+    let spread = Spread::finished();
     match Scaled::new(22 * WHOLE) {
-        Some(mean) => write_record(mean, &[258; 21], &Spread::finished(), writer).is_ok(),
-        None => false,
+        Some(mean) if header.holds(0, &spread) => {
+            write_record(&header, 0, mean, &[258; 21], &spread, writer).is_ok()
+        }
+        _ => false,
     }
 }
 
