@@ -1,0 +1,209 @@
+/*
+ * bearoff.h: answers of a proved backgammon bearoff database, for C and C++.
+ *
+ * A database is the bytes of a file that `bearoff build` writes, or any bytes that are a right
+ * database. bearoff_open checks them once, and accepts them exactly where every mean in them is
+ * the least over all strategies, the recorded plays reach these means, and the recorded shares are
+ * those of these plays. That is proved, and so is what each call below answers.
+ *
+ * Who owns what. The library has no memory and no state of its own. The caller keeps the bytes
+ * and the struct bearoff_database; neither may be changed, and the bytes may not go away, for as
+ * long as the database is used. The struct may be copied or moved. There is nothing to close.
+ * Pointers are not NULL, also where a length is 0. A struct that is made by BEAROFF_CLOSED, or of
+ * zeros, is a database that is not open, and each call says so.
+ *
+ * Threads. Each call may be made from any thread; calls that only read a database may share it.
+ *
+ * Stack. bearoff_open needs about 1.5 MB of stack, every other call less than 128 KB. Threads
+ * whose stack is smaller have to be given more before they open a database.
+ *
+ * Refusals. Each call returns a status; where it isn't BEAROFF_OK nothing that the caller lends
+ * was changed, except for what the call's comment says.
+ */
+#ifndef BEAROFF_H
+#define BEAROFF_H
+
+#include <stddef.h>
+#include <stdint.h>
+
+#ifdef __cplusplus
+extern "C" {
+#endif
+
+/* The statuses, in the order of the tests. */
+enum {
+    BEAROFF_OK = 0,
+    BEAROFF_NOT_OPEN = 1,   /* the database was never opened, or its bytes were refused */
+    BEAROFF_BAD_ROLL = 2,   /* a die is not 1 to 6 */
+    BEAROFF_TOO_MANY = 3,   /* a position has more than 15 checkers */
+    BEAROFF_OVER_BOUND = 4, /* the position has more pips than the bound */
+    BEAROFF_FINISHED = 5,   /* a play is asked for and no checker is left */
+    BEAROFF_NOT_LEGAL = 6,  /* the roll doesn't lead to the position whose loss is asked */
+    BEAROFF_CHANGED = 7,    /* the bytes were changed since they were checked */
+    BEAROFF_SHORT = 8,      /* the room that was lent is too small */
+
+    /* bearoff_open alone: the first fault of the bytes */
+    BEAROFF_TOO_SHORT = 16,        /* fewer than 32 bytes */
+    BEAROFF_BAD_MAGIC = 17,        /* they don't begin with EPCTABLE */
+    BEAROFF_BAD_VERSION = 18,      /* the version is not 1 */
+    BEAROFF_BAD_BOUND = 19,        /* the pip bound is over the greatest of its version, 44 or 58 */
+    BEAROFF_BAD_COUNT = 20,        /* the count isn't that of the bound */
+    BEAROFF_BAD_RECORD_BYTES = 21, /* the field for record bytes is not 426 */
+    BEAROFF_BAD_RESERVED = 22,     /* a reserved byte is not zero */
+    BEAROFF_BAD_LENGTH = 23,       /* more or fewer bytes than the header says */
+    BEAROFF_BAD_PLAY = 24,         /* a recorded play is not legal */
+    BEAROFF_NOT_LEAST = 25,        /* a recorded play doesn't reach the least mean */
+    BEAROFF_BAD_MEAN = 26,         /* a recorded mean is not that of the recorded plays */
+    BEAROFF_BAD_SPREAD = 27,       /* a recorded share is not that of the recorded plays */
+};
+
+/*
+ * How many checkers stand on the points 1 to 6 of the home board, the ace point first; the others
+ * are borne off. Each is 0 to 255, and they are a position where they add up to at most 15.
+ */
+typedef struct bearoff_position {
+    uint8_t points[6];
+} bearoff_position;
+
+/* A number of 128 bits: 2^64 times high, and low. */
+typedef struct bearoff_wide {
+    uint64_t high;
+    uint64_t low;
+} bearoff_wide;
+
+/* A numerator over 36^22 as a number of rolls, or as a chance: near to it, and no more than that. */
+static inline double bearoff_as_double(bearoff_wide numerator) {
+    return ((double)numerator.high * 18446744073709551616.0 + (double)numerator.low) /
+           17324272922341479351919144385642496.0;
+}
+
+/* A fraction in lowest terms; the denominator is not 0. */
+typedef struct bearoff_fraction {
+    bearoff_wide numerator;
+    bearoff_wide denominator;
+} bearoff_fraction;
+
+/* An effective pip count, in pips: exact, and in thousandths, rounded to the nearest and a half up. */
+typedef struct bearoff_pips {
+    bearoff_fraction exact;
+    uint64_t thousandths;
+} bearoff_pips;
+
+/* The chances of being off in exactly 0 to 22 rolls, as numerators over 36^22. They add up to 36^22. */
+typedef struct bearoff_shares {
+    bearoff_wide shares[23];
+} bearoff_shares;
+
+/* One checker's move: from a point, 1 to 6, to a lower one, or to 0 where it is borne off. */
+typedef struct bearoff_move {
+    uint8_t from;
+    uint8_t to;
+} bearoff_move;
+
+/* A play: its moves in the order in which they are made, zeros after the last, how many there are
+ * (1 to 4), and the position that it leads to. */
+typedef struct bearoff_recorded_play {
+    bearoff_move moves[4];
+    uint8_t count;
+    bearoff_position to;
+} bearoff_recorded_play;
+
+/* A position that a roll can lead to, and what it costs in rolls: the least mean number of rolls
+ * after it, less the least such mean among all positions that the roll can lead to. */
+typedef struct bearoff_result {
+    bearoff_position to;
+    bearoff_fraction loss;
+} bearoff_result;
+
+/*
+ * A database, in 17,680 bytes of the caller's. Nothing but bearoff_open writes it. It begins as
+ * BEAROFF_CLOSED, which is not open. One of zeros isn't open either; the proof speaks of pointers
+ * that are not NULL, so of zeros that is tested and not proved.
+ */
+typedef struct bearoff_database {
+    const uint8_t *bytes;
+    size_t length;
+    uint8_t is_open;
+    uint8_t bound;
+    uint16_t ranks[6 * 16 * 91 + 92];
+} bearoff_database;
+
+/* bearoff_database database = BEAROFF_CLOSED; */
+#define BEAROFF_CLOSED {(const uint8_t *)"", 0, 0, 0, {0}}
+
+/* The most bytes that the line of a fault has. */
+#define BEAROFF_LINE 32
+
+/* The most positions that a roll can lead to. */
+#define BEAROFF_RESULTS 1296
+
+/*
+ * Checks `length` bytes and opens a database over them. 0.2 s for 44 pips; needs 1.5 MB of stack.
+ * BEAROFF_OK exactly where they are a right database of at most 58 pips. Any other status, 16 to
+ * 27, names the first fault, and the database is not open, whatever it was before; the fault's
+ * line, as in `mean rank 1`, stands in `line` without a zero at its end where all of it has room,
+ * and `*needed` is how many bytes it has, at most BEAROFF_LINE. Where there is no fault `line`
+ * stays as it was, and `*needed` is 0.
+ */
+uint32_t bearoff_open(bearoff_database *database, const uint8_t *bytes, size_t length,
+                      uint8_t *line, size_t room, size_t *needed);
+
+/* The pip bound of the database, 0 to 58. BEAROFF_OK or BEAROFF_NOT_OPEN. */
+uint32_t bearoff_bound(const bearoff_database *database, uint8_t *bound);
+
+/* How many positions it has: those of at most its bound. BEAROFF_OK or BEAROFF_NOT_OPEN. */
+uint32_t bearoff_positions(const bearoff_database *database, uint32_t *positions);
+
+/*
+ * The least mean number of rolls until all checkers are off, over all strategies, as a numerator
+ * over 36^22 (at most 22 * 36^22). BEAROFF_OK, BEAROFF_NOT_OPEN, BEAROFF_TOO_MANY or
+ * BEAROFF_OVER_BOUND, and BEAROFF_CHANGED, which comes only where the bytes were changed after
+ * they were checked.
+ */
+uint32_t bearoff_mean(const bearoff_database *database, const bearoff_position *position,
+                      bearoff_wide *mean);
+
+/* The effective pip count: 49/6 pips for each roll of the mean. The statuses of bearoff_mean. */
+uint32_t bearoff_epc(const bearoff_database *database, const bearoff_position *position,
+                     bearoff_pips *pips);
+
+/*
+ * The chance of each number of rolls, where each play is the recorded one. The statuses of
+ * bearoff_mean, without BEAROFF_CHANGED.
+ */
+uint32_t bearoff_distribution(const bearoff_database *database, const bearoff_position *position,
+                              bearoff_shares *shares);
+
+/*
+ * The recorded play of a roll, whose two dice, 1 to 6 each, come in either order. No play has a
+ * smaller mean; there may be others as good. The statuses of bearoff_mean, BEAROFF_BAD_ROLL and
+ * BEAROFF_FINISHED.
+ */
+uint32_t bearoff_play(const bearoff_database *database, const bearoff_position *position,
+                      uint8_t one, uint8_t other, bearoff_recorded_play *play);
+
+/*
+ * What a play to the position `to` costs, in rolls: the least mean after it, less the least such
+ * mean among all positions that the roll can lead to. It is 0 exactly where some best strategy
+ * plays so. The statuses of bearoff_play, BEAROFF_TOO_MANY also for `to`, and BEAROFF_NOT_LEGAL.
+ */
+uint32_t bearoff_loss(const bearoff_database *database, const bearoff_position *position,
+                      uint8_t one, uint8_t other, const bearoff_position *to,
+                      bearoff_fraction *loss);
+
+/*
+ * Every position that a roll can lead to, once, by rising rank (fewer pips first, and of as many
+ * the smaller counts, the ace point's first), each with what it costs. `results` has room for
+ * `room` of them; `*count` is how many there are, at most BEAROFF_RESULTS. The statuses of
+ * bearoff_play, and BEAROFF_SHORT where they have no room: then `*count` says how many there are,
+ * and no result is written.
+ */
+uint32_t bearoff_results(const bearoff_database *database, const bearoff_position *position,
+                         uint8_t one, uint8_t other, bearoff_result *results, size_t room,
+                         size_t *count);
+
+#ifdef __cplusplus
+}
+#endif
+
+#endif

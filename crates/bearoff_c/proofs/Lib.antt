@@ -1,0 +1,3 @@
+pub mod Filling
+pub mod Known
+pub mod Refusing

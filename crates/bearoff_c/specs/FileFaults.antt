@@ -1,0 +1,20 @@
+-- The status of each fault of a file.
+use Rattle.std.specs.Prelude.{ℕ}
+use Rattle.db_layout.specs.declared.header.HeaderFault.TheVariants.{TooShort, BadMagic, BadVersion, BadBound, BadCount, BadRecordBytes, BadReserved, BadLength}
+use Rattle.certificate.specs.declared.check_fault.CheckFault.{CheckFault}
+use Rattle.certificate.specs.declared.check_fault.CheckFault.TheVariants.{Header, Play, NotLeast, Mean, Spread, Read}
+
+abbrev pub fault_status : CheckFault → ℕ
+fault_status (Header TooShort) = 16
+fault_status (Header BadMagic) = 17
+fault_status (Header BadVersion) = 18
+fault_status (Header BadBound) = 19
+fault_status (Header BadCount) = 20
+fault_status (Header BadRecordBytes) = 21
+fault_status (Header BadReserved) = 22
+fault_status (Header BadLength) = 23
+fault_status (Play rank roll) = 24
+fault_status (NotLeast rank roll) = 25
+fault_status (Mean rank) = 26
+fault_status (Spread rank k) = 27
+fault_status Read = 28

@@ -1,0 +1,22 @@
+-- What the numbers say by which a rank is found.
+use Rattle.std.specs.Prelude.{◌≡◌, ℕ, ◌+◌, ◌<◌, length, slice_index, slice_index_or}
+use Rattle.race_model.specs.Ranks.{first_of}
+use Rattle.ranking.specs.Lists.{used}
+use Rattle.bearoff_c.specs.declared.row.Row.{Row}
+use Rattle.bearoff_c.specs.declared.point_table.PointTable.{PointTable}
+use Rattle.bearoff_c.specs.declared.rank_table.RankTable.{RankTable}
+
+-- a row has the value of f at each pip count
+pub record IsRow (f : ℕ → ℕ) (row : Row) : Type 0 where
+  pub each : (m : ℕ) → m < 91 → slice_index row.cells m ≡ f m
+
+-- a table has such a row for each number of checkers
+pub record IsPointTable (f : ℕ → ℕ → ℕ) (table : PointTable) : Type 0 where
+  pub long : length table.rows ≡ 16
+  pub each : (k : ℕ) (d : Row) → k < 16 → IsRow (f k) (slice_index_or table.rows k d)
+
+-- a table for each point, and how many positions have fewer pips than so many
+pub record IsRankTable (ranks : RankTable) : Type 0 where
+  pub counted : (i : ℕ) (d : PointTable) → i < 6 →
+      IsPointTable (used (i + 1)) (slice_index_or ranks.points i d)
+  pub summed : (m : ℕ) → m < 92 → slice_index ranks.starts m ≡ first_of m

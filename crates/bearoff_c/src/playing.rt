@@ -1,0 +1,125 @@
+//! What a roll is played with.
+ghost use Rattle.std.specs.Prelude.{◌≡◌, ℕ, List, IfOk, OnOk, IsSome, IfSome, IfNone};
+ghost use Rattle.race_model.specs.Positions.{IsPosition, IsFinished};
+ghost use Rattle.race_model.specs.Plays.{Legal};
+ghost use Rattle.race_model.specs.Ranks.{rank as rank_of};
+ghost use Rattle.race_model.specs.Files.{record_at};
+ghost use Rattle.race_model.specs.FirstPlays.{IsFirstPlay};
+ghost use Rattle.race_model.specs.LocalEquations.{recorded};
+ghost use Rattle.legal_plays.specs.Faces.{face, roll_of};
+ghost use Rattle.legal_plays.specs.MoveLists.{moves_of};
+ghost use Rattle.bearoff_c.specs.Databases.{IsKnown};
+ghost use Rattle.bearoff_c.specs.RankTables.{IsRankTable};
+ghost use Rattle.bearoff_c.specs.Refusals.{play_refusal, roll_refusal, refusal_in};
+
+use crate::database::{Counts, Database};
+use crate::rank_table::RankTable;
+use crate::refusal::Refusal;
+use db_layout::RecordView;
+use home_board::Position;
+use legal_plays::{Die, Play, Roll, play_to, results};
+
+/// A position that is to be played, a roll, and the record of the position.
+#[derive(Drop)]
+pub struct Turn<'a> {
+    pub position: Position,
+    pub roll: Roll,
+    pub view: RecordView<'a>,
+}
+
+impl<'a> Database<'a> {
+    /// The position that is to be played with a roll, which is given by its two dice in either
+    /// order. Refused exactly as `play_refusal` says.
+    pub fn turn(&self, counts: &Counts, one: u8, other: u8) -> Result<Turn<'_>, Refusal>
+        ensures refusal { refusal_in result ≡ play_refusal
+            self.now.is_open self.now.bound counts.now.points one other }
+        ensures position { IfOk result (λ turn. turn.position ≡ counts.now.points) }
+        ensures roll { IfOk result (λ turn. turn.roll ≡ roll_of (face one) (face other)) }
+        ensures record { IfOk result (λ turn.
+            turn.view ≡ record_at self.now.bytes.now (rank_of counts.now.points)) }
+        ensures unfinished { OnOk result (¬ IsFinished counts.now.points) }
+        ensures known { OnOk result (∥ IsKnown self.now.bytes.now counts.now.points ∥₁) }
+    {
+        if !self.is_open {
+            return Err(Refusal::NotOpen);
+        }
+        let roll = read_roll(one, other)?;
+        let (position, view) = self.find(counts)?;
+        if position.is_finished() {
+            return Err(Refusal::Finished);
+        }
+        Ok(Turn {
+            position,
+            roll,
+            view,
+        })
+    }
+
+    /// The position that the recorded play of a roll leads to. None only where the bytes were
+    /// changed since they were checked.
+    pub fn best(&self, turn: &Turn<'_>) -> Option<Position>
+        requires ranked { IsRankTable self.now.ranks }
+        requires record { turn.now.view
+            ≡ record_at self.now.bytes.now (rank_of turn.now.position) }
+        requires known { ∥ IsKnown self.now.bytes.now turn.now.position ∥₁ }
+        ensures some { IsSome result }
+        ensures recorded { IfSome result (λ to.
+            to ≡ recorded self.now.bytes.now turn.now.position turn.now.roll) }
+        ensures legal { IfSome result (λ to. Legal turn.now.position turn.now.roll to) }
+    {
+        let _checkers = turn.position.checkers();
+        let recorded = turn.view.play(turn.roll);
+        result_of_rank(&self.ranks, &turn.position, turn.roll, recorded)
+    }
+
+    /// The recorded play of a roll, given by its two dice in either order, and the position that
+    /// it leads to. Refused exactly as `play_refusal` says.
+    pub fn play(&self, counts: &Counts, one: u8, other: u8) -> Result<(Play, Position), Refusal>
+        ensures refusal { refusal_in result ≡ play_refusal
+            self.now.is_open self.now.bound counts.now.points one other }
+        ensures recorded { IfOk result (λ answer. answer.1 ≡ recorded
+            self.now.bytes.now counts.now.points (roll_of (face one) (face other))) }
+        ensures first { IfOk result (λ answer. IsFirstPlay
+            counts.now.points (roll_of (face one) (face other)) answer.1
+            (moves_of answer.0.items)) }
+        ensures legal { IfOk result (λ answer. Legal
+            counts.now.points (roll_of (face one) (face other)) answer.1) }
+    {
+        let turn = self.turn(counts, one, other)?;
+        let Some(to) = self.best(&turn) else {
+            return Err(Refusal::Changed);
+        };
+        match play_to(&turn.position, turn.roll, &to) {
+            Some(play) => Ok((play, to)),
+            None => Err(Refusal::Changed),
+        }
+    }
+}
+
+/// The roll of two dice. Refused as `BadRoll` where one doesn't show a number from 1 to 6.
+pub fn read_roll(one: u8, other: u8) -> Result<Roll, Refusal>
+    ensures refusal { refusal_in result ≡ roll_refusal one other }
+    ensures value { IfOk result (λ roll. roll ≡ roll_of (face one) (face other)) }
+{
+    match (Die::new(one), Die::new(other)) {
+        (Some(one), Some(other)) => Ok(Roll::new(one, other)),
+        _ => Err(Refusal::BadRoll),
+    }
+}
+
+/// The result of a roll that has a rank; none exactly where the roll leads to no such position.
+fn result_of_rank(ranks: &RankTable, position: &Position, roll: Roll, rank: u16) -> Option<Position>
+    requires { IsRankTable ranks.now }
+    ensures legal { IfSome result (Legal position.now roll) }
+    ensures ranked { IfSome result (λ to. rank_of to ≡ rank) }
+    ensures none { IfNone result ((y : List ℕ) → Legal position.now roll y →
+        ¬ (rank_of y ≡ rank)) }
+{
+    let found = results(position, roll);
+    for to in found.as_slice() {
+        if ranks.rank(to) == rank {
+            return Some(*to);
+        }
+    }
+    None
+}

@@ -1,0 +1,323 @@
+/*
+ * Answers lines as `bearoff query FILE` does, by way of the library: its replies are compared with the program's.
+ * usage: lines FILE [THREADS] <lines       with THREADS, as many threads answer all lines, over a database each,
+ *                                          and the program fails where their replies differ
+ *        lines FILE --speed N              how many means a second N calls come to, over all positions of at most
+ *                                          the bound in the order of a walk
+ * It is C and C++ both.
+ */
+#define _POSIX_C_SOURCE 200809L
+#include <pthread.h>
+#include <stdarg.h>
+#include <stdio.h>
+#include <stdlib.h>
+#include <string.h>
+#include <time.h>
+
+#include "bearoff.h"
+
+typedef unsigned __int128 number;
+
+static const char *fault_words(uint32_t status) {
+    switch (status) {
+    case BEAROFF_TOO_MANY: return "error too-many";
+    case BEAROFF_OVER_BOUND: return "error over-bound";
+    case BEAROFF_FINISHED: return "error finished";
+    case BEAROFF_NOT_LEGAL: return "error not-legal";
+    default: return "error bad-line";
+    }
+}
+
+static void fail(const char *what) {
+    fprintf(stderr, "lines: %s\n", what);
+    exit(1);
+}
+
+/* a text that grows */
+typedef struct text {
+    char *bytes;
+    size_t length, room;
+} text;
+
+static void put(text *to, const char *form, ...) {
+    for (;;) {
+        va_list words;
+        va_start(words, form);
+        int count = vsnprintf(to->bytes + to->length, to->room - to->length, form, words);
+        va_end(words);
+        if (count < 0) fail("print");
+        if ((size_t)count < to->room - to->length) {
+            to->length += (size_t)count;
+            return;
+        }
+        to->room = 2 * to->room + (size_t)count + 1;
+        to->bytes = (char *)realloc(to->bytes, to->room);
+        if (!to->bytes) fail("memory");
+    }
+}
+
+static number value(bearoff_wide halves) { return ((number)halves.high << 64) + halves.low; }
+
+static void put_number(text *to, number n) {
+    char digits[40];
+    int first = 40;
+    do digits[--first] = (char)('0' + (int)(n % 10)); while (n /= 10);
+    put(to, "%.*s", 40 - first, digits + first);
+}
+
+static number whole(void) {
+    number w = 1;
+    for (int i = 0; i < 22; i++) w *= 36;
+    return w;
+}
+
+static void put_fraction(text *to, number n, number d) {
+    number a = n, b = d;
+    while (b) {
+        number rest = a % b;
+        a = b;
+        b = rest;
+    }
+    put_number(to, n / a);
+    put(to, "/");
+    put_number(to, d / a);
+}
+
+static void put_position(text *to, bearoff_position at) {
+    for (int i = 0; i < 6; i++) put(to, "%s%d", i ? "," : "", at.points[i]);
+}
+
+static int read_position(const char **from, bearoff_position *at) {
+    for (int i = 0; i < 6; i++) {
+        char *end;
+        long count = strtol(*from, &end, 10);
+        if (end == *from || count < 0 || count > 255 || (i < 5 && *end != ',')) return 0;
+        at->points[i] = (uint8_t)count;
+        *from = end + (i < 5);
+    }
+    return 1;
+}
+
+static int read_roll(const char **from, uint8_t *one, uint8_t *other) {
+    if (**from != ' ' || !(*from)[1] || !(*from)[2]) return 0;
+    *one = (uint8_t)((*from)[1] - '0');
+    *other = (uint8_t)((*from)[2] - '0');
+    *from += 3;
+    return 1;
+}
+
+static void put_loss(text *to, bearoff_fraction loss) {
+    put_number(to, value(loss.numerator));
+    put(to, "/");
+    put_number(to, value(loss.denominator));
+}
+
+/* the results by rising loss, and those of equal loss by rising rank, in which they come */
+static void sort(bearoff_result *results, size_t count) {
+    number w = whole();
+    for (size_t i = 1; i < count; i++) {
+        bearoff_result one = results[i];
+        number loss = value(one.loss.numerator) * (w / value(one.loss.denominator));
+        size_t j = i;
+        for (; j > 0; j--) {
+            number before = value(results[j - 1].loss.numerator) * (w / value(results[j - 1].loss.denominator));
+            if (before <= loss) break;
+            results[j] = results[j - 1];
+        }
+        results[j] = one;
+    }
+}
+
+static void answer(const bearoff_database *database, const char *line, text *reply) {
+    char word[6] = {0};
+    size_t length = strcspn(line, " \n");
+    uint32_t status = BEAROFF_BAD_ROLL;
+    bearoff_position at, to;
+    uint8_t one = 0, other = 0;
+    const char *rest = line + length + 1;
+    if (length < 4 || length > 5 || line[length] != ' ' || !read_position(&rest, &at)) {
+        put(reply, "error bad-line\n");
+        return;
+    }
+    memcpy(word, line, length);
+    if (!strcmp(word, "mean")) {
+        bearoff_wide mean;
+        bearoff_pips pips;
+        status = bearoff_mean(database, &at, &mean);
+        if (!status) status = bearoff_epc(database, &at, &pips);
+        if (!status) {
+            put(reply, "mean ");
+            put_fraction(reply, value(mean), whole());
+            put(reply, " epc ");
+            put_loss(reply, pips.exact);
+            put(reply, " %lu.%03lu", (unsigned long)(pips.thousandths / 1000), (unsigned long)(pips.thousandths % 1000));
+        }
+    } else if (!strcmp(word, "dist")) {
+        bearoff_shares shares;
+        status = bearoff_distribution(database, &at, &shares);
+        if (!status) {
+            put(reply, "dist");
+            for (int k = 0; k < 23; k++) {
+                if (!value(shares.shares[k])) continue;
+                put(reply, " %d:", k);
+                put_fraction(reply, value(shares.shares[k]), whole());
+            }
+        }
+    } else if (!strcmp(word, "play") && read_roll(&rest, &one, &other)) {
+        bearoff_recorded_play play;
+        status = bearoff_play(database, &at, one, other, &play);
+        if (!status) {
+            put(reply, "play");
+            for (int i = 0; i < play.count; i++) {
+                put(reply, play.moves[i].to ? " %d/%d" : " %d/off", play.moves[i].from, play.moves[i].to);
+            }
+            put(reply, " to ");
+            put_position(reply, play.to);
+        }
+    } else if (!strcmp(word, "loss") && read_roll(&rest, &one, &other) && *rest++ == ' ' && read_position(&rest, &to)) {
+        bearoff_fraction loss;
+        status = bearoff_loss(database, &at, one, other, &to, &loss);
+        if (!status) {
+            put(reply, "loss ");
+            put_loss(reply, loss);
+        }
+    } else if (!strcmp(word, "moves") && read_roll(&rest, &one, &other)) {
+        static const size_t room = BEAROFF_RESULTS;
+        bearoff_result *results = (bearoff_result *)calloc(room, sizeof *results);
+        size_t count = 0;
+        if (!results) fail("memory");
+        status = bearoff_results(database, &at, one, other, results, room, &count);
+        if (!status) {
+            put(reply, "moves");
+            sort(results, count);
+            for (size_t i = 0; i < count; i++) {
+                put(reply, " ");
+                put_position(reply, results[i].to);
+                put(reply, ":");
+                put_loss(reply, results[i].loss);
+            }
+        }
+        free(results);
+    }
+    put(reply, status ? "%s\n" : "\n", fault_words(status));
+}
+
+static text read_all(FILE *from) {
+    text all = {0, 0, 0};
+    for (;;) {
+        if (all.room - all.length < 65536) {
+            all.room = 2 * all.room + 131072;
+            all.bytes = (char *)realloc(all.bytes, all.room);
+            if (!all.bytes) fail("memory");
+        }
+        size_t count = fread(all.bytes + all.length, 1, 65536, from);
+        if (!count) break;
+        all.length += count;
+    }
+    if (ferror(from)) fail("read");
+    all.bytes[all.length] = 0;
+    return all;
+}
+
+static text file, lines;
+
+static void open_it(bearoff_database *database) {
+    uint8_t line[BEAROFF_LINE];
+    size_t needed;
+    uint32_t status = bearoff_open(database, (const uint8_t *)file.bytes, file.length, line, sizeof line, &needed);
+    if (status) {
+        fprintf(stderr, "lines: refused %.*s\n", (int)needed, (const char *)line);
+        exit(3);
+    }
+}
+
+static void *answer_all(void *to) {
+    text *replies = (text *)to;
+    bearoff_database *database = (bearoff_database *)calloc(1, sizeof *database);
+    if (!database) fail("memory");
+    open_it(database);
+    replies->room = 1 << 16;
+    replies->bytes = (char *)malloc(replies->room);
+    if (!replies->bytes) fail("memory");
+    for (const char *line = lines.bytes; *line; line = strchr(line, '\n') + 1) answer(database, line, replies);
+    free(database);
+    return 0;
+}
+
+/* the position of each rank below a count, by the order of ranks */
+static size_t all_positions(bearoff_position *at, unsigned bound) {
+    size_t count = 0;
+    for (unsigned pips = 0; pips <= bound; pips++)
+        for (unsigned a = 0; a <= 15; a++)
+            for (unsigned b = 0; a + b <= 15; b++)
+                for (unsigned c = 0; a + b + c <= 15; c++)
+                    for (unsigned d = 0; a + b + c + d <= 15; d++)
+                        for (unsigned e = 0; a + b + c + d + e <= 15; e++) {
+                            unsigned low = a + 2 * b + 3 * c + 4 * d + 5 * e;
+                            if (low > pips || (pips - low) % 6 || a + b + c + d + e + (pips - low) / 6 > 15) continue;
+                            bearoff_position one = {{(uint8_t)a, (uint8_t)b, (uint8_t)c, (uint8_t)d, (uint8_t)e,
+                                                     (uint8_t)((pips - low) / 6)}};
+                            at[count++] = one;
+                        }
+    return count;
+}
+
+static void speed(long calls) {
+    static bearoff_database database;
+    uint8_t bound;
+    uint32_t positions;
+    open_it(&database);
+    bearoff_bound(&database, &bound);
+    bearoff_positions(&database, &positions);
+    bearoff_position *at = (bearoff_position *)malloc(positions * sizeof *at);
+    if (!at || all_positions(at, bound) != positions) fail("positions");
+    struct timespec start, end;
+    number sum = 0;
+    clock_gettime(CLOCK_MONOTONIC, &start);
+    size_t place = 0;
+    for (long i = 0; i < calls; i++) {
+        bearoff_wide mean;
+        place = (place + 7919) % positions;
+        if (bearoff_mean(&database, &at[place], &mean)) fail("mean");
+        sum += value(mean);
+    }
+    clock_gettime(CLOCK_MONOTONIC, &end);
+    double taken = (double)(end.tv_sec - start.tv_sec) + 1e-9 * (double)(end.tv_nsec - start.tv_nsec);
+    printf("%.0f means a second\n", (double)calls / taken);
+    if (!sum) fail("no sum");
+    free(at);
+}
+
+int main(int count, char **words) {
+    if (count < 2) fail("usage: lines FILE [THREADS | --speed N]");
+    FILE *from = fopen(words[1], "rb");
+    if (!from) fail("open");
+    file = read_all(from);
+    fclose(from);
+    if (count == 4) {
+        speed(atol(words[3]));
+        free(file.bytes);
+        return 0;
+    }
+    lines = read_all(stdin);
+    enum { MOST = 16 };
+    int threads = count > 2 ? atoi(words[2]) : 1;
+    text replies[MOST];
+    pthread_t ids[MOST];
+    memset(replies, 0, sizeof replies);
+    if (threads < 1 || threads > MOST) fail("threads");
+    for (int i = 0; i < threads; i++) {
+        if (pthread_create(&ids[i], 0, answer_all, &replies[i])) fail("thread");
+    }
+    for (int i = 0; i < threads; i++) pthread_join(ids[i], 0);
+    for (int i = 1; i < threads; i++) {
+        if (replies[i].length != replies[0].length || memcmp(replies[i].bytes, replies[0].bytes, replies[0].length)) {
+            fail("two threads answer differently");
+        }
+    }
+    if (fwrite(replies[0].bytes, 1, replies[0].length, stdout) != replies[0].length) fail("write");
+    for (int i = 0; i < threads; i++) free(replies[i].bytes);
+    free(lines.bytes);
+    free(file.bytes);
+    return 0;
+}

@@ -1,0 +1,238 @@
+/*
+ * Each refusal of the library gives its status, and leaves alone what the caller lends but for what the header says.
+ * usage: refusals FILE       a right database of 8 pips
+ * Each struct and buffer stands between guards, and the bytes of a file in a block of their own, so that a checker of
+ * memory sees a step beside them. It is C and C++ both.
+ */
+#include <stdio.h>
+#include <stdlib.h>
+#include <string.h>
+
+#include "bearoff.h"
+
+static int failed;
+
+static void expect(int holds, const char *what, long number) {
+    if (!holds) {
+        fprintf(stderr, "refusals: %s (%ld)\n", what, number);
+        failed = 1;
+    }
+}
+
+enum { GUARD = 64, MARK = 0xA5 };
+
+/* a block of bytes of MARK between guards of the same */
+static uint8_t *guarded(size_t size) {
+    uint8_t *block = (uint8_t *)malloc(size + 2 * GUARD);
+    if (!block) exit(1);
+    memset(block, MARK, size + 2 * GUARD);
+    return block + GUARD;
+}
+
+static int is_marked(const uint8_t *from, size_t size) {
+    for (size_t i = 0; i < size; i++)
+        if (from[i] != MARK) return 0;
+    return 1;
+}
+
+static int guards_stand(const void *item, size_t size) {
+    const uint8_t *bytes = (const uint8_t *)item;
+    return is_marked(bytes - GUARD, GUARD) && is_marked(bytes + size, GUARD);
+}
+
+static int untouched(const void *item, size_t size) {
+    return guards_stand(item, size) && is_marked((const uint8_t *)item, size);
+}
+
+static void let_go(void *item) { free((uint8_t *)item - GUARD); }
+
+/* every query of one position, roll and result: the statuses, and what stays as it was */
+typedef struct statuses {
+    uint32_t numbers, play, loss;
+} statuses;
+
+static statuses statuses_of(uint32_t numbers, uint32_t play, uint32_t loss) {
+    statuses all = {numbers, play, loss};
+    return all;
+}
+
+static void ask(const bearoff_database *database, bearoff_position at, uint8_t one, uint8_t other, bearoff_position to,
+                statuses wanted, const char *what) {
+    bearoff_wide *mean = (bearoff_wide *)guarded(sizeof *mean);
+    bearoff_pips *pips = (bearoff_pips *)guarded(sizeof *pips);
+    bearoff_shares *shares = (bearoff_shares *)guarded(sizeof *shares);
+    bearoff_recorded_play *play = (bearoff_recorded_play *)guarded(sizeof *play);
+    bearoff_fraction *loss = (bearoff_fraction *)guarded(sizeof *loss);
+    bearoff_result *results = (bearoff_result *)guarded(64 * sizeof *results);
+    size_t *count = (size_t *)guarded(sizeof *count);
+    expect(bearoff_mean(database, &at, mean) == wanted.numbers, what, 1);
+    expect(bearoff_epc(database, &at, pips) == wanted.numbers, what, 2);
+    expect(bearoff_distribution(database, &at, shares) == wanted.numbers, what, 3);
+    expect(bearoff_play(database, &at, one, other, play) == wanted.play, what, 4);
+    expect(bearoff_loss(database, &at, one, other, &to, loss) == wanted.loss, what, 5);
+    expect(bearoff_results(database, &at, one, other, results, 64, count) == wanted.play, what, 6);
+    if (wanted.numbers) {
+        expect(untouched(mean, sizeof *mean), what, 7);
+        expect(untouched(pips, sizeof *pips), what, 8);
+        expect(untouched(shares, sizeof *shares), what, 9);
+    }
+    if (wanted.play) {
+        expect(untouched(play, sizeof *play), what, 10);
+        expect(untouched(results, 64 * sizeof *results), what, 11);
+        expect(untouched(count, sizeof *count), what, 12);
+    }
+    if (wanted.loss) expect(untouched(loss, sizeof *loss), what, 13);
+    expect(guards_stand(mean, sizeof *mean) && guards_stand(pips, sizeof *pips) &&
+           guards_stand(shares, sizeof *shares) && guards_stand(play, sizeof *play) &&
+           guards_stand(loss, sizeof *loss) && guards_stand(results, 64 * sizeof *results) &&
+           guards_stand(count, sizeof *count), what, 14);
+    let_go(mean);
+    let_go(pips);
+    let_go(shares);
+    let_go(play);
+    let_go(loss);
+    let_go(results);
+    let_go(count);
+}
+
+/* opens bytes with so much room for the line */
+static uint32_t open_with(bearoff_database *database, const uint8_t *bytes, size_t length, size_t room,
+                          const char *line, const char *what) {
+    uint8_t *buffer = guarded(room);
+    size_t *needed = (size_t *)guarded(sizeof *needed);
+    uint32_t status = bearoff_open(database, bytes, length, buffer, room, needed);
+    size_t count = strlen(line);
+    expect(*needed == count, what, (long)*needed);
+    if (count <= room) {
+        expect(!memcmp(buffer, line, count) && is_marked(buffer + count, room - count), what, -1);
+    } else {
+        expect(is_marked(buffer, room), what, -2);
+    }
+    expect(guards_stand(buffer, room) && guards_stand(needed, sizeof *needed), what, -3);
+    expect(guards_stand(database, sizeof *database), what, -4);
+    let_go(buffer);
+    let_go(needed);
+    return status;
+}
+
+typedef struct damage {
+    size_t place;
+    uint8_t change;
+    uint32_t status;
+    const char *line;
+} damage;
+
+int main(int count, char **words) {
+    static const damage damages[] = {
+        {0, 1, BEAROFF_BAD_MAGIC, "header bad-magic"},
+        {9, 0x80, BEAROFF_BAD_VERSION, "header bad-version"},
+        {11, 0x80, BEAROFF_BAD_BOUND, "header bad-bound"},
+        {15, 1, BEAROFF_BAD_COUNT, "header bad-count"},
+        {19, 1, BEAROFF_BAD_RECORD_BYTES, "header bad-record-bytes"},
+        {31, 1, BEAROFF_BAD_RESERVED, "header bad-reserved"},
+        {32 + 426 + 15, 1, BEAROFF_BAD_MEAN, "mean rank 1"},
+        {32 + 426 + 17, 1, BEAROFF_BAD_PLAY, "play rank 1 roll 0"},
+        {32 + 426 + 58 + 15, 1, BEAROFF_BAD_SPREAD, "spread rank 1 k 0"},
+    };
+    bearoff_position none = {{0, 0, 0, 0, 0, 0}}, six = {{0, 0, 0, 0, 0, 1}}, five = {{0, 0, 0, 0, 1, 0}};
+    bearoff_position many = {{1, 15, 0, 0, 0, 0}}, most = {{255, 255, 255, 255, 255, 255}}, nine = {{0, 0, 1, 0, 0, 1}};
+    bearoff_position ace = {{1, 0, 0, 0, 0, 0}};
+    statuses closed = {BEAROFF_NOT_OPEN, BEAROFF_NOT_OPEN, BEAROFF_NOT_OPEN};
+    FILE *from = count == 2 ? fopen(words[1], "rb") : 0;
+    if (!from) return 2;
+    uint8_t *bytes = (uint8_t *)malloc(32 + 426 * 64);
+    size_t length = bytes ? fread(bytes, 1, 32 + 426 * 64, from) : 0;
+    fclose(from);
+    expect(length == 32 + 426 * 64, "the file", (long)length);
+    bearoff_database *database = (bearoff_database *)guarded(sizeof *database);
+
+    /* a struct of zeros is not open */
+    uint8_t bound = MARK;
+    uint32_t positions = MARK;
+    memset(database, 0, sizeof *database);
+    expect(bearoff_bound(database, &bound) == BEAROFF_NOT_OPEN && bound == MARK, "zeros, bound", bound);
+    expect(bearoff_positions(database, &positions) == BEAROFF_NOT_OPEN && positions == MARK, "zeros", positions);
+    ask(database, six, 2, 1, five, closed, "zeros");
+    ask(database, most, 0, 9, most, closed, "zeros and all else wrong");
+
+    /* nor is one that was made closed */
+    bearoff_database made = BEAROFF_CLOSED;
+    memcpy(database, &made, sizeof made);
+    expect(bearoff_bound(database, &bound) == BEAROFF_NOT_OPEN && bound == MARK, "closed, bound", bound);
+    ask(database, six, 2, 1, five, closed, "closed");
+
+    /* a right file */
+    expect(open_with(database, bytes, length, 0, "", "open") == BEAROFF_OK, "open", 0);
+    expect(bearoff_bound(database, &bound) == BEAROFF_OK && bound == 8, "bound", bound);
+    expect(bearoff_positions(database, &positions) == BEAROFF_OK && positions == 64, "positions", positions);
+    ask(database, six, 2, 1, ace, statuses_of(BEAROFF_OK, BEAROFF_OK, BEAROFF_NOT_LEGAL), "not legal");
+    ask(database, six, 0, 1, ace, statuses_of(BEAROFF_OK, BEAROFF_BAD_ROLL, BEAROFF_BAD_ROLL), "die 0");
+    ask(database, six, 1, 7, ace, statuses_of(BEAROFF_OK, BEAROFF_BAD_ROLL, BEAROFF_BAD_ROLL), "die 7");
+    ask(database, six, 255, 255, ace, statuses_of(BEAROFF_OK, BEAROFF_BAD_ROLL, BEAROFF_BAD_ROLL), "dice 255");
+    ask(database, none, 2, 1, none, statuses_of(BEAROFF_OK, BEAROFF_FINISHED, BEAROFF_FINISHED), "finished");
+    ask(database, many, 2, 1, none, statuses_of(BEAROFF_TOO_MANY, BEAROFF_TOO_MANY, BEAROFF_TOO_MANY), "16 checkers");
+    ask(database, most, 2, 1, none, statuses_of(BEAROFF_TOO_MANY, BEAROFF_TOO_MANY, BEAROFF_TOO_MANY), "1530 checkers");
+    ask(database, nine, 2, 1, none, statuses_of(BEAROFF_OVER_BOUND, BEAROFF_OVER_BOUND, BEAROFF_OVER_BOUND), "9 pips");
+    ask(database, six, 2, 1, many, statuses_of(BEAROFF_OK, BEAROFF_OK, BEAROFF_TOO_MANY), "to 16 checkers");
+
+    /* the room for results */
+    size_t *told = (size_t *)guarded(sizeof *told);
+    for (size_t room = 0; room <= 3; room++) {
+        bearoff_result *results = (bearoff_result *)guarded(room * sizeof *results);
+        bearoff_position fours = {{0, 0, 0, 2, 0, 0}};
+        uint32_t status = bearoff_results(database, &fours, 2, 1, results, room, told);
+        expect(status == (room < 2 ? BEAROFF_SHORT : BEAROFF_OK) && *told == 2, "results", (long)room);
+        expect(guards_stand(results, room * sizeof *results) && guards_stand(told, sizeof *told), "results", (long)room);
+        if (room < 2) expect(is_marked((uint8_t *)results, room * sizeof *results), "short results", (long)room);
+        if (room > 2) expect(is_marked((uint8_t *)&results[2], sizeof *results), "results", (long)room);
+        let_go(results);
+    }
+    let_go(told);
+
+    /* each refused file closes the database, tells its line where it has room, and is told apart */
+    for (size_t i = 0; i < sizeof damages / sizeof *damages; i++) {
+        damage one = damages[i];
+        expect(open_with(database, bytes, length, 0, "", "open") == BEAROFF_OK, "open again", (long)i);
+        bytes[one.place] ^= one.change;
+        for (size_t room = strlen(one.line) - 1; room <= BEAROFF_LINE; room++) {
+            expect(open_with(database, bytes, length, room, one.line, one.line) == one.status, one.line, (long)room);
+        }
+        ask(database, six, 2, 1, five, closed, one.line);
+        bytes[one.place] ^= one.change;
+    }
+    for (size_t short_by = 1; short_by <= length; short_by += 426) {
+        uint8_t *part = (uint8_t *)malloc(length - short_by + 1);
+        if (!part) return 1;
+        memcpy(part, bytes, length - short_by);
+        part = (uint8_t *)realloc(part, length - short_by ? length - short_by : 1);
+        int front = length - short_by >= 32;
+        uint32_t status = open_with(database, part, length - short_by, BEAROFF_LINE,
+                                    front ? "header bad-length" : "header too-short", "a part");
+        expect(status == (uint32_t)(front ? BEAROFF_BAD_LENGTH : BEAROFF_TOO_SHORT), "a part", (long)short_by);
+        free(part);
+    }
+    expect(open_with(database, bytes, 31, BEAROFF_LINE, "header too-short", "31 bytes") == BEAROFF_TOO_SHORT, "31 bytes", 0);
+    expect(open_with(database, bytes, 0, BEAROFF_LINE, "header too-short", "no bytes") == BEAROFF_TOO_SHORT, "no bytes", 0);
+
+    /* bytes that the caller changes after they were checked, against the rule: no call steps outside them */
+    expect(open_with(database, bytes, length, 0, "", "open") == BEAROFF_OK, "open at last", 0);
+    memset(bytes + 32 + 426 * 19, 0xFF, 426);
+    bearoff_wide mean;
+    bearoff_pips pips;
+    bearoff_shares shares;
+    bearoff_recorded_play play;
+    bearoff_fraction loss;
+    bearoff_result results[4];
+    bearoff_position three = {{0, 0, 1, 0, 0, 0}};
+    size_t told_last = 0;
+    expect(bearoff_mean(database, &six, &mean) == BEAROFF_CHANGED, "changed", 1);
+    expect(bearoff_epc(database, &six, &pips) == BEAROFF_CHANGED, "changed", 2);
+    expect(bearoff_distribution(database, &six, &shares) == BEAROFF_OK, "changed", 3);
+    expect(bearoff_play(database, &six, 2, 1, &play) == BEAROFF_CHANGED, "changed", 4);
+    expect(bearoff_loss(database, &six, 2, 1, &three, &loss) == BEAROFF_CHANGED, "changed", 5);
+    expect(bearoff_results(database, &six, 2, 1, results, 4, &told_last) == BEAROFF_CHANGED, "changed", 6);
+
+    let_go(database);
+    free(bytes);
+    return failed;
+}
