@@ -7,6 +7,9 @@
 //!   all but those of the finished position.
 //! - `build`, `check`: it builds the database in memory and prints how many bytes it has, and
 //!   checks it.
+//! - `ties`: it checks the database in which each tied play is recorded the other way: as the
+//!   result of the highest rank of those with the least mean. It prints how many plays are others
+//!   than those that are built.
 //! - `mean`, `dist`, `play`, `moves`: it answers so many lines of that kind, from memory into a
 //!   writer that only counts, and prints how many a second.
 //! - `text` and one of these: it writes the lines themselves.
@@ -20,7 +23,7 @@
 use certificate::{Checked, check};
 use db_reader::{Paged, SliceSource, Table, Whole};
 use epc_query::run;
-use home_board::MAX_BOUND;
+use home_board::OLD_BOUND;
 use legal_plays::{Roll, results};
 use lines::{Counter, Kind, Order, lines_of};
 use ranking::Ranks;
@@ -29,8 +32,10 @@ use std::alloc::Global;
 use std::io::Write;
 use std::time::{Clock, Instant};
 use std::{env, io};
+use ties::play_other_ties;
 
 mod lines;
+mod ties;
 
 /// What is measured.
 #[derive(Clone, Copy)]
@@ -38,6 +43,7 @@ enum Work {
     Results,
     Build,
     Check,
+    Ties,
     Answer(Kind),
     Text(Kind),
 }
@@ -62,7 +68,7 @@ struct Tally {
 fn main(rt: HostRuntime) -> io::Result<()> {
     let mut request = Request {
         work: Work::Results,
-        bound: MAX_BOUND,
+        bound: OLD_BOUND,
         count: 100_000,
         order: Order::Random,
         is_paged: false,
@@ -83,6 +89,7 @@ fn read_word(request: &mut Request, word: &str) {
         "results" => request.work = Work::Results,
         "build" => request.work = Work::Build,
         "check" => request.work = Work::Check,
+        "ties" => request.work = Work::Ties,
         "text" => request.work = Work::Text(Kind::Mean),
         "pages" => request.is_paged = true,
         "sorted" => request.order = Order::Sorted,
@@ -132,6 +139,13 @@ fn report_database<R: Print + Clock>(rt: &R, alloc: Global, request: Request) ->
     if let Work::Build = request.work {
         println!(rt; "pips {} bytes {}", request.bound, bytes.len())?;
         return println!(rt; "build {built} us");
+    }
+    if let Work::Ties = request.work {
+        let Some(other) = play_other_ties(alloc, request.bound, bytes.as_slice()) else {
+            return println!(rt; "no database");
+        };
+        println!(rt; "other plays {}", other.count)?;
+        bytes = other.bytes;
     }
     if !request.is_paged {
         return report_table(rt, alloc, request, Whole::new(bytes.as_slice()));
