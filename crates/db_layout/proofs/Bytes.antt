@@ -125,7 +125,8 @@ take-part g w each (x ∷ xs) rest (suc i) lt =
 module _ (first count : ℕ) (shares : List ℕ) (room : first + count ≤ length shares) where
   -- how many they are
   pub length-stored : length (take count (drop first shares)) ≡ count
-  length-stored = omega (arith, room, length-take count (drop first shares), length-drop first shares)
+  length-stored =
+      omega (arith, room, length-take count (drop first shares), length-drop first shares)
 
   -- .. and which
   pub get_or-stored : (j : ℕ) → j < count →

@@ -19,12 +19,14 @@ use Rattle.race_model.proofs.RightFiles.Right.{right_of_local}
 use Rattle.race_model.proofs.RightFiles.RightFacts.{means_agree, recorded_least}
 
 -- a position of at most the bound is one of at most the file's
-built_low : (version : Version) (bound : ℕ) (f : List ℕ) → IsBuilt version bound f → (x : Board) → pips x ≤ bound →
+built_low : (version : Version) (bound : ℕ) (f : List ℕ) → IsBuilt version bound f →
+    (x : Board) → pips x ≤ bound →
     pips x ≤ bound_of f
 built_low version bound f built x low = le_trans low (le_of_eq (sym built.bound_is))
 
 -- what is recorded for a throw is a result
-built_played : (version : Version) (bound : ℕ) (f : List ℕ) → IsBuilt version bound f → (x : Board) (v : Throw) →
+built_played : (version : Version) (bound : ℕ) (f : List ℕ) → IsBuilt version bound f →
+    (x : Board) (v : Throw) →
     IsPosition x → pips x ≤ bound → IsPlayed f x v
 built_played version bound f built x v at low =
     played_by_rolls f x

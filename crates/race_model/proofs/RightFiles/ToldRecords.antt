@@ -149,7 +149,8 @@ pub told_play : (version : Version) (p : ℕ) (stored : List ℕ) (roll : ℕ) �
 unfolding play_of
 told_play full p stored roll few long inside = refl
 told_play compact p stored roll few long inside =
-    ap (from_be_bytes w16) (front_bytes p stored few long (16 + 2 * roll) 2 (omega (arith, inside)))
+    ap (from_be_bytes w16)
+    (front_bytes p stored few long (16 + 2 * roll) 2 (omega (arith, inside)))
 
 -- .. and the shares by those that are stored
 pub told_shares : (version : Version) (p : ℕ) (stored : List ℕ) (k : ℕ) → most_rolls p ≤ 22 →

@@ -104,7 +104,8 @@ returns-then-not-has_mean-clause-first g c file told =
     let fails : ¬ IsMeanOf c.unwrap-position.result (mean_of bytes) c.in-Ok.sums =
     λ is. false≢true (sym refused ∙ c.has_mean.ensures.1 is) in
     wrong-mean file bytes c.args.rank c.in-Ok.sums (below_count g at file told)
-    (bound_of-most file (c.requires.file file told).file) (c.requires.lower file told) (lent g at file told)
+    (bound_of-most file (c.requires.file file told).file) (c.requires.lower file told)
+    (lent g at file told)
     (summed g at file told)
     (subst (λ (x : Board). ¬ IsMeanOf x (mean_of bytes) c.in-Ok.sums) (position-is g at file told)
     fails)
@@ -117,7 +118,8 @@ returns-in-Some-clause-first g c file told =
     let wrong = c.in-Some.ensures {u = tt} in
     let same = position-is g at file told in
     wrong-share file bytes c.args.rank c.in-Ok.sums (below_count g at file told)
-    (bound_of-most file (c.requires.file file told).file) (c.requires.lower file told) (lent g at file told)
+    (bound_of-most file (c.requires.file file told).file) (c.requires.lower file told)
+    (lent g at file told)
     (summed g at file told) c.in-Some.k wrong.few (mean-accepted g at file told accepted)
     (subst (λ (x : Board). (j : ℕ) → j < c.in-Some.k →
     IsShareOf x (share_of bytes) c.in-Ok.sums j) same wrong.earlier)
@@ -130,7 +132,8 @@ returns-in-None-clause-local g c file told =
     let bytes = c.lend-view.result in
     let accepted : c.has_mean.result ≡ true = search (rules, tests) in
     right-numbers file bytes c.args.rank c.in-Ok.sums (below_count g at file told)
-    (bound_of-most file (c.requires.file file told).file) (c.requires.lower file told) (lent g at file told)
+    (bound_of-most file (c.requires.file file told).file) (c.requires.lower file told)
+    (lent g at file told)
     (summed g at file told) (mean-accepted g at file told accepted)
     (subst (λ (x : Board). (k : ℕ) → k ≤ 22 → IsShareOf x (share_of bytes) c.in-Ok.sums k)
     (position-is g at file told) (c.in-None.ensures {u = tt}).right)

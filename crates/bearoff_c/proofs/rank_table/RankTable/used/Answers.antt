@@ -5,7 +5,8 @@ use Rattle.bearoff_c.proofs.rank_table.RankTable.used.Goals as goal
 pub returns : goal.returns
 returns c =
     let point_is : c.from.result - 1 + 1 ≡ c.args.point = omega (arith, c.from.ensures) in
-    let table = c.requires.table.counted (c.from.result - 1) (record { rows = [] }) (omega arith) in
+    let table = c.requires.table.counted (c.from.result - 1) (record { rows = [] })
+    (omega arith) in
     let row = table.each c.from-2.result (record { cells = [] }) (omega arith) in
     row.each c.from-3.result (omega arith)
     ∙ ap (λ p. used p c.from-2.result c.from-3.result) point_is

@@ -9,6 +9,7 @@ use Rattle.db_layout.proofs.places.Places.of.Given as goal
 abbrev pub invariant-loop-pips : goal.invariant-loop-pips
 invariant-loop-pips l = record {
   starts : IsFilled first_of 60 (l.pips + 1) l.starts;
-  offsets : IsFilled (λ m. record_place (version_by l.fn.header.version) (first_of m)) 60 (l.pips + 1)
+  offsets :
+      IsFilled (λ m. record_place (version_by l.fn.header.version) (first_of m)) 60 (l.pips + 1)
       l.offsets;
 }

@@ -7,7 +7,8 @@ pub invariant_of-self : goal.invariant_of-self
 invariant_of-self c = record {
   fits = λ accepted is.
       let bytes = c.args.self.now.bytes.now in
-      let has = c.in-Ok.ensures.told bytes (take-within bytes 32 c.min.result c.min.ensures) refl in
+      let has = c.in-Ok.ensures.told bytes
+      (take-within bytes 32 c.min.result c.min.ensures) refl in
       let same : c.in-Ok.header ≡ accepted = cc in
       subst (HasHeader bytes) same has;
 }
