@@ -22,10 +22,10 @@ next_record-made-requires g c =
     let from : first_of c.args.pips ≤ c.loop-rank.rank =
     omega (arith, c.loop-rank.invariant.level) in
     let level : pips c.unwrap-position.result ≡ c.args.pips =
-    ap pips is ∙ pips-at_rank c.args.pips c.loop-rank.rank from under in (
+    ap pips is ∙ pips-at_rank c.args.pips c.loop-rank.rank from under in λ κs within. (within, (
       position,
       (
-        omega (arith, level, c.requires.0),
+        omega (arith, level, c.requires.1.0),
         (
           c.loop-rank.invariant.kept,
           (
@@ -37,7 +37,7 @@ next_record-made-requires g c =
           ),
         ),
       ),
-    )
+    ))
 
 pub returns-clause-made : goal.returns-clause-made
 returns-clause-made g c =
