@@ -6,6 +6,7 @@
 //! definitions say, for as long as the bytes and the database are as `bearoff_open` left them.
 #![tactic(auto)]
 
+mod building;
 mod choice;
 mod database;
 mod distribution;
@@ -18,6 +19,8 @@ mod plays;
 mod point_table;
 mod rank_table;
 mod refusal;
+mod room;
+mod rounded;
 mod row;
 mod text;
 mod wide;

@@ -14,11 +14,12 @@ ghost use Rattle.retrograde.specs.UsualVersion.{usual_version};
 ghost use Rattle.retrograde.specs.declared.build_fault.BuildFault.TheVariants.{Memory};
 
 use crate::build_fault::BuildFault;
-use crate::fixed_records::FixedRecords;
 use crate::keeper::{Keeper, add_record, forget_before, spread_of};
+use crate::lent_records::{LentRecords, POSITIONS, POSITIONS_OF_A_LEVEL};
 use crate::pulling::next_record;
 use crate::records::Records;
 use db_layout::{COMPACT_VERSION, Header, VERSION, WriteFault, write_header, write_record};
+use fixed_fraction::{Scaled, Spread};
 use home_board::OLD_BOUND;
 use least_plays::LeastPlays;
 use ranking::Ranks;
@@ -106,9 +107,31 @@ pub fn build_in_place<W: Write>(bound: u8, writer: &mut W) -> Result<(), BuildFa
         (W.contents writer.new)) }
 {
     match Header::new(usual_version(bound), bound) {
-        Some(header) => build_with(&mut FixedRecords::new(), header, writer),
+        Some(header) => build_lent(header, writer),
         None => Err(BuildFault::OverBound),
     }
+}
+
+/// Writes the database of the version and the bound of a header, with rooms on the stack.
+fn build_lent<W: Write>(header: Header, writer: &mut W) -> Result<(), BuildFault>
+    ensures built { OnOk result
+        (WritesBuilt (version_by header.version) header.bound (W.contents writer.old)
+        (W.contents writer.new)) }
+    ensures refused { IfErr result
+        (IsRefusedBy (version_by header.version) header.bound (W.contents writer.old)
+        (W.contents writer.new)) }
+{
+    let mut means = [Scaled::ZERO; POSITIONS];
+    let mut spreads = [Spread::finished(); POSITIONS];
+    let mut plays = [[0; 21]; POSITIONS_OF_A_LEVEL];
+    let mut records = LentRecords {
+        means: &mut means,
+        spreads: &mut spreads,
+        plays: &mut plays,
+        made: 0,
+        unwritten: 0,
+    };
+    build_with(&mut records, header, writer)
 }
 
 /// Writes the database of the version and the bound of a header, with records that hold none
@@ -170,7 +193,10 @@ fn add_level<K: Keeper>(
         (length (K.plays records.new) ≤ length (K.spreads records.new)) }
     ensures memory { IfErr result (λ fault. fault ≡ Memory) }
 {
-    forget_before(records, ranks.first_of(pips.saturating_sub(MOST_PIPS_OF_A_ROLL)));
+    forget_before(
+        records,
+        ranks.first_of(pips.saturating_sub(MOST_PIPS_OF_A_ROLL)),
+    );
     for rank in ranks.first_of(pips)..ranks.count_to(pips) {
         let position = ranks.unrank(rank).unwrap();
         let made = next_record(ranks, &position, records, least);

@@ -13,8 +13,8 @@ pub use plays::best_play;
 
 pub mod build_fault;
 pub mod building;
-mod fixed_records;
 mod keeper;
+mod lent_records;
 pub mod means;
 pub mod plays;
 mod pulling;

@@ -21,8 +21,7 @@ pub add_level-requires : goal.add_level-requires
 add_level-requires g c =
     let means = g.K.Keeper.means c.args.records.now in
     let none : length means ≡ 0 = ap length c.requires.means in
-    λ κs within.
-    (
+    λ κs within. (
       within,
       (
         omega arith,
@@ -124,19 +123,22 @@ loop-below-init g c =
 pub add_level-requires-in-loop-below : goal.add_level-requires-in-loop-below
 add_level-requires-in-loop-below g c =
     let is = c.loop-below.invariant in
-    let below = c.loop-below.below in λ κs within. (within, (
-      omega (arith, bound-most c.args.header),
+    let below = c.loop-below.below in λ κs within. (
+      within,
       (
-        is.kept,
+        omega (arith, bound-most c.args.header),
         (
-          is.made,
+          is.kept,
           (
-            omega (arith, is.recent, first_of-rises (below - 24) (below + 1 - 24) (omega arith)),
-            is.known,
+            is.made,
+            (
+              omega (arith, is.recent, first_of-rises (below - 24) (below + 1 - 24) (omega arith)),
+              is.known,
+            ),
           ),
         ),
       ),
-    ))
+    )
 
 pub returns-in_err-add_level-2-clause-refused : goal.returns-in_err-add_level-2-clause-refused
 returns-in_err-add_level-2-clause-refused g c =

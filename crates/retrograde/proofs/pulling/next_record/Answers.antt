@@ -38,21 +38,24 @@ sums_of-sums-requires g c =
     let agree = c.requires.1.1.1.0.means_are in
     let next = c.requires.1.1.1.1.0 in
     let recent = c.requires.1.1.1.1.1.0 in
-    let best = c.best_plays-plays.ensures in λ κs within. (within, (
-      c.requires.1.1.1.0,
+    let best = c.best_plays-plays.ensures in λ κs within. (
+      within,
       (
-        plays-held g.full x c.requires.1.0 c.requires.1.1.0 unfinished (g.K.Keeper.means c.args.records.now) agree
-            next
-            c.best_plays-plays.result best.len best.best,
-        λ i lt. omega (
-          arith,
-          recent,
-          plays-recent g.full x c.requires.1.0 c.requires.1.1.0 unfinished (g.K.Keeper.means c.args.records.now)
-              agree
-              next c.best_plays-plays.result best.len best.best i lt,
+        c.requires.1.1.1.0,
+        (
+          plays-held g.full x c.requires.1.0 c.requires.1.1.0 unfinished (g.K.Keeper.means c.args.records.now) agree
+              next
+              c.best_plays-plays.result best.len best.best,
+          λ i lt. omega (
+            arith,
+            recent,
+            plays-recent g.full x c.requires.1.0 c.requires.1.1.0 unfinished (g.K.Keeper.means c.args.records.now)
+                agree
+                next c.best_plays-plays.result best.len best.best i lt,
+          ),
         ),
       ),
-    ))
+    )
 
 pub unwrap-mean-requires : goal.unwrap-mean-requires
 unwrap-mean-requires g c =
