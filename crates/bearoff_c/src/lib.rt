@@ -10,6 +10,7 @@ mod building;
 mod choice;
 mod database;
 mod distribution;
+mod leading;
 mod listing;
 mod losses;
 mod means;
