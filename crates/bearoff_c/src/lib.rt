@@ -23,6 +23,8 @@ mod refusal;
 mod room;
 mod rounded;
 mod row;
+mod standing;
 mod text;
 mod wide;
 mod wide_fraction;
+mod within;

@@ -131,7 +131,7 @@ pub extern "C" fn bearoff_thousandths(fraction: &WideFraction, thousandths: &mut
 
 /// A fraction of at most 180 in thousandths, rounded to the nearest, and a half upward.
 #[tactic(auto, unfolding(race_model::specs::LocalEquations::whole))]
-fn nearest(numerator: u128, denominator: u128) -> u64
+pub fn nearest(numerator: u128, denominator: u128) -> u64
     requires positive { 0 < denominator }
     requires short { denominator ≤ 6 * whole }
     requires within { numerator ≤ 180 * denominator }

@@ -8,5 +8,8 @@ pub returns-in_default-play_to-clause-not_legal :
 returns-in_default-play_to-clause-not_legal c = λ six legal.
     let not : ¬ Legal c.in-Ok-Ok.before c.in-Ok.roll c.in-Ok-Ok.after = search rules in
     not
-    (rw ((c.in-Ok-Ok.ensures {u = tt}).value, (c.in-Ok-Ok.ensures' {u = tt}).value,
-    (c.in-Ok.ensures {u = tt}).value) legal)
+    (rw (
+      (c.in-Ok-Ok.ensures {u = tt}).value,
+      (c.in-Ok-Ok.ensures' {u = tt}).value,
+      (c.in-Ok.ensures {u = tt}).value,
+    ) legal)
