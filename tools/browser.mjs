@@ -100,7 +100,7 @@ export class Page {
     // Waits until an expression is true, and says for how many milliseconds.
     async until(expression, most = 30000) {
         const start = performance.now();
-        while (!(await this.value(`Boolean(${expression})`))) {
+        while (!(await this.value(`(() => { try { return Boolean(${expression}); } catch { return false; } })()`))) {
             if (performance.now() - start > most) throw new Error(`never true: ${expression}`);
             await new Promise((keep) => setTimeout(keep, 10));
         }
