@@ -9,7 +9,7 @@ import { decimal, Engine, FAULTS, Refused } from "../web/engine.js";
 import { readPoints } from "../web/link.js";
 
 const [, , modulePath, program, folder] = process.argv;
-const module = readFileSync(modulePath);
+const module = await WebAssembly.compile(readFileSync(modulePath));
 const WHOLE = 36n ** 22n;
 let failed = 0;
 

@@ -69,10 +69,9 @@ export function notation(moves) {
 }
 
 export class Engine {
-    // A new instance of the module, which has no database yet.
-    static async start(bytes) {
-        const { instance } = await WebAssembly.instantiate(bytes, {});
-        return new Engine(instance.exports);
+    // A new instance of the module, which was compiled once and has no database yet.
+    static async start(module) {
+        return new Engine((await WebAssembly.instantiate(module, {})).exports);
     }
 
     constructor(exports) {

@@ -31,8 +31,12 @@ export function rollsOf(engine, points) {
     return ROLLS.map(([one, other]) => ({ dice: [one, other], plays: engine.plays(points, one, other) }));
 }
 
-// One desk of the worker: the module's bytes, and the engine of the open database.
+// One desk of the worker: the compiled module, and the engine of the open database.
 export class Desk {
+    static async at(bytes, tell) {
+        return new Desk(await WebAssembly.compile(bytes), tell);
+    }
+
     constructor(module, tell) {
         this.module = module;
         this.tell = tell;
@@ -84,7 +88,7 @@ export function serve(scope) {
         try {
             if (question.kind === "start") {
                 const tell = (part, text) => scope.postMessage({ part, text });
-                desk = new Desk(question.module, tell);
+                desk = await Desk.at(question.module, tell);
                 scope.postMessage({ number, reply: true });
                 return;
             }
