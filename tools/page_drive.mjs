@@ -183,6 +183,18 @@ async function driveWider(browser) {
     await page.until('location.hash.includes("pips=58")', 3000).catch(() => wrong("the address doesn't say 58"));
 }
 
+// A browser without memories of 64-bit addresses gets the narrowed module; one without WebAssembly is told so.
+async function driveOlder(browser) {
+    const older = "const validate = WebAssembly.validate; WebAssembly.validate = (bytes) => bytes.length === 8 && validate(bytes); delete window.DecompressionStream;";
+    const page = await browser.open(`${address}#at=7,4,2,0,0,0`, { before: older });
+    await page.until(READY);
+    await compare(page, "with 32-bit addresses", "7,4,2,0,0,0");
+    equal("nothing went wrong", page.troubles(), []);
+    const oldest = await browser.open(address, { before: "delete window.WebAssembly;" });
+    await oldest.until('!document.getElementById("trouble").hidden');
+    equal("no WebAssembly", await oldest.value('document.getElementById("trouble").textContent.includes("no WebAssembly")'), true);
+}
+
 async function takePictures(browser) {
     const hash = "#t=What wastage is&at=0,0,0,4,4,1&roll=31&p=0,0,0,4,4,1&c=Nine on the high points&p=2,2,2,2,2,2&c=Two on each point&p=15,0,0,0,0,0&c=Fifteen on the ace point";
     for (const [name, size] of Object.entries({
@@ -203,6 +215,7 @@ try {
     await driveFiles(page);
     await driveLesson(browser);
     await driveWider(browser);
+    await driveOlder(browser);
     await takePictures(browser);
 } catch (error) {
     wrong(error.stack);
