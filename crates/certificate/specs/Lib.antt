@@ -5,3 +5,4 @@ pub mod CheckFaults
 pub mod Accepted
 pub mod QueryFaults
 pub mod LowerRecords
+pub mod Upgrades
