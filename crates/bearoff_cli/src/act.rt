@@ -29,8 +29,9 @@ const TURNS: u64 = 1 << 40;
 /// the exit status. 0: done; 1: a file, the input, an output or memory failed; 2: the words are
 /// wrong, or the bound is over the greatest one; 3: the database was refused, or is to be upgraded
 /// and is no old one. At 1 and 3, and for a bound over the greatest one, one line is written to
-/// `errors`; for words that are wrong it is the text of `clap`. Where the database was refused nothing was written to `output`. (The
-/// words, the statuses and the lines are this project's profile.)
+/// `errors`; for words that are wrong it is the text of `clap`. Where the database was refused
+/// nothing was written to `output`. (The words, the statuses and the lines are this project's
+/// profile.)
 pub fn act<R: Files, S: AsStr, I: Read, O: Write, E: Write>(
     rt: &R,
     alloc: Global,

@@ -62,8 +62,8 @@ const BUILD_STATUSES: &str =
 which no check accepts), or memory failed; 2 the words are wrong or N is over the greatest bound.";
 
 const UPGRADE_STATUSES: &str =
-    "Exit status: 0 NEW was written; 1 a file, the output or memory failed (a prefix of NEW may stand
-there, which no check accepts); 2 the words are wrong; 3 OLD was refused, or is new already.";
+    "Exit status: 0 NEW was written; 1 a file, the output or memory failed (a prefix of NEW may
+stand there, which no check accepts); 2 the words are wrong; 3 OLD was refused, or is new already.";
 
 /// What the words after the program's own name ask for. An error of `clap`'s is a mistake in the
 /// words, a help text that they ask for, or want of memory.
