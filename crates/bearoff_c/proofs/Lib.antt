@@ -1,3 +1,4 @@
+pub mod AddedShares
 pub mod Filling
 pub mod Known
 pub mod Refusing

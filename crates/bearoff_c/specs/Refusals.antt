@@ -63,3 +63,7 @@ play_refusal opened bound x one other =
 abbrev pub loss_refusal : Bool → ℕ → Board → ℕ → ℕ → Board → Option Refusal
 loss_refusal opened bound x one other y =
     or_else (play_refusal opened bound x one other) (many_refusal y)
+
+-- why no play of two dice from x to y is told, but that the roll doesn't lead there
+abbrev pub lead_refusal : Board → ℕ → ℕ → Board → Option Refusal
+lead_refusal x one other y = or_else (roll_refusal one other) (or_else (many_refusal x) (many_refusal y))

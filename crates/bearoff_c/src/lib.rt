@@ -6,9 +6,11 @@
 //! definitions say, for as long as the bytes and the database are as `bearoff_open` left them.
 #![tactic(auto)]
 
+mod building;
 mod choice;
 mod database;
 mod distribution;
+mod leading;
 mod listing;
 mod losses;
 mod means;
@@ -18,7 +20,11 @@ mod plays;
 mod point_table;
 mod rank_table;
 mod refusal;
+mod room;
+mod rounded;
 mod row;
+mod standing;
 mod text;
 mod wide;
 mod wide_fraction;
+mod within;

@@ -77,7 +77,7 @@ pub extern "C" fn bearoff_epc(
 }
 
 /// A fraction in thousandths.
-fn rounded(fraction: Fraction) -> u64
+pub fn rounded(fraction: Fraction) -> u64
     ensures { IsThousandths fraction.numerator fraction.denominator result }
 {
     let _denominator = fraction.denominator();

@@ -71,7 +71,7 @@ pub extern "C" fn bearoff_play(
 }
 
 /// The moves of a play, and zeros after the last.
-fn listed(play: &Play) -> [Move; 4]
+pub fn listed(play: &Play) -> [Move; 4]
     ensures { map (λ m. (m.from, m.to)) (take (length play.now.items) result)
         ≡ moves_of play.now.items }
 {

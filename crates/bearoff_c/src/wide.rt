@@ -28,4 +28,10 @@ impl Wide {
             low: (number % HALF) as u64,
         }
     }
+    /// The number of two halves.
+    pub fn number(self) -> u128
+        ensures { result ≡ number_of self }
+    {
+        u128::from(self.high) * HALF + u128::from(self.low)
+    }
 }

@@ -1,6 +1,5 @@
--- What is kept of the records while shares are given up, and what the record of the next rank is.
-use Rattle.std.proofs.Common.{◌≡◌, ℕ, ◌+◌, ◌-◌, ◌<◌, List, [], length, drop, get_or, sym, ap, subst, ◌∙◌, arith}
-use Rattle.std.proofs.lemmas.List.{get_or-drop, length-drop}
+-- What is kept of the records before any is made, and what the record of the next rank is.
+use Rattle.std.proofs.Common.{◌≡◌, ℕ, ◌+◌, ◌-◌, ◌<◌, List, [], length, get_or, sym, ap, subst, ◌∙◌, arith}
 use Rattle.retrograde.specs.AllRecords.{AllRecords, mean_of_rank, plays_of_rank, shares_of_rank, bytes_of_rank}
 use Rattle.std.specs.Prelude.{slice_index}
 use Rattle.race_model.specs.Positions.{pips}
@@ -11,26 +10,16 @@ use Rattle.db_layout.specs.Records.{record_of, IsHeld}
 use Rattle.retrograde.proofs.Held.{held}
 use Rattle.retrograde.specs.KeptRecords.{AreKept}
 
--- the first shares are given up
-pub kept-fewer : (full : AllRecords) (means : List ℕ) (spreads others plays : List (List ℕ)) →
-    others ≡ drop 1 spreads
-    → 0 < length spreads → AreKept full means spreads plays → AreKept full means others plays
-kept-fewer full means spreads others plays e some kept = record {
-  means_are = kept.means_are;
-  spreads_few = omega (arith, fewer, kept.spreads_few);
-  spreads_are = λ i lt.
-      ap (λ (xs : List (List ℕ)). get_or xs i []) e
-      ∙ (get_or-drop 1 spreads i []
-      ∙ (kept.spreads_are (1 + i) (omega (arith, fewer))
-      ∙ ap (shares_of_rank full) (place i)));
-  plays_few = kept.plays_few;
-  plays_are = kept.plays_are;
-} where
-  fewer : length others + 1 ≡ length spreads
-  fewer = omega (arith, ap length e, length-drop 1 spreads)
-
-  place : (i : ℕ) → length means - length spreads + (1 + i) ≡ length means - length others + i
-  place i = omega (arith, fewer, kept.spreads_few)
+-- nothing is kept yet
+pub kept-none : (full : AllRecords) (means : List ℕ) (spreads plays : List (List ℕ)) →
+    means ≡ [] → spreads ≡ [] → plays ≡ [] → AreKept full means spreads plays
+kept-none full means spreads plays no_means no_spreads no_plays = record {
+  means_are = λ r lt. omega (arith, ap length no_means);
+  spreads_few = omega (arith, ap length no_spreads);
+  spreads_are = λ i lt. absurd (omega (arith, ap length no_spreads));
+  plays_few = omega (arith, ap length no_plays);
+  plays_are = λ i lt. absurd (omega (arith, ap length no_plays));
+}
 
 -- the bytes of a record whose plays are kept
 pub kept-bytes : (version : Version) (full : AllRecords) (means : List ℕ)

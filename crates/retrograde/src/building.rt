@@ -1,6 +1,6 @@
 //! The records of a bound, made and written level by level: a level is the positions of one pip
 //! count.
-ghost use Rattle.std.specs.Prelude.{◌≡◌, ℕ, ◌+◌, ◌-◌, ◌<◌, ◌≤◌, List, length, OnOk, OnErr, IfErr};
+ghost use Rattle.std.specs.Prelude.{◌≡◌, ℕ, ◌+◌, ◌-◌, ◌<◌, ◌≤◌, List, [], length, OnOk, OnErr, IfErr};
 ghost use Rattle.std.specs.Io.KnownBytes.{Appends};
 ghost use Rattle.race_model.specs.Ranks.{first_of, count_to};
 ghost use Rattle.race_model.specs.Versions.{compact, version_by};
@@ -15,9 +15,12 @@ ghost use Rattle.retrograde.specs.UsualVersion.{usual_version};
 ghost use Rattle.retrograde.specs.declared.build_fault.BuildFault.TheVariants.{Memory};
 
 use crate::build_fault::BuildFault;
+use crate::keeper::{Keeper, add_record, forget_before, spread_of};
+use crate::lent_records::{LentRecords, POSITIONS, POSITIONS_OF_A_LEVEL};
 use crate::pulling::next_record;
 use crate::records::Records;
 use db_layout::{COMPACT_VERSION, Header, VERSION, WriteFault, write_header, write_record};
+use fixed_fraction::{Scaled, Spread};
 use home_board::OLD_BOUND;
 use least_plays::LeastPlays;
 use ranking::Ranks;
@@ -88,15 +91,75 @@ fn build_version<W: Write>(alloc: Global, header: Header, writer: &mut W) -> Res
         (IsRefusedBy (version_by header.version) header.bound (W.contents writer.old)
         (W.contents writer.new)) }
 {
-    let ranks = Ranks::new();
     let mut records = Records::new(alloc);
+    build_with(&mut records, header, writer)
+}
+
+/// Writes the database of a pip bound, as `build` does, and takes no memory but the stack, of
+/// which it needs 20 MB. What it writes, and the faults, are those of `build`; `Memory` is not
+/// among those that come.
+// so that its room is on the stack while it builds, and not while its caller goes on
+#[inline(never)]
+pub fn build_in_place<W: Write>(bound: u8, writer: &mut W) -> Result<(), BuildFault>
+    ensures built { OnOk result
+        (WritesBuilt (usual_version bound) bound (W.contents writer.old) (W.contents writer.new)) }
+    ensures refused { IfErr result
+        (IsRefusedBy (usual_version bound) bound (W.contents writer.old)
+        (W.contents writer.new)) }
+{
+    match Header::new(usual_version(bound), bound) {
+        Some(header) => build_lent(header, writer),
+        None => Err(BuildFault::OverBound),
+    }
+}
+
+/// Writes the database of the version and the bound of a header, with rooms on the stack.
+fn build_lent<W: Write>(header: Header, writer: &mut W) -> Result<(), BuildFault>
+    ensures built { OnOk result
+        (WritesBuilt (version_by header.version) header.bound (W.contents writer.old)
+        (W.contents writer.new)) }
+    ensures refused { IfErr result
+        (IsRefusedBy (version_by header.version) header.bound (W.contents writer.old)
+        (W.contents writer.new)) }
+{
+    let mut means = [Scaled::ZERO; POSITIONS];
+    let mut spreads = [Spread::finished(); POSITIONS];
+    let mut plays = [[0; 21]; POSITIONS_OF_A_LEVEL];
+    let mut records = LentRecords {
+        means: &mut means,
+        spreads: &mut spreads,
+        plays: &mut plays,
+        made: 0,
+        unwritten: 0,
+    };
+    build_with(&mut records, header, writer)
+}
+
+/// Writes the database of the version and the bound of a header, with records that hold none
+/// yet. Refused only for want of memory, or where a `write` failed or took no byte.
+fn build_with<K: Keeper, W: Write>(
+    records: &mut K,
+    header: Header,
+    writer: &mut W,
+) -> Result<(), BuildFault>
+    requires means { K.means records.old ≡ [] }
+    requires spreads { K.spreads records.old ≡ [] }
+    requires plays { K.plays records.old ≡ [] }
+    ensures built { OnOk result
+        (WritesBuilt (version_by header.version) header.bound (W.contents writer.old)
+        (W.contents writer.new)) }
+    ensures refused { IfErr result
+        (IsRefusedBy (version_by header.version) header.bound (W.contents writer.old)
+        (W.contents writer.new)) }
+{
+    let ranks = Ranks::new();
     let mut least = LeastPlays::new();
-    add_level(&mut records, &mut least, &ranks, 0)?;
+    add_level(records, &mut least, &ranks, 0)?;
     write_header(&header, writer)?;
-    write_level(&records, &header, 0, writer)?;
+    write_level(records, &header, 0, writer)?;
     for below in 0..header.bound {
-        add_level(&mut records, &mut least, &ranks, below + 1)?;
-        write_level(&records, &header, below + 1, writer)?;
+        add_level(records, &mut least, &ranks, below + 1)?;
+        write_level(records, &header, below + 1, writer)?;
     }
     Ok(())
 }
@@ -104,70 +167,75 @@ fn build_version<W: Write>(alloc: Global, header: Header, writer: &mut W) -> Res
 /// Makes the records of the positions of a pip count, where those of fewer pips are made. Of the
 /// shares only those of the last 24 levels are kept, since a roll takes no more pips. Refused
 /// only for want of memory.
-fn add_level(
-    records: &mut Records,
+fn add_level<K: Keeper>(
+    records: &mut K,
     least: &mut LeastPlays,
     ranks: &Ranks,
     pips: u8,
 ) -> Result<(), BuildFault>
     ghost full: { AllRecords }
     requires low { pips ≤ 58 }
-    requires kept { AreKept full records.old.means records.old.spreads.items
-        records.old.plays.items }
-    requires next { length records.old.means ≡ first_of pips }
-    requires recent { length records.old.means
-        ≤ first_of (pips - 24) + length records.old.spreads.items }
+    requires kept { AreKept full (K.means records.old) (K.spreads records.old)
+        (K.plays records.old) }
+    requires next { length (K.means records.old) ≡ first_of pips }
+    requires recent { length (K.means records.old)
+        ≤ first_of (pips - 24) + length (K.spreads records.old) }
     requires known { Knows (mean_of_rank full) least.old (first_of pips) }
     ensures known { OnOk result (Knows (mean_of_rank full) least.new (count_to pips)) }
     ensures kept { OnOk result
-        (AreKept full records.new.means records.new.spreads.items records.new.plays.items) }
-    ensures made { OnOk result (length records.new.means ≡ count_to pips) }
+        (AreKept full (K.means records.new) (K.spreads records.new)
+        (K.plays records.new)) }
+    ensures made { OnOk result (length (K.means records.new) ≡ count_to pips) }
     ensures recent { OnOk result
-        (length records.new.means ≤ first_of (pips - 24) + length records.new.spreads.items) }
+        (length (K.means records.new) ≤ first_of (pips - 24) + length (K.spreads records.new)) }
     ensures level { OnOk result
-        (first_of pips + length records.new.plays.items ≡ length records.new.means) }
+        (first_of pips + length (K.plays records.new) ≡ length (K.means records.new)) }
     ensures few { OnOk result
-        (length records.new.plays.items ≤ length records.new.spreads.items) }
+        (length (K.plays records.new) ≤ length (K.spreads records.new)) }
     ensures memory { IfErr result (λ fault. fault ≡ Memory) }
 {
-    records.forget_before(ranks.first_of(pips.saturating_sub(MOST_PIPS_OF_A_ROLL)));
+    forget_before(
+        records,
+        ranks.first_of(pips.saturating_sub(MOST_PIPS_OF_A_ROLL)),
+    );
     for rank in ranks.first_of(pips)..ranks.count_to(pips) {
         let position = ranks.unrank(rank).unwrap();
         let made = next_record(ranks, &position, records, least);
-        records.push(made)?;
+        add_record(records, made)?;
     }
     Ok(())
 }
 
 /// Writes the records whose plays are kept, which are those of a pip count, into the file with
 /// this header.
-fn write_level<W: Write>(
-    records: &Records,
+fn write_level<K: Keeper, W: Write>(
+    records: &K,
     header: &Header,
     pips: u8,
     writer: &mut W,
 ) -> Result<(), WriteFault>
     ghost full: { AllRecords }
     requires low { pips ≤ header.now.bound }
-    requires kept { AreKept full records.now.means records.now.spreads.items
-        records.now.plays.items }
-    requires few { length records.now.plays.items ≤ length records.now.spreads.items }
-    requires made { length records.now.means ≡ count_to pips }
-    requires level { first_of pips + length records.now.plays.items ≡ length records.now.means }
+    requires kept { AreKept full (K.means records.now) (K.spreads records.now)
+        (K.plays records.now) }
+    requires few { length (K.plays records.now) ≤ length (K.spreads records.now) }
+    requires made { length (K.means records.now) ≡ count_to pips }
+    requires level { first_of pips + length (K.plays records.now) ≡ length (K.means records.now) }
     ensures all { OnOk result (Appends (W.contents writer.old) (W.contents writer.new)
         (records_from (bytes_of_rank (version_by header.now.version) full)
-        (length records.now.means - length records.now.plays.items)
-        (length records.now.plays.items))) }
+        (length (K.means records.now) - length (K.plays records.now))
+        (length (K.plays records.now)))) }
     ensures part { OnErr result (AppendsPart (W.contents writer.old) (W.contents writer.new)
         (records_from (bytes_of_rank (version_by header.now.version) full)
-        (length records.now.means - length records.now.plays.items)
-        (length records.now.plays.items))) }
+        (length (K.means records.now) - length (K.plays records.now))
+        (length (K.plays records.now)))) }
 {
-    let first = records.means.len() - records.plays.len() as u16;
-    for (index, plays) in records.plays.iter().enumerate() {
+    let unwritten = records.plays();
+    let first = records.count() - unwritten.len() as u16;
+    for (index, plays) in unwritten.iter().enumerate() {
         let rank = first + index as u16;
-        let mean = records.means.get(rank).unwrap();
-        write_record(header, pips, mean, plays, records.spread(rank), writer)?;
+        let mean = records.mean(rank).unwrap();
+        write_record(header, pips, mean, plays, spread_of(records, rank), writer)?;
     }
     Ok(())
 }

@@ -7,12 +7,14 @@
 #![tactic(auto)]
 
 pub use build_fault::BuildFault;
-pub use building::{build, build_compact};
+pub use building::{build, build_compact, build_in_place};
 pub use means::Means;
 pub use plays::best_play;
 
 pub mod build_fault;
 pub mod building;
+mod keeper;
+mod lent_records;
 pub mod means;
 pub mod plays;
 mod pulling;

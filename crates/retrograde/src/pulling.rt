@@ -11,9 +11,8 @@ ghost use Rattle.race_model.specs.BestPlays.{IsBestPlay};
 ghost use Rattle.retrograde.specs.BuiltRecords.{sum_of_means, sum_of_shares};
 ghost use Rattle.retrograde.specs.KeptRecords.{AreKept, IsRecordOfRank};
 
-use crate::means::Means;
+use crate::keeper::{Keeper, MeansOf, spread_of};
 use crate::record::Record;
-use crate::records::Records;
 use fixed_fraction::sums::{Sums, law_sums};
 use fixed_fraction::{Scaled, Spread};
 use home_board::Position;
@@ -22,26 +21,26 @@ use legal_plays::Roll;
 use ranking::Ranks;
 
 /// The record of the position of the next rank. The plays of the one after it can be found then.
-pub(crate) fn next_record(
+pub(crate) fn next_record<K: Keeper>(
     ranks: &Ranks,
     position: &Position,
-    records: &Records,
+    records: &K,
     least: &mut LeastPlays,
 ) -> Record
     ghost full: { AllRecords }
     requires position { IsPosition position.now }
     requires low { pips position.now ≤ 58 }
-    requires kept { AreKept full records.now.means records.now.spreads.items
-        records.now.plays.items }
-    requires next { rank_of position.now ≡ length records.now.means }
-    requires recent { length records.now.means
-        ≤ first_of (pips position.now - 24) + length records.now.spreads.items }
+    requires kept { AreKept full (K.means records.now) (K.spreads records.now)
+        (K.plays records.now) }
+    requires next { rank_of position.now ≡ length (K.means records.now) }
+    requires recent { length (K.means records.now)
+        ≤ first_of (pips position.now - 24) + length (K.spreads records.now) }
     requires known { Knows (mean_of_rank full) least.old (rank_of position.now) }
     ensures record_is { IsRecordOfRank full (rank_of position.now) result.mean result.plays
         result.spread }
     ensures known { Knows (mean_of_rank full) least.new (rank_of position.now + 1) }
 {
-    let plays = best_plays(ranks, position, &records.means, least);
+    let plays = best_plays(ranks, position, records, least);
     if position.is_finished() {
         return finished_record();
     }
@@ -73,34 +72,34 @@ fn finished_record() -> Record
 }
 
 /// The best plays with the 21 rolls, by the means of lower ranks.
-fn best_plays(
+fn best_plays<K: Keeper>(
     ranks: &Ranks,
     position: &Position,
-    means: &Means,
+    records: &K,
     least: &mut LeastPlays,
 ) -> [u16; 21]
     ghost full: { AllRecords }
     requires low { pips position.now ≤ 58 }
-    requires agree { (r : ℕ) → r < length means.now →
-        slice_index means.now r ≡ mean_of_rank full r }
-    requires next { rank_of position.now ≡ length means.now }
+    requires agree { (r : ℕ) → r < length (K.means records.now) →
+        slice_index (K.means records.now) r ≡ mean_of_rank full r }
+    requires next { rank_of position.now ≡ length (K.means records.now) }
     requires known { Knows (mean_of_rank full) least.old (rank_of position.now) }
     ensures known { Knows (mean_of_rank full) least.new (rank_of position.now + 1) }
     ensures best { (i : ℕ) → i < 21 →
-        IsBestPlay (slice_index means.now) position.now (roll_at i) (slice_index result i) }
+        IsBestPlay (slice_index (K.means records.now)) position.now (roll_at i) (slice_index result i) }
     ensures len { length result ≡ 21 }
 {
-    least.advance(ranks, position, means)
+    least.advance(ranks, position, &MeansOf { records })
 }
 
 /// The means and the shares that the rolls play to, added up with the weights of the rolls.
-fn sums_of(records: &Records, plays: &[u16; 21]) -> Sums
+fn sums_of<K: Keeper>(records: &K, plays: &[u16; 21]) -> Sums
     ghost full: { AllRecords }
-    requires kept { AreKept full records.now.means records.now.spreads.items
-        records.now.plays.items }
-    requires made { (i : ℕ) → i < 21 → slice_index plays.now i < length records.now.means }
+    requires kept { AreKept full (K.means records.now) (K.spreads records.now)
+        (K.plays records.now) }
+    requires made { (i : ℕ) → i < 21 → slice_index plays.now i < length (K.means records.now) }
     requires recent { (i : ℕ) → i < 21 →
-        length records.now.means ≤ slice_index plays.now i + length records.now.spreads.items }
+        length (K.means records.now) ≤ slice_index plays.now i + length (K.spreads records.now) }
     ensures weight { result.weight ≡ 36 }
     ensures mean { result.mean ≡ sum_of_means full.means plays.now }
     ensures shares { (k : ℕ) → k < 23 →
@@ -111,8 +110,8 @@ fn sums_of(records: &Records, plays: &[u16; 21]) -> Sums
     for index in 0..21 {
         let roll = Roll::from_index(index).unwrap();
         let play = plays[usize::from(index)];
-        let mean = records.means.get(play).unwrap();
-        sums.add(roll.weight(), mean, records.spread(play));
+        let mean = records.mean(play).unwrap();
+        sums.add(roll.weight(), mean, spread_of(records, play));
     }
     sums
 }

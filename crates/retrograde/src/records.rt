@@ -1,17 +1,15 @@
-ghost use Rattle.std.specs.Prelude.{◌≡◌, ℕ, ◌+◌, ◌<◌, ◌≤◌, List, [], length, OnOk, IfErr};
-ghost use Rattle.retrograde.specs.AllRecords.{AllRecords, shares_of_rank};
-ghost use Rattle.retrograde.specs.KeptRecords.{AreKept, IsRecordOfRank};
+ghost use Rattle.std.specs.Prelude.{◌≡◌, ℕ, ◌-◌, ◌+◌, ◌<◌, ◌≤◌, List, [], length};
 ghost use Rattle.retrograde.specs.declared.build_fault.BuildFault.TheVariants.{Memory};
 
 use crate::build_fault::BuildFault;
+use crate::keeper::Keeper;
 use crate::means::Means;
 use crate::record::Record;
-use fixed_fraction::Spread;
+use fixed_fraction::{Scaled, Spread};
 use std::alloc::Global;
 use std::collections::VecDeque;
 
-/// What a build keeps of the records that it has made, by rank: all means, the shares of the last
-/// ranks, and the plays of those that are not written yet.
+/// What a build keeps of the records that it has made, in memory that grows.
 #[derive(Drop)]
 pub(crate) struct Records {
     pub means: Means,
@@ -22,8 +20,6 @@ pub(crate) struct Records {
 impl Records {
     /// No record yet.
     pub fn new(alloc: Global) -> Self
-        ghost full: { AllRecords }
-        ensures kept { AreKept full result.means result.spreads.items result.plays.items }
         ensures means { result.means ≡ [] }
         ensures spreads { result.spreads.items ≡ [] }
         ensures plays { result.plays.items ≡ [] }
@@ -34,29 +30,33 @@ impl Records {
             plays: Vec::new(alloc),
         }
     }
+}
 
-    /// The shares of a rank that is kept.
-    pub fn spread(&self, rank: u16) -> &Spread
-        ghost full: { AllRecords }
-        requires kept { AreKept full self.now.means self.now.spreads.items self.now.plays.items }
-        requires made { rank < length self.now.means }
-        requires recent { length self.now.means ≤ rank + length self.now.spreads.items }
-        ensures { result.now ≡ shares_of_rank full rank }
-    {
+impl Keeper for Records {
+    ghost means = { λ records. records.means };
+
+    ghost spreads = { λ records. records.spreads.items };
+
+    ghost plays = { λ records. records.plays.items };
+
+    fn count(&self) -> u16 {
+        self.means.len()
+    }
+
+    fn mean(&self, rank: u16) -> Option<Scaled> {
+        self.means.get(rank)
+    }
+
+    fn spread(&self, rank: u16) -> &Spread {
         let first = usize::from(self.means.len()) - self.spreads.len();
         &self.spreads[usize::from(rank) - first]
     }
 
-    /// Gives up the shares of the ranks before one, and all plays.
-    pub fn forget_before(&mut self, first: u16)
-        ghost full: { AllRecords }
-        requires kept { AreKept full self.old.means self.old.spreads.items self.old.plays.items }
-        ensures kept { AreKept full self.new.means self.new.spreads.items self.new.plays.items }
-        ensures means { self.new.means ≡ self.old.means }
-        ensures plays { self.new.plays.items ≡ [] }
-        ensures recent { length self.old.means ≤ first + length self.old.spreads.items →
-            length self.new.means ≤ first + length self.new.spreads.items }
-    {
+    fn plays(&self) -> &[[u16; 21]] {
+        self.plays.as_slice()
+    }
+
+    fn forget_before(&mut self, first: u16) {
         self.plays.clear();
         let kept = usize::from(self.means.len()).saturating_sub(usize::from(first));
         while self.spreads.len() > kept {
@@ -64,22 +64,7 @@ impl Records {
         }
     }
 
-    /// Adds the record of the next rank. Refused only for want of memory.
-    pub fn push(&mut self, made: Record) -> Result<(), BuildFault>
-        ghost full: { AllRecords }
-        requires room { length self.old.means < 54264 }
-        requires kept { AreKept full self.old.means self.old.spreads.items self.old.plays.items }
-        requires next { IsRecordOfRank full (length self.old.means) made.mean made.plays
-            made.spread }
-        ensures kept { OnOk result
-            (AreKept full self.new.means self.new.spreads.items self.new.plays.items) }
-        ensures means { OnOk result (length self.new.means ≡ length self.old.means + 1) }
-        ensures spreads { OnOk result
-            (length self.new.spreads.items ≡ length self.old.spreads.items + 1) }
-        ensures plays { OnOk result
-            (length self.new.plays.items ≡ length self.old.plays.items + 1) }
-        ensures memory { IfErr result (λ fault. fault ≡ Memory) }
-    {
+    fn push(&mut self, made: Record) -> Result<(), BuildFault> {
         self.means.push(made.mean)?;
         if self.plays.push(made.plays).is_err() {
             return Err(BuildFault::Memory);

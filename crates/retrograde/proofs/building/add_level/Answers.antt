@@ -22,17 +22,20 @@ next_record-made-requires g c =
     let from : first_of c.args.pips ≤ c.loop-rank.rank =
     omega (arith, c.loop-rank.invariant.level) in
     let level : pips c.unwrap-position.result ≡ c.args.pips =
-    ap pips is ∙ pips-at_rank c.args.pips c.loop-rank.rank from under in (
-      position,
+    ap pips is ∙ pips-at_rank c.args.pips c.loop-rank.rank from under in λ κs within. (
+      within,
       (
-        omega (arith, level, c.requires.0),
+        position,
         (
-          c.loop-rank.invariant.kept,
+          omega (arith, level, c.requires.1.0),
           (
-            ranked ∙ sym c.loop-rank.invariant.made,
+            c.loop-rank.invariant.kept,
             (
-              rw level (omega (arith, c.loop-rank.invariant.recent, c.loop-rank.invariant.made)),
-              rw ranked c.loop-rank.invariant.known,
+              ranked ∙ sym c.loop-rank.invariant.made,
+              (
+                rw level (omega (arith, c.loop-rank.invariant.recent, c.loop-rank.invariant.made)),
+                rw ranked c.loop-rank.invariant.known,
+              ),
             ),
           ),
         ),

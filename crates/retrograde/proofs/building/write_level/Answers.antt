@@ -26,21 +26,22 @@ level-pips p means plays index level made lt =
 pub write_record-requires : goal.write_record-requires
 write_record-requires g c =
     let records = c.args.records.now in
-    let means : ℕ = length records.means in
-    let plays : ℕ = length records.plays.items in
+    let means : ℕ = length (g.K.Keeper.means records) in
+    let plays : ℕ = length (g.K.Keeper.plays records) in
     let index = c.loop-index.index in
-    let lt : index < plays = omega (arith, c.deref-plays-items.ensures.len) in
-    let place : c.len.result - c.len-2.result + index ≡ means - plays + index = omega arith in
+    let lt : index < plays = omega (arith, ap length c.plays-unwritten.ensures) in
+    let place : c.count.result - length c.plays-unwritten.result.now + index ≡ means - plays + index =
+    omega (arith, ap length c.plays-unwritten.ensures) in
     let rises =
-    count_to-rises c.args.pips 58 (omega (arith, c.requires.1.0, bound-most c.args.header.now))
+    count_to-rises c.args.pips 58 (omega (arith, c.requires.1.1.0, bound-most c.args.header.now))
     in
     record {
-      low = c.requires.1.0;
+      low = c.requires.1.1.0;
       held =
           kept-held (version_by c.args.header.now.version) g.full (means - plays + index)
-          c.args.pips c.spread.result.now (omega (arith, c.requires.1.1.1.1.0, lt, rises))
-          (level-pips c.args.pips means plays index c.requires.1.1.1.1.1 c.requires.1.1.1.1.0 lt)
-          (c.spread.ensures ∙ ap (shares_of_rank g.full) place);
+          c.args.pips c.spread_of.result.now (omega (arith, c.requires.1.1.1.1.1.0, lt, rises))
+          (level-pips c.args.pips means plays index c.requires.1.1.1.1.1.1 c.requires.1.1.1.1.1.0 lt)
+          (c.spread_of.ensures ∙ ap (shares_of_rank g.full) place);
     }
 
 pub loop-index-init : goal.loop-index-init
@@ -51,21 +52,22 @@ pub returns-in_err-write_record-clause-part : goal.returns-in_err-write_record-c
 returns-in_err-write_record-clause-part g c =
     let version = version_by c.args.header.now.version in
     let records = c.args.records.now in
-    let first : ℕ = length records.means - length records.plays.items in
+    let first : ℕ = length (g.K.Keeper.means records) - length (g.K.Keeper.plays records) in
     let index = c.loop-index.index in
-    let count : ℕ = length records.plays.items in
+    let count : ℕ = length (g.K.Keeper.plays records) in
     let old = g.W.Write.contents c.args.writer.now in
     let mid = g.W.Write.contents c.loop-index.writer in
     let new = g.W.Write.contents c.write_record.new.writer in
-    let lt : index < count = omega (arith, c.deref-plays-items.ensures.len) in
-    let place : c.len.result - c.len-2.result + index ≡ first + index = omega arith in
-    let bytes = kept-bytes version g.full records.means records.spreads.items records.plays.items
-    c.requires.1.1.0 c.args.pips index
-    (c.len.result - c.len-2.result + index) c.unwrap-mean.result c.spread.result.now lt place
-    (level-pips c.args.pips (length records.means) count index c.requires.1.1.1.1.1
-    c.requires.1.1.1.1.0 lt)
-    (rw c.unwrap-mean.ensures at c.get.ensures.value) c.spread.ensures in
-    let written = rw c.deref-plays-items.ensures.value at c.in_err-write_record.ensures.part in
+    let lt : index < count = omega (arith, ap length c.plays-unwritten.ensures) in
+    let place : c.count.result - length c.plays-unwritten.result.now + index ≡ first + index =
+    omega (arith, ap length c.plays-unwritten.ensures) in
+    let bytes = kept-bytes version g.full (g.K.Keeper.means records) (g.K.Keeper.spreads records) (g.K.Keeper.plays records)
+    c.requires.1.1.1.0 c.args.pips index
+    (c.count.result - length c.plays-unwritten.result.now + index) c.unwrap-mean.result c.spread_of.result.now lt place
+    (level-pips c.args.pips (length (g.K.Keeper.means records)) count index c.requires.1.1.1.1.1.1
+    c.requires.1.1.1.1.1.0 lt)
+    (rw c.unwrap-mean.ensures at c.mean.ensures.value) c.spread_of.ensures in
+    let written = rw c.plays-unwritten.ensures at c.in_err-write_record.ensures.part in
     let part : AppendsPart mid new (bytes_of_rank version g.full (first + index)) =
     subst (λ (bs : List ℕ). AppendsPart mid new bs) bytes written in
     let rest : List ℕ =
@@ -81,21 +83,22 @@ pub loop-index-preserved : goal.loop-index-preserved
 loop-index-preserved g c =
     let version = version_by c.args.header.now.version in
     let records = c.args.records.now in
-    let first : ℕ = length records.means - length records.plays.items in
+    let first : ℕ = length (g.K.Keeper.means records) - length (g.K.Keeper.plays records) in
     let index = c.loop-index.index in
     let old = g.W.Write.contents c.args.writer.now in
     let mid = g.W.Write.contents c.loop-index.writer in
     let new = g.W.Write.contents c.write_record.new.writer in
-    let count : ℕ = length records.plays.items in
-    let lt : index < count = omega (arith, c.deref-plays-items.ensures.len) in
-    let place : c.len.result - c.len-2.result + index ≡ first + index = omega arith in
-    let bytes = kept-bytes version g.full records.means records.spreads.items records.plays.items
-    c.requires.1.1.0 c.args.pips index
-    (c.len.result - c.len-2.result + index) c.unwrap-mean.result c.spread.result.now lt place
-    (level-pips c.args.pips (length records.means) count index c.requires.1.1.1.1.1
-    c.requires.1.1.1.1.0 lt)
-    (rw c.unwrap-mean.ensures at c.get.ensures.value) c.spread.ensures in
-    let written = rw c.deref-plays-items.ensures.value at c.in_ok-write_record.ensures.all in
+    let count : ℕ = length (g.K.Keeper.plays records) in
+    let lt : index < count = omega (arith, ap length c.plays-unwritten.ensures) in
+    let place : c.count.result - length c.plays-unwritten.result.now + index ≡ first + index =
+    omega (arith, ap length c.plays-unwritten.ensures) in
+    let bytes = kept-bytes version g.full (g.K.Keeper.means records) (g.K.Keeper.spreads records) (g.K.Keeper.plays records)
+    c.requires.1.1.1.0 c.args.pips index
+    (c.count.result - length c.plays-unwritten.result.now + index) c.unwrap-mean.result c.spread_of.result.now lt place
+    (level-pips c.args.pips (length (g.K.Keeper.means records)) count index c.requires.1.1.1.1.1.1
+    c.requires.1.1.1.1.1.0 lt)
+    (rw c.unwrap-mean.ensures at c.mean.ensures.value) c.spread_of.ensures in
+    let written = rw c.plays-unwritten.ensures at c.in_ok-write_record.ensures.all in
     subst (λ (bs : List ℕ). Appends old new bs)
     (sym (records-next (bytes_of_rank version g.full) first index))
     (appends_twice old mid new (records_from (bytes_of_rank version g.full) first index)

@@ -12,7 +12,7 @@ returns-then-is_finished g c =
     let made = c.finished_record.result in
     record {
       record_is =
-          record-at_end g.full c.args.position.now c.requires.0 c.requires.1.0 none made.mean
+          record-at_end g.full c.args.position.now c.requires.1.0 c.requires.1.1.0 none made.mean
           made.plays
           made.spread
           is.mean is.plays is.plays_len is.start is.shares is.shares_len;
@@ -20,9 +20,12 @@ returns-then-is_finished g c =
     }
 
 pub best_plays-plays-requires : goal.best_plays-plays-requires
-best_plays-plays-requires g c = (
-  c.requires.1.0,
-  (c.requires.1.1.0.means_are, (c.requires.1.1.1.0, c.requires.1.1.1.1.1)),
+best_plays-plays-requires g c = λ κs within. (
+  within,
+  (
+    c.requires.1.1.0,
+    (c.requires.1.1.1.0.means_are, (c.requires.1.1.1.1.0, c.requires.1.1.1.1.1.1)),
+  ),
 )
 
 pub sums_of-sums-requires : goal.sums_of-sums-requires
@@ -32,21 +35,24 @@ sums_of-sums-requires g c =
     λ none.
     let yes = c.is_finished.ensures.value.1 none in
     let not = c.if-is_finished.false in cc in
-    let agree = c.requires.1.1.0.means_are in
-    let next = c.requires.1.1.1.0 in
-    let recent = c.requires.1.1.1.1.0 in
-    let best = c.best_plays-plays.ensures in (
-      c.requires.1.1.0,
+    let agree = c.requires.1.1.1.0.means_are in
+    let next = c.requires.1.1.1.1.0 in
+    let recent = c.requires.1.1.1.1.1.0 in
+    let best = c.best_plays-plays.ensures in λ κs within. (
+      within,
       (
-        plays-held g.full x c.requires.0 c.requires.1.0 unfinished c.args.records.now.means agree
-            next
-            c.best_plays-plays.result best.len best.best,
-        λ i lt. omega (
-          arith,
-          recent,
-          plays-recent g.full x c.requires.0 c.requires.1.0 unfinished c.args.records.now.means
-              agree
-              next c.best_plays-plays.result best.len best.best i lt,
+        c.requires.1.1.1.0,
+        (
+          plays-held g.full x c.requires.1.0 c.requires.1.1.0 unfinished (g.K.Keeper.means c.args.records.now) agree
+              next
+              c.best_plays-plays.result best.len best.best,
+          λ i lt. omega (
+            arith,
+            recent,
+            plays-recent g.full x c.requires.1.0 c.requires.1.1.0 unfinished (g.K.Keeper.means c.args.records.now)
+                agree
+                next c.best_plays-plays.result best.len best.best i lt,
+          ),
         ),
       ),
     )
@@ -59,8 +65,8 @@ unwrap-mean-requires g c =
     let yes = c.is_finished.ensures.value.1 none in
     let not = c.if-is_finished.false in cc in
     let best = c.best_plays-plays.ensures in
-    let exact = mean-exact g.full x c.requires.0 c.requires.1.0 unfinished c.args.records.now.means
-    c.requires.1.1.0.means_are c.requires.1.1.1.0 c.best_plays-plays.result best.len best.best
+    let exact = mean-exact g.full x c.requires.1.0 c.requires.1.1.0 unfinished (g.K.Keeper.means c.args.records.now)
+    c.requires.1.1.1.0.means_are c.requires.1.1.1.1.0 c.best_plays-plays.result best.len best.best
     in
     c.mean.ensures.some.1 (
       exact.0,
@@ -77,12 +83,12 @@ unwrap-spread-requires g c =
     let not = c.if-is_finished.false in cc in
     let best = c.best_plays-plays.ensures in
     let sums = c.sums_of-sums.ensures.shares in
-    let last = no-last g.full x c.requires.0 c.requires.1.0 unfinished c.args.records.now.means
-    c.requires.1.1.0.means_are c.requires.1.1.1.0 c.best_plays-plays.result best.len best.best
+    let last = no-last g.full x c.requires.1.0 c.requires.1.1.0 unfinished (g.K.Keeper.means c.args.records.now)
+    c.requires.1.1.1.0.means_are c.requires.1.1.1.1.0 c.best_plays-plays.result best.len best.best
     in
-    let exact = shares-exact g.full x c.requires.0 c.requires.1.0 unfinished
-    c.args.records.now.means
-    c.requires.1.1.0.means_are c.requires.1.1.1.0 c.best_plays-plays.result best.len best.best
+    let exact = shares-exact g.full x c.requires.1.0 c.requires.1.1.0 unfinished
+    (g.K.Keeper.means c.args.records.now)
+    c.requires.1.1.1.0.means_are c.requires.1.1.1.1.0 c.best_plays-plays.result best.len best.best
     in
     c.spread.ensures.some.1
     (sums 22 (omega arith) ∙ last, λ k lt. ap (λ n. n % 36) (sums k (omega arith)) ∙ exact k lt)
@@ -102,8 +108,8 @@ returns g c =
     let moved = rw c.unwrap-spread.ensures at c.spread.ensures.moved in
     record {
       record_is =
-          record-before g.full x c.requires.0 c.requires.1.0 unfinished c.args.records.now.means
-          c.requires.1.1.0.means_are c.requires.1.1.1.0 c.best_plays-plays.result best.len
+          record-before g.full x c.requires.1.0 c.requires.1.1.0 unfinished (g.K.Keeper.means c.args.records.now)
+          c.requires.1.1.1.0.means_are c.requires.1.1.1.1.0 c.best_plays-plays.result best.len
           best.best
           c.unwrap-mean.result c.unwrap-spread.result mean start
           (λ k lt. moved k lt ∙ sums.shares k (omega arith)) c.at-start.ensures.len;

@@ -36,20 +36,20 @@ loop-index-preserved g c =
     let roll = rw c.unwrap-roll.ensures at c.from_index.ensures.value in
     let play = get_or plays c.from.result 0 in
     let here = at-index plays i c.from.result lt c.from.ensures in
-    let held : play < length c.args.records.now.means = rw c.from.ensures (c.requires.1.0 i lt) in
-    let mean = (rw c.unwrap-mean.ensures at c.get.ensures.value)
-    ∙ (c.requires.0.means_are play held
+    let held : play < length (g.K.Keeper.means c.args.records.now) = rw c.from.ensures (c.requires.1.1.0 i lt) in
+    let mean = (rw c.unwrap-mean.ensures at c.mean.ensures.value)
+    ∙ (c.requires.1.0.means_are play held
     ∙ ap (mean_of_rank g.full) here) in
-    let shares = c.spread.ensures ∙ ap (shares_of_rank g.full) here in
+    let shares = c.spread_of.ensures ∙ ap (shares_of_rank g.full) here in
     let weighs = c.weight.ensures.value ∙ ap weight roll in
     c.law_sums.ensures.next (mean-of g.full plays) (share-of g.full plays) i c.loop-index.sums
     c.add.new.self
-    c.spread.result.now lt c.loop-index.invariant (λ k few. ap (λ xs. slice_index xs k) shares)
+    c.spread_of.result.now lt c.loop-index.invariant (λ k few. ap (λ xs. slice_index xs k) shares)
     (subst (λ (w : ℕ). IsAdded c.loop-index.sums w
-    (mean-of g.full plays (roll_at i)) c.spread.result.now c.add.new.self)
+    (mean-of g.full plays (roll_at i)) c.spread_of.result.now c.add.new.self)
     weighs
     (subst
-    (λ (m : ℕ). IsAdded c.loop-index.sums c.weight.result m c.spread.result.now c.add.new.self)
+    (λ (m : ℕ). IsAdded c.loop-index.sums c.weight.result m c.spread_of.result.now c.add.new.self)
     mean c.add.ensures))
 
 -- all rolls are added

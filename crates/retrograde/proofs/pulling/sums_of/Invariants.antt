@@ -4,8 +4,8 @@ use Rattle.fixed_fraction.specs.Totals.{AreTotals}
 use Rattle.retrograde.specs.AllRecords.{mean_of_rank, shares_of_rank}
 use Rattle.retrograde.proofs.pulling.sums_of.Given as goal
 
-abbrev pub ghost-spread : goal.ghost-spread
-ghost-spread g a = g.full
+abbrev pub ghost-spread_of : goal.ghost-spread_of
+ghost-spread_of g a = g.full
 
 -- the sums of the rolls so far
 abbrev pub invariant-loop-index : goal.invariant-loop-index

@@ -7,10 +7,7 @@ use Rattle.retrograde.specs.AllRecords.{mean_of_rank}
 use Rattle.retrograde.specs.KeptRecords.{AreKept}
 use Rattle.retrograde.specs.BuiltBytes.{built_to}
 use Rattle.retrograde.proofs.Existence.{all-records}
-use Rattle.retrograde.proofs.building.build_version.Given as goal
-
-abbrev pub ghost-new : goal.ghost-new
-ghost-new g a = all-records
+use Rattle.retrograde.proofs.building.build_with.Given as goal
 
 abbrev pub ghost-add_level : goal.ghost-add_level
 ghost-add_level g a = all-records
@@ -21,11 +18,11 @@ ghost-write_level g a = all-records
 -- the levels so far are made and written
 abbrev pub invariant-loop-below : goal.invariant-loop-below
 invariant-loop-below g l = record {
-  kept : AreKept all-records l.records.means l.records.spreads.items l.records.plays.items;
+  kept : AreKept all-records (g.K.Keeper.means l.records) (g.K.Keeper.spreads l.records) (g.K.Keeper.plays l.records);
   known : Knows (mean_of_rank all-records) l.least (first_of (l.below + 1));
-  made : length l.records.means ≡ first_of (l.below + 1);
-  recent : length l.records.means ≤ first_of (l.below - 24) + length l.records.spreads.items;
+  made : length (g.K.Keeper.means l.records) ≡ first_of (l.below + 1);
+  recent : length (g.K.Keeper.means l.records) ≤ first_of (l.below - 24) + length (g.K.Keeper.spreads l.records);
   written : Appends (g.W.Write.contents l.fn.writer) (g.W.Write.contents l.writer)
       (built_to (version_by l.header.version) all-records l.header.bound
-      (length l.records.means));
+      (length (g.K.Keeper.means l.records)));
 }

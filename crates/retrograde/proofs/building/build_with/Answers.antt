@@ -11,8 +11,9 @@ use Rattle.retrograde.specs.declared.build_fault.BuildFault.TheVariants.{Memory,
 use Rattle.retrograde.proofs.Existence.{all-records}
 use Rattle.db_layout.proofs.Known.{one-error}
 use Rattle.db_layout.proofs.Prefixes.{header-first, more-written}
+use Rattle.retrograde.proofs.Kept.{kept-none}
 use Rattle.retrograde.proofs.Prefixes.{nothing-written, header-written, ranks-written, part-written, all-written}
-use Rattle.retrograde.proofs.building.build_version.Goals as goal
+use Rattle.retrograde.proofs.building.build_with.Goals as goal
 
 -- a level begins where the one below ends
 first_of-one : (p : ℕ) → first_of (p + 1) ≡ count_to p
@@ -20,13 +21,23 @@ first_of-one p = let next : p + 1 ≡ suc p = omega arith in rw next (first_of-s
 
 pub add_level-requires : goal.add_level-requires
 add_level-requires g c =
-    let none : length c.new-records.result.means ≡ 0 = ap length c.new-records.ensures.means in (
-      omega arith,
+    let means = g.K.Keeper.means c.args.records.now in
+    let none : length means ≡ 0 = ap length c.requires.means in
+    λ κs within. (
+      within,
       (
-        c.new-records.ensures.kept,
+        omega arith,
         (
-          none ∙ sym first_of-zero,
-          (omega (arith, none), rw first_of-zero (c.new-least.ensures (mean_of_rank all-records))),
+          kept-none all-records means (g.K.Keeper.spreads c.args.records.now)
+              (g.K.Keeper.plays c.args.records.now) c.requires.means c.requires.spreads
+              c.requires.plays,
+          (
+            none ∙ sym first_of-zero,
+            (
+              omega (arith, none),
+              rw first_of-zero (c.new-least.ensures (mean_of_rank all-records)),
+            ),
+          ),
         ),
       ),
     )
@@ -70,7 +81,7 @@ returns-in_err-write_level-clause-refused g c =
     let low = c.args.header.bounded in
     let records = c.add_level.new.records in
     let level = c.in_ok-add_level.ensures in
-    let first : ℕ = length records.means - length records.plays.items in
+    let first : ℕ = length (g.K.Keeper.means records) - length (g.K.Keeper.plays records) in
     let start : 0 ≡ first = omega (arith, level.level, first_of-zero) in
     let before : Appends old mid (built_to version all-records bound first) =
     subst (λ (n : ℕ). Appends old mid (built_to version all-records bound n)) start
@@ -79,7 +90,8 @@ returns-in_err-write_level-clause-refused g c =
     one-error c.from_residual-in_err-write_level.result Write (IsRefusedBy version bound old new)
     c.from_residual-in_err-write_level.ensures.1 (
       bound-most c.args.header,
-      part-written version all-records bound low old mid new first (length records.plays.items)
+      part-written version all-records bound low old mid new first
+          (length (g.K.Keeper.plays records))
           (omega (arith, level.made, level.level, count_to-rises 0 bound (omega arith))) before
           c.in_err-write_level.ensures.part,
     )
@@ -94,9 +106,9 @@ loop-below-init g c =
     let low = c.args.header.bounded in
     let records = c.add_level.new.records in
     let level = c.in_ok-add_level.ensures in
-    let first : ℕ = length records.means - length records.plays.items in
+    let first : ℕ = length (g.K.Keeper.means records) - length (g.K.Keeper.plays records) in
     let start : 0 ≡ first = omega (arith, level.level, first_of-zero) in
-    let all : first + length records.plays.items ≡ length records.means =
+    let all : first + length (g.K.Keeper.plays records) ≡ length (g.K.Keeper.means records) =
     omega (arith, level.level) in
     let before : Appends old mid (built_to version all-records bound first) =
     subst (λ (n : ℕ). Appends old mid (built_to version all-records bound n)) start
@@ -109,22 +121,25 @@ loop-below-init g c =
       recent = level.recent;
       written = subst (λ (n : ℕ). Appends old new (built_to version all-records bound n)) all
           (more-written version bound (bytes_of_rank version all-records) old mid new first
-          (length records.plays.items) before
+          (length (g.K.Keeper.plays records)) before
           c.in_ok-write_level.ensures.all);
     }
 
 pub add_level-requires-in-loop-below : goal.add_level-requires-in-loop-below
 add_level-requires-in-loop-below g c =
     let is = c.loop-below.invariant in
-    let below = c.loop-below.below in (
-      omega (arith, bound-most c.args.header),
+    let below = c.loop-below.below in λ κs within. (
+      within,
       (
-        is.kept,
+        omega (arith, bound-most c.args.header),
         (
-          is.made,
+          is.kept,
           (
-            omega (arith, is.recent, first_of-rises (below - 24) (below + 1 - 24) (omega arith)),
-            is.known,
+            is.made,
+            (
+              omega (arith, is.recent, first_of-rises (below - 24) (below + 1 - 24) (omega arith)),
+              is.known,
+            ),
           ),
         ),
       ),
@@ -139,11 +154,11 @@ returns-in_err-add_level-2-clause-refused g c =
     let below = c.loop-below.below in
     let is = c.loop-below.invariant in
     let low = c.args.header.bounded in
-    let few : length c.loop-below.records.means ≤ count_to bound =
+    let few : length (g.K.Keeper.means c.loop-below.records) ≤ count_to bound =
     omega (arith, is.made, first_of-one below, count_to-rises below bound (omega arith)) in
     let refused : IsRefusedBy version bound old new Memory = (
       bound-most c.args.header,
-      ranks-written version all-records bound low old new (length c.loop-below.records.means) few
+      ranks-written version all-records bound low old new (length (g.K.Keeper.means c.loop-below.records)) few
           is.written,
     ) in
     one-error c.from_residual-in_err-add_level-2.result c.in_err-add_level-2.field-0.0
@@ -163,14 +178,15 @@ returns-in_err-write_level-2-clause-refused g c =
     let low = c.args.header.bounded in
     let records = c.add_level-in-loop-below.new.records in
     let level = c.in_ok-add_level-2.ensures in
-    let first : ℕ = length records.means - length records.plays.items in
-    let start : length c.loop-below.records.means ≡ first = omega (arith, level.level, is.made) in
+    let first : ℕ = length (g.K.Keeper.means records) - length (g.K.Keeper.plays records) in
+    let start : length (g.K.Keeper.means c.loop-below.records) ≡ first = omega (arith, level.level, is.made) in
     let before : Appends old mid (built_to version all-records bound first) =
     subst (λ (n : ℕ). Appends old mid (built_to version all-records bound n)) start is.written in
     one-error c.from_residual-in_err-write_level-2.result Write (IsRefusedBy version bound old new)
     c.from_residual-in_err-write_level-2.ensures.1 (
       bound-most c.args.header,
-      part-written version all-records bound low old mid new first (length records.plays.items)
+      part-written version all-records bound low old mid new first
+          (length (g.K.Keeper.plays records))
           (omega (arith, level.made, level.level, count_to-rises (below + 1) bound (omega arith)))
           before
           c.in_err-write_level-2.ensures.part,
@@ -188,9 +204,9 @@ loop-below-preserved g c =
     let low = c.args.header.bounded in
     let records = c.add_level-in-loop-below.new.records in
     let level = c.in_ok-add_level-2.ensures in
-    let first : ℕ = length records.means - length records.plays.items in
-    let start : length c.loop-below.records.means ≡ first = omega (arith, level.level, is.made) in
-    let all : first + length records.plays.items ≡ length records.means =
+    let first : ℕ = length (g.K.Keeper.means records) - length (g.K.Keeper.plays records) in
+    let start : length (g.K.Keeper.means c.loop-below.records) ≡ first = omega (arith, level.level, is.made) in
+    let all : first + length (g.K.Keeper.plays records) ≡ length (g.K.Keeper.means records) =
     omega (arith, level.level) in
     let before : Appends old mid (built_to version all-records bound first) =
     subst (λ (n : ℕ). Appends old mid (built_to version all-records bound n)) start is.written in
@@ -201,7 +217,7 @@ loop-below-preserved g c =
       recent = level.recent;
       written = subst (λ (n : ℕ). Appends old new (built_to version all-records bound n)) all
           (more-written version bound (bytes_of_rank version all-records) old mid new first
-          (length records.plays.items) before
+          (length (g.K.Keeper.plays records)) before
           c.in_ok-write_level-2.ensures.all);
     }
 
@@ -214,5 +230,5 @@ returns-clause-built g c =
     let is = c.loop-below.invariant in
     let low = c.args.header.bounded in
     let last : c.loop-below.below ≡ bound = omega arith in
-    all-written version all-records bound low old new (length c.loop-below.records.means)
+    all-written version all-records bound low old new (length (g.K.Keeper.means c.loop-below.records))
     (is.made ∙ (first_of-one c.loop-below.below ∙ ap count_to last)) is.written

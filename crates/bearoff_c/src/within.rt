@@ -1,0 +1,65 @@
+//! The chance to be off within a number of rolls.
+ghost use Rattle.std.specs.Prelude.{◌≡◌, ℕ, ◌+◌, ◌≤◌, ◌<◌, min, sum_by, IsSome, IfSome, IfNone};
+ghost use Rattle.std.specs.List.{range_with_len};
+ghost use Rattle.race_model.specs.Files.{share_of, spread as spread_of};
+ghost use Rattle.race_model.specs.Fractions.{IsThousandths};
+ghost use Rattle.race_model.specs.LocalEquations.{whole};
+ghost use Rattle.race_model.specs.RightFiles.{follow};
+ghost use Rattle.race_model.specs.Strategies.{count_of};
+ghost use Rattle.bearoff_c.specs.Refusals.{position_refusal, status_of};
+
+use crate::database::{Counts, Database};
+use crate::refusal::{OK, Refusal};
+use crate::rounded::nearest;
+use db_layout::RecordView;
+use fixed_fraction::WHOLE;
+
+/// The chance that all checkers are off within a number of rolls where each play is the recorded
+/// one, in thousandths, rounded to the nearest, and a half upward; from 22 rolls on it is 1,000.
+/// Refused as `bearoff_mean` is; then `thousandths` stays as it was.
+#[unsafe(no_mangle)]
+#[tactic(auto, unfolding(race_model::specs::LocalEquations::whole))]
+pub extern "C" fn bearoff_within(
+    database: &Database<'_>,
+    position: &Counts,
+    rolls: u8,
+    thousandths: &mut u64,
+) -> u32
+    ensures status { result ≡ status_of
+        (position_refusal database.now.is_open database.now.bound position.now.points) }
+    ensures chance { result ≡ 0 → IsThousandths
+        (sum_by (count_of (follow database.now.bytes.now 22 position.now.points))
+        (range_with_len 0 (min rolls 22 + 1))) whole thousandths.new }
+    ensures left { ¬ (result ≡ 0) → thousandths.new ≡ thousandths.old }
+{
+    match database.find(position) {
+        Ok((_, view)) => match shares_to(&view, rolls) {
+            Some(total) => {
+                *thousandths = nearest(total, WHOLE);
+                OK
+            }
+            None => Refusal::Changed.status(),
+        },
+        Err(refusal) => refusal.status(),
+    }
+}
+
+/// What stands in a record for the shares up to a number of rolls, added up; none only where all
+/// of them are more than the whole.
+#[tactic(auto, unfolding(race_model::specs::LocalEquations::whole))]
+fn shares_to(view: &RecordView<'_>, rolls: u8) -> Option<u128>
+    ensures value { IfSome result (λ total.
+        total ≡ sum_by (share_of view.now) (range_with_len 0 (min rolls 22 + 1))) }
+    ensures within { IfSome result (λ total. total ≤ whole) }
+    ensures none { IfNone result (whole < sum_by (share_of view.now) (range_with_len 0 23)) }
+{
+    let mut total = 0;
+    for k in 0..rolls.min(22) + 1 {
+        let share = view.spread(k);
+        if share > WHOLE - total {
+            return None;
+        }
+        total += share;
+    }
+    Some(total)
+}

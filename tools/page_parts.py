@@ -1,0 +1,61 @@
+"""Puts the page together: page_parts.py WEB WIDE NARROW PAGE writes one file of the parts in WEB and the two modules.
+
+The scripts in WEB are modules that name each other by `import` and `export`; here they become one script each for the
+page and for its worker, in the order in which they rest on each other, in a function of their own.
+"""
+import base64
+import gzip
+import json
+import re
+import sys
+from pathlib import Path
+
+MOST_BYTES = 300_000
+IMPORT = re.compile(r'^import \{[^}]*\} from "\./(\w+)\.js";\n', re.MULTILINE)
+
+
+def in_order(web, name, done):
+    """The modules that one rests on, and then itself, each once."""
+    if name in done:
+        return
+    text = (web / f"{name}.js").read_text()
+    for below in IMPORT.findall(text):
+        in_order(web, below, done)
+    done[name] = IMPORT.sub("", text)
+
+
+def script(web, name, start):
+    """One script of a module and those below it, which ends with a call."""
+    parts = {}
+    in_order(web, name, parts)
+    names = [word for text in parts.values() for word in re.findall(r"^(?:export )?(?:async )?(?:const|function|class) (\w+)", text, re.M)]
+    twice = sorted({word for word in names if names.count(word) > 1})
+    if twice:
+        sys.exit(f"page: two modules name the same: {', '.join(twice)}")
+    body = "\n".join(re.sub(r"^export ", "", text, flags=re.M) for text in parts.values())
+    return f'(() => {{\n"use strict";\n{body}\n{start}\n}})();'
+
+
+def main(web, wide, narrow, page):
+    web = Path(web)
+    # a browser with memories of 64-bit addresses can unpack; an older one needs the other module as it is
+    packed = {"wide": gzip.compress(Path(wide).read_bytes(), 9, mtime=0), "narrow": Path(narrow).read_bytes()}
+    modules = {name: base64.b64encode(module).decode() for name, module in packed.items()}
+    parts = json.dumps({"worker": script(web, "worker", "serve(self);"), **modules}).replace("</", "<\\/")
+    text = (web / "index.html").read_text()
+    for mark, part in (
+        ("/*STYLE*/", (web / "style.css").read_text()),
+        ("<!--PROMISES-->", (web / "promises.html").read_text()),
+        ("/*SCRIPT*/", script(web, "app", f"start(document, window, {parts});")),
+    ):
+        if text.count(mark) != 1:
+            sys.exit(f"page: {mark} stands not once in index.html")
+        text = text.replace(mark, part)
+    size = len(text.encode())
+    if size > MOST_BYTES:
+        sys.exit(f"page: {size} bytes, more than {MOST_BYTES}")
+    Path(page).write_text(text)
+    print(f"page: {size} bytes in {page}")
+
+
+main(*sys.argv[1:])

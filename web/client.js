@@ -1,0 +1,73 @@
+// The page's side of the worker, and which of the two modules the browser can run.
+
+// A module with nothing but a memory of 64-bit addresses, and one with nothing at all.
+const WIDE_MEMORY = new Uint8Array([0, 97, 115, 109, 1, 0, 0, 0, 5, 3, 1, 4, 1]);
+const NOTHING = new Uint8Array([0, 97, 115, 109, 1, 0, 0, 0]);
+
+// "wide" with 64-bit memories, "narrow" without them, and "none" with neither.
+export function abilities(engine = globalThis.WebAssembly) {
+    try {
+        if (engine.validate(WIDE_MEMORY)) return "wide";
+        return engine.validate(NOTHING) ? "narrow" : "none";
+    } catch {
+        return "none";
+    }
+}
+
+// The bytes that a text in base 64 says.
+export function bytesOf(text) {
+    return Uint8Array.from(atob(text), (letter) => letter.charCodeAt(0));
+}
+
+// The bytes that were packed.
+export async function unpacked(bytes) {
+    const stream = new Blob([bytes]).stream().pipeThrough(new DecompressionStream("gzip"));
+    return new Uint8Array(await new Response(stream).arrayBuffer());
+}
+
+// What went wrong in the worker.
+export class Failure extends Error {
+    constructor({ message, status, line }) {
+        super(message);
+        this.status = status;
+        this.line = line;
+    }
+}
+
+export class Client {
+    // A worker that runs a script, and what is called with the part that is done and a text for it.
+    constructor(script, tell) {
+        this.address = URL.createObjectURL(new Blob([script], { type: "text/javascript" }));
+        this.tell = tell;
+        this.waiting = new Map();
+        this.number = 0;
+        this.worker = new Worker(this.address);
+        this.worker.onmessage = ({ data }) => this.receive(data);
+        this.worker.onerror = (event) => this.fail(event.message || "the worker stopped");
+    }
+
+    receive(data) {
+        if (data.number === undefined) {
+            this.tell(data.part, data.text);
+            return;
+        }
+        const { keep, refuse } = this.waiting.get(data.number);
+        this.waiting.delete(data.number);
+        if (data.failure) refuse(new Failure(data.failure));
+        else keep(data.reply);
+    }
+
+    fail(message) {
+        for (const { refuse } of this.waiting.values()) refuse(new Failure({ message, status: 0, line: "" }));
+        this.waiting.clear();
+    }
+
+    ask(question, lent = []) {
+        this.number += 1;
+        const { number } = this;
+        return new Promise((keep, refuse) => {
+            this.waiting.set(number, { keep, refuse });
+            this.worker.postMessage({ number, question }, lent);
+        });
+    }
+}

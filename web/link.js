@@ -1,0 +1,50 @@
+// What the address keeps: the positions, their captions, and how the page stands. Captions are text.
+
+export const MOST_KEPT = 10;
+const LONGEST_CAPTION = 200;
+export const START = [2, 2, 2, 2, 2, 2];
+
+// Six counts of at most 15 checkers in all, or null.
+export function readPoints(text) {
+    const counts = text.split(",");
+    if (counts.length !== 6 || !counts.every((count) => /^\d{1,2}$/.test(count))) return null;
+    const points = counts.map(Number);
+    return points.reduce((sum, count) => sum + count, 0) <= 15 ? points : null;
+}
+
+const text = (word) => (word || "").replace(/\s+/g, " ").trim().slice(0, LONGEST_CAPTION);
+
+// The state that an address states. What can't be read there is left out.
+export function readLink(hash) {
+    const words = new URLSearchParams(hash.replace(/^#/, ""));
+    const kept = [];
+    for (const [name, value] of words) {
+        const points = name === "p" ? readPoints(value) : null;
+        if (points && kept.length < MOST_KEPT) kept.push({ points, caption: "" });
+        if (name === "c" && kept.length > 0) kept[kept.length - 1].caption = text(value);
+    }
+    const roll = /^[1-6]{2}$/.test(words.get("roll") || "") ? [...words.get("roll")].map(Number) : null;
+    return {
+        points: readPoints(words.get("at") || "") || (kept.length > 0 ? kept[0].points : START),
+        kept,
+        title: text(words.get("t")),
+        roll: roll && roll.sort((one, other) => other - one),
+        guess: words.get("guess") === "1",
+        bound: words.get("pips") === "58" ? 58 : 44,
+    };
+}
+
+// The address of a state.
+export function writeLink({ points, kept, title, roll, guess, bound }) {
+    const words = new URLSearchParams();
+    if (title) words.append("t", title);
+    words.append("at", points.join());
+    if (roll) words.append("roll", roll.join(""));
+    if (guess) words.append("guess", "1");
+    if (bound === 58) words.append("pips", "58");
+    for (const { points: counts, caption } of kept) {
+        words.append("p", counts.join());
+        if (caption) words.append("c", caption);
+    }
+    return `#${words.toString().replaceAll("%2C", ",").replaceAll("%2F", "/")}`;
+}

@@ -1,0 +1,98 @@
+// What the worker does: it builds, checks and answers, so that the page never stands still.
+import { Engine, Refused } from "./engine.js";
+
+// Every roll, the higher die first.
+export const ROLLS = Array.from({ length: 6 }, (_, high) =>
+    Array.from({ length: high + 1 }, (_, low) => [high + 1, low + 1])).flat();
+
+// All that the page shows of a position. Over the bound, or with too many checkers, only why not.
+export function answer(engine, points) {
+    let standing = null;
+    try {
+        standing = engine.standing(points);
+        const found = {
+            points,
+            standing,
+            bound: engine.bound,
+            mean: engine.mean(points),
+            effective: engine.effective(points),
+            wastage: engine.wastage(points),
+            distribution: engine.distribution(points),
+            rolls: [],
+        };
+        if (standing.checkers > 0) {
+            found.rolls = ROLLS.map(([one, other]) => ({ dice: [one, other], plays: engine.plays(points, one, other) }));
+        }
+        return found;
+    } catch (error) {
+        if (!(error instanceof Refused)) throw error;
+        return { points, standing, bound: engine.bound, refusal: error.message, status: error.status };
+    }
+}
+
+// One desk of the worker: the module's bytes, and the engine of the open database.
+export class Desk {
+    constructor(module, tell) {
+        this.module = module;
+        this.tell = tell;
+        this.engine = null;
+    }
+
+    // Builds the database of a bound, checks it like any other, and opens it.
+    async build(bound) {
+        this.tell(0.05, `Building the database of ${bound} pips\u2026`);
+        const builder = await Engine.start(this.module);
+        const file = builder.build(bound);
+        this.tell(0.5, `Checking all of its ${(file.length / 1e6).toFixed(0)} MB\u2026`);
+        return this.open(file);
+    }
+
+    // Checks a file and opens it; where it is refused the database that was open stays so.
+    async open(file) {
+        const engine = await Engine.start(this.module);
+        engine.open(file);
+        this.engine = engine;
+        this.tell(1, "");
+        return { bound: engine.bound, positions: engine.positions };
+    }
+
+    async take({ kind, bound, file, points, one, other }) {
+        switch (kind) {
+            case "build":
+                return this.build(bound);
+            case "open":
+                this.tell(0.3, "Checking the file\u2026");
+                return this.open(file);
+            case "ask":
+                return answer(this.engine, points);
+            case "add":
+                return this.engine.add(one, other);
+            default:
+                throw new Error("no such question");
+        }
+    }
+}
+
+// Answers the messages of a page, one after the other.
+export function serve(scope) {
+    let desk = null;
+    let last = Promise.resolve();
+    const answerOne = async ({ number, question }) => {
+        try {
+            if (question.kind === "start") {
+                const tell = (part, text) => scope.postMessage({ part, text });
+                desk = new Desk(question.module, tell);
+                scope.postMessage({ number, reply: true });
+                return;
+            }
+            scope.postMessage({ number, reply: await desk.take(question) });
+        } catch (error) {
+            const refused = error instanceof Refused;
+            const failure = { message: error.message, status: refused ? error.status : 0, line: error.line || "" };
+            scope.postMessage({ number, failure });
+        }
+    };
+    scope.onmessage = ({ data }) => {
+        last = last.then(() => answerOne(data));
+    };
+}
