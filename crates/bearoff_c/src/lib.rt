@@ -6,7 +6,10 @@
 //! definitions say, for as long as the bytes and the database are as `bearoff_open` left them.
 #![tactic(auto)]
 
+mod answering;
+mod asking;
 mod choice;
+mod costs;
 mod database;
 mod distribution;
 mod listing;

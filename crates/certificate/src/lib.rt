@@ -21,6 +21,7 @@ mod record_check;
 pub use check_fault::CheckFault;
 pub use checked::{Checked, check};
 pub use lines::fault_line;
+pub use numbers::spread_in;
 pub use query_fault::QueryFault;
 
 #[cfg(test)]

@@ -24,10 +24,12 @@ mod writing;
 pub use answer::{Stop, answer_line};
 pub use levels::audit_level;
 pub use losses::loss;
-pub use move_list::moves;
+pub use move_list::{Cost, include_cost, moves, price};
+pub use query::{LineFault, Query, read_query};
 pub use reply::{Choice, Level, Refusal, Reply};
 pub use run_fault::RunFault;
 pub use running::run;
+pub use text::{Text, put_choice, put_moves, put_reply};
 pub use writing::{write_level, write_reply};
 
 #[cfg(test)]

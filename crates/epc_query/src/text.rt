@@ -1,12 +1,12 @@
 //! The texts of replies and levels.
-ghost use Rattle.std.specs.Prelude.{◌≡◌, ℕ, ◌+◌, ◌^◌, ◌≤◌, ◌<◌, List, ◌++◌, drop, flat_map, decimal, codes, slice_index};
+ghost use Rattle.std.specs.Prelude.{◌≡◌, ℕ, ◌+◌, ◌^◌, ◌≤◌, ◌<◌, List, ◌++◌, drop, flat_map, decimal, codes, slice_index, IfNone, IfSome, IsNone};
 ghost use Rattle.arrayvec.specs.ArrayString.{array_string_len};
 ghost use Rattle.race_model.specs.FirstPlays.{move_text};
 ghost use Rattle.race_model.specs.Replies.{fraction_text, thousandths_text, refusal_text, IsSharePart, IsDistReply};
-ghost use Rattle.epc_query.specs.Texts.{position_text, ratio_text, choice_text, level_text, why, IsMeanText};
+ghost use Rattle.epc_query.specs.Texts.{position_text, ratio_text, choice_text, list_text, level_text, why, IsMeanText, IsTextOf, IsShort};
 ghost use Rattle.legal_plays.specs.MoveLists.{moves_of};
 
-use crate::reply::{Choice, Level, Refusal};
+use crate::reply::{Choice, Level, Refusal, Reply};
 use arrayvec::ArrayString;
 use fixed_fraction::{Fraction, Spread, share, thousandths};
 use home_board::{Position, write_position};
@@ -14,7 +14,7 @@ use itoa::Buffer;
 use legal_plays::{Play, write_play};
 
 /// Room for the text of any reply but a long list of moves.
-pub(crate) type Text = ArrayString<4096>;
+pub type Text = ArrayString<4096>;
 
 /// 10 ^ 18. A number of more than 18 digits is written in two parts, each by divisions of 64 bits.
 const HALF: u128 = 1_000_000_000_000_000_000;
@@ -112,7 +112,7 @@ fn push_play(text: &mut Text, play: &Play)
     text.push_str(write_play(play).as_str());
 }
 
-/// Adds a result and its loss, after a space.
+/// Adds a result and its loss, after a space: at most 95 bytes.
 pub(crate) fn push_choice(text: &mut Text, choice: &Choice)
     requires { array_string_len text.old + 95 ≤ 4096 }
     ensures bytes { text.new.bytes ≡ text.old.bytes ++ choice_text choice.now }
@@ -124,8 +124,50 @@ pub(crate) fn push_choice(text: &mut Text, choice: &Choice)
     push_fraction(text, choice.loss);
 }
 
+/// Makes a text that of a result and its loss, as it stands in a list of moves after what is
+/// before it: a space, the position, a colon, and the loss in rolls, at most 95 bytes.
+pub fn put_choice(text: &mut Text, choice: &Choice)
+    ensures text { text.new.bytes ≡ choice_text choice.now }
+    ensures len { array_string_len text.new ≤ 95 }
+{
+    text.clear();
+    push_choice(text, choice);
+}
+
+/// Makes a text the word with which a list of moves begins.
+pub fn put_moves(text: &mut Text)
+    ensures text { text.new.bytes ≡ codes "moves" }
+    ensures len { array_string_len text.new ≤ 5 }
+{
+    text.clear();
+    text.push_str("moves");
+}
+
+/// Makes a text that of a reply, without a line feed. A list of moves may be longer than a text:
+/// then its choices are given, of which `put_choice` makes the texts after that of `put_moves`.
+pub fn put_reply<'a>(text: &mut Text, reply: &'a Reply) -> Option<&'a [Choice]>
+    ensures text { IfNone result (IsTextOf reply.now text.new.bytes) }
+    ensures list { IfSome result (λ choices. IsTextOf reply.now (list_text choices.now)) }
+    ensures short { IsShort reply.now → IsNone result }
+    ensures len { array_string_len text.new ≤ 4000 }
+{
+    match reply {
+        Reply::Mean { mean, epc } => put_mean(text, *mean, *epc),
+        Reply::Dist(spread) => put_dist(text, spread),
+        Reply::Play { play, to } => put_play(text, play, to),
+        Reply::Loss(loss) => put_loss(text, *loss),
+        Reply::Moves(choices) => {
+            text.clear();
+            return Some(choices.as_slice());
+        }
+        Reply::Rank(rank) => put_rank(text, *rank),
+        Reply::Refused(refusal) => put_refusal(text, *refusal),
+    }
+    None
+}
+
 /// Makes a text that of a mean and an effective pip count.
-pub(crate) fn put_mean(text: &mut Text, mean: Fraction, epc: Fraction)
+fn put_mean(text: &mut Text, mean: Fraction, epc: Fraction)
     ensures text { IsMeanText mean epc text.new.bytes }
     ensures len { array_string_len text.new ≤ 4000 }
 {
@@ -139,7 +181,7 @@ pub(crate) fn put_mean(text: &mut Text, mean: Fraction, epc: Fraction)
 }
 
 /// Makes a text that of the shares of 0 to 22 rolls.
-pub(crate) fn put_dist(text: &mut Text, spread: &Spread)
+fn put_dist(text: &mut Text, spread: &Spread)
     ensures text { IsDistReply (slice_index spread.now) text.new.bytes }
     ensures len { array_string_len text.new ≤ 4000 }
 {
@@ -151,7 +193,7 @@ pub(crate) fn put_dist(text: &mut Text, spread: &Spread)
 }
 
 /// Makes a text that of a play and the position that it leads to.
-pub(crate) fn put_play(text: &mut Text, play: &Play, to: &Position)
+fn put_play(text: &mut Text, play: &Play, to: &Position)
     ensures text { text.new.bytes ≡ codes "play"
         ++ flat_map (λ m. codes " " ++ move_text m)
         (moves_of play.now.items) ++ codes " to " ++ position_text to.now }
@@ -165,7 +207,7 @@ pub(crate) fn put_play(text: &mut Text, play: &Play, to: &Position)
 }
 
 /// Makes a text that of a loss.
-pub(crate) fn put_loss(text: &mut Text, loss: Fraction)
+fn put_loss(text: &mut Text, loss: Fraction)
     ensures text { text.new.bytes ≡ codes "loss " ++ ratio_text loss }
     ensures len { array_string_len text.new ≤ 4000 }
 {
@@ -175,7 +217,7 @@ pub(crate) fn put_loss(text: &mut Text, loss: Fraction)
 }
 
 /// Makes a text that of a rank.
-pub(crate) fn put_rank(text: &mut Text, rank: u16)
+fn put_rank(text: &mut Text, rank: u16)
     ensures text { text.new.bytes ≡ codes "rank " ++ decimal rank }
     ensures len { array_string_len text.new ≤ 4000 }
 {
@@ -185,7 +227,7 @@ pub(crate) fn put_rank(text: &mut Text, rank: u16)
 }
 
 /// Makes a text that of a refusal.
-pub(crate) fn put_refusal(text: &mut Text, refusal: Refusal)
+fn put_refusal(text: &mut Text, refusal: Refusal)
     ensures text { text.new.bytes ≡ refusal_text (why refusal) }
     ensures len { array_string_len text.new ≤ 4000 }
 {

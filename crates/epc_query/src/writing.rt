@@ -3,13 +3,11 @@ ghost use Rattle.std.specs.Prelude.{◌≡◌, ℕ, ◌+◌, ◌≤◌, List, []
 ghost use Rattle.std.specs.Io.KnownBytes.{Appends};
 ghost use Rattle.arrayvec.specs.ArrayString.{array_string_len};
 ghost use Rattle.db_layout.specs.Writes.{AppendsPart};
-ghost use Rattle.epc_query.specs.Texts.{choice_text, level_text, IsTextOf};
+ghost use Rattle.epc_query.specs.Texts.{choice_text, list_text, level_text, IsTextOf};
 ghost use Rattle.epc_query.specs.Held.{Takes};
 
 use crate::reply::{Choice, Level, Reply};
-use crate::text::{
-    Text, push_choice, put_dist, put_level, put_loss, put_mean, put_play, put_rank, put_refusal,
-};
+use crate::text::{Text, push_choice, put_level, put_moves, put_reply};
 use db_layout::{WriteFault, write_bytes};
 use std::io::Write;
 
@@ -36,16 +34,10 @@ pub(crate) fn write_reply_by<W: Write>(
     ensures part { OnErr result ((text : List ℕ) × IsTextOf reply.now text
         × AppendsPart (W.contents writer.old) (W.contents writer.new) (text ++ 10 ∷ [])) }
 {
-    match reply {
-        Reply::Mean { mean, epc } => put_mean(text, *mean, *epc),
-        Reply::Dist(spread) => put_dist(text, spread),
-        Reply::Play { play, to } => put_play(text, play, to),
-        Reply::Loss(loss) => put_loss(text, *loss),
-        Reply::Moves(choices) => return write_moves(text, choices.as_slice(), writer),
-        Reply::Rank(rank) => put_rank(text, *rank),
-        Reply::Refused(refusal) => put_refusal(text, *refusal),
+    match put_reply(text, reply) {
+        Some(choices) => write_moves(text, choices, writer),
+        None => write_line(text, writer),
     }
-    write_line(text, writer)
 }
 
 /// Writes the line of a level and a line feed. Refused as `write_reply` is.
@@ -81,12 +73,11 @@ fn write_moves<W: Write>(
     writer: &mut W,
 ) -> Result<(), WriteFault>
     ensures all { OnOk result (Appends (W.contents writer.old) (W.contents writer.new)
-        (codes "moves" ++ flat_map choice_text choices.now ++ 10 ∷ [])) }
+        (list_text choices.now ++ 10 ∷ [])) }
     ensures part { OnErr result (AppendsPart (W.contents writer.old) (W.contents writer.new)
-        (codes "moves" ++ flat_map choice_text choices.now ++ 10 ∷ [])) }
+        (list_text choices.now ++ 10 ∷ [])) }
 {
-    text.clear();
-    text.push_str("moves");
+    put_moves(text);
     for choice in choices {
         write_choice(text, choice, writer)?;
     }

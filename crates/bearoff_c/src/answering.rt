@@ -1,0 +1,127 @@
+//! A line of the query language, answered into a buffer that the caller lends.
+ghost use Rattle.std.specs.Prelude.{◌≡◌, ℕ, ◌≤◌, ◌<◌, ◌↔◌, List, [], ◌∷◌, ◌++◌, IsTrue, IsSome, IfSome, length};
+ghost use Rattle.race_model.specs.Positions.{pips};
+ghost use Rattle.race_model.specs.Replies.{refusal_text, IsReply};
+ghost use Rattle.epc_query.specs.Texts.{list_text, why, IsShort, IsTextOf};
+ghost use Rattle.epc_query.specs.Answers.{AreChoices};
+ghost use Rattle.epc_query.specs.declared.reply.Choice.{Choice as Chosen};
+ghost use Rattle.bearoff_c.specs.Buffers.{HasText};
+ghost use Rattle.bearoff_c.specs.Refusals.{open_refusal, status_of};
+
+use crate::costs::Choices;
+use crate::database::Database;
+use crate::refusal::{OK, Refusal, SHORT};
+use crate::text::{put_choices, put_text};
+use epc_query::{LineFault, Query, Refusal as LineRefusal, Reply, Text, put_reply, read_query};
+use home_board::Position;
+use legal_plays::Roll;
+
+/// Answers a line of the query language, which is given without its line ending: `text` has in
+/// front what the program writes for that line, without the line feed, and the rest of it stays as
+/// it was; `needed` is how many bytes that is. A line that asks nothing, or is refused, is answered
+/// too, by `error` and the refusal. Refused as `NotOpen`, when all stays as it was; and with the
+/// status 8 where the text has no room, when `needed` is told and `text` stays as it was.
+#[unsafe(no_mangle)]
+pub extern "C" fn bearoff_answer_line(
+    database: &Database<'_>,
+    line: &[u8],
+    text: &mut [u8],
+    needed: &mut usize,
+) -> u32
+    ensures short { (result ≡ 8) ↔
+        (IsTrue database.now.is_open × (length text.old < needed.new)) }
+    ensures status { ¬ (result ≡ 8) → result ≡ status_of (open_refusal database.now.is_open) }
+    ensures reply { IsTrue database.now.is_open → (reply : List ℕ)
+        × HasText reply text.old text.new needed.new
+        × ∥ IsReply database.now.bytes.now line.now (reply ++ 10 ∷ []) ∥₁ }
+    ensures left { result ≡ 1 → (text.new ≡ text.old) × (needed.new ≡ needed.old) }
+{
+    if !database.is_open {
+        return Refusal::NotOpen.status();
+    }
+    match database.answer(line, text, needed) {
+        Some(true) => OK,
+        Some(false) => SHORT,
+        None => Refusal::Changed.status(),
+    }
+}
+
+impl<'a> Database<'a> {
+    /// Writes the reply to a line into a buffer, where all of it has room, and says how many bytes
+    /// it has. Whether it had room; none only where the bytes were changed since they were checked.
+    fn answer(&self, line: &[u8], buffer: &mut [u8], needed: &mut usize) -> Option<bool>
+        requires { IsTrue self.now.is_open }
+        ensures some { IsSome result }
+        ensures reply { (text : List ℕ) × HasText text buffer.old buffer.new needed.new
+            × ∥ IsReply self.now.bytes.now line.now (text ++ 10 ∷ []) ∥₁ }
+        ensures fits { IfSome result (λ fits.
+            IsTrue fits ↔ (needed.new ≤ length buffer.old)) }
+    {
+        epc_query::laws::law_reply_text();
+        epc_query::laws::law_list_text();
+        let query = match read_query(line) {
+            Ok(query) => query,
+            Err(LineFault::BadLine) => return put_refusal(LineRefusal::BadLine, buffer, needed),
+            Err(LineFault::TooMany) => return put_refusal(LineRefusal::TooMany, buffer, needed),
+        };
+        if let Some(refusal) = self.refusal(query) {
+            return put_refusal(refusal, buffer, needed);
+        }
+        if let Query::Moves(position, roll) = query {
+            return self.put_list(&position, roll, buffer, needed);
+        }
+        let reply = self.reply(query)?;
+        Some(put_short(&reply, buffer, needed))
+    }
+
+    /// Writes every result of a roll by what it costs into a buffer, where all of them have room,
+    /// as `answer` does.
+    // so that its room is not part of its caller's
+    #[inline(never)]
+    fn put_list(
+        &self,
+        position: &Position,
+        roll: Roll,
+        buffer: &mut [u8],
+        needed: &mut usize,
+    ) -> Option<bool>
+        requires opened { IsTrue self.now.is_open }
+        requires within { pips position.now ≤ self.now.bound }
+        ensures some { IsSome result }
+        ensures text { (choices : List Chosen)
+            × ∥ AreChoices self.now.bytes.now position.now roll choices ∥₁
+            × HasText (list_text choices) buffer.old buffer.new needed.new }
+        ensures fits { IfSome result (λ fits.
+            IsTrue fits ↔ (needed.new ≤ length buffer.old)) }
+    {
+        let mut choices = Choices::new();
+        if !self.choose(position, roll, &mut choices) {
+            return None;
+        }
+        Some(put_choices(choices.as_slice(), buffer, needed))
+    }
+}
+
+/// Writes a reply that is no list of moves into a buffer, where all of it has room, and says how
+/// many bytes it has. Whether it had room.
+fn put_short(reply: &Reply, buffer: &mut [u8], needed: &mut usize) -> bool
+    requires { IsShort reply.now }
+    ensures text { (text : List ℕ) × IsTextOf reply.now text
+        × HasText text buffer.old buffer.new needed.new }
+    ensures fits { IsTrue result ↔ (needed.new ≤ length buffer.old) }
+{
+    let mut text = Text::new();
+    match put_reply(&mut text, reply) {
+        Some(_) => unreachable!(),
+        None => put_text(text.as_str().as_bytes(), buffer, needed),
+    }
+}
+
+/// Writes the text of a refused line into a buffer, as `put_short` does.
+fn put_refusal(refusal: LineRefusal, buffer: &mut [u8], needed: &mut usize) -> Option<bool>
+    ensures some { IsSome result }
+    ensures text { HasText (refusal_text (why refusal)) buffer.old buffer.new needed.new }
+    ensures fits { IfSome result (λ fits. IsTrue fits ↔ (needed.new ≤ length buffer.old)) }
+{
+    Some(put_short(&Reply::Refused(refusal), buffer, needed))
+}

@@ -1,0 +1,115 @@
+//! What a query of a line is answered with, but for a list of moves.
+ghost use Rattle.std.specs.Prelude.{◌≡◌, ℕ, ◌≤◌, List, IsTrue, MatchOption, IsSome, IfSome, slice_index};
+ghost use Rattle.race_model.specs.Positions.{pips};
+ghost use Rattle.race_model.specs.Files.{bound_of, spread as spread_of};
+ghost use Rattle.race_model.specs.Queries.{subject, IsQuery, HasTooMany, IsRefused, IsAccepted};
+ghost use Rattle.epc_query.specs.Readings.{asked};
+ghost use Rattle.epc_query.specs.Texts.{why, IsShort};
+ghost use Rattle.epc_query.specs.Answers.{IsReplyTo};
+ghost use Rattle.epc_query.specs.Faults.{IsAnswerable, AsksMoves};
+
+use crate::database::Database;
+use certificate::spread_in;
+use epc_query::{Query, Refusal, Reply};
+use fixed_fraction::{Spread, epc, mean};
+use home_board::Position;
+use legal_plays::play_to;
+
+/// The position that a query is about.
+fn subject(query: Query) -> Position
+    ensures { result ≡ subject (asked query) }
+{
+    match query {
+        Query::Mean(position)
+        | Query::Dist(position)
+        | Query::Play(position, _)
+        | Query::Loss(position, _, _)
+        | Query::Moves(position, _)
+        | Query::Rank(position) => position,
+    }
+}
+
+impl<'a> Database<'a> {
+    /// Why a query is refused whose positions have at most 15 checkers; none exactly where it is
+    /// answered.
+    pub fn refusal(&self, query: Query) -> Option<Refusal>
+        requires { IsTrue self.now.is_open }
+        ensures { MatchOption result (IsAnswerable self.now.bound (asked query))
+            (λ refusal. (line : List ℕ) → IsQuery line (asked query) → ¬ HasTooMany (asked query)
+            → IsRefused self.now.bound line (why refusal)) }
+    {
+        let position = subject(query);
+        if position.pips() > self.bound {
+            return Some(Refusal::OverBound);
+        }
+        match query {
+            Query::Mean(_) | Query::Dist(_) | Query::Rank(_) => None,
+            Query::Play(position, _) | Query::Moves(position, _) => {
+                if position.is_finished() {
+                    Some(Refusal::Finished)
+                } else {
+                    None
+                }
+            }
+            Query::Loss(position, roll, to) => {
+                if position.is_finished() {
+                    Some(Refusal::Finished)
+                } else if play_to(&position, roll, &to).is_none() {
+                    Some(Refusal::NotLegal)
+                } else {
+                    None
+                }
+            }
+        }
+    }
+
+    /// What a query is answered with that is not refused and asks for no list of moves. None only
+    /// where the bytes were changed since they were checked.
+    pub fn reply(&self, query: Query) -> Option<Reply>
+        requires opened { IsTrue self.now.is_open }
+        requires answerable { IsAnswerable self.now.bound (asked query) }
+        requires short { ¬ AsksMoves (asked query) }
+        ensures some { IsSome result }
+        ensures told { IfSome result (λ reply. (line : List ℕ)
+            → IsAccepted (bound_of self.now.bytes.now) line (asked query)
+            → IsReplyTo self.now.bytes.now line reply) }
+        ensures short { IfSome result IsShort }
+    {
+        match query {
+            Query::Mean(position) => {
+                let rolls = self.mean_of(&position)?;
+                Some(Reply::Mean {
+                    mean: mean(rolls),
+                    epc: epc(rolls),
+                })
+            }
+            Query::Dist(position) => {
+                let spread = self.spread_of(&position)?;
+                Some(Reply::Dist(spread))
+            }
+            Query::Play(position, roll) => {
+                let (play, to) = self.played(&self.turn_of(&position, roll))?;
+                Some(Reply::Play { play, to })
+            }
+            Query::Loss(position, roll, to) => {
+                let lost = self.loss_of(&self.turn_of(&position, roll), &to)?;
+                Some(Reply::Loss(lost))
+            }
+            Query::Moves(_, _) => unreachable!(),
+            Query::Rank(position) => Some(Reply::Rank(self.ranks.rank(&position))),
+        }
+    }
+
+    /// The recorded shares of a position of at most the bound. None only where the bytes were
+    /// changed since they were checked.
+    fn spread_of(&self, position: &Position) -> Option<Spread>
+        requires opened { IsTrue self.now.is_open }
+        requires within { pips position.now ≤ self.now.bound }
+        ensures some { IsSome result }
+        ensures recorded { IfSome result (λ spread. (k : ℕ) → k ≤ 22
+            → slice_index spread k ≡ spread_of self.now.bytes.now position.now k) }
+    {
+        let _pips = position.pips();
+        spread_in(&self.record(position))
+    }
+}
