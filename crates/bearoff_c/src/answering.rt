@@ -1,20 +1,14 @@
 //! A line of the query language, answered into a buffer that the caller lends.
 ghost use Rattle.std.specs.Prelude.{◌≡◌, ℕ, ◌≤◌, ◌<◌, ◌↔◌, List, [], ◌∷◌, ◌++◌, IsTrue, IsSome, IfSome, length};
-ghost use Rattle.race_model.specs.Positions.{pips};
 ghost use Rattle.race_model.specs.Replies.{refusal_text, IsReply};
-ghost use Rattle.epc_query.specs.Texts.{list_text, why, IsShort, IsTextOf};
-ghost use Rattle.epc_query.specs.Answers.{AreChoices};
-ghost use Rattle.epc_query.specs.declared.reply.Choice.{Choice as Chosen};
+ghost use Rattle.epc_query.specs.Texts.{why, IsShort, IsTextOf};
 ghost use Rattle.bearoff_c.specs.Buffers.{HasText};
 ghost use Rattle.bearoff_c.specs.Refusals.{open_refusal, status_of};
 
-use crate::costs::Choices;
 use crate::database::Database;
 use crate::refusal::{OK, Refusal, SHORT};
-use crate::text::{put_choices, put_text};
+use crate::text::put_text;
 use epc_query::{LineFault, Query, Refusal as LineRefusal, Reply, Text, put_reply, read_query};
-use home_board::Position;
-use legal_plays::Roll;
 
 /// Answers a line of the query language, which is given without its line ending: `text` has in
 /// front what the program writes for that line, without the line feed, and the rest of it stays as
@@ -64,41 +58,16 @@ impl<'a> Database<'a> {
             Err(LineFault::BadLine) => return put_refusal(LineRefusal::BadLine, buffer, needed),
             Err(LineFault::TooMany) => return put_refusal(LineRefusal::TooMany, buffer, needed),
         };
-        if let Some(refusal) = self.refusal(query) {
+        if let Some(refusal) = self.refusal(&query) {
             return put_refusal(refusal, buffer, needed);
         }
-        if let Query::Moves(position, roll) = query {
-            return self.put_list(&position, roll, buffer, needed);
+        match &query {
+            Query::Moves(position, roll) => self.put_list(position, *roll, buffer, needed),
+            _ => {
+                let reply = self.reply(query)?;
+                Some(put_short(&reply, buffer, needed))
+            }
         }
-        let reply = self.reply(query)?;
-        Some(put_short(&reply, buffer, needed))
-    }
-
-    /// Writes every result of a roll by what it costs into a buffer, where all of them have room,
-    /// as `answer` does.
-    // so that its room is not part of its caller's
-    #[inline(never)]
-    fn put_list(
-        &self,
-        position: &Position,
-        roll: Roll,
-        buffer: &mut [u8],
-        needed: &mut usize,
-    ) -> Option<bool>
-        requires opened { IsTrue self.now.is_open }
-        requires within { pips position.now ≤ self.now.bound }
-        ensures some { IsSome result }
-        ensures text { (choices : List Chosen)
-            × ∥ AreChoices self.now.bytes.now position.now roll choices ∥₁
-            × HasText (list_text choices) buffer.old buffer.new needed.new }
-        ensures fits { IfSome result (λ fits.
-            IsTrue fits ↔ (needed.new ≤ length buffer.old)) }
-    {
-        let mut choices = Choices::new();
-        if !self.choose(position, roll, &mut choices) {
-            return None;
-        }
-        Some(put_choices(choices.as_slice(), buffer, needed))
     }
 }
 

@@ -16,8 +16,8 @@ use home_board::Position;
 use legal_plays::play_to;
 
 /// The position that a query is about.
-fn subject(query: Query) -> Position
-    ensures { result ≡ subject (asked query) }
+fn subject(query: &Query) -> Position
+    ensures { result ≡ subject (asked query.now) }
 {
     match query {
         Query::Mean(position)
@@ -25,17 +25,17 @@ fn subject(query: Query) -> Position
         | Query::Play(position, _)
         | Query::Loss(position, _, _)
         | Query::Moves(position, _)
-        | Query::Rank(position) => position,
+        | Query::Rank(position) => *position,
     }
 }
 
 impl<'a> Database<'a> {
     /// Why a query is refused whose positions have at most 15 checkers; none exactly where it is
     /// answered.
-    pub fn refusal(&self, query: Query) -> Option<Refusal>
-        requires { IsTrue self.now.is_open }
-        ensures { MatchOption result (IsAnswerable self.now.bound (asked query))
-            (λ refusal. (line : List ℕ) → IsQuery line (asked query) → ¬ HasTooMany (asked query)
+    pub fn refusal(&self, query: &Query) -> Option<Refusal>
+        ensures { MatchOption result (IsAnswerable self.now.bound (asked query.now))
+            (λ refusal. (line : List ℕ) → IsQuery line (asked query.now)
+            → ¬ HasTooMany (asked query.now)
             → IsRefused self.now.bound line (why refusal)) }
     {
         let position = subject(query);
@@ -54,7 +54,7 @@ impl<'a> Database<'a> {
             Query::Loss(position, roll, to) => {
                 if position.is_finished() {
                     Some(Refusal::Finished)
-                } else if play_to(&position, roll, &to).is_none() {
+                } else if play_to(position, *roll, to).is_none() {
                     Some(Refusal::NotLegal)
                 } else {
                     None
