@@ -1,13 +1,15 @@
 -- Texts that are copied part by part, and the lists of moves of results in order.
 use Rattle.std.proofs.Common.{◌≡◌, ℕ, ◌+◌, ◌*◌, ◌<◌, ◌≤◌, List, [], ◌∷◌, ◌++◌, length, get_or, take, drop, codes, refl, ap, sym, ◌∙◌, arith, append_assoc, length-append}
 use Rattle.std.specs.Prelude.{flat_map, slice_index_or}
+use Rattle.std.proofs.Math.Path.{ap₂}
 use Rattle.std.proofs.Math.Seq.{take-append_seam}
 use Rattle.std.proofs.lemmas.Slice.{drop-append-drop}
 use Rattle.std.proofs.lemmas.List.{append-nil, ext_get_or, length_push}
 use Rattle.std.proofs.lemmas.Grind.{flat_map-append}
 use Rattle.race_model.specs.LocalEquations.{whole}
 use Rattle.race_model.specs.Fractions.{IsFraction}
-use Rattle.race_model.specs.Positions.{finished}
+use Rattle.race_model.specs.Positions.{Board, finished}
+use Rattle.fixed_fraction.specs.Ratios.{Ratio}
 use Rattle.epc_query.specs.declared.reply.Choice.{Choice}
 use Rattle.epc_query.specs.Costs.{IsPriced, ArePriced}
 use Rattle.epc_query.specs.Texts.{choice_text, list_text}
@@ -68,6 +70,20 @@ pub record IsListed (costs : List (ℕ × ℕ)) (old new : List ℕ) (n e : ℕ)
   pub copied : IsCopied (list_text choices) old new
   pub short : e ≤ 5 + 95 * n
 
+-- that of no result is the word before them
+pub listed_none : (costs : List (ℕ × ℕ)) (old new part : List ℕ) (e : ℕ) → part ≡ codes "moves"
+    → e ≡ 0 + length part → length new ≡ length old
+    → (e ≤ length old → new ≡ take 0 old ++ part ++ drop e old)
+    → IsListed costs old new 0 e
+listed_none costs old new part e part_is e_is size put = record {
+  choices = [];
+  count = refl;
+  each = λ k c d low. absurd (omega (arith, low));
+  end_is = omega (arith, e_is, ap length part_is);
+  copied = rw (← part_is) (copied_more [] part old old new 0 e refl e_is (copied_none old) size put);
+  short = omega (arith, e_is, ap length part_is);
+}
+
 -- with one result more
 pub listed_more : (costs : List (ℕ × ℕ)) (old mid new part : List ℕ) (choice : Choice)
     (n e more : ℕ) → IsListed costs old mid n e → n < length costs
@@ -98,6 +114,14 @@ listed_more costs old mid new part choice n e more was low is part_is few more_i
         ∙ sym (append_assoc (codes "moves") (flat_map choice_text was.choices) (choice_text choice))
         ∙ ap (λ t. list_text was.choices ++ t) (sym part_is)
 
+-- the results are all of them where as many were copied
+pub priced_all : (costs : List (ℕ × ℕ)) (old new : List ℕ) (n e : ℕ)
+    → (is : IsListed costs old new n e) → n ≡ length costs → ArePriced costs is.choices
+priced_all costs old new n e is all = record {
+  count = is.count ∙ all;
+  each = λ k c d low. is.each k c d (omega (arith, low, all));
+}
+
 module _ (one : (a b n d m e : ℕ) → 0 < b → IsFraction a b n d → IsFraction a b m e →
     (n ≡ m) × (d ≡ e)) where
   -- a result of a cost has one price
@@ -107,9 +131,8 @@ module _ (one : (a b n d m e : ℕ) → 0 < b → IsFraction a b n d → IsFract
   same_price first cost a b is other =
       let to : a.to ≡ b.to = is.to ∙ sym other.to in
       let loss = one _ whole _ _ _ _ (omega arith) is.loss other.loss in
-      let numerator : a.loss.numerator ≡ b.loss.numerator = loss.0 in
-      let denominator : a.loss.denominator ≡ b.loss.denominator = loss.1 in
-      cc
+      ap₂ (λ (t : Board) (l : Ratio). record { to = t; loss = l }) to
+      (ap₂ (λ n d. record { numerator = n; denominator = d }) loss.0 loss.1)
 
   -- so results in order have one list of prices
   pub same_prices : (costs : List (ℕ × ℕ)) (a b : List Choice) → ArePriced costs a

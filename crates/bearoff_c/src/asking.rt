@@ -1,8 +1,8 @@
 //! What a query of a line is answered with, but for a list of moves.
-ghost use Rattle.std.specs.Prelude.{◌≡◌, ℕ, ◌≤◌, List, IsTrue, MatchOption, IsSome, IfSome, slice_index};
+ghost use Rattle.std.specs.Prelude.{◌≡◌, ℕ, ◌≤◌, ◌↔◌, List, IsTrue, MatchOption, IsSome, IfSome, slice_index};
 ghost use Rattle.race_model.specs.Positions.{pips};
 ghost use Rattle.race_model.specs.Files.{bound_of, spread as spread_of};
-ghost use Rattle.race_model.specs.Queries.{subject, IsQuery, HasTooMany, IsRefused, IsAccepted};
+ghost use Rattle.race_model.specs.Queries.{subject, AsksOfFinished, HasResult, IsQuery, HasTooMany, IsRefused, IsAccepted};
 ghost use Rattle.epc_query.specs.Readings.{asked};
 ghost use Rattle.epc_query.specs.Texts.{why, IsShort};
 ghost use Rattle.epc_query.specs.Answers.{IsReplyTo};
@@ -29,6 +29,29 @@ fn subject(query: &Query) -> Position
     }
 }
 
+/// Whether a play is asked of the finished position.
+fn asks_of_finished(query: &Query) -> bool
+    ensures { IsTrue result ↔ AsksOfFinished (asked query.now) }
+{
+    match query {
+        Query::Play(position, _) | Query::Loss(position, _, _) | Query::Moves(position, _) => {
+            position.is_finished()
+        }
+        Query::Mean(_) | Query::Dist(_) | Query::Rank(_) => false,
+    }
+}
+
+/// Whether the roll leads to the position whose loss is asked, where one is asked.
+fn has_result(query: &Query) -> bool
+    ensures { IsTrue result ↔ HasResult (asked query.now) }
+{
+    match query {
+        Query::Loss(position, roll, to) => play_to(position, *roll, to).is_some(),
+        Query::Mean(_) | Query::Dist(_) | Query::Play(_, _) | Query::Moves(_, _)
+        | Query::Rank(_) => true,
+    }
+}
+
 impl<'a> Database<'a> {
     /// Why a query is refused whose positions have at most 15 checkers; none exactly where it is
     /// answered.
@@ -38,29 +61,16 @@ impl<'a> Database<'a> {
             → ¬ HasTooMany (asked query.now)
             → IsRefused self.now.bound line (why refusal)) }
     {
-        let position = subject(query);
-        if position.pips() > self.bound {
+        if subject(query).pips() > self.bound {
             return Some(Refusal::OverBound);
         }
-        match query {
-            Query::Mean(_) | Query::Dist(_) | Query::Rank(_) => None,
-            Query::Play(position, _) | Query::Moves(position, _) => {
-                if position.is_finished() {
-                    Some(Refusal::Finished)
-                } else {
-                    None
-                }
-            }
-            Query::Loss(position, roll, to) => {
-                if position.is_finished() {
-                    Some(Refusal::Finished)
-                } else if play_to(position, *roll, to).is_none() {
-                    Some(Refusal::NotLegal)
-                } else {
-                    None
-                }
-            }
+        if asks_of_finished(query) {
+            return Some(Refusal::Finished);
         }
+        if !has_result(query) {
+            return Some(Refusal::NotLegal);
+        }
+        None
     }
 
     /// What a query is answered with that is not refused and asks for no list of moves. None only
