@@ -1,5 +1,5 @@
 -- Texts that are copied part by part, and the lists of moves of results in order.
-use Rattle.std.proofs.Common.{◌≡◌, ℕ, ◌+◌, ◌*◌, ◌<◌, ◌≤◌, List, [], ◌∷◌, ◌++◌, length, get_or, take, drop, codes, refl, ap, sym, ◌∙◌, arith, append_assoc, length-append}
+use Rattle.std.proofs.Common.{◌≡◌, ℕ, ◌+◌, ◌*◌, ◌<◌, ◌≤◌, List, [], ◌∷◌, ◌++◌, length, take, drop, codes, refl, ap, sym, ◌∙◌, arith, append_assoc, length-append}
 use Rattle.std.specs.Prelude.{flat_map, slice_index_or}
 use Rattle.std.proofs.Math.Path.{ap₂}
 use Rattle.std.proofs.Math.Seq.{take-append_seam}
@@ -97,8 +97,12 @@ listed_more costs old mid new part choice n e more was low is part_is few more_i
       count = length_push was.choices choice ∙ ap (λ k. k + 1) was.count;
       each = λ k c d under. one_more_choice costs was.choices all n choice c d k was.count refl low
           (λ j small. was.each j c d small) (is c) under;
-      end_is = more_is ∙ omega (arith, was.end_is, ap length text_is,
-          length-append (list_text was.choices) part);
+      end_is = more_is ∙ omega (
+        arith,
+        was.end_is,
+        ap length text_is,
+        length-append (list_text was.choices) part,
+      );
       copied = rw text_is (copied_more (list_text was.choices) part old mid new e more was.end_is
           more_is was.copied size put);
       short = omega (arith, was.short, more_is, few);

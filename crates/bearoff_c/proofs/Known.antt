@@ -1,5 +1,5 @@
 -- What a right file records of a position that it knows.
-use Rattle.std.proofs.Common.{◌≡◌, ℕ, ◌*◌, ◌≤◌, List, ap, arith, le_trans}
+use Rattle.std.proofs.Common.{◌≡◌, ℕ, ◌*◌, ◌≤◌, List, ap, le_trans}
 use Rattle.race_model.specs.Positions.{Board}
 use Rattle.race_model.specs.Dice.{Throw}
 use Rattle.race_model.specs.Plays.{Legal}

@@ -47,8 +47,8 @@ fn has_result(query: &Query) -> bool
 {
     match query {
         Query::Loss(position, roll, to) => play_to(position, *roll, to).is_some(),
-        Query::Mean(_) | Query::Dist(_) | Query::Play(_, _) | Query::Moves(_, _)
-        | Query::Rank(_) => true,
+        Query::Mean(_) | Query::Dist(_) | Query::Play(_, _) | Query::Moves(_, _) | Query::Rank(_) =>
+            true,
     }
 }
 

@@ -1,4 +1,4 @@
-use Rattle.std.proofs.Common.{◌≡◌, List, length, ap, sym, ◌∙◌, arith}
+use Rattle.std.proofs.Common.{◌≡◌, List, length, ap, ◌∙◌, arith}
 use Rattle.epc_query.specs.declared.reply.Choice.{Choice}
 use Rattle.epc_query.specs.Texts.{list_text}
 use Rattle.bearoff_c.proofs.Copied.{same_prices, text_of_copied, text_of_none}
@@ -6,9 +6,12 @@ use Rattle.bearoff_c.proofs.costs.put_costs.Goals as goal
 
 pub returns-then-needed-buffer-clause-text : goal.returns-then-needed-buffer-clause-text
 returns-then-needed-buffer-clause-text c =
-    let told = c.copy_costs.ensures in
-    (told.0, told.1, text_of_none (list_text told.0) c.args.buffer.now c.copy_costs.result told.2
-    (omega arith))
+    let told = c.copy_costs.ensures in (
+      told.0,
+      told.1,
+      text_of_none (list_text told.0) c.args.buffer.now c.copy_costs.result told.2
+          (omega arith),
+    )
 
 pub returns-clause-text : goal.returns-clause-text
 returns-clause-text c =

@@ -1,4 +1,3 @@
-use Rattle.std.proofs.Common.{ap}
 use Rattle.std.proofs.lemmas.Result.{on_ok_weaker, on_err_weaker}
 use Rattle.epc_query.specs.Texts.{list_text}
 use Rattle.epc_query.proofs.writing.write_reply_by.Goals as goal

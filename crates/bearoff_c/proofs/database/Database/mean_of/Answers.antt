@@ -1,4 +1,3 @@
-use Rattle.std.proofs.Common.{arith}
 use Rattle.bearoff_c.proofs.Refusing.{none_refused}
 use Rattle.bearoff_c.proofs.database.Database.mean_of.Goals as goal
 

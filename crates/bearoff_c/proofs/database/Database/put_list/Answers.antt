@@ -1,4 +1,4 @@
-use Rattle.std.proofs.Common.{◌≡◌, ◌↔◌, List, get_or, Contains, ap, sym, subst, ◌∙◌}
+use Rattle.std.proofs.Common.{◌≡◌, ◌↔◌, List, get_or, Contains, sym, subst}
 use mathlib.Core.Logic.{∥∥₁_map}
 use Rattle.std.proofs.lemmas.List.Elements.{All-contains_itself}
 use Rattle.race_model.specs.Positions.{Board}
