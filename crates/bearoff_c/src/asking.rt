@@ -1,16 +1,18 @@
 //! What a query of a line is answered with, but for a list of moves.
 ghost use Rattle.std.specs.Prelude.{◌≡◌, ℕ, ◌≤◌, ◌↔◌, List, IsTrue, MatchOption, IsSome, IfSome, slice_index};
+ghost use Rattle.arrayvec.specs.ArrayString.{array_string_len};
 ghost use Rattle.race_model.specs.Positions.{pips};
 ghost use Rattle.race_model.specs.Files.{bound_of, spread as spread_of};
 ghost use Rattle.race_model.specs.Queries.{subject, AsksOfFinished, HasResult, IsQuery, HasTooMany, IsRefused, IsAccepted};
 ghost use Rattle.epc_query.specs.Readings.{asked};
-ghost use Rattle.epc_query.specs.Texts.{why, IsShort};
+ghost use Rattle.epc_query.specs.declared.reply.Reply.{Reply};
+ghost use Rattle.epc_query.specs.Texts.{why, IsTextOf};
 ghost use Rattle.epc_query.specs.Answers.{IsReplyTo};
 ghost use Rattle.epc_query.specs.Faults.{IsAnswerable, AsksMoves};
 
 use crate::database::Database;
 use certificate::spread_in;
-use epc_query::{Query, Refusal, Reply};
+use epc_query::{Query, Refusal, Text, put_dist, put_loss, put_mean, put_play, put_rank};
 use fixed_fraction::{Spread, epc, mean};
 use home_board::Position;
 use legal_plays::play_to;
@@ -73,41 +75,40 @@ impl<'a> Database<'a> {
         None
     }
 
-    /// What a query is answered with that is not refused and asks for no list of moves. None only
-    /// where the bytes were changed since they were checked.
-    pub fn reply(&self, query: Query) -> Option<Reply>
+    /// Makes a text that of the reply to a query that is not refused and asks for no list of moves.
+    /// None only where the bytes were changed since they were checked.
+    pub fn put_answer(&self, query: &Query, text: &mut Text) -> Option<()>
         requires opened { IsTrue self.now.is_open }
-        requires answerable { IsAnswerable self.now.bound (asked query) }
-        requires short { ¬ AsksMoves (asked query) }
+        requires answerable { IsAnswerable self.now.bound (asked query.now) }
+        requires short { ¬ AsksMoves (asked query.now) }
         ensures some { IsSome result }
-        ensures told { IfSome result (λ reply. (line : List ℕ)
-            → IsAccepted (bound_of self.now.bytes.now) line (asked query)
-            → IsReplyTo self.now.bytes.now line reply) }
-        ensures short { IfSome result IsShort }
+        ensures told { (line : List ℕ)
+            → IsAccepted (bound_of self.now.bytes.now) line (asked query.now)
+            → (reply : Reply) × IsReplyTo self.now.bytes.now line reply
+            × IsTextOf reply text.new.bytes }
+        ensures len { array_string_len text.new ≤ 4000 }
     {
         match query {
             Query::Mean(position) => {
-                let rolls = self.mean_of(&position)?;
-                Some(Reply::Mean {
-                    mean: mean(rolls),
-                    epc: epc(rolls),
-                })
+                let rolls = self.mean_of(position)?;
+                put_mean(text, mean(rolls), epc(rolls));
             }
             Query::Dist(position) => {
-                let spread = self.spread_of(&position)?;
-                Some(Reply::Dist(spread))
+                let spread = self.spread_of(position)?;
+                put_dist(text, &spread);
             }
             Query::Play(position, roll) => {
-                let (play, to) = self.played(&self.turn_of(&position, roll))?;
-                Some(Reply::Play { play, to })
+                let (play, to) = self.played(&self.turn_of(position, *roll))?;
+                put_play(text, &play, &to);
             }
             Query::Loss(position, roll, to) => {
-                let lost = self.loss_of(&self.turn_of(&position, roll), &to)?;
-                Some(Reply::Loss(lost))
+                let lost = self.loss_of(&self.turn_of(position, *roll), to)?;
+                put_loss(text, lost);
             }
             Query::Moves(_, _) => unreachable!(),
-            Query::Rank(position) => Some(Reply::Rank(self.ranks.rank(&position))),
+            Query::Rank(position) => put_rank(text, self.ranks.rank(position)),
         }
+        Some(())
     }
 
     /// The recorded shares of a position of at most the bound. None only where the bytes were

@@ -42,6 +42,7 @@ impl<'a> Database<'a> {
             × HasText (list_text choices) buffer.old buffer.new needed.new }
         ensures fits { IfSome result (λ fits.
             IsTrue fits ↔ (needed.new ≤ length buffer.old)) }
+        ensures most { needed.new ≤ 123125 }
     {
         let turn = self.turn_of(position, roll);
         let ranks = Ranks::new();
@@ -94,6 +95,7 @@ fn put_costs(ranks: &Ranks, costs: &[Cost], buffer: &mut [u8], needed: &mut usiz
     ensures text { (choices : List Choice) × ArePriced costs.now choices
         × HasText (list_text choices) buffer.old buffer.new needed.new }
     ensures fits { IsTrue result ↔ (needed.new ≤ length buffer.old) }
+    ensures most { needed.new ≤ 123125 }
 {
     laws::law_fractions();
     *needed = copy_costs(ranks, costs, &mut []);
@@ -110,9 +112,10 @@ fn copy_costs(ranks: &Ranks, costs: &[Cost], buffer: &mut [u8]) -> usize
     requires few { length costs.now ≤ 1296 }
     requires ordered { IsByCost costs.now }
     requires bounded { All IsCost costs.now }
-    ensures { (choices : List Choice) × ArePriced costs.now choices
+    ensures text { (choices : List Choice) × ArePriced costs.now choices
         × (result ≡ length (list_text choices))
         × IsCopied (list_text choices) buffer.old buffer.new }
+    ensures most { result ≤ 123125 }
 {
     let mut text = Text::new();
     put_moves(&mut text);

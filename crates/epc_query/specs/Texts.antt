@@ -65,13 +65,3 @@ IsTextOf (Loss loss) text = text ≡ codes "loss " ++ ratio_text loss
 IsTextOf (Moves choices) text = text ≡ list_text choices.items
 IsTextOf (Rank rank) text = text ≡ codes "rank " ++ decimal rank
 IsTextOf (Refused refusal) text = text ≡ refusal_text (why refusal)
-
--- the reply is no list of moves
-abbrev pub IsShort : Reply → Type 0
-IsShort (Mean mean pips) = Unit {0}
-IsShort (Dist spread) = Unit {0}
-IsShort (Play play to) = Unit {0}
-IsShort (Loss loss) = Unit {0}
-IsShort (Moves choices) = ⊥
-IsShort (Rank rank) = Unit {0}
-IsShort (Refused refusal) = Unit {0}

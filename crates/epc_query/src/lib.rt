@@ -29,7 +29,9 @@ pub use query::{LineFault, Query, read_query};
 pub use reply::{Choice, Level, Refusal, Reply};
 pub use run_fault::RunFault;
 pub use running::run;
-pub use text::{Text, put_choice, put_moves, put_reply};
+pub use text::{
+    Text, put_choice, put_dist, put_loss, put_mean, put_moves, put_play, put_rank, put_refusal,
+};
 pub use writing::{write_level, write_reply};
 
 #[cfg(test)]

@@ -1,12 +1,12 @@
 //! The texts of replies and levels.
-ghost use Rattle.std.specs.Prelude.{◌≡◌, ℕ, ◌+◌, ◌^◌, ◌≤◌, ◌<◌, List, ◌++◌, drop, flat_map, decimal, codes, slice_index, IfNone, IfSome, IsNone};
+ghost use Rattle.std.specs.Prelude.{◌≡◌, ℕ, ◌+◌, ◌^◌, ◌≤◌, ◌<◌, List, ◌++◌, drop, flat_map, decimal, codes, slice_index};
 ghost use Rattle.arrayvec.specs.ArrayString.{array_string_len};
 ghost use Rattle.race_model.specs.FirstPlays.{move_text};
 ghost use Rattle.race_model.specs.Replies.{fraction_text, thousandths_text, refusal_text, IsSharePart, IsDistReply};
-ghost use Rattle.epc_query.specs.Texts.{position_text, ratio_text, choice_text, list_text, level_text, why, IsMeanText, IsTextOf, IsShort};
+ghost use Rattle.epc_query.specs.Texts.{position_text, ratio_text, choice_text, level_text, why, IsMeanText};
 ghost use Rattle.legal_plays.specs.MoveLists.{moves_of};
 
-use crate::reply::{Choice, Level, Refusal, Reply};
+use crate::reply::{Choice, Level, Refusal};
 use arrayvec::ArrayString;
 use fixed_fraction::{Fraction, Spread, share, thousandths};
 use home_board::{Position, write_position};
@@ -143,31 +143,8 @@ pub fn put_moves(text: &mut Text)
     text.push_str("moves");
 }
 
-/// Makes a text that of a reply, without a line feed. A list of moves may be longer than a text:
-/// then its choices are given, of which `put_choice` makes the texts after that of `put_moves`.
-pub fn put_reply<'a>(text: &mut Text, reply: &'a Reply) -> Option<&'a [Choice]>
-    ensures text { IfNone result (IsTextOf reply.now text.new.bytes) }
-    ensures list { IfSome result (λ choices. IsTextOf reply.now (list_text choices.now)) }
-    ensures short { IsShort reply.now → IsNone result }
-    ensures len { array_string_len text.new ≤ 4000 }
-{
-    match reply {
-        Reply::Mean { mean, epc } => put_mean(text, *mean, *epc),
-        Reply::Dist(spread) => put_dist(text, spread),
-        Reply::Play { play, to } => put_play(text, play, to),
-        Reply::Loss(loss) => put_loss(text, *loss),
-        Reply::Moves(choices) => {
-            text.clear();
-            return Some(choices.as_slice());
-        }
-        Reply::Rank(rank) => put_rank(text, *rank),
-        Reply::Refused(refusal) => put_refusal(text, *refusal),
-    }
-    None
-}
-
 /// Makes a text that of a mean and an effective pip count.
-fn put_mean(text: &mut Text, mean: Fraction, epc: Fraction)
+pub fn put_mean(text: &mut Text, mean: Fraction, epc: Fraction)
     ensures text { IsMeanText mean epc text.new.bytes }
     ensures len { array_string_len text.new ≤ 4000 }
 {
@@ -181,7 +158,7 @@ fn put_mean(text: &mut Text, mean: Fraction, epc: Fraction)
 }
 
 /// Makes a text that of the shares of 0 to 22 rolls.
-fn put_dist(text: &mut Text, spread: &Spread)
+pub fn put_dist(text: &mut Text, spread: &Spread)
     ensures text { IsDistReply (slice_index spread.now) text.new.bytes }
     ensures len { array_string_len text.new ≤ 4000 }
 {
@@ -193,7 +170,7 @@ fn put_dist(text: &mut Text, spread: &Spread)
 }
 
 /// Makes a text that of a play and the position that it leads to.
-fn put_play(text: &mut Text, play: &Play, to: &Position)
+pub fn put_play(text: &mut Text, play: &Play, to: &Position)
     ensures text { text.new.bytes ≡ codes "play"
         ++ flat_map (λ m. codes " " ++ move_text m)
         (moves_of play.now.items) ++ codes " to " ++ position_text to.now }
@@ -207,7 +184,7 @@ fn put_play(text: &mut Text, play: &Play, to: &Position)
 }
 
 /// Makes a text that of a loss.
-fn put_loss(text: &mut Text, loss: Fraction)
+pub fn put_loss(text: &mut Text, loss: Fraction)
     ensures text { text.new.bytes ≡ codes "loss " ++ ratio_text loss }
     ensures len { array_string_len text.new ≤ 4000 }
 {
@@ -217,7 +194,7 @@ fn put_loss(text: &mut Text, loss: Fraction)
 }
 
 /// Makes a text that of a rank.
-fn put_rank(text: &mut Text, rank: u16)
+pub fn put_rank(text: &mut Text, rank: u16)
     ensures text { text.new.bytes ≡ codes "rank " ++ decimal rank }
     ensures len { array_string_len text.new ≤ 4000 }
 {
@@ -227,7 +204,7 @@ fn put_rank(text: &mut Text, rank: u16)
 }
 
 /// Makes a text that of a refusal.
-fn put_refusal(text: &mut Text, refusal: Refusal)
+pub fn put_refusal(text: &mut Text, refusal: Refusal)
     ensures text { text.new.bytes ≡ refusal_text (why refusal) }
     ensures len { array_string_len text.new ≤ 4000 }
 {

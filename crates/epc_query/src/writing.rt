@@ -1,5 +1,5 @@
 //! Replies and levels as lines, written.
-ghost use Rattle.std.specs.Prelude.{◌≡◌, ℕ, ◌+◌, ◌≤◌, List, [], ◌∷◌, ◌++◌, flat_map, codes, OnOk, OnErr};
+ghost use Rattle.std.specs.Prelude.{◌≡◌, ℕ, ◌+◌, ◌≤◌, List, [], ◌∷◌, ◌++◌, OnOk, OnErr};
 ghost use Rattle.std.specs.Io.KnownBytes.{Appends};
 ghost use Rattle.arrayvec.specs.ArrayString.{array_string_len};
 ghost use Rattle.db_layout.specs.Writes.{AppendsPart};
@@ -7,7 +7,10 @@ ghost use Rattle.epc_query.specs.Texts.{choice_text, list_text, level_text, IsTe
 ghost use Rattle.epc_query.specs.Held.{Takes};
 
 use crate::reply::{Choice, Level, Reply};
-use crate::text::{Text, push_choice, put_level, put_moves, put_reply};
+use crate::text::{
+    Text, push_choice, put_dist, put_level, put_loss, put_mean, put_moves, put_play, put_rank,
+    put_refusal,
+};
 use db_layout::{WriteFault, write_bytes};
 use std::io::Write;
 
@@ -34,10 +37,16 @@ pub(crate) fn write_reply_by<W: Write>(
     ensures part { OnErr result ((text : List ℕ) × IsTextOf reply.now text
         × AppendsPart (W.contents writer.old) (W.contents writer.new) (text ++ 10 ∷ [])) }
 {
-    match put_reply(text, reply) {
-        Some(choices) => write_moves(text, choices, writer),
-        None => write_line(text, writer),
+    match reply {
+        Reply::Mean { mean, epc } => put_mean(text, *mean, *epc),
+        Reply::Dist(spread) => put_dist(text, spread),
+        Reply::Play { play, to } => put_play(text, play, to),
+        Reply::Loss(loss) => put_loss(text, *loss),
+        Reply::Moves(choices) => return write_moves(text, choices.as_slice(), writer),
+        Reply::Rank(rank) => put_rank(text, *rank),
+        Reply::Refused(refusal) => put_refusal(text, *refusal),
     }
+    write_line(text, writer)
 }
 
 /// Writes the line of a level and a line feed. Refused as `write_reply` is.

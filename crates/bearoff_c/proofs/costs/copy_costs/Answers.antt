@@ -34,7 +34,11 @@ loop-cost-preserved c =
     c.copy_at-end-in-loop-cost.ensures.end c.copy_at-end-in-loop-cost.ensures.size
     c.copy_at-end-in-loop-cost.ensures.copied
 
-pub returns : goal.returns
-returns c =
+pub returns-clause-text : goal.returns-clause-text
+returns-clause-text c =
     let listed = c.loop-cost.invariant in
     (listed.choices, priced_all _ _ _ _ _ listed (omega arith), listed.end_is, listed.copied)
+
+pub returns-clause-most : goal.returns-clause-most
+returns-clause-most c =
+    omega (arith, c.loop-cost.invariant.short, c.loop-cost.auto.cost-index-end, c.requires.few)

@@ -6,7 +6,7 @@ use Rattle.bearoff_c.proofs.costs.put_costs.Goals as goal
 
 pub returns-then-needed-buffer-clause-text : goal.returns-then-needed-buffer-clause-text
 returns-then-needed-buffer-clause-text c =
-    let told = c.copy_costs.ensures in (
+    let told = c.copy_costs.ensures.text in (
       told.0,
       told.1,
       text_of_none (list_text told.0) c.args.buffer.now c.copy_costs.result told.2
@@ -15,8 +15,8 @@ returns-then-needed-buffer-clause-text c =
 
 pub returns-clause-text : goal.returns-clause-text
 returns-clause-text c =
-    let told = c.copy_costs.ensures in
-    let copied = c.copy_costs-2.ensures in
+    let told = c.copy_costs.ensures.text in
+    let copied = c.copy_costs-2.ensures.text in
     let same : told.0 ≡ copied.0 = same_prices c.law_fractions.ensures.one c.args.costs.now told.0
     copied.0 told.1 copied.1 in (
       copied.0,

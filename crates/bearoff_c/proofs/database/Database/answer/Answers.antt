@@ -13,7 +13,7 @@ pub returns-in-Err-BadLine-clause-reply : goal.returns-in-Err-BadLine-clause-rep
 returns-in-Err-BadLine-clause-reply c =
     let reading = rw c.in-Err-BadLine.field-0-is at (c.in-Err-BadLine.ensures {u = tt}) in (
       refusal_text bad_line,
-      c.put_refusal.ensures.text,
+      c.refuse.ensures.text,
       ∣ refused bad_line (no_query reading) refl ∣₁,
     )
 
@@ -21,7 +21,7 @@ pub returns-in-Err-TooMany-clause-reply : goal.returns-in-Err-TooMany-clause-rep
 returns-in-Err-TooMany-clause-reply c =
     let reading = rw c.in-Err-TooMany.field-0-is at (c.in-Err-TooMany.ensures {u = tt}) in (
       refusal_text too_many,
-      c.put_refusal-in-Err-TooMany.ensures.text,
+      c.refuse-in-Err-TooMany.ensures.text,
       ∣ refused too_many (of_too_many reading.0 reading.1 reading.2) refl ∣₁,
     )
 
@@ -34,7 +34,7 @@ returns-in-Some-clause-reply c =
     let is = subst (λ b. IsRefused b line refusal) filed.1
     ((c.in-Some.ensures {u = tt}) line reading.0 reading.1) in (
       refusal_text refusal,
-      c.put_refusal-in-Some.ensures.text,
+      c.refuse-in-Some.ensures.text,
       ∣ refused refusal is refl ∣₁,
     )
 
@@ -61,19 +61,3 @@ returns-in-Moves-clause-reply c =
           c.in-Moves.position c.in-Moves.roll told.0 asks are),
     )
 
-pub returns-in_ok-reply-in_default-query : goal.returns-in_ok-reply-in_default-query
-returns-in_ok-reply-in_default-query c =
-    let told = c.put_short.ensures.text in
-    let asks = accepted (goal.at.returns-in_ok-reply-in_default-query c).In_default in
-    record {
-      some = refl;
-      reply = (
-        told.0,
-        told.2,
-        ∣ c.law_reply_text.ensures c.args.self.now.bytes.now c.args.line.now
-            c.in_ok-reply-in_default-query.reply told.0
-            ((c.in_ok-reply-in_default-query.ensures {u = tt}).told c.args.line.now asks)
-            told.1 ∣₁,
-      );
-      fits = c.put_short.ensures.fits;
-    }
