@@ -78,6 +78,10 @@ returns-in_ok-put_answer-in_default-query c =
             (rw same told.2) ∣₁,
       );
       fits = rw (← c.put_text.ensures.text.told_is) at c.put_text.ensures.fits;
-      most = omega (arith, c.put_text.ensures.text.told_is, ap length same,
-          c.put_answer.ensures.len);
+      most = omega (
+        arith,
+        c.put_text.ensures.text.told_is,
+        ap length same,
+        c.put_answer.ensures.len,
+      );
     }

@@ -1,7 +1,4 @@
 use Rattle.std.proofs.Common.{subst}
-use Rattle.race_model.specs.Dice.{Throw}
-use Rattle.race_model.specs.Files.{mean}
-use Rattle.race_model.specs.FirstPlays.{IsFirstPlay}
 use Rattle.race_model.specs.Fractions.{IsMean, IsEffectivePips}
 use Rattle.epc_query.specs.declared.reply.Reply.TheVariants.{Mean, Dist, Play, Loss, Rank}
 use Rattle.bearoff_c.proofs.database.Database.put_answer.Goals as goal
