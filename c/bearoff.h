@@ -45,10 +45,10 @@ enum {
     /* bearoff_open alone: the first fault of the bytes */
     BEAROFF_TOO_SHORT = 16,        /* fewer than 32 bytes */
     BEAROFF_BAD_MAGIC = 17,        /* they don't begin with EPCTABLE */
-    BEAROFF_BAD_VERSION = 18,      /* the version is not 1 */
+    BEAROFF_BAD_VERSION = 18,      /* the version is not 1 or 2 */
     BEAROFF_BAD_BOUND = 19,        /* the pip bound is over the greatest of its version, 44 or 58 */
     BEAROFF_BAD_COUNT = 20,        /* the count isn't that of the bound */
-    BEAROFF_BAD_RECORD_BYTES = 21, /* the field for record bytes is not 426 */
+    BEAROFF_BAD_RECORD_BYTES = 21, /* the field for record bytes is not 426, or 0 in version 2 */
     BEAROFF_BAD_RESERVED = 22,     /* a reserved byte is not zero */
     BEAROFF_BAD_LENGTH = 23,       /* more or fewer bytes than the header says */
     BEAROFF_BAD_PLAY = 24,         /* a recorded play is not legal */

@@ -3,8 +3,10 @@
 //! lines of an input. It rests on `certificate` for the answers of an accepted table, whatever
 //! table that is, and on `race_model` for what a line asks, what its reply is, and how an input
 //! is cut into lines. The crates above may use that a loss is the least mean after a result less
-//! the least such mean among all results, that `moves` has every result once, in order, and that
-//! `run` writes the replies to the lines that it read and nothing else.
+//! the least such mean among all results, that `moves` has every result once, in order, that
+//! `run` writes the replies to the lines that it read and nothing else, and for a database of
+//! their own what a line asks (`read_query`), the text of each reply, and the order and the price
+//! of the results of a roll.
 #![tactic(auto)]
 
 mod answer;
