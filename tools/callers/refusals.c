@@ -274,11 +274,14 @@ int main(int count, char **words) {
     expect(bearoff_loss(database, &six, 2, 1, &three, &loss) == BEAROFF_CHANGED, "changed", 5);
     expect(bearoff_results(database, &six, 2, 1, results, 4, &told_last) == BEAROFF_CHANGED, "changed", 6);
     static const char *const lines[] = {"mean 0,0,0,0,0,1", "dist 0,0,0,0,0,1", "play 0,0,0,0,0,1 21",
-                                        "loss 0,0,0,0,0,1 21 0,0,1,0,0,0", "moves 0,0,0,0,0,1 21"};
+                                        "loss 0,0,0,0,0,1 21 0,0,1,0,0,0"};
     for (size_t i = 0; i < sizeof lines / sizeof *lines; i++) {
         expect(answer_with(database, lines[i], 64, 0, lines[i]) == BEAROFF_CHANGED, "changed line", (long)i);
     }
     expect(answer_with(database, "rank 0,0,0,0,0,1", 64, "rank 19", "changed") == BEAROFF_OK, "changed rank", 0);
+    expect(answer_with(database, "moves 0,0,0,0,0,1 21", 64, "moves 0,0,1,0,0,0:0/1", "changed") == BEAROFF_OK, "moves", 0);
+    memset(bytes + 32 + 426 * 4, 0xFF, 426);
+    expect(answer_with(database, "moves 0,0,0,0,0,1 21", 64, 0, "changed moves") == BEAROFF_CHANGED, "changed moves", 0);
 
     let_go(database);
     free(bytes);

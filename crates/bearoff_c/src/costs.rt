@@ -8,11 +8,9 @@ ghost use Rattle.epc_query.specs.declared.reply.Choice.{Choice};
 ghost use Rattle.epc_query.specs.Answers.{AreChoices};
 ghost use Rattle.epc_query.specs.Costs.{IsByCost, IsCost, ArePriced};
 ghost use Rattle.epc_query.specs.Texts.{list_text};
-ghost use Rattle.bearoff_c.specs.Databases.{IsKnown};
 ghost use Rattle.bearoff_c.specs.Buffers.{HasText, IsCopied};
 
 use crate::database::Database;
-use crate::playing::Turn;
 use crate::text::copy_at;
 use arrayvec::ArrayVec;
 use epc_query::{Cost, Text, include_cost, price, put_choice, put_moves};
@@ -44,43 +42,44 @@ impl<'a> Database<'a> {
             IsTrue fits ↔ (needed.new ≤ length buffer.old)) }
         ensures most { needed.new ≤ 123125 }
     {
-        let turn = self.turn_of(position, roll);
-        let ranks = Ranks::new();
-        let found = results(position, roll);
+        let _pips = position.pips();
         let mut costs = ArrayVec::new();
-        if !self.find_costs(&turn, &ranks, found.as_slice(), &mut costs) {
+        if !self.find_costs(position, roll, &mut costs) {
             return None;
         }
-        Some(put_costs(&ranks, costs.as_slice(), buffer, needed))
+        Some(put_costs(costs.as_slice(), buffer, needed))
     }
 
-    /// Puts results of a turn into an empty list, in order: the smaller mean first, and of equal
-    /// means the lower rank. Whether it could be done, which is so unless the bytes were changed
-    /// since they were checked.
+    /// Puts every result of a roll from a position of at most the bound into an empty list, in
+    /// order: the smaller mean first, and of equal means the lower rank. Whether it could be done,
+    /// which is so unless the bytes were changed since they were checked.
+    // so that its room is not part of its caller's
+    #[inline(never)]
     fn find_costs(
         &self,
-        turn: &Turn<'_>,
-        ranks: &Ranks,
-        found: &[Position],
+        position: &Position,
+        roll: Roll,
         costs: &mut ArrayVec<Cost, 1296>,
     ) -> bool
         requires opened { IsTrue self.now.is_open }
-        requires known { ∥ IsKnown self.now.bytes.now turn.now.position ∥₁ }
-        requires legal { All (Legal turn.now.position turn.now.roll) found.now }
-        requires few { length found.now ≤ 1296 }
+        requires within { pips position.now ≤ self.now.bound }
         requires none { costs.old.items ≡ [] }
         ensures done { IsTrue result }
         ensures ordered { IsByCost costs.new.items }
         ensures bounded { All IsCost costs.new.items }
         ensures members { (cost : ℕ × ℕ) → Contains costs.new.items cost
-            ↔ ((y : Board) × Contains found.now y
+            ↔ ((y : Board) × Legal position.now roll y
             × (cost ≡ (mean_of self.now.bytes.now y, rank y))) }
     {
-        for to in found {
-            let Some(mean) = self.mean_after(turn, to) else {
+        laws::law_rank();
+        let turn = self.turn_of(position, roll);
+        let found = results(position, roll);
+        for to in found.as_slice() {
+            let Some(mean) = self.mean_after(&turn, to) else {
                 return false;
             };
-            include_cost(costs, (mean.numerator(), ranks.rank(to)));
+            let _checkers = to.checkers();
+            include_cost(costs, (mean.numerator(), self.ranks.rank(to)));
         }
         true
     }
@@ -88,7 +87,9 @@ impl<'a> Database<'a> {
 
 /// Writes results in order, with what each costs against the first, into a buffer, where all of
 /// them have room, and says how many bytes that is. Whether they had room.
-fn put_costs(ranks: &Ranks, costs: &[Cost], buffer: &mut [u8], needed: &mut usize) -> bool
+// so that its room is not part of its caller's
+#[inline(never)]
+fn put_costs(costs: &[Cost], buffer: &mut [u8], needed: &mut usize) -> bool
     requires few { length costs.now ≤ 1296 }
     requires ordered { IsByCost costs.now }
     requires bounded { All IsCost costs.now }
@@ -98,11 +99,12 @@ fn put_costs(ranks: &Ranks, costs: &[Cost], buffer: &mut [u8], needed: &mut usiz
     ensures most { needed.new ≤ 123125 }
 {
     laws::law_fractions();
-    *needed = copy_costs(ranks, costs, &mut []);
+    let ranks = Ranks::new();
+    *needed = copy_costs(&ranks, costs, &mut []);
     if *needed > buffer.len() {
         return false;
     }
-    copy_costs(ranks, costs, buffer);
+    copy_costs(&ranks, costs, buffer);
     true
 }
 

@@ -12,6 +12,6 @@ invariant-loop-to l = record {
   bounded : All IsCost l.costs.items;
   few : length l.costs.items ≤ l.to-index;
   members : (cost : ℕ × ℕ) → Contains l.costs.items cost
-      ↔ ((y : Board) × Contains (take l.to-index l.found) y
+      ↔ ((y : Board) × Contains (take l.to-index l.to-items) y
       × (cost ≡ (mean l.self.bytes.now y, rank y)));
 }
