@@ -23,6 +23,7 @@ mod upgrading;
 pub use check_fault::CheckFault;
 pub use checked::{Checked, check};
 pub use lines::fault_line;
+pub use numbers::spread_in;
 pub use query_fault::QueryFault;
 pub use upgrade_fault::UpgradeFault;
 
