@@ -29,6 +29,7 @@ mod rounded;
 mod row;
 mod standing;
 mod text;
+mod upgrading;
 mod wide;
 mod wide_fraction;
 mod within;

@@ -70,7 +70,7 @@ fn opened<'a>(bytes: &'a [u8], checked: &Checked<Whole<'a>>) -> Database<'a>
 
 /// The status of a fault of a file: 16 to 27, and 28 for a read that failed, which bytes in memory
 /// never do.
-fn status(fault: &CheckFault) -> u32
+pub fn status(fault: &CheckFault) -> u32
     ensures { result ≡ fault_status fault.now }
 {
     match *fault {
