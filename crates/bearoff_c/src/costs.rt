@@ -55,12 +55,7 @@ impl<'a> Database<'a> {
     /// which is so unless the bytes were changed since they were checked.
     // so that its room is not part of its caller's
     #[inline(never)]
-    fn find_costs(
-        &self,
-        position: &Position,
-        roll: Roll,
-        costs: &mut ArrayVec<Cost, 1296>,
-    ) -> bool
+    fn find_costs(&self, position: &Position, roll: Roll, costs: &mut ArrayVec<Cost, 1296>) -> bool
         requires opened { IsTrue self.now.is_open }
         requires within { pips position.now ≤ self.now.bound }
         requires none { costs.old.items ≡ [] }
