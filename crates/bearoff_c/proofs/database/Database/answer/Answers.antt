@@ -1,4 +1,4 @@
-use Rattle.std.proofs.Common.{◌≡◌, length, refl, ap, subst, ◌∙◌, arith}
+use Rattle.std.proofs.Common.{refl, subst}
 use mathlib.Core.Logic.{∥∥₁_map}
 use Rattle.race_model.specs.Files.{bound_of}
 use Rattle.race_model.specs.Queries.{bad_line, too_many, no_query, of_too_many, IsRefused, IsAccepted}
@@ -61,27 +61,13 @@ returns-in-Moves-clause-reply c =
           c.in-Moves.position c.in-Moves.roll told.0 asks are),
     )
 
-pub returns-in_ok-put_answer-in_default-query : goal.returns-in_ok-put_answer-in_default-query
-returns-in_ok-put_answer-in_default-query c =
-    let f = c.args.self.now.bytes.now in
-    let line = c.args.line.now in
-    let asks = accepted (goal.at.returns-in_ok-put_answer-in_default-query c).In_default in
-    let told = c.put_answer.ensures.told line asks in
-    let same : c.as_bytes.result.now ≡ c.put_answer.new.text.bytes =
-    c.as_bytes.ensures.value ∙ c.as_str.ensures.value in
-    record {
-      some = refl;
-      reply = (
-        c.as_bytes.result.now,
-        c.put_text.ensures.text,
-        ∣ c.law_reply_text.ensures f line told.0 c.as_bytes.result.now told.1
-            (rw same told.2) ∣₁,
-      );
-      fits = rw (← c.put_text.ensures.text.told_is) at c.put_text.ensures.fits;
-      most = omega (
-        arith,
-        c.put_text.ensures.text.told_is,
-        ap length same,
-        c.put_answer.ensures.len,
-      );
-    }
+pub returns-in_default-query-clause-reply : goal.returns-in_default-query-clause-reply
+returns-in_default-query-clause-reply c =
+    let asks = accepted (goal.at.returns-in_default-query-clause-reply c).In_default in
+    let told = c.put_short.ensures.told in
+    let reply = told.2 c.args.line.now asks in (
+      told.0,
+      told.1,
+      ∣ c.law_reply_text.ensures c.args.self.now.bytes.now c.args.line.now reply.0 told.0 reply.1
+          reply.2 ∣₁,
+    )

@@ -1,7 +1,6 @@
-use Rattle.std.proofs.Common.{◌≡◌, ◌↔◌, ◌≤◌, List, lit≤, get_or, Contains, take, subst, sym, ◌∙◌, arith, take_all}
+use Rattle.std.proofs.Common.{◌≡◌, ◌↔◌, List, get_or, Contains, take, subst, ◌∙◌, arith, take_all}
 use Rattle.std.proofs.lemmas.List.Elements.{All-contains_itself}
 use Rattle.race_model.specs.Positions.{Board}
-use Rattle.race_model.specs.Plays.{Legal}
 use Rattle.race_model.specs.Ranks.{rank}
 use Rattle.race_model.specs.Files.{mean}
 use Rattle.epc_query.proofs.CostOrder.{one_more_cost, still_costs}
