@@ -41,6 +41,7 @@ enum {
     BEAROFF_NOT_LEGAL = 6,  /* the roll doesn't lead to the position whose loss is asked */
     BEAROFF_CHANGED = 7,    /* the bytes were changed since they were checked */
     BEAROFF_SHORT = 8,      /* the room that was lent is too small */
+    BEAROFF_NOT_OLD = 9,    /* the file that is to be upgraded is of version 2 already */
 
     /* bearoff_open alone: the first fault of the bytes */
     BEAROFF_TOO_SHORT = 16,        /* fewer than 32 bytes */
@@ -223,6 +224,21 @@ uint32_t bearoff_results(const bearoff_database *database, const bearoff_positio
  */
 uint32_t bearoff_answer_line(const bearoff_database *database, const uint8_t *line, size_t length,
                              uint8_t *text, size_t room, size_t *needed);
+
+/* How many bytes an upgrade has at most: that of 44 pips. */
+#define BEAROFF_UPGRADE 7608420
+
+/*
+ * Writes the database in `length` bytes of a file of version 1 into the front of `room` as a file
+ * of version 2, which has the same bound, means, plays and shares, and so the same reply to each
+ * line; `*filled` is how many bytes it has, at most BEAROFF_UPGRADE. `work` is a room of at least
+ * as many bytes, which the call uses as it likes. The bytes are checked first, and the status is
+ * that of bearoff_open where they are refused; BEAROFF_NOT_OLD where they are a right database of
+ * version 2; BEAROFF_SHORT where a room is too small. Where the status is not BEAROFF_OK `room` and
+ * `*filled` stay as they were. It needs as much stack as bearoff_open.
+ */
+uint32_t bearoff_upgrade(const uint8_t *bytes, size_t length, uint8_t *work, size_t work_length,
+                         uint8_t *room, size_t room_length, size_t *filled);
 
 #ifdef __cplusplus
 }

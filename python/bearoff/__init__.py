@@ -111,6 +111,7 @@ _REASONS = {
     6: "the roll doesn't lead there",
     7: "the bytes were changed since they were checked",
     8: "the room is too small",
+    9: "the file is of version 2 already",
 }
 
 
@@ -367,6 +368,26 @@ class Database:
                 continue
             self._check(status)
             return text.raw[: needed.value].decode("ascii")
+
+    def upgrade(self) -> bytes:
+        """The bytes of a file of version 2 that says the same: of the same bound, means, plays and
+        shares. Raises `Refused` where the database is of version 2 already.
+        """
+        size = len(self._bytes)
+        work, room = ctypes.create_string_buffer(size), ctypes.create_string_buffer(size)
+        filled = ctypes.c_size_t()
+        self._check(
+            self._library.bearoff_upgrade(
+                ctypes.cast(self._bytes, ctypes.c_void_p),
+                size,
+                work,
+                size,
+                room,
+                size,
+                ctypes.byref(filled),
+            )
+        )
+        return room.raw[: filled.value]
 
     @staticmethod
     def _check(status: int) -> None:

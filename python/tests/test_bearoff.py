@@ -124,6 +124,18 @@ class Answers(unittest.TestCase):
         for line in ("", "mean 0,0,0,0,0,1\n", "mean 0,0,0,0,0,1\r", "mean 0,0,0,0,0,1\0"):
             self.assertEqual(database.answer(line), "error bad-line", line)
 
+    def test_upgrades(self):
+        old = Database.open(FOLDER / "eight")
+        content = old.upgrade()
+        self.assertEqual(len(content), 7696)
+        new = Database(content)
+        self.assertEqual((old.version, new.version, new.bound), (1, 2, 8))
+        for line in ("mean 0,0,0,0,0,1", "dist 5,0,0,0,0,0", "moves 0,0,0,2,0,0 21"):
+            self.assertEqual(new.answer(line), old.answer(line))
+        with self.assertRaises(Refused) as told:
+            new.upgrade()
+        self.assertEqual(told.exception.status, 9)
+
     def test_two_threads_with_a_database_each(self):
         asked = positions(20)
         answers = [[], []]

@@ -256,6 +256,25 @@ int main(int count, char **words) {
     expect(open_with(database, bytes, 31, BEAROFF_LINE, "header too-short", "31 bytes") == BEAROFF_TOO_SHORT, "31 bytes", 0);
     expect(open_with(database, bytes, 0, BEAROFF_LINE, "header too-short", "no bytes") == BEAROFF_TOO_SHORT, "no bytes", 0);
 
+    /* an upgrade, with rooms that are just enough or not, and of itself */
+    size_t *filled = (size_t *)guarded(sizeof *filled);
+    for (size_t lack = 0; lack < 4; lack++) {
+        uint8_t *work = guarded(7696 - (lack & 1)), *room = guarded(7696 - (lack >> 1));
+        uint32_t status = bearoff_upgrade(bytes, length, work, 7696 - (lack & 1), room, 7696 - (lack >> 1), filled);
+        expect(status == (lack ? BEAROFF_SHORT : BEAROFF_OK), "upgrade", (long)lack);
+        expect(guards_stand(work, 7696 - (lack & 1)) && guards_stand(room, 7696 - (lack >> 1)), "upgrade", -1);
+        expect(lack ? untouched(room, 7696 - (lack >> 1)) : *filled == 7696, "upgrade", -2);
+        if (!lack) {
+            expect(open_with(database, room, 7696, 0, "", "upgraded") == BEAROFF_OK, "upgraded", 0);
+            expect(bearoff_version(database, &version) == BEAROFF_OK && version == 2, "upgraded, version", version);
+            expect(bearoff_upgrade(room, 7696, work, 7696, work, 0, filled) == BEAROFF_NOT_OLD, "upgrade again", 0);
+        }
+        let_go(work);
+        let_go(room);
+    }
+    expect(bearoff_upgrade(bytes, 31, bytes, 0, bytes, 0, filled) == BEAROFF_TOO_SHORT, "upgrade of 31 bytes", 0);
+    let_go(filled);
+
     /* bytes that the caller changes after they were checked, against the rule: no call steps outside them */
     expect(open_with(database, bytes, length, 0, "", "open") == BEAROFF_OK, "open at last", 0);
     memset(bytes + 32 + 426 * 19, 0xFF, 426);
