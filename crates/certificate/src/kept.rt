@@ -12,27 +12,24 @@ use least_plays::{LeastPlays, Means};
 use ranking::Ranks;
 use std::marker::Model;
 
-/// How many positions have at most 58 pips.
-const RANKS: usize = 46062;
-
-/// The recorded means of the ranks whose records were accepted.
+/// The recorded means of the ranks whose records were accepted, where `RANKS` ranks have records.
 #[derive(Drop)]
-pub struct AcceptedMeans {
+pub struct AcceptedMeans<const RANKS: usize> {
     means: [u128; RANKS],
 }
 
 // Clauses see a number for each rank.
-impl Model for AcceptedMeans {
+impl<const RANKS: usize> Model for AcceptedMeans<RANKS> {
     ghost use Rattle.std.specs.Prelude.{◌≡◌, ℕ, List, length};
 
     ghost Value = { List ℕ };
 
     ghost view = { λ accepted. accepted.means };
 
-    ghost invariant = { λ accepted. length accepted.means ≡ 46062 };
+    ghost invariant = { λ accepted. length accepted.means ≡ RANKS };
 }
 
-impl AcceptedMeans {
+impl<const RANKS: usize> AcceptedMeans<RANKS> {
     /// None was accepted.
     fn new() -> Self {
         AcceptedMeans { means: [0; RANKS] }
@@ -40,7 +37,7 @@ impl AcceptedMeans {
 
     /// The mean of one rank more.
     fn set(&mut self, rank: u16, mean: u128)
-        requires { rank < 46062 }
+        requires { rank < RANKS }
         ensures mean { slice_index self.new rank ≡ mean }
         ensures others { (r : ℕ) → r ≢ rank → slice_index self.new r ≡ slice_index self.old r }
     {
@@ -49,10 +46,10 @@ impl AcceptedMeans {
 }
 
 /// They are what the best plays go by.
-impl Means for AcceptedMeans {
+impl<const RANKS: usize> Means for AcceptedMeans<RANKS> {
     ghost mean = { λ accepted. slice_index accepted };
 
-    ghost count = { λ accepted. 46062 };
+    ghost count = { λ accepted. RANKS };
 
     fn mean(&self, rank: u16) -> u128 {
         self.means[usize::from(rank)]
@@ -60,15 +57,16 @@ impl Means for AcceptedMeans {
 }
 
 /// The means of the records that were accepted, and what the best plays of the next position are
-/// found by. It takes no memory but its own: 1,149,264 bytes, which lie where the value lies, as
-/// on the stack of `check`; so lend it by `&mut`.
+/// found by, where `RANKS` ranks have records. It takes no memory but its own: 16 bytes for each
+/// rank and 412,272 more, which lie where the value lies, as on the stack of `check`; so lend it
+/// by `&mut`.
 #[derive(Drop)]
-pub struct LowerRecords {
-    pub means: AcceptedMeans,
+pub struct LowerRecords<const RANKS: usize> {
+    pub means: AcceptedMeans<RANKS>,
     pub plays: LeastPlays,
 }
 
-impl LowerRecords {
+impl<const RANKS: usize> LowerRecords<RANKS> {
     /// No record was accepted: the next one is that of rank 0.
     pub fn new() -> Self
         ensures { (mean : ℕ → ℕ) → Knows mean result.plays 0 }
@@ -83,6 +81,7 @@ impl LowerRecords {
     pub fn best_plays(&mut self, ranks: &Ranks, position: &Position) -> [u16; 21]
         requires position { IsPosition position.now }
         requires low { pips position.now ≤ 58 }
+        requires room { rank_of position.now ≤ RANKS }
         requires known { Knows (slice_index self.old.means) self.old.plays
             (rank_of position.now) }
         ensures means { self.new.means ≡ self.old.means }
@@ -98,7 +97,7 @@ impl LowerRecords {
 
     /// Keeps the mean of the record of this rank, whose best plays were found.
     pub fn accept(&mut self, rank: u16, mean: u128)
-        requires room { rank < 46062 }
+        requires room { rank < RANKS }
         requires known { Knows (slice_index self.old.means) self.old.plays (rank + 1) }
         ensures mean { slice_index self.new.means rank ≡ mean }
         ensures others { (r : ℕ) → r ≢ rank →

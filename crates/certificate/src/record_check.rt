@@ -141,18 +141,21 @@ fn sum_plays<T: Table>(
 }
 
 /// Tests the record of a rank of a table in which each record of lower rank was accepted, and
-/// keeps of it what the records of higher rank are tested by.
-pub fn check_record<T: Table>(
+/// keeps of it what the records of higher rank are tested by, where there is room for so many
+/// ranks.
+pub fn check_record<T: Table, const RANKS: usize>(
     table: &mut T,
     ranks: &Ranks,
     header: Header,
     rank: u16,
-    lower: &mut LowerRecords,
+    lower: &mut LowerRecords<RANKS>,
     own: &mut Record,
     room: &mut Record,
 ) -> Result<(), RecordFault>
     requires header { T.accepted table.old ≡ Some header }
     requires rank { rank < header.count }
+    requires room { header.count ≤ RANKS }
+    requires small { RANKS ≤ 46062 }
     requires file { WhereTold (T.tells table.old)
         (λ file. HasHeader file header) }
     requires lower { WhereTold (T.tells table.old)

@@ -6,13 +6,31 @@ use Rattle.certificate.specs.LowerRecords.{IsLower}
 use Rattle.certificate.proofs.FileTests.{fault-of_file, accepted-more, accepted-all}
 use Rattle.certificate.proofs.checker.check_under.Goals as goal
 
-pub check_record-requires-clause-file : goal.check_record-requires-clause-file
-check_record-requires-clause-file g c file told =
-    c.requires.file file (sym c.loop-rank.invariant.stays ∙ told)
-
-pub check_record-requires-clause-lower : goal.check_record-requires-clause-lower
-check_record-requires-clause-lower g c file told =
-    c.loop-rank.invariant.lower file (sym c.loop-rank.invariant.stays ∙ told)
+pub check_record-requires : goal.check_record-requires
+check_record-requires g c =
+    let before = c.loop-rank.invariant in (
+      search rules,
+      (
+        before.header,
+        (
+          c.loop-rank-test.true,
+          (
+            c.requires.room,
+            (
+              c.requires.small,
+              (
+                (λ file told. c.requires.file file (sym before.stays ∙ told)),
+                (
+                  (λ file told. before.lower file (sym before.stays ∙ told)),
+                  subst (λ told. IsLower told c.loop-rank.lower c.loop-rank.rank)
+                      (sym before.stays) before.kept,
+                ),
+              ),
+            ),
+          ),
+        ),
+      ),
+    )
 
 pub returns-in-Err-clause-first : goal.returns-in-Err-clause-first
 returns-in-Err-clause-first g c file told =
@@ -43,11 +61,6 @@ returns-clause-local g c file told =
     let count = c.args.header.counted ∙ ap count_to said.bound_is in
     accepted-all file c.loop-rank.rank said.file (omega (arith, count, c.loop-rank-test.false))
     (c.loop-rank.invariant.lower file told)
-
-pub check_record-requires-clause-kept : goal.check_record-requires-clause-kept
-check_record-requires-clause-kept g c =
-    subst (λ told. IsLower told c.loop-rank.lower c.loop-rank.rank)
-    (sym c.loop-rank.invariant.stays) c.loop-rank.invariant.kept
 
 pub loop-rank-init : goal.loop-rank-init
 loop-rank-init g c = record {

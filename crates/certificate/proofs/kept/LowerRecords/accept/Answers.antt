@@ -4,7 +4,7 @@ use Rattle.least_plays.proofs.Knowing.{knows_agree}
 use Rattle.certificate.proofs.kept.LowerRecords.accept.Goals as goal
 
 pub returns-clause-known : goal.returns-clause-known
-returns-clause-known c =
+returns-clause-known g c =
     let lower = c.args.self.now in
     knows_agree (slice_index lower.means) (slice_index c.set.new.self) lower.plays
     (c.args.rank + 1)
