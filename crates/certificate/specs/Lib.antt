@@ -4,4 +4,5 @@ pub mod RecordFaults
 pub mod CheckFaults
 pub mod Accepted
 pub mod QueryFaults
+pub mod KeptMeans
 pub mod LowerRecords

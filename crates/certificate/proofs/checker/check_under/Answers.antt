@@ -2,6 +2,7 @@
 use Rattle.std.proofs.Common.{◌+◌, slice_index, sym, ap, subst, ◌∙◌, arith, rules}
 use Rattle.race_model.specs.Ranks.{count_to}
 use Rattle.certificate.specs.CheckFaults.{IsFirst}
+use Rattle.certificate.specs.KeptMeans.{kept_mean}
 use Rattle.certificate.specs.LowerRecords.{IsLower}
 use Rattle.certificate.proofs.FileTests.{fault-of_file, accepted-more, accepted-all}
 use Rattle.certificate.proofs.checker.check_under.Goals as goal
@@ -17,6 +18,8 @@ check_record-requires g c =
           (
             c.requires.room,
             (
+              c.requires.near c.loop-rank.rank c.loop-rank-test.true,
+             (
               c.requires.small,
               (
                 (λ file told. c.requires.file file (sym before.stays ∙ told)),
@@ -26,6 +29,7 @@ check_record-requires g c =
                       (sym before.stays) before.kept,
                 ),
               ),
+             ),
             ),
           ),
         ),
@@ -68,8 +72,8 @@ loop-rank-init g c = record {
   header = search rules;
   cause = search rules;
   kept = record {
-    known = c.new-lower.ensures (slice_index c.new-lower.result.means);
-    means_are = λ file told r lt. absurd (omega arith);
+    known = c.new-lower.ensures (kept_mean g.row.ROOM c.new-lower.result.means);
+    means_are = λ file told r lt near. absurd (omega arith);
   };
   lower = λ file told z at lt. absurd (omega arith);
 }
