@@ -139,7 +139,19 @@ fn answer_lines<T: Table + Drop, I: Read, O: Write>(
     output: &mut O,
 ) -> Result<(), Fault> {
     let mut told = check(table);
-    run(alloc, accepted(&mut told)?, input, output, TURNS)?;
+    reply(alloc, accepted(&mut told)?, input, output)
+}
+
+/// Answers each line of the input over an accepted database.
+// so that its room is not on the stack while the database is checked
+#[inline(never)]
+fn reply<T: Table, I: Read, O: Write>(
+    alloc: Global,
+    checked: &mut Checked<T>,
+    input: &mut I,
+    output: &mut O,
+) -> Result<(), Fault> {
+    run(alloc, checked, input, output, TURNS)?;
     Ok(())
 }
 
@@ -193,7 +205,16 @@ fn audit_database<R: Files, O: Write>(
 ) -> Result<(), Fault> {
     let bytes = read_file(rt, alloc, path)?;
     let mut told = check(Whole::new(bytes.as_slice()));
-    let checked = accepted(&mut told)?;
+    write_levels(accepted(&mut told)?, output)
+}
+
+/// Writes a line for each pip count of an accepted database.
+// so that its room is not on the stack while the database is checked
+#[inline(never)]
+fn write_levels<T: Table, O: Write>(
+    checked: &mut Checked<T>,
+    output: &mut O,
+) -> Result<(), Fault> {
     for pips in 0..=checked.bound() {
         let Ok(level) = audit_level(checked, pips) else {
             return Err(Fault::File);
