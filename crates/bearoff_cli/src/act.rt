@@ -87,6 +87,7 @@ fn fulfil<R: Files, I: Read, O: Write>(
 }
 
 /// Answers each line of the input over the database of 8 pips.
+#[inline(never)]
 fn answer_default<I: Read, O: Write>(
     alloc: Global,
     input: &mut I,
@@ -138,20 +139,19 @@ fn answer_lines<T: Table + Drop, I: Read, O: Write>(
     input: &mut I,
     output: &mut O,
 ) -> Result<(), Fault> {
-    let mut told = check(table);
-    reply(alloc, accepted(&mut told)?, input, output)
+    reply(alloc, check(table), input, output)
 }
 
-/// Answers each line of the input over an accepted database.
+/// Answers each line of the input over a database, where it was accepted.
 // so that its room is not on the stack while the database is checked
 #[inline(never)]
-fn reply<T: Table, I: Read, O: Write>(
+fn reply<T: Table + Drop, I: Read, O: Write>(
     alloc: Global,
-    checked: &mut Checked<T>,
+    mut told: Result<Checked<T>, (T, CheckFault)>,
     input: &mut I,
     output: &mut O,
 ) -> Result<(), Fault> {
-    run(alloc, checked, input, output, TURNS)?;
+    run(alloc, accepted(&mut told)?, input, output, TURNS)?;
     Ok(())
 }
 
@@ -204,17 +204,17 @@ fn audit_database<R: Files, O: Write>(
     output: &mut O,
 ) -> Result<(), Fault> {
     let bytes = read_file(rt, alloc, path)?;
-    let mut told = check(Whole::new(bytes.as_slice()));
-    write_levels(accepted(&mut told)?, output)
+    write_levels(check(Whole::new(bytes.as_slice())), output)
 }
 
-/// Writes a line for each pip count of an accepted database.
+/// Writes a line for each pip count of a database, where it was accepted.
 // so that its room is not on the stack while the database is checked
 #[inline(never)]
-fn write_levels<T: Table, O: Write>(
-    checked: &mut Checked<T>,
+fn write_levels<T: Table + Drop, O: Write>(
+    mut told: Result<Checked<T>, (T, CheckFault)>,
     output: &mut O,
 ) -> Result<(), Fault> {
+    let checked = accepted(&mut told)?;
     for pips in 0..=checked.bound() {
         let Ok(level) = audit_level(checked, pips) else {
             return Err(Fault::File);

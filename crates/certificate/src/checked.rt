@@ -1,4 +1,4 @@
-ghost use Rattle.std.specs.Prelude.{◌≡◌, ℕ, ◌<◌, ◌≤◌, ◌↔◌, Ok, Err, slice_index, IsOk, IfOk, IfErr, OnOk};
+ghost use Rattle.std.specs.Prelude.{◌≡◌, ℕ, ◌<◌, ◌≤◌, ◌↔◌, Err, slice_index, IsOk, IfOk, IfErr, OnOk};
 ghost use Rattle.race_model.specs.Positions.{IsPosition, IsFinished, pips};
 ghost use Rattle.race_model.specs.Plays.{Legal};
 ghost use Rattle.race_model.specs.Ranks.{rank as rank_of, count_to};
@@ -12,7 +12,7 @@ ghost use Rattle.race_model.specs.FirstPlays.{IsFirstPlay};
 ghost use Rattle.legal_plays.specs.MoveLists.{moves_of};
 ghost use Rattle.db_layout.specs.Records.{IsVersion};
 ghost use Rattle.db_reader.specs.Telling.{WhereTold};
-ghost use Rattle.certificate.specs.Accepted.{bound_in, IsAccepted};
+ghost use Rattle.certificate.specs.Accepted.{bound_in};
 ghost use Rattle.certificate.specs.CheckFaults.{IsFirst, CheckCauses};
 ghost use Rattle.certificate.specs.QueryFaults.{RefusesNumbers, RefusesPlays, QueryCounted};
 
@@ -47,6 +47,8 @@ pub struct Checked<T: Table> {
 
 // Clauses see the table.
 impl<T: Table> Model for Checked<T> {
+    ghost use Rattle.certificate.specs.Accepted.{IsAccepted};
+
     ghost Value = { T };
 
     ghost view = { λ checked. checked.table };
@@ -77,23 +79,16 @@ pub fn check<T: Table>(mut table: T) -> Result<Checked<T>, (T, CheckFault)>
         (λ refused. CheckCauses (T.failures table) (T.failures refused.0) refused.1)) }
 {
     laws::law_right();
-    match check_records(&mut table) {
-        Ok(header) => accept(table, header),
-        Err(fault) => Err((table, fault)),
-    }
-}
-
-/// The accepted table, with a table of ranks for its queries.
-// so that this one is not on the stack beside that of the check
-#[inline(never)]
-fn accept<T: Table>(table: T, header: Header) -> Result<Checked<T>, (T, CheckFault)>
-    requires { IsAccepted (T.tells table) (T.accepted table) header }
-    ensures { result ≡ Ok table }
-{
+    let ranks = Ranks::new();
+    let header = match check_records(&mut table, &ranks) {
+        Ok(header) => header,
+        Err(fault) => return Err((table, fault)),
+    };
+    // a `match` with this result would have room for a second one on the stack
     Ok(Checked {
         table,
         header,
-        ranks: Ranks::new(),
+        ranks,
     })
 }
 

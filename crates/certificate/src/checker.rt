@@ -24,7 +24,7 @@ const ROOM_TO_58: usize = 35798;
 
 /// The header of a table whose records meet the local equations, or the first fault. It takes no
 /// memory, and adds a stored number to others only where it was accepted before.
-pub fn check_records<T: Table>(table: &mut T) -> Result<Header, CheckFault>
+pub fn check_records<T: Table>(table: &mut T, ranks: &Ranks) -> Result<Header, CheckFault>
     ensures stays { T.tells table.new ≡ T.tells table.old }
     ensures accepted { IfOk result (λ header. T.accepted table.new ≡ Some header) }
     ensures local { WhereTold (T.tells table.old) (λ file. OnOk result (IsLocal file)) }
@@ -41,11 +41,10 @@ pub fn check_records<T: Table>(table: &mut T) -> Result<Header, CheckFault>
         Err(TableFault::Bad(fault)) => return Err(CheckFault::Header(fault)),
         Err(TableFault::Read) => return Err(CheckFault::Read),
     };
-    let ranks = Ranks::new();
     if usize::from(header.count) <= ROOM_TO_44 {
-        check_under::<T, ROOM_TO_44>(table, &ranks, header)
+        check_under::<T, ROOM_TO_44>(table, ranks, header)
     } else {
-        check_under::<T, ROOM_TO_58>(table, &ranks, header)
+        check_under::<T, ROOM_TO_58>(table, ranks, header)
     }
 }
 

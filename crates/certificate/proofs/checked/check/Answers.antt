@@ -3,8 +3,8 @@ use Rattle.std.proofs.lemmas.Bool.{false≢true}
 use Rattle.certificate.proofs.FileTests.{none-of_right}
 use Rattle.certificate.proofs.checked.check.Goals as goal
 
-pub accept-requires : goal.accept-requires
-accept-requires g c =
+pub invariant_of-result : goal.invariant_of-result
+invariant_of-result g c =
     let said = c.in-Ok.ensures {u = tt} in
     record {
       header_is = said.accepted;
@@ -13,15 +13,15 @@ accept-requires g c =
       version_is = λ file told. said.version file (sym said.stays ∙ told);
     }
 
-pub returns-in-Ok-clause-right : goal.returns-in-Ok-clause-right
-returns-in-Ok-clause-right g c file told =
-    rw c.accept.ensures (c.law_right.ensures.right file ((c.in-Ok.ensures {u = tt}).local file told))
+pub returns-clause-right : goal.returns-clause-right
+returns-clause-right g c file told =
+    c.law_right.ensures.right file ((c.in-Ok.ensures {u = tt}).local file told)
 
-pub returns-in-Ok-clause-exactly : goal.returns-in-Ok-clause-exactly
-returns-in-Ok-clause-exactly g c file told none = (
+pub returns-clause-exactly : goal.returns-clause-exactly
+returns-clause-exactly g c file told none = (
   λ _. c.law_right.ensures.right file
       ((c.in-Ok.ensures {u = tt}).local file told),
-  λ _. rw c.accept.ensures refl,
+  λ _. refl,
 )
 
 pub returns-in-Err-clause-exactly : goal.returns-in-Err-clause-exactly

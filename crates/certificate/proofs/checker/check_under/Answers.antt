@@ -19,17 +19,17 @@ check_record-requires g c =
             c.requires.room,
             (
               c.requires.near c.loop-rank.rank c.loop-rank-test.true,
-             (
-              c.requires.small,
               (
-                (λ file told. c.requires.file file (sym before.stays ∙ told)),
+                c.requires.small,
                 (
-                  (λ file told. before.lower file (sym before.stays ∙ told)),
-                  subst (λ told. IsLower told c.loop-rank.lower c.loop-rank.rank)
-                      (sym before.stays) before.kept,
+                  (λ file told. c.requires.file file (sym before.stays ∙ told)),
+                  (
+                    (λ file told. before.lower file (sym before.stays ∙ told)),
+                    subst (λ told. IsLower told c.loop-rank.lower c.loop-rank.rank)
+                        (sym before.stays) before.kept,
+                  ),
                 ),
               ),
-             ),
             ),
           ),
         ),
