@@ -6,8 +6,8 @@ use Rattle.db_reader.specs.Telling.{WhereTold}
 use Rattle.certificate.specs.KeptMeans.{kept_mean}
 use Rattle.certificate.specs.declared.kept.LowerRecords.{LowerRecords}
 
--- the means that are kept of the ranks below the next one are those of the file, and the best plays
--- of the next position can be found by them
+-- the means that are kept of the ranks below the next one are those of the file, and the best
+-- plays of the next position can be found by them
 pub record IsLower {room : ℕ} (told : Option (List ℕ)) (lower : LowerRecords room) (next : ℕ) :
     Type 0 where
   pub known : Knows (kept_mean room lower.means) lower.plays next

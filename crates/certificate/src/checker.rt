@@ -24,6 +24,8 @@ const ROOM_TO_58: usize = 35798;
 
 /// The header of a table whose records meet the local equations, or the first fault. It takes no
 /// memory, and adds a stored number to others only where it was accepted before.
+// so that the room of `check` is no larger than its result
+#[inline(never)]
 pub fn check_records<T: Table>(table: &mut T, ranks: &Ranks) -> Result<Header, CheckFault>
     ensures stays { T.tells table.new ≡ T.tells table.old }
     ensures accepted { IfOk result (λ header. T.accepted table.new ≡ Some header) }
