@@ -89,6 +89,7 @@ fn fulfil<R: Files, I: Read, O: Write>(
 }
 
 /// Answers each line of the input over the database of 8 pips.
+#[inline(never)]
 fn answer_default<I: Read, O: Write>(
     alloc: Global,
     input: &mut I,
@@ -140,7 +141,18 @@ fn answer_lines<T: Table + Drop, I: Read, O: Write>(
     input: &mut I,
     output: &mut O,
 ) -> Result<(), Fault> {
-    let mut told = check(table);
+    reply(alloc, check(table), input, output)
+}
+
+/// Answers each line of the input over a database, where it was accepted.
+// so that its room is not on the stack while the database is checked
+#[inline(never)]
+fn reply<T: Table + Drop, I: Read, O: Write>(
+    alloc: Global,
+    mut told: Result<Checked<T>, (T, CheckFault)>,
+    input: &mut I,
+    output: &mut O,
+) -> Result<(), Fault> {
     run(alloc, accepted(&mut told)?, input, output, TURNS)?;
     Ok(())
 }
@@ -194,7 +206,16 @@ fn audit_database<R: Files, O: Write>(
     output: &mut O,
 ) -> Result<(), Fault> {
     let bytes = read_file(rt, alloc, path)?;
-    let mut told = check(Whole::new(bytes.as_slice()));
+    write_levels(check(Whole::new(bytes.as_slice())), output)
+}
+
+/// Writes a line for each pip count of a database, where it was accepted.
+// so that its room is not on the stack while the database is checked
+#[inline(never)]
+fn write_levels<T: Table + Drop, O: Write>(
+    mut told: Result<Checked<T>, (T, CheckFault)>,
+    output: &mut O,
+) -> Result<(), Fault> {
     let checked = accepted(&mut told)?;
     for pips in 0..=checked.bound() {
         let Ok(level) = audit_level(checked, pips) else {

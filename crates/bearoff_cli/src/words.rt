@@ -67,6 +67,8 @@ stand there, which no check accepts); 2 the words are wrong; 3 OLD was refused, 
 
 /// What the words after the program's own name ask for. An error of `clap`'s is a mistake in the
 /// words, a help text that they ask for, or want of memory.
+// so that its room is not on the stack while the request is fulfilled
+#[inline(never)]
 pub fn read_words<'a, S: AsStr>(alloc: Global, words: &'a [S]) -> Result<Request<'a>, Error> {
     let matches = command(alloc)?.try_get_matches_from(words)?;
     let Some((name, chosen)) = matches.subcommand() else {

@@ -85,14 +85,16 @@ pub fn check<T: Table>(mut table: T) -> Result<Checked<T>, (T, CheckFault)>
 {
     laws::law_right();
     let ranks = Ranks::new();
-    match check_records(&mut table, &ranks) {
-        Ok(header) => Ok(Checked {
-            table,
-            header,
-            ranks,
-        }),
-        Err(fault) => Err((table, fault)),
-    }
+    let header = match check_records(&mut table, &ranks) {
+        Ok(header) => header,
+        Err(fault) => return Err((table, fault)),
+    };
+    // a `match` with this result would have room for a second one on the stack
+    Ok(Checked {
+        table,
+        header,
+        ranks,
+    })
 }
 
 impl<T: Table> Checked<T> {
