@@ -56,8 +56,8 @@ export class Browser {
         });
     }
 
-    // A page at an address, of a size, in light or dark.
-    async open(address, { width = 1280, height = 900, dark = false, mobile = false } = {}) {
+    // A page at an address, of a size, in light or dark, in which a script runs before all others.
+    async open(address, { width = 1280, height = 900, dark = false, mobile = false, before = "" } = {}) {
         const { targetId } = await this.send("Target.createTarget", { url: "about:blank" });
         const { sessionId } = await this.send("Target.attachToTarget", { targetId, flatten: true });
         const page = new Page(this, sessionId, targetId);
@@ -67,6 +67,7 @@ export class Browser {
         await page.send("Emulation.setEmulatedMedia", {
             features: [{ name: "prefers-color-scheme", value: dark ? "dark" : "light" }],
         });
+        if (before) await page.send("Page.addScriptToEvaluateOnNewDocument", { source: before });
         await page.send("Page.navigate", { url: address });
         return page;
     }
@@ -100,7 +101,7 @@ export class Page {
     // Waits until an expression is true, and says for how many milliseconds.
     async until(expression, most = 30000) {
         const start = performance.now();
-        while (!(await this.value(`Boolean(${expression})`))) {
+        while (!(await this.value(`(() => { try { return Boolean(${expression}); } catch { return false; } })()`))) {
             if (performance.now() - start > most) throw new Error(`never true: ${expression}`);
             await new Promise((keep) => setTimeout(keep, 10));
         }

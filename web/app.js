@@ -11,7 +11,7 @@ export function start(document, window, parts) {
     const at = (name) => document.getElementById(name);
     const state = {
         ...readLink(window.location.hash), answer: null, shown: null, verdict: null, guessed: null,
-        guesses: 0, lost: 0n, busy: true, client: null, asked: 0,
+        rolls: [], guesses: 0, lost: 0n, busy: true, client: null, asked: 0,
     };
 
     const say = (text) => { at("said").textContent = text; };
@@ -25,12 +25,16 @@ export function start(document, window, parts) {
         at("bar").hidden = part >= 1;
     };
 
+    // Some browsers take only so many changes of an address in a while.
     const remember = () => {
-        const link = writeLink(state);
-        if (link !== window.location.hash) window.history.replaceState(null, "", link);
+        window.clearTimeout(state.remembering);
+        state.remembering = window.setTimeout(() => {
+            const link = writeLink(state);
+            if (link !== window.location.hash) window.history.replaceState(null, "", link);
+        }, 150);
     };
 
-    const rollOf = (dice) => state.answer?.rolls?.find((roll) => sameRoll(roll.dice, dice));
+    const rollOf = (dice) => state.rolls.find((roll) => sameRoll(roll.dice, dice));
 
     const isHidden = () => state.guess && !sameRoll(state.guessed, state.roll);
 
@@ -60,13 +64,19 @@ export function start(document, window, parts) {
         const answer = await state.client.ask({ kind: "ask", points });
         if (asked !== state.asked) return;
         state.answer = answer;
+        state.rolls = [];
         if (!answer.refusal) {
             say(`${answer.standing.pips} pips, mean ${answer.mean.text} rolls, effective pip count ${answer.effective.text}, wastage ${answer.wastage.text}.`);
         } else {
             say(answer.refusal);
         }
+        drawNumbers();
+        const list = answer.refusal ? [] : await state.client.ask({ kind: "rolls", points });
+        if (asked !== state.asked) return;
+        state.rolls = list;
         showBest();
-        drawAll();
+        drawBoard();
+        drawRolls();
     }
 
     async function askKept() {
@@ -79,7 +89,8 @@ export function start(document, window, parts) {
     const chooseRoll = (dice) => {
         Object.assign(state, { roll: dice, verdict: null, guessed: null });
         showBest();
-        drawAll();
+        drawBoard();
+        drawRolls();
         remember();
     };
 
@@ -92,7 +103,8 @@ export function start(document, window, parts) {
             state.verdict = { play, best: byLoss(roll.plays)[0], count: state.guesses, lost: decimal(state.lost) };
         }
         state.shown = play;
-        drawAll();
+        drawBoard();
+        drawRolls();
     }
 
     function keep() {
@@ -115,23 +127,28 @@ export function start(document, window, parts) {
 
     function drawBoard() {
         const free = 15 - state.points.reduce((sum, count) => sum + count, 0);
-        draw(document, at("board"), board(state.points, free, state.shown ? state.shown.moves : [], change));
+        const moves = state.shown ? state.shown.moves : [];
+        const drawn = JSON.stringify([state.points, moves]);
+        // a board that is drawn anew between the press and the release of a button would lose the click
+        if (drawn !== state.drawn) draw(document, at("board"), board(state.points, free, moves, change));
+        state.drawn = drawn;
         const isKept = state.kept.some(({ points }) => points.join() === state.points.join());
         at("keep").disabled = isKept || state.kept.length >= MOST_KEPT;
         at("keep").textContent = isKept ? "Kept below" : "Keep this position";
         at("counts").value = state.points.join(",");
     }
 
-    function drawAll() {
-        drawBoard();
+    function drawNumbers() {
         const { answer } = state;
-        if (!answer) return;
         draw(document, at("numbers"), numbers(answer));
         at("wider").hidden = !(answer.status === 4 && state.bound < 58);
         draw(document, at("chances"), answer.refusal ? [] : chances(answer.distribution));
-        const list = answer.rolls || [];
-        at("rolls").hidden = list.length === 0;
-        draw(document, at("grid"), rolls(list, state.roll, state.guess, chooseRoll));
+        at("open").textContent = `${answer.bound} pips`;
+    }
+
+    function drawRolls() {
+        at("rolls").hidden = state.rolls.length === 0;
+        draw(document, at("grid"), rolls(state.rolls, state.roll, state.guess, chooseRoll));
         const roll = rollOf(state.roll);
         const guessing = isHidden();
         draw(document, at("plays"), roll
@@ -140,7 +157,6 @@ export function start(document, window, parts) {
                     type: "button", class: "onward", "data-key": "onward", click: () => show(state.shown.to),
                 }, `Play ${state.shown.text}`)]
             : h("p", { class: "hint" }, "Choose a roll to see its plays here and on the board."));
-        at("open").textContent = `${answer.bound} pips`;
     }
 
     function drawKept() {
@@ -174,6 +190,7 @@ export function start(document, window, parts) {
         progress(1, "");
         state.busy = false;
         if (!document.body.dataset.ready) return;
+        remember();
         await ask();
         await askKept();
     }
@@ -188,7 +205,8 @@ export function start(document, window, parts) {
         at("guess").addEventListener("change", (event) => {
             Object.assign(state, { guess: event.target.checked, verdict: null, guessed: null });
             showBest();
-            drawAll();
+            drawBoard();
+        drawRolls();
             remember();
         });
         at("counts").addEventListener("change", (event) => {
@@ -199,7 +217,7 @@ export function start(document, window, parts) {
         at("wider").addEventListener("click", () => load({ kind: "build", bound: 58 }));
         at("print").addEventListener("click", () => window.print());
         at("copy").addEventListener("click", async () => {
-            remember();
+            window.history.replaceState(null, "", writeLink(state));
             try {
                 await window.navigator.clipboard.writeText(window.location.href);
                 say("The link is copied.");

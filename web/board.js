@@ -82,7 +82,7 @@ function column(points, point, free, change) {
             points: `${left + 8},${FLOOR} ${left + WIDTH - 8},${FLOOR} ${left + WIDTH / 2},70`,
         }),
         stack(point, count),
-        count > 4 && h("text", { class: "tally", x: middle(point), y: FLOOR - RADIUS + 8 }, count));
+        count > 4 && h("text", { class: "tally", x: middle(point), y: height(count - 1, count) + 8 }, count));
 }
 
 // The board of a position, which calls `change` with a point and the count that is wanted on it.

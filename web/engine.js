@@ -69,10 +69,9 @@ export function notation(moves) {
 }
 
 export class Engine {
-    // A new instance of the module, which has no database yet.
-    static async start(bytes) {
-        const { instance } = await WebAssembly.instantiate(bytes, {});
-        return new Engine(instance.exports);
+    // A new instance of the module, which was compiled once and has no database yet.
+    static async start(module) {
+        return new Engine((await WebAssembly.instantiate(module, {})).exports);
     }
 
     constructor(exports) {
@@ -80,7 +79,10 @@ export class Engine {
         this.end = Number(exports.__heap_base.value);
         this.end = Math.ceil(this.end / 16) * 16;
         this.scratch = this.take(SCRATCH_BYTES);
-        this.database = 0;
+        const closed = this.take(DATABASE_BYTES);
+        this.bytes(closed, DATABASE_BYTES).fill(0);
+        this.view().setBigUint64(closed, BigInt(closed), true); // no null, where there are no bytes yet
+        this.database = BigInt(closed);
         this.bound = 0;
     }
 
@@ -135,18 +137,14 @@ export class Engine {
     open(file) {
         const start = this.take(file.length || 1);
         this.bytes(start, file.length).set(file);
-        const database = this.take(DATABASE_BYTES);
-        this.bytes(database, DATABASE_BYTES).fill(0);
-        this.view().setBigUint64(database, BigInt(start), true);
         const line = BigInt(this.scratch + 64);
         const needed = BigInt(this.scratch + 128);
         const status = this.exports.bearoff_open(
-            BigInt(database), BigInt(start), BigInt(file.length), line, BigInt(LINE_BYTES), needed);
+            this.database, BigInt(start), BigInt(file.length), line, BigInt(LINE_BYTES), needed);
         if (status !== 0) {
             const length = Number(this.view().getBigUint64(this.scratch + 128, true));
             throw new Refused(status, new TextDecoder().decode(this.bytes(this.scratch + 64, length).slice()));
         }
-        this.database = BigInt(database);
         this.bound = this.bytes(this.call("bearoff_bound", 64, this.database), 1)[0];
         this.positions = this.view().getUint32(this.call("bearoff_positions", 64, this.database), true);
     }
@@ -255,5 +253,16 @@ export class Engine {
             plays.push({ to, moves, text: notation(moves), loss, lossText: decimal(loss), exact, isBest, isRecorded });
         }
         return plays;
+    }
+
+    // The program's own reply to a line of the query language, where the module can write it.
+    answerLine(line) {
+        const bytes = new TextEncoder().encode(line);
+        this.bytes(this.scratch + 64, bytes.length).set(bytes);
+        const status = this.exports.bearoff_answer_line(this.database, BigInt(this.scratch + 64), BigInt(bytes.length),
+            BigInt(this.scratch + 1024), BigInt(SCRATCH_BYTES - 1024), BigInt(this.scratch + 32));
+        if (status !== 0) throw new Refused(status);
+        const length = Number(this.view().getBigUint64(this.scratch + 32, true));
+        return new TextDecoder().decode(this.bytes(this.scratch + 1024, length).slice());
     }
 }

@@ -38,8 +38,11 @@ export function numbers(answer) {
     ];
 }
 
-// The chance of each number of rolls, as bars, and to be off within it.
-export function chances(rows) {
+// The chance of each number of rolls, as bars, and to be off within it. What rounds to nothing is named below.
+export function chances(list) {
+    const rows = list.filter(({ exactly }) => exactly > 0n);
+    const rare = list.filter(({ exactly }) => exactly === 0n).map(({ rolls: number }) => number);
+    const longest = rows.reduce((most, { exactly }) => (exactly > most ? exactly : most), 1n);
     return h("table", { class: "chances" },
         h("caption", {}, "Rolls until all are off"),
         h("thead", {}, h("tr", {}, h("th", { scope: "col" }, "Rolls"), h("th", { scope: "col" }, "exactly"),
@@ -47,8 +50,10 @@ export function chances(rows) {
         h("tbody", {}, rows.map((row) => h("tr", {},
             h("th", { scope: "row" }, row.rolls),
             h("td", { class: "share" }, row.exactlyText),
-            h("td", { class: "bar" }, h("span", { style: `width:${Number(row.exactly) / 10}%` })),
-            h("td", { class: "share" }, row.withinText)))));
+            h("td", { class: "bar" }, h("span", { style: `width:${(100 * Number(row.exactly)) / Number(longest)}%` })),
+            h("td", { class: "share" }, row.withinText)))),
+        rare.length > 0 && h("tfoot", {}, h("tr", {}, h("td", { colspan: 4 },
+            `Possible too, each with less than 0.05 %: ${rare.join(", ")}.`))));
 }
 
 // The best first; of plays that lose as much, as they came.
@@ -101,6 +106,8 @@ export function verdict({ play, best, count, lost }) {
         ` ${count === 1 ? "One guess has" : `${count} guesses have`} lost ${lost} of a roll.`);
 }
 
+const TOLD = [["mean", "Mean"], ["effective", "Effective"], ["wastage", "Wastage"]];
+
 // The positions that are kept, by their effective pip counts.
 export function kept(list, actions) {
     const order = list.map((entry, place) => ({ entry, place })).sort((one, other) => {
@@ -125,7 +132,7 @@ export function kept(list, actions) {
                     change: (event) => actions.caption(entry, event.target.value),
                 })),
                 h("td", { "data-head": "Pips" }, answer?.standing ? answer.standing.pips : "\u2026"),
-                told ? ["mean", "effective", "wastage"].map((name) => h("td", { "data-head": name }, answer[name].text))
+                told ? TOLD.map(([name, head]) => h("td", { "data-head": head }, answer[name].text))
                     : h("td", { colspan: 3 }, answer ? answer.refusal : "\u2026"),
                 h("td", {}, h("button", {
                     type: "button", class: "remove", "data-key": `remove ${place}`, click: () => actions.remove(entry),

@@ -5,12 +5,12 @@ import { Engine, Refused } from "./engine.js";
 export const ROLLS = Array.from({ length: 6 }, (_, high) =>
     Array.from({ length: high + 1 }, (_, low) => [high + 1, low + 1])).flat();
 
-// All that the page shows of a position. Over the bound, or with too many checkers, only why not.
+// The numbers of a position. Over the bound, or with too many checkers, only why there are none.
 export function answer(engine, points) {
     let standing = null;
     try {
         standing = engine.standing(points);
-        const found = {
+        return {
             points,
             standing,
             bound: engine.bound,
@@ -18,20 +18,25 @@ export function answer(engine, points) {
             effective: engine.effective(points),
             wastage: engine.wastage(points),
             distribution: engine.distribution(points),
-            rolls: [],
         };
-        if (standing.checkers > 0) {
-            found.rolls = ROLLS.map(([one, other]) => ({ dice: [one, other], plays: engine.plays(points, one, other) }));
-        }
-        return found;
     } catch (error) {
         if (!(error instanceof Refused)) throw error;
         return { points, standing, bound: engine.bound, refusal: error.message, status: error.status };
     }
 }
 
-// One desk of the worker: the module's bytes, and the engine of the open database.
+// The 21 rolls of a position that was answered, each with its plays; none where no checker is left.
+export function rollsOf(engine, points) {
+    if (engine.standing(points).checkers === 0) return [];
+    return ROLLS.map(([one, other]) => ({ dice: [one, other], plays: engine.plays(points, one, other) }));
+}
+
+// One desk of the worker: the compiled module, and the engine of the open database.
 export class Desk {
+    static async at(bytes, tell) {
+        return new Desk(await WebAssembly.compile(bytes), tell);
+    }
+
     constructor(module, tell) {
         this.module = module;
         this.tell = tell;
@@ -65,6 +70,8 @@ export class Desk {
                 return this.open(file);
             case "ask":
                 return answer(this.engine, points);
+            case "rolls":
+                return rollsOf(this.engine, points);
             case "add":
                 return this.engine.add(one, other);
             default:
@@ -81,7 +88,7 @@ export function serve(scope) {
         try {
             if (question.kind === "start") {
                 const tell = (part, text) => scope.postMessage({ part, text });
-                desk = new Desk(question.module, tell);
+                desk = await Desk.at(question.module, tell);
                 scope.postMessage({ number, reply: true });
                 return;
             }

@@ -9,7 +9,7 @@ use retrograde::{BuildFault, build_in_place};
 
 /// Builds the database of a pip bound into the front of a room; `filled` is how many bytes it has.
 /// `work` is a room of at least as many bytes, which the build uses as it likes; both need
-/// 11,209,796 bytes for 44 pips and 15,060,844 for 58. It needs 36 MB of stack. Refused as
+/// 11,209,796 bytes for 44 pips and 15,060,844 for 58. It needs 20 MB of stack. Refused as
 /// `OverBound` where the bound is over 58, and with the status 8 where a room is too small; then
 /// `room` and `filled` stay as they were.
 #[unsafe(no_mangle)]

@@ -96,8 +96,7 @@ fn build_version<W: Write>(alloc: Global, header: Header, writer: &mut W) -> Res
 }
 
 /// Writes the database of a pip bound, as `build` does, and takes no memory but the stack, of
-/// which it needs 20 MB. What it writes, and the faults, are those of `build`; `Memory` is not
-/// among those that come.
+/// which it needs 20 MB. What it writes, and the faults, are those of `build`.
 // so that its room is on the stack while it builds, and not while its caller goes on
 #[inline(never)]
 pub fn build_in_place<W: Write>(bound: u8, writer: &mut W) -> Result<(), BuildFault>

@@ -1,4 +1,4 @@
-use Rattle.std.proofs.Common.{◌≡◌, rules}
+use Rattle.std.proofs.Common.{rules}
 use Rattle.race_model.specs.Plays.{Legal}
 use Rattle.bearoff_c.proofs.leading.bearoff_play_to.Goals as goal
 

@@ -1,4 +1,4 @@
-use Rattle.std.proofs.Common.{◌≡◌, ℕ, ◌+◌, ◌-◌, ◌<◌, List, [], length, get_or, ap, ◌∙◌, arith}
+use Rattle.std.proofs.Common.{◌≡◌, ℕ, ◌+◌, ◌-◌, List, [], length, get_or, ap, ◌∙◌, arith}
 use Rattle.std.proofs.lemmas.List.{length-drop, get_or-drop}
 use Rattle.retrograde.proofs.records.RecordsKeeper.forget_before.Goals as goal
 
