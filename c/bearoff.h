@@ -41,14 +41,15 @@ enum {
     BEAROFF_NOT_LEGAL = 6,  /* the roll doesn't lead to the position whose loss is asked */
     BEAROFF_CHANGED = 7,    /* the bytes were changed since they were checked */
     BEAROFF_SHORT = 8,      /* the room that was lent is too small */
+    BEAROFF_NOT_OLD = 9,    /* the file that is to be upgraded is of version 2 already */
 
     /* bearoff_open alone: the first fault of the bytes */
     BEAROFF_TOO_SHORT = 16,        /* fewer than 32 bytes */
     BEAROFF_BAD_MAGIC = 17,        /* they don't begin with EPCTABLE */
-    BEAROFF_BAD_VERSION = 18,      /* the version is not 1 */
+    BEAROFF_BAD_VERSION = 18,      /* the version is not 1 or 2 */
     BEAROFF_BAD_BOUND = 19,        /* the pip bound is over the greatest of its version, 44 or 58 */
     BEAROFF_BAD_COUNT = 20,        /* the count isn't that of the bound */
-    BEAROFF_BAD_RECORD_BYTES = 21, /* the field for record bytes is not 426 */
+    BEAROFF_BAD_RECORD_BYTES = 21, /* the field for record bytes is not 426, or 0 in version 2 */
     BEAROFF_BAD_RESERVED = 22,     /* a reserved byte is not zero */
     BEAROFF_BAD_LENGTH = 23,       /* more or fewer bytes than the header says */
     BEAROFF_BAD_PLAY = 24,         /* a recorded play is not legal */
@@ -137,6 +138,9 @@ typedef struct bearoff_database {
 /* The most positions that a roll can lead to. */
 #define BEAROFF_RESULTS 1296
 
+/* The most bytes that the reply to a line has. */
+#define BEAROFF_REPLY 123125
+
 /*
  * Checks `length` bytes and opens a database over them. 0.2 s for 44 pips; needs 1.5 MB of stack.
  * BEAROFF_OK exactly where they are a right database of at most 58 pips. Any other status, 16 to
@@ -147,6 +151,12 @@ typedef struct bearoff_database {
  */
 uint32_t bearoff_open(bearoff_database *database, const uint8_t *bytes, size_t length,
                       uint8_t *line, size_t room, size_t *needed);
+
+/*
+ * The version of the database's file: 1, or 2 where the records leave out the shares that are
+ * known. BEAROFF_OK or BEAROFF_NOT_OPEN.
+ */
+uint32_t bearoff_version(const bearoff_database *database, uint16_t *version);
 
 /* The pip bound of the database, 0 to 58. BEAROFF_OK or BEAROFF_NOT_OPEN. */
 uint32_t bearoff_bound(const bearoff_database *database, uint8_t *bound);
@@ -201,6 +211,34 @@ uint32_t bearoff_loss(const bearoff_database *database, const bearoff_position *
 uint32_t bearoff_results(const bearoff_database *database, const bearoff_position *position,
                          uint8_t one, uint8_t other, bearoff_result *results, size_t room,
                          size_t *count);
+
+/*
+ * Answers a line of the query language, as in `mean 0,0,0,0,0,1`, `dist POSITION`, `play POSITION
+ * ROLL`, `loss POSITION ROLL POSITION`, `moves POSITION ROLL` or `rank POSITION`. The line has
+ * `length` bytes, any bytes, and comes without its line ending; `text` gets what the program
+ * `bearoff query` writes for it, without the line feed and without a zero at its end, and
+ * `*needed` is how many bytes that is, at most BEAROFF_REPLY. A line that asks nothing, or is
+ * refused, is answered too, by a text that begins with `error`. BEAROFF_OK or BEAROFF_NOT_OPEN;
+ * BEAROFF_SHORT where `room` is less than `*needed`: then no text is written; and
+ * BEAROFF_CHANGED, which comes only where the bytes were changed after they were checked.
+ */
+uint32_t bearoff_answer_line(const bearoff_database *database, const uint8_t *line, size_t length,
+                             uint8_t *text, size_t room, size_t *needed);
+
+/* How many bytes an upgrade has at most: that of 44 pips. */
+#define BEAROFF_UPGRADE 7608420
+
+/*
+ * Writes the database in `length` bytes of a file of version 1 into the front of `room` as a file
+ * of version 2, which has the same bound, means, plays and shares, and so the same reply to each
+ * line; `*filled` is how many bytes it has, at most BEAROFF_UPGRADE. `work` is a room of at least
+ * as many bytes, which the call uses as it likes. The bytes are checked first, and the status is
+ * that of bearoff_open where they are refused; BEAROFF_NOT_OLD where they are a right database of
+ * version 2; BEAROFF_SHORT where a room is too small. Where the status is not BEAROFF_OK `room` and
+ * `*filled` stay as they were. It needs as much stack as bearoff_open.
+ */
+uint32_t bearoff_upgrade(const uint8_t *bytes, size_t length, uint8_t *work, size_t work_length,
+                         uint8_t *room, size_t room_length, size_t *filled);
 
 #ifdef __cplusplus
 }

@@ -2,15 +2,16 @@
  * refuses one of them, or all from one on. REFUSED_CALL names the kind and the number, as `growth:3` or `growth:3+`;
  * the number 0 refuses none. At the end of the program the number of calls is written into the file REFUSED_COUNT.
  * The kinds: growth (of memory), open, seek; input, output and errors (reads and writes of the standard streams),
- * load and store (those of other files); idle-store and idle-output, which take nothing where they are refused; and
- * slow-input, slow-output, slow-load and slow-store, which move one byte. */
+ * load and store (those of other files); idle-store and idle-output, which take nothing where they are refused;
+ * slow-input, slow-output, slow-load and slow-store, which move one byte; and interrupted-open, interrupted-input,
+ * interrupted-output, interrupted-load and interrupted-store, which a signal interrupts before anything is done. */
 /* No header is included, so that the kit's own clang compiles it: the declarations and numbers are those of Linux on
  * x86-64. */
 typedef __SIZE_TYPE__ size_t;
 typedef long ssize_t, off_t;
 enum { READ = 0, WRITE = 1, OPEN = 2, CLOSE = 3, LSEEK = 8 };
 enum { MAKE_ANEW = 01 | 0100 | 01000 };
-enum { NO_INPUT_OUTPUT = 5, NO_MEMORY = 12, NO_LEAVE = 13 };
+enum { INTERRUPTED = 4, NO_INPUT_OUTPUT = 5, NO_MEMORY = 12, NO_LEAVE = 13 };
 
 extern long syscall(long number, ...);
 extern int *__errno_location(void);
@@ -18,7 +19,7 @@ extern char *getenv(const char *name);
 extern void *__libc_malloc(size_t size);
 extern void *__libc_realloc(void *old, size_t size);
 
-static char kind[16];
+static char kind[32];
 static long refused, from_here_on, calls;
 
 __attribute__((constructor)) static void start(void) {
@@ -65,6 +66,7 @@ void *realloc(void *old, size_t size) {
 
 int open(const char *path, int flags, unsigned mode) {
     if (is_refused("open")) return *__errno_location() = NO_LEAVE, -1;
+    if (is_refused("interrupted-open")) return *__errno_location() = INTERRUPTED, -1;
     return syscall(OPEN, path, (long)flags, (long)mode);
 }
 
@@ -75,6 +77,8 @@ off_t lseek(int file, off_t offset, int whence) {
 
 ssize_t read(int file, void *into, size_t count) {
     if (is_refused(file == 0 ? "input" : "load")) return *__errno_location() = NO_INPUT_OUTPUT, -1;
+    if (is_refused(file == 0 ? "interrupted-input" : "interrupted-load"))
+        return *__errno_location() = INTERRUPTED, -1;
     if (count > 1 && is_refused(file == 0 ? "slow-input" : "slow-load")) count = 1;
     return syscall(READ, (long)file, into, count);
 }
@@ -83,6 +87,8 @@ static ssize_t put(int file, const void *from, size_t count) {
     const char *name = file == 1 ? "output" : file == 2 ? "errors" : "store";
     if (is_refused(name)) return *__errno_location() = NO_INPUT_OUTPUT, -1;
     if (file != 2 && is_refused(file == 1 ? "idle-output" : "idle-store")) return 0;
+    if (file != 2 && is_refused(file == 1 ? "interrupted-output" : "interrupted-store"))
+        return *__errno_location() = INTERRUPTED, -1;
     if (count > 1 && is_refused(file == 1 ? "slow-output" : "slow-store")) count = 1;
     return syscall(WRITE, (long)file, from, count);
 }

@@ -38,6 +38,7 @@ WHOLE = 36**22
 
 _LINE = 32
 _RESULTS = 1296
+_REPLY = 123125
 
 
 class Position(NamedTuple):
@@ -110,6 +111,7 @@ _REASONS = {
     6: "the roll doesn't lead there",
     7: "the bytes were changed since they were checked",
     8: "the room is too small",
+    9: "the file is of version 2 already",
 }
 
 
@@ -162,6 +164,7 @@ def _load() -> ctypes.CDLL:
     pointer, byte = ctypes.c_void_p, ctypes.c_uint8
     for function, arguments in {
         "open": (pointer, pointer, ctypes.c_size_t, pointer, ctypes.c_size_t, pointer),
+        "version": (pointer, pointer),
         "bound": (pointer, pointer),
         "positions": (pointer, pointer),
         "mean": (pointer, pointer, pointer),
@@ -170,6 +173,14 @@ def _load() -> ctypes.CDLL:
         "play": (pointer, pointer, byte, byte, pointer),
         "loss": (pointer, pointer, byte, byte, pointer, pointer),
         "results": (pointer, pointer, byte, byte, pointer, ctypes.c_size_t, pointer),
+        "answer_line": (
+            pointer,
+            pointer,
+            ctypes.c_size_t,
+            pointer,
+            ctypes.c_size_t,
+            pointer,
+        ),
     }.items():
         entry = getattr(library, "bearoff_" + function)
         entry.argtypes = arguments
@@ -237,6 +248,13 @@ class Database:
         if isinstance(source, (bytes, bytearray)):
             return cls(bytes(source))
         return cls(Path(source).read_bytes())
+
+    @property
+    def version(self) -> int:
+        """The version of its file: 1, or 2 where the records leave out the shares that are known."""
+        version = ctypes.c_uint16()
+        self._check(self._library.bearoff_version(self._pointer, ctypes.byref(version)))
+        return version.value
 
     @property
     def bound(self) -> int:
@@ -331,6 +349,45 @@ class Database:
                 continue
             self._check(status)
             return _by_loss(results[: count.value])
+
+    def answer(self, line: str) -> str:
+        """What ``bearoff query`` writes for a line, which is given without its line ending, as in
+        ``mean 0,0,0,0,0,1``. A line that asks nothing, or is refused, is answered too, by a text
+        that begins with ``error``.
+        """
+        asked = line.encode("utf-8", "surrogateescape")
+        room = 4096
+        while True:
+            text = ctypes.create_string_buffer(room)
+            needed = ctypes.c_size_t()
+            status = self._library.bearoff_answer_line(
+                self._pointer, asked, len(asked), text, room, ctypes.byref(needed)
+            )
+            if status == _SHORT and room < _REPLY:
+                room = _REPLY
+                continue
+            self._check(status)
+            return text.raw[: needed.value].decode("ascii")
+
+    def upgrade(self) -> bytes:
+        """The bytes of a file of version 2 that says the same: of the same bound, means, plays and
+        shares. Raises `Refused` where the database is of version 2 already.
+        """
+        size = len(self._bytes)
+        work, room = ctypes.create_string_buffer(size), ctypes.create_string_buffer(size)
+        filled = ctypes.c_size_t()
+        self._check(
+            self._library.bearoff_upgrade(
+                ctypes.cast(self._bytes, ctypes.c_void_p),
+                size,
+                work,
+                size,
+                room,
+                size,
+                ctypes.byref(filled),
+            )
+        )
+        return room.raw[: filled.value]
 
     @staticmethod
     def _check(status: int) -> None:

@@ -40,10 +40,10 @@ def replies(file, lines):
         [PROGRAM, "query", str(FOLDER / file)],
         input="".join(line + "\n" for line in lines),
         stdout=subprocess.PIPE,
-        text=True,
+        encoding="utf-8",
         check=True,
     )
-    return [reply.split() for reply in run.stdout.splitlines()]
+    return run.stdout.splitlines()
 
 
 def point(number):
@@ -60,7 +60,10 @@ class Answers(unittest.TestCase):
             lines += ["mean " + at, "dist " + at]
             for roll in rolls:
                 lines += [f"play {at} {roll[0]}{roll[1]}", f"moves {at} {roll[0]}{roll[1]}"]
-        told = iter(replies(file, lines))
+        written = replies(file, lines)
+        for line, reply in zip(lines, written):
+            self.assertEqual(database.answer(line), reply, line)
+        told = iter([reply.split() for reply in written])
         for position, rolls in asked:
             _, mean, _, epc, rounded = next(told)
             self.assertEqual(database.mean(position), Fraction(mean), position)
@@ -99,7 +102,7 @@ class Answers(unittest.TestCase):
 
     def test_names_and_numbers(self):
         database = Database.open((FOLDER / "eight").read_bytes())
-        self.assertEqual((database.bound, database.positions), (8, 64))
+        self.assertEqual((database.version, database.bound, database.positions), (1, 8, 64))
         self.assertEqual(database.mean((0, 0, 0, 0, 0, 1)), Fraction(5, 4))
         self.assertEqual(database.mean([0] * 6), 0)
         self.assertEqual(database.epc((0, 0, 0, 0, 0, 1)), (Fraction(245, 24), 10208))
@@ -108,6 +111,30 @@ class Answers(unittest.TestCase):
         play = database.play((0, 0, 0, 2, 0, 0), (2, 1))
         self.assertEqual(play, (((4, 2), (2, 1)), (1, 0, 0, 1, 0, 0)))
         self.assertEqual(database.loss((0, 0, 0, 2, 0, 0), (1, 2), (0, 1, 1, 0, 0, 0)), Fraction(1, 9))
+
+    def test_lines(self):
+        database = Database.open(FOLDER / "eight")
+        lines = ["rank 0,0,0,0,0,1", "loss 0,0,0,2,0,0 21 0,1,1,0,0,0", "mean 0,0,0,0,0,16"]
+        lines += ["mean 0,0,1,0,0,1", "play 0,0,0,0,0,0 11", "loss 0,0,0,0,0,1 21 0,0,0,0,0,1"]
+        lines += ["play 0,0,0,0,0,1 17", "mean", "dist 0,0,0", "nothing 1", " ", "mean 0,0,0,0,0,1 "]
+        lines += ["mean 0,0,0,0,0,\N{DIGIT ONE}\N{COMBINING ENCLOSING KEYCAP}", "m" * 5000, "\0"]
+        for line, reply in zip(lines, replies("eight", lines)):
+            self.assertEqual(database.answer(line), reply, line)
+        self.assertEqual(database.answer("mean 0,0,0,0,0,1"), "mean 5/4 epc 245/24 10.208")
+        for line in ("", "mean 0,0,0,0,0,1\n", "mean 0,0,0,0,0,1\r", "mean 0,0,0,0,0,1\0"):
+            self.assertEqual(database.answer(line), "error bad-line", line)
+
+    def test_upgrades(self):
+        old = Database.open(FOLDER / "eight")
+        content = old.upgrade()
+        self.assertEqual(len(content), 7696)
+        new = Database(content)
+        self.assertEqual((old.version, new.version, new.bound), (1, 2, 8))
+        for line in ("mean 0,0,0,0,0,1", "dist 5,0,0,0,0,0", "moves 0,0,0,2,0,0 21"):
+            self.assertEqual(new.answer(line), old.answer(line))
+        with self.assertRaises(Refused) as told:
+            new.upgrade()
+        self.assertEqual(told.exception.status, 9)
 
     def test_two_threads_with_a_database_each(self):
         asked = positions(20)

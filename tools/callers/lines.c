@@ -2,6 +2,7 @@
  * Answers lines as `bearoff query FILE` does, by way of the library: its replies are compared with the program's.
  * usage: lines FILE [THREADS] <lines       with THREADS, as many threads answer all lines, over a database each,
  *                                          and the program fails where their replies differ
+ *        lines FILE --text <lines          by bearoff_answer_line, with no room first and then just enough
  *        lines FILE --speed N              how many means a second N calls come to, over all positions of at most
  *                                          the bound in the order of a walk
  * It is C and C++ both.
@@ -202,6 +203,23 @@ static void answer(const bearoff_database *database, const char *line, text *rep
     put(reply, status ? "%s\n" : "\n", fault_words(status));
 }
 
+/* the reply to a line as the library has it, whatever its bytes are */
+static void answer_line(const bearoff_database *database, const char *line, size_t length, text *reply) {
+    uint8_t mark = 0xA5;
+    size_t needed = 0, told = 0;
+    uint32_t status = bearoff_answer_line(database, (const uint8_t *)line, length, &mark, 0, &needed);
+    if (status != BEAROFF_SHORT || !needed || needed > BEAROFF_REPLY || mark != 0xA5) fail("a line without room");
+    while (reply->room - reply->length < needed + 1) {
+        reply->room = 2 * reply->room + needed + 1;
+        reply->bytes = (char *)realloc(reply->bytes, reply->room);
+        if (!reply->bytes) fail("memory");
+    }
+    uint8_t *at = (uint8_t *)reply->bytes + reply->length;
+    if (bearoff_answer_line(database, (const uint8_t *)line, length, at, needed, &told) || told != needed) fail("a line");
+    at[needed] = '\n';
+    reply->length += needed + 1;
+}
+
 static text read_all(FILE *from) {
     text all = {0, 0, 0};
     for (;;) {
@@ -242,6 +260,21 @@ static void *answer_all(void *to) {
     for (const char *line = lines.bytes; *line; line = strchr(line, '\n') + 1) answer(database, line, replies);
     free(database);
     return 0;
+}
+
+static void answer_by_text(void) {
+    static bearoff_database database;
+    text replies = {0, 0, 0};
+    open_it(&database);
+    const char *end = lines.bytes + lines.length;
+    for (const char *line = lines.bytes; line < end;) {
+        const char *feed = (const char *)memchr(line, '\n', (size_t)(end - line));
+        if (!feed) fail("no line feed at the end");
+        answer_line(&database, line, (size_t)(feed - line), &replies);
+        line = feed + 1;
+    }
+    if (fwrite(replies.bytes, 1, replies.length, stdout) != replies.length) fail("write");
+    free(replies.bytes);
 }
 
 /* the position of each rank below a count, by the order of ranks */
@@ -289,7 +322,7 @@ static void speed(long calls) {
 }
 
 int main(int count, char **words) {
-    if (count < 2) fail("usage: lines FILE [THREADS | --speed N]");
+    if (count < 2) fail("usage: lines FILE [THREADS | --text | --speed N]");
     FILE *from = fopen(words[1], "rb");
     if (!from) fail("open");
     file = read_all(from);
@@ -300,6 +333,12 @@ int main(int count, char **words) {
         return 0;
     }
     lines = read_all(stdin);
+    if (count == 3 && !strcmp(words[2], "--text")) {
+        answer_by_text();
+        free(lines.bytes);
+        free(file.bytes);
+        return 0;
+    }
     enum { MOST = 16 };
     int threads = count > 2 ? atoi(words[2]) : 1;
     text replies[MOST];

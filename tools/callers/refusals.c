@@ -115,6 +115,29 @@ static uint32_t open_with(bearoff_database *database, const uint8_t *bytes, size
     return status;
 }
 
+/* answers a line with so much room, and gives the status */
+static uint32_t answer_with(const bearoff_database *database, const char *line, size_t room, const char *reply,
+                            const char *what) {
+    uint8_t *buffer = guarded(room);
+    size_t *needed = (size_t *)guarded(sizeof *needed);
+    uint32_t status = bearoff_answer_line(database, (const uint8_t *)line, strlen(line), buffer, room, needed);
+    size_t count = reply ? strlen(reply) : 0;
+    if (!reply) {
+        expect(untouched(buffer, room) && untouched(needed, sizeof *needed), what, (long)room);
+    } else {
+        expect(*needed == count && status == (count <= room ? BEAROFF_OK : BEAROFF_SHORT), what, (long)*needed);
+        if (count <= room) {
+            expect(!memcmp(buffer, reply, count) && is_marked(buffer + count, room - count), what, -1);
+        } else {
+            expect(is_marked(buffer, room), what, -2);
+        }
+    }
+    expect(guards_stand(buffer, room) && guards_stand(needed, sizeof *needed), what, -3);
+    let_go(buffer);
+    let_go(needed);
+    return status;
+}
+
 typedef struct damage {
     size_t place;
     uint8_t change;
@@ -148,8 +171,12 @@ int main(int count, char **words) {
 
     /* a struct of zeros is not open */
     uint8_t bound = MARK;
+    uint16_t version = MARK;
     uint32_t positions = MARK;
     memset(database, 0, sizeof *database);
+    expect(bearoff_version(database, &version) == BEAROFF_NOT_OPEN && version == MARK, "zeros, version", version);
+    expect(answer_with(database, "mean 0,0,0,0,0,1", 64, 0, "zeros, line") == BEAROFF_NOT_OPEN, "zeros, line", 0);
+    expect(answer_with(database, "nothing", 64, 0, "zeros, bad line") == BEAROFF_NOT_OPEN, "zeros, bad line", 0);
     expect(bearoff_bound(database, &bound) == BEAROFF_NOT_OPEN && bound == MARK, "zeros, bound", bound);
     expect(bearoff_positions(database, &positions) == BEAROFF_NOT_OPEN && positions == MARK, "zeros", positions);
     ask(database, six, 2, 1, five, closed, "zeros");
@@ -160,11 +187,14 @@ int main(int count, char **words) {
     memcpy(database, &made, sizeof made);
     expect(bearoff_bound(database, &bound) == BEAROFF_NOT_OPEN && bound == MARK, "closed, bound", bound);
     ask(database, six, 2, 1, five, closed, "closed");
+    expect(bearoff_version(database, &version) == BEAROFF_NOT_OPEN && version == MARK, "closed, version", version);
+    expect(answer_with(database, "mean 0,0,0,0,0,1", 64, 0, "closed, line") == BEAROFF_NOT_OPEN, "closed, line", 0);
 
     /* a right file */
     expect(open_with(database, bytes, length, 0, "", "open") == BEAROFF_OK, "open", 0);
     expect(bearoff_bound(database, &bound) == BEAROFF_OK && bound == 8, "bound", bound);
     expect(bearoff_positions(database, &positions) == BEAROFF_OK && positions == 64, "positions", positions);
+    expect(bearoff_version(database, &version) == BEAROFF_OK && version == 1, "version", version);
     ask(database, six, 2, 1, ace, statuses_of(BEAROFF_OK, BEAROFF_OK, BEAROFF_NOT_LEGAL), "not legal");
     ask(database, six, 0, 1, ace, statuses_of(BEAROFF_OK, BEAROFF_BAD_ROLL, BEAROFF_BAD_ROLL), "die 0");
     ask(database, six, 1, 7, ace, statuses_of(BEAROFF_OK, BEAROFF_BAD_ROLL, BEAROFF_BAD_ROLL), "die 7");
@@ -174,6 +204,17 @@ int main(int count, char **words) {
     ask(database, most, 2, 1, none, statuses_of(BEAROFF_TOO_MANY, BEAROFF_TOO_MANY, BEAROFF_TOO_MANY), "1530 checkers");
     ask(database, nine, 2, 1, none, statuses_of(BEAROFF_OVER_BOUND, BEAROFF_OVER_BOUND, BEAROFF_OVER_BOUND), "9 pips");
     ask(database, six, 2, 1, many, statuses_of(BEAROFF_OK, BEAROFF_OK, BEAROFF_TOO_MANY), "to 16 checkers");
+
+    /* the room for the reply to a line */
+    for (size_t room = 0; room < 64; room++) {
+        answer_with(database, "mean 0,0,0,0,0,1", room, "mean 5/4 epc 245/24 10.208", "mean line");
+        answer_with(database, "play 0,0,0,2,0,0 12", room, "play 4/2 2/1 to 1,0,0,1,0,0", "play line");
+        answer_with(database, "moves 0,0,0,2,0,0 21", room, "moves 1,0,0,1,0,0:0/1 0,1,1,0,0,0:1/9", "moves line");
+        answer_with(database, "moves 0,0,0,0,0,0 21", room, "error finished", "finished line");
+        answer_with(database, "mean 0,0,0,0,0,1\r", room, "error bad-line", "a line with its end");
+        answer_with(database, "", room, "error bad-line", "no line");
+        answer_with(database, "rank 0,0,1,0,0,1", room, "error over-bound", "line over the bound");
+    }
 
     /* the room for results */
     size_t *told = (size_t *)guarded(sizeof *told);
@@ -198,6 +239,7 @@ int main(int count, char **words) {
             expect(open_with(database, bytes, length, room, one.line, one.line) == one.status, one.line, (long)room);
         }
         ask(database, six, 2, 1, five, closed, one.line);
+        expect(answer_with(database, "rank 0,0,0,0,0,1", 64, 0, one.line) == BEAROFF_NOT_OPEN, one.line, -5);
         bytes[one.place] ^= one.change;
     }
     for (size_t short_by = 1; short_by <= length; short_by += 426) {
@@ -213,6 +255,25 @@ int main(int count, char **words) {
     }
     expect(open_with(database, bytes, 31, BEAROFF_LINE, "header too-short", "31 bytes") == BEAROFF_TOO_SHORT, "31 bytes", 0);
     expect(open_with(database, bytes, 0, BEAROFF_LINE, "header too-short", "no bytes") == BEAROFF_TOO_SHORT, "no bytes", 0);
+
+    /* an upgrade, with rooms that are just enough or not, and of itself */
+    size_t *filled = (size_t *)guarded(sizeof *filled);
+    for (size_t lack = 0; lack < 4; lack++) {
+        uint8_t *work = guarded(7696 - (lack & 1)), *room = guarded(7696 - (lack >> 1));
+        uint32_t status = bearoff_upgrade(bytes, length, work, 7696 - (lack & 1), room, 7696 - (lack >> 1), filled);
+        expect(status == (lack ? BEAROFF_SHORT : BEAROFF_OK), "upgrade", (long)lack);
+        expect(guards_stand(work, 7696 - (lack & 1)) && guards_stand(room, 7696 - (lack >> 1)), "upgrade", -1);
+        expect(lack ? untouched(room, 7696 - (lack >> 1)) : *filled == 7696, "upgrade", -2);
+        if (!lack) {
+            expect(open_with(database, room, 7696, 0, "", "upgraded") == BEAROFF_OK, "upgraded", 0);
+            expect(bearoff_version(database, &version) == BEAROFF_OK && version == 2, "upgraded, version", version);
+            expect(bearoff_upgrade(room, 7696, work, 7696, work, 0, filled) == BEAROFF_NOT_OLD, "upgrade again", 0);
+        }
+        let_go(work);
+        let_go(room);
+    }
+    expect(bearoff_upgrade(bytes, 31, bytes, 0, bytes, 0, filled) == BEAROFF_TOO_SHORT, "upgrade of 31 bytes", 0);
+    let_go(filled);
 
     /* bytes that the caller changes after they were checked, against the rule: no call steps outside them */
     expect(open_with(database, bytes, length, 0, "", "open") == BEAROFF_OK, "open at last", 0);
@@ -231,6 +292,15 @@ int main(int count, char **words) {
     expect(bearoff_play(database, &six, 2, 1, &play) == BEAROFF_CHANGED, "changed", 4);
     expect(bearoff_loss(database, &six, 2, 1, &three, &loss) == BEAROFF_CHANGED, "changed", 5);
     expect(bearoff_results(database, &six, 2, 1, results, 4, &told_last) == BEAROFF_CHANGED, "changed", 6);
+    static const char *const lines[] = {"mean 0,0,0,0,0,1", "dist 0,0,0,0,0,1", "play 0,0,0,0,0,1 21",
+                                        "loss 0,0,0,0,0,1 21 0,0,1,0,0,0"};
+    for (size_t i = 0; i < sizeof lines / sizeof *lines; i++) {
+        expect(answer_with(database, lines[i], 64, 0, lines[i]) == BEAROFF_CHANGED, "changed line", (long)i);
+    }
+    expect(answer_with(database, "rank 0,0,0,0,0,1", 64, "rank 19", "changed") == BEAROFF_OK, "changed rank", 0);
+    expect(answer_with(database, "moves 0,0,0,0,0,1 21", 64, "moves 0,0,1,0,0,0:0/1", "changed") == BEAROFF_OK, "moves", 0);
+    memset(bytes + 32 + 426 * 4, 0xFF, 426);
+    expect(answer_with(database, "moves 0,0,0,0,0,1 21", 64, 0, "changed moves") == BEAROFF_CHANGED, "changed moves", 0);
 
     let_go(database);
     free(bytes);

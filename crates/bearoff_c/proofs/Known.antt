@@ -1,6 +1,6 @@
 -- What a right file records of a position that it knows.
-use Rattle.std.proofs.Common.{◌≡◌, ℕ, ◌*◌, ◌≤◌, List, ap, arith, le_trans}
-use Rattle.race_model.specs.Positions.{Board}
+use Rattle.std.proofs.Common.{◌≡◌, ℕ, ◌*◌, ◌≤◌, List, ap, le_trans, arith}
+use Rattle.race_model.specs.Positions.{Board, IsPosition, pips}
 use Rattle.race_model.specs.Dice.{Throw}
 use Rattle.race_model.specs.Plays.{Legal}
 use Rattle.race_model.specs.Files.{mean, mean_at, play}
@@ -12,7 +12,16 @@ use Rattle.race_model.proofs.Plays.Results.{legal_position, legal_pips}
 use Rattle.race_model.proofs.RightFiles.Right.{local_of_right}
 use Rattle.race_model.proofs.RightFiles.RightFacts.{recorded_least, loss_is_loss}
 use Rattle.certificate.proofs.Accepted.{accepted-mean}
-use Rattle.bearoff_c.specs.Databases.{IsKnown}
+use Rattle.bearoff_c.specs.Databases.{IsOpened, IsKnown}
+
+-- an open database knows each position of at most its bound
+pub opened_knows : (f : List ℕ) (bound : ℕ) (x : Board) → IsOpened f bound → IsPosition x
+    → pips x ≤ bound → IsKnown f x
+opened_knows f bound x opened is low = record {
+  right = opened.right;
+  position = is;
+  within = omega (arith, opened.bound_is, low);
+}
 
 module _ (f : List ℕ) (x : Board) (known : IsKnown f x) where
   -- the file meets the local equations

@@ -1,4 +1,5 @@
 pub mod AddedShares
+pub mod Copied
 pub mod Filling
 pub mod Known
 pub mod Refusing

@@ -3,12 +3,9 @@ ghost use Rattle.std.specs.Prelude.{◌≡◌, ◌+◌, ◌<◌, ◌≤◌, Some
 ghost use Rattle.race_model.specs.BuiltFile.{IsBuilt};
 ghost use Rattle.retrograde.specs.UsualVersion.{usual_version};
 
-use crate::refusal::{OK, Refusal};
+use crate::refusal::{Refusal, SHORT};
 use crate::room::Room;
 use retrograde::{BuildFault, build_in_place};
-
-/// The status of a call whose answer has no room in what the caller lends.
-const SHORT: u32 = 8;
 
 /// Builds the database of a pip bound into the front of a room; `filled` is how many bytes it has.
 /// `work` is a room of at least as many bytes, which the build uses as it likes; both need
@@ -36,18 +33,7 @@ pub extern "C" fn bearoff_build(
         written: 0,
     };
     match build_in_place(bound, &mut built) {
-        Ok(()) => {
-            let Room {
-                bytes,
-                written: count,
-            } = built;
-            if count > room.len() {
-                return SHORT;
-            }
-            room[..count].copy_from_slice(&bytes[..count]);
-            *filled = count;
-            OK
-        }
+        Ok(()) => built.hand_over(room, filled),
         Err(BuildFault::OverBound) => Refusal::OverBound.status(),
         Err(_) => SHORT,
     }

@@ -1,7 +1,7 @@
 ghost use Rattle.std.specs.Prelude.{◌≡◌, ◌<◌, ◌≤◌, ◌+◌, ◌*◌, IsTrue, IfOk, OnOk, length};
 ghost use Rattle.race_model.specs.Positions.{IsPosition, pips};
 ghost use Rattle.race_model.specs.Ranks.{rank as rank_of, first_of, count_to};
-ghost use Rattle.race_model.specs.Versions.{version_by, record_length as length_of};
+ghost use Rattle.race_model.specs.Versions.{version_by, version_number, record_length as length_of};
 ghost use Rattle.race_model.specs.Files.{IsFile, version_of, bound_of, record_place, record_at, mean as mean_of};
 ghost use Rattle.race_model.specs.Strategies.{IsLeast};
 ghost use Rattle.bearoff_c.specs.Databases.{IsOpened, IsKnown};
@@ -10,7 +10,7 @@ ghost use Rattle.bearoff_c.specs.Refusals.{position_refusal, refusal_in};
 
 use crate::rank_table::RankTable;
 use crate::refusal::Refusal;
-use db_layout::{Place, RecordView, VERSION, record_length};
+use db_layout::{COMPACT_VERSION, Place, RecordView, VERSION, record_length};
 use fixed_fraction::Scaled;
 use home_board::Position;
 
@@ -108,8 +108,20 @@ impl<'a> Database<'a> {
         self.ranks.count_to(self.bound)
     }
 
+    /// The version of the file.
+    pub fn version(&self) -> u16
+        requires { IsTrue self.now.is_open }
+        ensures { result ≡ version_number (version_of self.now.bytes.now) }
+    {
+        if stated_version(self.bytes) == COMPACT_VERSION {
+            COMPACT_VERSION
+        } else {
+            VERSION
+        }
+    }
+
     /// The record of a position.
-    fn record(&self, position: &Position) -> RecordView<'_>
+    pub fn record(&self, position: &Position) -> RecordView<'_>
         requires opened { IsTrue self.now.is_open }
         requires within { pips position.now ≤ self.now.bound }
         ensures { result ≡ record_at self.now.bytes.now (rank_of position.now) }

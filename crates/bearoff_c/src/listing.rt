@@ -14,14 +14,11 @@ ghost use Rattle.bearoff_c.specs.Wides.{number_of};
 use crate::choice::Choice;
 use crate::database::{Counts, Database};
 use crate::playing::Turn;
-use crate::refusal::{OK, Refusal};
+use crate::refusal::{OK, Refusal, SHORT};
 use crate::wide_fraction::WideFraction;
 use fixed_fraction::Scaled;
 use home_board::Position;
 use legal_plays::results;
-
-/// The status of a call whose answer has no room in what the caller lends.
-const SHORT: u32 = 8;
 
 /// What a result of a roll costs, in rolls: the least mean after it less the least such mean among
 /// all results. Refused as `bearoff_play` is, else as `TooMany` where the result has more than 15

@@ -1,5 +1,6 @@
 //! What plays cost.
-ghost use Rattle.std.specs.Prelude.{◌≡◌, ◌↔◌, IsTrue, IsSome, IfSome, IfOk, OnOk, Err, None};
+ghost use Rattle.std.specs.Prelude.{◌≡◌, ◌↔◌, ◌≤◌, IsTrue, IsSome, IfSome, IfOk, OnOk, Err, None};
+ghost use Rattle.race_model.specs.Positions.{pips};
 ghost use Rattle.race_model.specs.Plays.{Legal};
 ghost use Rattle.race_model.specs.Ranks.{rank as rank_of};
 ghost use Rattle.race_model.specs.Files.{record_at, mean as mean_of, mean_at, play as play_of};
@@ -18,20 +19,32 @@ use home_board::Position;
 use legal_plays::play_to;
 
 impl<'a> Database<'a> {
+    /// The recorded mean of a position of at most the bound. None only where the bytes were changed
+    /// since they were checked.
+    pub fn mean_of(&self, position: &Position) -> Option<Scaled>
+        requires opened { IsTrue self.now.is_open }
+        requires within { pips position.now ≤ self.now.bound }
+        ensures some { IsSome result }
+        ensures recorded { IfSome result (λ rolls.
+            rolls ≡ mean_of self.now.bytes.now position.now) }
+    {
+        let _checkers = position.checkers();
+        match self.scaled(&Counts::of(position)) {
+            Ok(rolls) => Some(rolls),
+            Err(_) => None,
+        }
+    }
+
     /// The recorded mean of a result of a turn. None only where the bytes were changed since they
     /// were checked.
-    fn mean_after(&self, turn: &Turn<'_>, to: &Position) -> Option<Scaled>
+    pub fn mean_after(&self, turn: &Turn<'_>, to: &Position) -> Option<Scaled>
         requires opened { IsTrue self.now.is_open }
         requires known { ∥ IsKnown self.now.bytes.now turn.now.position ∥₁ }
         requires legal { Legal turn.now.position turn.now.roll to.now }
         ensures some { IsSome result }
         ensures recorded { IfSome result (λ rolls. rolls ≡ mean_of self.now.bytes.now to.now) }
     {
-        let _checkers = to.checkers();
-        match self.scaled(&Counts::of(to)) {
-            Ok(rolls) => Some(rolls),
-            Err(_) => None,
-        }
+        self.mean_of(to)
     }
 
     /// The mean after the recorded play of a turn: the least of its results. None only where the
@@ -67,6 +80,23 @@ impl<'a> Database<'a> {
         Some(mean(difference))
     }
 
+    /// What a result of a turn costs. None only where the bytes were changed since they were
+    /// checked.
+    pub fn loss_of(&self, turn: &Turn<'_>, to: &Position) -> Option<Fraction>
+        requires opened { IsTrue self.now.is_open }
+        requires record { turn.now.view
+            ≡ record_at self.now.bytes.now (rank_of turn.now.position) }
+        requires known { ∥ IsKnown self.now.bytes.now turn.now.position ∥₁ }
+        requires legal { Legal turn.now.position turn.now.roll to.now }
+        ensures some { IsSome result }
+        ensures loss { IfSome result (λ lost. IsFraction
+            (loss_of self.now.bytes.now turn.now.position turn.now.roll to.now) whole
+            lost.numerator lost.denominator) }
+    {
+        let least = self.least(turn)?;
+        self.lost(turn, least, to)
+    }
+
     /// What a result of a roll costs: the mean number of rolls after it less the least such mean
     /// among all results. Refused exactly as `loss_refusal` says, and else as `NotLegal` exactly
     /// where the roll doesn't lead there.
@@ -97,10 +127,7 @@ impl<'a> Database<'a> {
         if play_to(&turn.position, turn.roll, &after).is_none() {
             return Err(Refusal::NotLegal);
         }
-        let Some(least) = self.least(&turn) else {
-            return Err(Refusal::Changed);
-        };
-        match self.lost(&turn, least, &after) {
+        match self.loss_of(&turn, &after) {
             Some(lost) => Ok(lost),
             None => Err(Refusal::Changed),
         }

@@ -1,6 +1,7 @@
 ghost use Rattle.std.specs.Prelude.{◌≡◌, ◌<◌, ◌≤◌, ◌↔◌, IsTrue, Some, length};
 ghost use Rattle.race_model.specs.Ranks.{count_to};
-ghost use Rattle.race_model.specs.Files.{bound_of};
+ghost use Rattle.race_model.specs.Versions.{version_number};
+ghost use Rattle.race_model.specs.Files.{version_of, bound_of};
 ghost use Rattle.race_model.specs.RightFiles.{IsRight};
 ghost use Rattle.certificate.specs.declared.check_fault.CheckFault.{CheckFault as Fault};
 ghost use Rattle.certificate.specs.CheckFaults.{IsFirst, line_of};
@@ -69,7 +70,7 @@ fn opened<'a>(bytes: &'a [u8], checked: &Checked<Whole<'a>>) -> Database<'a>
 
 /// The status of a fault of a file: 16 to 27, and 28 for a read that failed, which bytes in memory
 /// never do.
-fn status(fault: &CheckFault) -> u32
+pub fn status(fault: &CheckFault) -> u32
     ensures { result ≡ fault_status fault.now }
 {
     match *fault {
@@ -87,6 +88,22 @@ fn status(fault: &CheckFault) -> u32
         CheckFault::Spread { .. } => 27,
         CheckFault::Read => 28,
     }
+}
+
+/// The version of the database's file: 1, whose records are full, or 2, whose records leave out the
+/// shares that are known. Refused as `NotOpen`; then `version` stays as it was.
+#[unsafe(no_mangle)]
+pub extern "C" fn bearoff_version(database: &Database<'_>, version: &mut u16) -> u32
+    ensures status { result ≡ status_of (open_refusal database.now.is_open) }
+    ensures value { result ≡ 0 →
+        version.new ≡ version_number (version_of database.now.bytes.now) }
+    ensures left { ¬ (result ≡ 0) → version.new ≡ version.old }
+{
+    if !database.is_open {
+        return Refusal::NotOpen.status();
+    }
+    *version = database.version();
+    OK
 }
 
 /// The pip bound of the database, 0 to 58. Refused as `NotOpen`; then `bound` stays as it was.

@@ -1,6 +1,6 @@
 //! What a roll is played with.
-ghost use Rattle.std.specs.Prelude.{◌≡◌, ℕ, List, IfOk, OnOk, IsSome, IfSome, IfNone};
-ghost use Rattle.race_model.specs.Positions.{IsPosition, IsFinished};
+ghost use Rattle.std.specs.Prelude.{◌≡◌, ◌≤◌, ℕ, List, IsTrue, IfOk, OnOk, IsSome, IfSome, IfNone};
+ghost use Rattle.race_model.specs.Positions.{IsPosition, IsFinished, pips};
 ghost use Rattle.race_model.specs.Plays.{Legal};
 ghost use Rattle.race_model.specs.Ranks.{rank as rank_of};
 ghost use Rattle.race_model.specs.Files.{record_at};
@@ -55,6 +55,23 @@ impl<'a> Database<'a> {
         })
     }
 
+    /// A position of at most the bound, a roll, and the record of the position.
+    pub fn turn_of(&self, position: &Position, roll: Roll) -> Turn<'_>
+        requires opened { IsTrue self.now.is_open }
+        requires within { pips position.now ≤ self.now.bound }
+        ensures position { result.position ≡ position.now }
+        ensures roll { result.roll ≡ roll }
+        ensures record { result.view ≡ record_at self.now.bytes.now (rank_of position.now) }
+        ensures known { ∥ IsKnown self.now.bytes.now position.now ∥₁ }
+    {
+        let _pips = position.pips();
+        Turn {
+            position: *position,
+            roll,
+            view: self.record(position),
+        }
+    }
+
     /// The position that the recorded play of a roll leads to. None only where the bytes were
     /// changed since they were checked.
     pub fn best(&self, turn: &Turn<'_>) -> Option<Position>
@@ -86,13 +103,30 @@ impl<'a> Database<'a> {
             counts.now.points (roll_of (face one) (face other)) answer.1) }
     {
         let turn = self.turn(counts, one, other)?;
-        let Some(to) = self.best(&turn) else {
-            return Err(Refusal::Changed);
-        };
-        match play_to(&turn.position, turn.roll, &to) {
-            Some(play) => Ok((play, to)),
+        match self.played(&turn) {
+            Some(answer) => Ok(answer),
             None => Err(Refusal::Changed),
         }
+    }
+
+    /// The recorded play of a turn, and the position that it leads to. None only where the bytes
+    /// were changed since they were checked.
+    pub fn played(&self, turn: &Turn<'_>) -> Option<(Play, Position)>
+        requires ranked { IsRankTable self.now.ranks }
+        requires record { turn.now.view
+            ≡ record_at self.now.bytes.now (rank_of turn.now.position) }
+        requires known { ∥ IsKnown self.now.bytes.now turn.now.position ∥₁ }
+        ensures some { IsSome result }
+        ensures recorded { IfSome result (λ answer.
+            answer.1 ≡ recorded self.now.bytes.now turn.now.position turn.now.roll) }
+        ensures first { IfSome result (λ answer. IsFirstPlay
+            turn.now.position turn.now.roll answer.1 (moves_of answer.0.items)) }
+        ensures legal { IfSome result (λ answer.
+            Legal turn.now.position turn.now.roll answer.1) }
+    {
+        let to = self.best(turn)?;
+        let play = play_to(&turn.position, turn.roll, &to)?;
+        Some((play, to))
     }
 }
 

@@ -4,6 +4,9 @@ ghost use Rattle.bearoff_c.specs.Refusals.{status_of};
 /// The status of a call that has answered.
 pub const OK: u32 = 0;
 
+/// The status of a call whose answer has no room in what the caller lends.
+pub const SHORT: u32 = 8;
+
 /// Why a call gives no answer, in the order of the tests.
 #[derive(Clone, Copy, Debug, PartialEq, Eq)]
 pub enum Refusal {

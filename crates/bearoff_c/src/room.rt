@@ -1,5 +1,6 @@
-ghost use Rattle.std.specs.Prelude.{◌≡◌, ◌≤◌, Some, length, take};
+ghost use Rattle.std.specs.Prelude.{◌≡◌, ◌<◌, ◌≤◌, ◌++◌, Some, length, take, drop, if◌then◌else◌, nat_le};
 
+use crate::refusal::{OK, SHORT};
 use std::io;
 use std::io::Write;
 
@@ -9,6 +10,28 @@ pub struct Room<'a> {
     pub bytes: &'a mut [u8],
     pub written: usize,
     pub ghost within: { written ≤ length bytes.now },
+}
+
+impl<'a> Room<'a> {
+    /// Copies what was written into the front of another room, and tells how many bytes it is: the
+    /// status 0. With the status 8, exactly where they have no room there, that room and the count
+    /// stay as they were.
+    pub fn hand_over(&self, room: &mut [u8], filled: &mut usize) -> u32
+        ensures status { result ≡ (if nat_le self.now.written (length room.old) then 0 else 8) }
+        ensures done { result ≡ 0 → (filled.new ≡ self.now.written)
+            × (room.new
+            ≡ take self.now.written self.now.bytes.now ++ drop self.now.written room.old) }
+        ensures left { ¬ (result ≡ 0) → room.new ≡ room.old }
+        ensures untold { ¬ (result ≡ 0) → filled.new ≡ filled.old }
+    {
+        let count = self.written;
+        if count > room.len() {
+            return SHORT;
+        }
+        room[..count].copy_from_slice(&self.bytes[..count]);
+        *filled = count;
+        OK
+    }
 }
 
 impl<'a> Write for Room<'a> {

@@ -1,4 +1,5 @@
-ghost use Rattle.std.specs.Prelude.{◌≡◌, ◌≤◌, ◌↔◌, IsTrue, length};
+//! Texts in buffers that the caller lends.
+ghost use Rattle.std.specs.Prelude.{◌≡◌, ◌+◌, ◌^◌, ◌<◌, ◌≤◌, ◌↔◌, ◌++◌, IsTrue, length, take, drop};
 ghost use Rattle.bearoff_c.specs.Buffers.{HasText};
 
 /// Writes a text into a buffer that the caller lends, where all of it has room, and says how many
@@ -13,4 +14,19 @@ pub fn put_text(text: &[u8], buffer: &mut [u8], needed: &mut usize) -> bool
     }
     buffer[..text.len()].copy_from_slice(text);
     true
+}
+
+/// Copies a part of a text to its place in a buffer, where it has room, and gives where it ends.
+pub fn copy_at(part: &[u8], buffer: &mut [u8], place: usize) -> usize
+    requires { place + length part.now < 2 ^ 32 }
+    ensures end { result ≡ place + length part.now }
+    ensures size { length buffer.new ≡ length buffer.old }
+    ensures copied { result ≤ length buffer.old → buffer.new
+        ≡ take place buffer.old ++ part.now ++ drop result buffer.old }
+{
+    let end = place + part.len();
+    if end <= buffer.len() {
+        buffer[place..end].copy_from_slice(part);
+    }
+    end
 }

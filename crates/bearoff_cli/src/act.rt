@@ -1,12 +1,12 @@
 //! The whole program, over the files of a system, a reader and two writers.
 use crate::fault::{Fault, write_fault};
-use crate::files::{build_file, read_file};
+use crate::files::{build_file, flush, read_file, upgrade_file};
 use crate::words::{Request, read_words};
 use arrayvec::ArrayString;
 use certificate::{CheckFault, Checked, check};
 use clap::Error;
 use clap::error::ErrorKind;
-use db_layout::write_bytes;
+use db_layout::{COMPACT_VERSION, write_bytes};
 use db_reader::{FileSource, Paged, Table, Whole};
 use epc_query::{audit_level, run, write_level};
 use home_board::MAX_BOUND;
@@ -27,10 +27,11 @@ const TURNS: u64 = 1 << 40;
 
 /// The whole program: does what the words (those after the program's own name) ask for, and gives
 /// the exit status. 0: done; 1: a file, the input, an output or memory failed; 2: the words are
-/// wrong, or the bound is over the greatest one; 3: the database was refused. At 1 and 3, and for
-/// a bound over the greatest one, one line is written to `errors`; for words that are wrong it is
-/// the text of `clap`. Where the database was refused nothing was written to `output`. (The
-/// words, the statuses and the lines are this project's profile.)
+/// wrong, or the bound is over the greatest one; 3: the database was refused, or is to be upgraded
+/// and is no old one. At 1 and 3, and for a bound over the greatest one, one line is written to
+/// `errors`; for words that are wrong it is the text of `clap`. Where the database was refused
+/// nothing was written to `output`. (The words, the statuses and the lines are this project's
+/// profile.)
 pub fn act<R: Files, S: AsStr, I: Read, O: Write, E: Write>(
     rt: &R,
     alloc: Global,
@@ -83,10 +84,12 @@ fn fulfil<R: Files, I: Read, O: Write>(
             cache: Some(records),
         } => answer_pages(rt, alloc, path, records, input, output),
         Request::Audit { path } => audit_database(rt, alloc, path, output),
+        Request::Upgrade { old, new } => upgrade_database(rt, alloc, old, new, output),
     }
 }
 
 /// Answers each line of the input over the database of 8 pips.
+#[inline(never)]
 fn answer_default<I: Read, O: Write>(
     alloc: Global,
     input: &mut I,
@@ -138,7 +141,18 @@ fn answer_lines<T: Table + Drop, I: Read, O: Write>(
     input: &mut I,
     output: &mut O,
 ) -> Result<(), Fault> {
-    let mut told = check(table);
+    reply(alloc, check(table), input, output)
+}
+
+/// Answers each line of the input over a database, where it was accepted.
+// so that its room is not on the stack while the database is checked
+#[inline(never)]
+fn reply<T: Table + Drop, I: Read, O: Write>(
+    alloc: Global,
+    mut told: Result<Checked<T>, (T, CheckFault)>,
+    input: &mut I,
+    output: &mut O,
+) -> Result<(), Fault> {
     run(alloc, accepted(&mut told)?, input, output, TURNS)?;
     Ok(())
 }
@@ -192,7 +206,16 @@ fn audit_database<R: Files, O: Write>(
     output: &mut O,
 ) -> Result<(), Fault> {
     let bytes = read_file(rt, alloc, path)?;
-    let mut told = check(Whole::new(bytes.as_slice()));
+    write_levels(check(Whole::new(bytes.as_slice())), output)
+}
+
+/// Writes a line for each pip count of a database, where it was accepted.
+// so that its room is not on the stack while the database is checked
+#[inline(never)]
+fn write_levels<T: Table + Drop, O: Write>(
+    mut told: Result<Checked<T>, (T, CheckFault)>,
+    output: &mut O,
+) -> Result<(), Fault> {
     let checked = accepted(&mut told)?;
     for pips in 0..=checked.bound() {
         let Ok(level) = audit_level(checked, pips) else {
@@ -205,10 +228,31 @@ fn audit_database<R: Files, O: Write>(
     flush(output)
 }
 
+/// Checks the database in an old file, writes it into a new one as a file of version 2, and says
+/// so. The new file is not opened where the old one was refused, or is of version 2 already.
+#[inline(never)]
+fn upgrade_database<R: Files, O: Write>(
+    rt: &R,
+    alloc: Global,
+    old: &str,
+    new: &str,
+    output: &mut O,
+) -> Result<(), Fault> {
+    let bytes = read_file(rt, alloc, old)?;
+    let mut told = check(Whole::new(bytes.as_slice()));
+    let checked = accepted(&mut told)?;
+    if checked.version() == COMPACT_VERSION {
+        return Err(Fault::NotOld);
+    }
+    upgrade_file(rt, alloc, checked, new)?;
+    write_count(Done::Upgraded, checked.bound(), checked.positions(), output)
+}
+
 /// What was done with a database.
 enum Done {
     Built,
     Checked,
+    Upgraded,
 }
 
 /// Writes what was done, with the pip bound and the number of positions.
@@ -222,6 +266,7 @@ fn write_count<O: Write>(
     match done {
         Done::Built => line.push_str("built pips "),
         Done::Checked => line.push_str("ok pips "),
+        Done::Upgraded => line.push_str("upgraded pips "),
     }
     line.push_str(Buffer::new().format(pips));
     line.push_str(" positions ");
@@ -231,12 +276,4 @@ fn write_count<O: Write>(
         return Err(Fault::Write);
     }
     flush(output)
-}
-
-/// Hands on what a writer may still hold.
-fn flush<O: Write>(output: &mut O) -> Result<(), Fault> {
-    match output.flush() {
-        Ok(()) => Ok(()),
-        Err(_) => Err(Fault::Write),
-    }
 }

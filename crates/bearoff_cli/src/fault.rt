@@ -4,7 +4,7 @@ ghost use Rattle.std.specs.Prelude.{◌≡◌, ◌≤◌};
 ghost use Rattle.certificate.specs.declared.check_fault.CheckFault.{CheckFault as Refusal};
 
 use arrayvec::ArrayString;
-use certificate::{CheckFault, fault_line};
+use certificate::{CheckFault, UpgradeFault, fault_line};
 use db_layout::write_bytes;
 use epc_query::RunFault;
 use retrograde::BuildFault;
@@ -46,19 +46,24 @@ pub enum Fault {
     /// The database was refused.
     #[error("the database was refused")]
     Refused(CheckFault),
+
+    /// The database that is to be upgraded is of version 2 already.
+    #[error("not an old database")]
+    NotOld,
 }
 
 impl Fault {
     /// The exit status: 1 for what failed outside the database, 2 for a bound that is too large,
-    /// 3 for a database that was refused.
+    /// 3 for a database that was refused, or that is no old one.
     pub fn status(&self) -> u8
         ensures over_bound { self.now ≡ Fault.OverBound → result ≡ 2 }
         ensures refused { (refusal : Refusal) → self.now ≡ Fault.Refused refusal → result ≡ 3 }
+        ensures not_old { self.now ≡ Fault.NotOld → result ≡ 3 }
         ensures known { 1 ≤ result }
     {
         match self {
             Fault::OverBound => 2,
-            Fault::Refused(_) => 3,
+            Fault::Refused(_) | Fault::NotOld => 3,
             _ => 1,
         }
     }
@@ -95,6 +100,16 @@ impl From<CheckFault> for Fault {
     }
 }
 
+impl From<UpgradeFault> for Fault {
+    fn from(fault: UpgradeFault) -> Self {
+        match fault {
+            UpgradeFault::NotOld => Fault::NotOld,
+            UpgradeFault::Read => Fault::File,
+            UpgradeFault::Write => Fault::Write,
+        }
+    }
+}
+
 impl From<RunFault> for Fault {
     fn from(fault: RunFault) -> Self {
         match fault {
@@ -119,6 +134,7 @@ pub fn write_fault<E: Write>(fault: &Fault, errors: &mut E) {
         Fault::Memory => line.push_str("memory"),
         Fault::Turns => line.push_str("turns"),
         Fault::OverBound => line.push_str("over-bound"),
+        Fault::NotOld => line.push_str("not-old"),
         Fault::Refused(refused) => {
             line.push_str("refused ");
             line.push_str(fault_line(refused).as_str());

@@ -1,5 +1,7 @@
 //! Files, read and written by blocks.
 use crate::fault::Fault;
+use certificate::Checked;
+use db_reader::Table;
 use retrograde::build;
 use std::alloc::Global;
 use std::fs;
@@ -46,14 +48,39 @@ fn read_block<'a, F: Read>(file: &mut F, block: &'a mut [u8; BLOCK]) -> Result<&
 /// Writes the database of a pip bound into a file, which is made anew. `Open` where it can't be
 /// made, and `Write` where a write fails: then the file may hold a prefix of the database.
 pub fn build_file<R: Files>(rt: &R, alloc: Global, pips: u8, path: &str) -> Result<(), Fault> {
+    let mut writer = create_file(rt, alloc, path)?;
+    build(alloc, pips, &mut writer)?;
+    flush(&mut writer)
+}
+
+/// Writes a checked database of version 1 into a file, which is made anew, as one of version 2.
+/// `Open` where it can't be made, and `Write` where a write fails: then the file may hold a prefix
+/// of the new database.
+pub fn upgrade_file<R: Files, T: Table>(
+    rt: &R,
+    alloc: Global,
+    checked: &mut Checked<T>,
+    path: &str,
+) -> Result<(), Fault> {
+    let mut writer = create_file(rt, alloc, path)?;
+    checked.upgrade(&mut writer)?;
+    flush(&mut writer)
+}
+
+/// A file that is made anew, to be written by blocks.
+fn create_file<R: Files>(rt: &R, alloc: Global, path: &str) -> Result<BufWriter<R::File>, Fault> {
     let Ok(file) = fs::create(rt, path) else {
         return Err(Fault::Open);
     };
-    let Ok(mut writer) = BufWriter::with_capacity(alloc, BLOCK, file) else {
-        return Err(Fault::Memory);
-    };
-    build(alloc, pips, &mut writer)?;
-    match writer.flush() {
+    match BufWriter::with_capacity(alloc, BLOCK, file) {
+        Ok(writer) => Ok(writer),
+        Err(_) => Err(Fault::Memory),
+    }
+}
+
+/// Hands on what a writer may still hold.
+pub fn flush<O: Write>(output: &mut O) -> Result<(), Fault> {
+    match output.flush() {
         Ok(()) => Ok(()),
         Err(_) => Err(Fault::Write),
     }

@@ -50,3 +50,5 @@ fn words_of(rt: &(impl env::Env + AllocGlobal)) -> Result<Vec<String>, Fault> {
 mod page_tests;
 #[cfg(test)]
 mod tests;
+#[cfg(test)]
+mod upgrade_tests;

@@ -66,14 +66,14 @@ impl<'a> Source for Counting<'a> {
 }
 
 /// The database of a bound, in memory.
-fn database(alloc: Global, bound: u8) -> Result<Vec<u8>, Fail> {
+pub fn database(alloc: Global, bound: u8) -> Result<Vec<u8>, Fail> {
     let mut file = Vec::new(alloc);
     build(alloc, bound, &mut file)?;
     Ok(file)
 }
 
 /// A table that the checker accepts.
-fn accepted<T: Table + Drop>(table: T) -> Result<Checked<T>, Fail> {
+pub fn accepted<T: Table + Drop>(table: T) -> Result<Checked<T>, Fail> {
     match check(table) {
         Ok(checked) => Ok(checked),
         Err((_, fault)) => Err(Fail::from(fault)),
@@ -89,7 +89,7 @@ fn pages<S: Source + Drop>(alloc: Global, source: S, records: u16) -> Result<Pag
 }
 
 /// Asserts the replies to the lines over this table.
-fn assert_replies<T: Table>(
+pub fn assert_replies<T: Table>(
     rt: &(impl Abort + AllocGlobal + Files),
     checked: &mut Checked<T>,
 ) -> Result<(), Fail> {

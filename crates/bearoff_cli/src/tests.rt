@@ -34,7 +34,7 @@ fn outcome_of(
 }
 
 /// Asserts the status, the whole output, and the whole of what was written to standard error.
-fn assert_outcome(
+pub fn assert_outcome(
     rt: &(impl Abort + AllocGlobal + Files),
     words: &[&str],
     input: &str,
@@ -48,14 +48,14 @@ fn assert_outcome(
 }
 
 /// A file of a test's own in the folder for temporary ones.
-fn path_of(rt: &(impl Env + AllocGlobal), name: &str) -> Result<String, Fail> {
+pub fn path_of(rt: &(impl Env + AllocGlobal), name: &str) -> Result<String, Fail> {
     let folder = env::temp_dir(rt)?;
     let folder = folder.as_str();
     Ok(format!(in rt.alloc(); "{folder}/garombyi-test-{name}.db")?)
 }
 
 /// The database of a bound, built by the program into a file.
-fn build(
+pub fn build(
     rt: &(impl Abort + AllocGlobal + Files),
     bound: &str,
     path: &str,
@@ -80,7 +80,7 @@ fn assert_refused(
 }
 
 /// Writes these bytes into a file's, as far as they reach.
-fn put(file: &mut [u8], place: usize, bytes: &[u8]) {
+pub fn put(file: &mut [u8], place: usize, bytes: &[u8]) {
     for (byte, new) in file.iter_mut().skip(place).zip(bytes) {
         *byte = *new;
     }
@@ -174,7 +174,8 @@ fn command_lines(rt: HostRuntime) -> Result<(), Fail> {
     assert_words_wrong(&rt, &["query", "--cache", "0", path]);
     assert_words_wrong(&rt, &["query", "--cache", "65536", path]);
     assert_words_wrong(&rt, &["query", path, path]);
-    assert_words_wrong(&rt, &["upgrade", path, path]);
+    assert_words_wrong(&rt, &["upgrade", path]);
+    assert_words_wrong(&rt, &["upgrade", path, path, path]);
     assert_words_wrong(&rt, &["nothing"]);
     assert_eq!(rt; fs::exists(&rt, path)?, false);
     assert_shown(&rt, &["--help"]);
@@ -183,6 +184,7 @@ fn command_lines(rt: HostRuntime) -> Result<(), Fail> {
     assert_shown(&rt, &["check", "--help"]);
     assert_shown(&rt, &["query", "-h"]);
     assert_shown(&rt, &["audit", "--help"]);
+    assert_shown(&rt, &["upgrade", "--help"]);
     Ok(())
 }
 
@@ -297,7 +299,7 @@ fn audits(rt: HostRuntime) -> Result<(), Fail> {
 
 /// A reader that fails, and a writer that does.
 #[derive(Drop)]
-struct Broken;
+pub struct Broken;
 
 impl Read for Broken {
     fn read(&mut self, _buf: &mut [u8]) -> io::Result<usize> {

@@ -22,6 +22,9 @@ pub enum Request<'a> {
 
     /// Check the database in a file, and tell the least and the greatest mean of each pip count.
     Audit { path: &'a str },
+
+    /// Check the database in an old file, and write it into a new one as a file of version 2.
+    Upgrade { old: &'a str, new: &'a str },
 }
 
 const ABOUT: &str =
@@ -35,6 +38,7 @@ const EXAMPLES: &str = "Examples:
   bearoff check race.db                 is every mean in it the least?
   bearoff query race.db <lines          answer each line
   bearoff audit race.db                 least and greatest mean of each pip count
+  bearoff upgrade race.db new.db        the same database as a file of version 2 (8 MB)
 
 Lines (a position is six counts, that of the ace point first; a roll is two digits):
   mean 0,0,0,0,0,1        the mean number of rolls and the effective pip count
@@ -45,7 +49,7 @@ Lines (a position is six counts, that of the ace point first; a roll is two digi
   rank 0,0,0,0,4,4        the place of a position in the database
 
 Exit status: 0 done; 1 a file, the input, the output or memory failed; 2 the words are wrong
-or N is over the greatest bound; 3 the database was refused.";
+or N is over the greatest bound; 3 the database was refused, or is no old one to upgrade.";
 
 const FILE_HELP: &str = "A database file, from `bearoff build` or from anybody else";
 
@@ -57,13 +61,25 @@ const BUILD_STATUSES: &str =
     "Exit status: 0 the file was written; 1 it could not be written (a prefix of it may stand there,
 which no check accepts), or memory failed; 2 the words are wrong or N is over the greatest bound.";
 
+const UPGRADE_STATUSES: &str =
+    "Exit status: 0 NEW was written; 1 a file, the output or memory failed (a prefix of NEW may
+stand there, which no check accepts); 2 the words are wrong; 3 OLD was refused, or is new already.";
+
 /// What the words after the program's own name ask for. An error of `clap`'s is a mistake in the
 /// words, a help text that they ask for, or want of memory.
+// so that its room is not on the stack while the request is fulfilled
+#[inline(never)]
 pub fn read_words<'a, S: AsStr>(alloc: Global, words: &'a [S]) -> Result<Request<'a>, Error> {
     let matches = command(alloc)?.try_get_matches_from(words)?;
     let Some((name, chosen)) = matches.subcommand() else {
         return Ok(Request::Default);
     };
+    if name == "upgrade" {
+        return match (chosen.get_str("OLD"), chosen.get_str("NEW")) {
+            (Some(old), Some(new)) => Ok(Request::Upgrade { old, new }),
+            _ => missing(alloc, "OLD or NEW is missing"),
+        };
+    }
     let Some(path) = chosen.get_str("FILE") else {
         return missing(alloc, "FILE is missing");
     };
@@ -104,7 +120,8 @@ fn command<'a>(alloc: Global) -> Result<Command<'a>, AllocError> {
             alloc,
             "audit",
             "Checks FILE, then tells the least and the greatest mean of each pip count",
-        )?)
+        )?)?
+        .subcommand(upgrade_command(alloc)?)
 }
 
 /// `build --pips N FILE`.
@@ -138,6 +155,21 @@ fn query_command<'a>(alloc: Global) -> Result<Command<'a>, AllocError> {
         "Checks FILE, then answers each line of standard input",
     )?
     .arg(cache)
+}
+
+/// `upgrade OLD NEW`.
+fn upgrade_command<'a>(alloc: Global) -> Result<Command<'a>, AllocError> {
+    let old = Arg::new(alloc, "OLD").required(true).help(
+        "A database file of version 1, as `bearoff build` writes it up to 44 pips",
+    );
+    let new = Arg::new(alloc, "NEW").required(true).help(
+        "Where it is written as version 2; a file that stands there is replaced, also OLD itself",
+    );
+    Command::new(alloc, "upgrade")
+        .about("Checks OLD, then writes the same database into NEW as a smaller file of version 2")
+        .after_help(UPGRADE_STATUSES)
+        .arg(old)?
+        .arg(new)
 }
 
 /// A command whose only word is a file.

@@ -1,19 +1,41 @@
 -- The means that are kept, with one more.
-use Rattle.std.proofs.Common.{◌≡◌, ◌≢◌, ⊎_elim, ℕ, ◌+◌, ◌<◌, List, slice_index, sym, ap, ◌∙◌, arith}
-use Rattle.std.proofs.lemmas.Bool.{cases_lt}
+use Rattle.std.proofs.Common.{◌≡◌, ◌≢◌, ⊎_elim, ℕ, ◌+◌, ◌-◌, ◌<◌, ◌≤◌, List, sym, ap, ◌∙◌, arith}
+use Rattle.std.proofs.lemmas.Bool.{cases_lt, lt-ltb, le-ltb}
 use Rattle.race_model.specs.Files.{mean_at}
+use Rattle.certificate.specs.KeptMeans.{place_of, kept_mean}
+
+-- the place of a rank below the room
+place_of-low : (room r : ℕ) → r < room → place_of room r ≡ r
+unfolding place_of
+place_of-low room r low = rw (lt-ltb r room low)
+
+-- .. and of another one
+place_of-high : (room r : ℕ) → room ≤ r → place_of room r ≡ r - room
+unfolding place_of
+place_of-high room r high = rw (le-ltb r room high)
+
+-- ranks that are less than the room apart have places of their own
+pub places_apart : (room r n : ℕ) → r < n → n < r + room → place_of room r ≢ place_of room n
+places_apart room r n below near e = ⊎_elim
+    (λ low. ⊎_elim
+    (λ both. omega (arith, place_of-low room r low, place_of-low room n both))
+    (λ past. omega (arith, place_of-low room r low, place_of-high room n past))
+    (cases_lt n room))
+    (λ high.
+    let past : room ≤ n = omega arith in
+    omega (arith, place_of-high room r high, place_of-high room n past))
+    (cases_lt r room)
 
 -- where they were those of the file, they still are
-pub accepted-mean_more : (f before after : List ℕ) (rank : ℕ)
-    → slice_index after rank ≡ mean_at f rank
-    → ((r : ℕ) → r ≢ rank → slice_index after r ≡ slice_index before r)
-    → ((r : ℕ) → r < rank → slice_index before r ≡ mean_at f r)
-    → (r : ℕ) → r < rank + 1 → slice_index after r ≡ mean_at f r
-accepted-mean_more f before after rank here others are r lt = ⊎_elim
-    (λ less.
-    let other : r ≢ rank = omega arith in
-    others r other ∙ are r less)
+pub accepted-mean_more : (f before after : List ℕ) (room rank : ℕ)
+    → kept_mean room after rank ≡ mean_at f rank
+    → ((r : ℕ) → place_of room r ≢ place_of room rank →
+    kept_mean room after r ≡ kept_mean room before r)
+    → ((r : ℕ) → r < rank → rank ≤ r + room → kept_mean room before r ≡ mean_at f r)
+    → (r : ℕ) → r < rank + 1 → rank + 1 ≤ r + room → kept_mean room after r ≡ mean_at f r
+accepted-mean_more f before after room rank here others are r lt near = ⊎_elim
+    (λ less. others r (places_apart room r rank less (omega arith)) ∙ are r less (omega arith))
     (λ more.
     let same : r ≡ rank = omega arith in
-    ap (slice_index after) same ∙ (here ∙ ap (mean_at f) (sym same)))
+    ap (kept_mean room after) same ∙ (here ∙ ap (mean_at f) (sym same)))
     (cases_lt r rank)

@@ -8,3 +8,4 @@ pub mod KeptMeans
 pub mod NumberTests
 pub mod RecordTests
 pub mod FileTests
+pub mod Upgrades

@@ -1,6 +1,6 @@
 -- What is kept of a table that was accepted.
 use Rattle.std.specs.Prelude.{◌≡◌, ℕ, List, Option, Some, None}
-use Rattle.race_model.specs.Versions.{version_by}
+use Rattle.race_model.specs.Versions.{Version, full, version_by}
 use Rattle.race_model.specs.Files.{version_of, bound_of}
 use Rattle.race_model.specs.LocalEquations.{IsLocal}
 use Rattle.db_layout.specs.declared.header.Header.{Header}
@@ -10,6 +10,11 @@ use Rattle.db_reader.specs.Telling.{WhereTold}
 abbrev pub bound_in : Option Header → ℕ
 bound_in None = 0
 bound_in (Some header) = header.bound
+
+-- .. and its version
+abbrev pub version_in : Option Header → Version
+version_in None = full
+version_in (Some header) = version_by header.version
 
 -- the table has accepted this header, and the bytes that it tells
 -- meet the local equations and have its bound and its version

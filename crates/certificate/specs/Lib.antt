@@ -4,4 +4,6 @@ pub mod RecordFaults
 pub mod CheckFaults
 pub mod Accepted
 pub mod QueryFaults
+pub mod KeptMeans
 pub mod LowerRecords
+pub mod Upgrades

@@ -2,7 +2,7 @@ ghost use Rattle.std.specs.Prelude.{◌≡◌, ℕ, ◌<◌, ◌≤◌, ◌↔�
 ghost use Rattle.race_model.specs.Positions.{IsPosition, IsFinished, pips};
 ghost use Rattle.race_model.specs.Plays.{Legal};
 ghost use Rattle.race_model.specs.Ranks.{rank as rank_of, count_to};
-ghost use Rattle.race_model.specs.Versions.{version_number};
+ghost use Rattle.race_model.specs.Versions.{compact, version_number};
 ghost use Rattle.race_model.specs.Files.{version_of, bound_of, mean as mean_of, spread as share_of};
 ghost use Rattle.race_model.specs.LocalEquations.{recorded, IsLocal};
 ghost use Rattle.race_model.specs.RightFiles.{IsRight, follow};
@@ -12,21 +12,26 @@ ghost use Rattle.race_model.specs.FirstPlays.{IsFirstPlay};
 ghost use Rattle.legal_plays.specs.MoveLists.{moves_of};
 ghost use Rattle.db_layout.specs.Records.{IsVersion};
 ghost use Rattle.db_reader.specs.Telling.{WhereTold};
-ghost use Rattle.certificate.specs.Accepted.{bound_in};
+ghost use Rattle.certificate.specs.Accepted.{bound_in, version_in};
 ghost use Rattle.certificate.specs.CheckFaults.{IsFirst, CheckCauses};
 ghost use Rattle.certificate.specs.QueryFaults.{RefusesNumbers, RefusesPlays, QueryCounted};
+ghost use Rattle.certificate.specs.Upgrades.{WritesUpgrade, IsRefusedBy, UpgradeCounted};
+ghost use Rattle.std.specs.Io.KnownBytes.{Keeps};
 
 use crate::check_fault::CheckFault;
 use crate::checker::check_records;
 use crate::numbers::{mean_in, spread_in};
 use crate::query_fault::QueryFault;
-use db_layout::Header;
+use crate::upgrade_fault::UpgradeFault;
+use crate::upgrading::write_upgrade;
+use db_layout::{COMPACT_VERSION, Header};
 use db_reader::{Record, Table};
 use fixed_fraction::{Fraction, Scaled, Spread, epc, mean};
 use home_board::Position;
 use legal_plays::{Play, Roll, play_to};
 use race_model::laws;
 use ranking::Ranks;
+use std::io::Write;
 use std::marker::Model;
 
 /// A table that was accepted. Where it tells its bytes they are a right database: for each
@@ -80,14 +85,16 @@ pub fn check<T: Table>(mut table: T) -> Result<Checked<T>, (T, CheckFault)>
 {
     laws::law_right();
     let ranks = Ranks::new();
-    match check_records(&mut table, &ranks) {
-        Ok(header) => Ok(Checked {
-            table,
-            header,
-            ranks,
-        }),
-        Err(fault) => Err((table, fault)),
-    }
+    let header = match check_records(&mut table, &ranks) {
+        Ok(header) => header,
+        Err(fault) => return Err((table, fault)),
+    };
+    // a `match` with this result would have room for a second one on the stack
+    Ok(Checked {
+        table,
+        header,
+        ranks,
+    })
 }
 
 impl<T: Table> Checked<T> {
@@ -106,6 +113,7 @@ impl<T: Table> Checked<T> {
     /// The version of the accepted header, 1 or 2. Where the table tells its bytes, it is theirs.
     pub fn version(&self) -> u16
         ensures known { IsVersion result }
+        ensures accepted { result ≡ version_number (version_in (T.accepted self.now)) }
         ensures version { WhereTold (T.tells self.now)
             (λ file. result ≡ version_number (version_of file)) }
     {
@@ -270,5 +278,33 @@ impl<T: Table> Checked<T> {
             return Err(QueryFault::Read);
         };
         Ok((play, to))
+    }
+
+    /// Writes the database as a file of version 2, which has the same bound, means, plays and
+    /// shares, and so the same reply to each line (`law_upgrade`). The plays are the recorded
+    /// ones, also where the builder would record others. Refused as `NotOld` exactly where the
+    /// file is of version 2: nothing was written; else as `Read`, or as `Write` where a `write`
+    /// failed or took no byte: a prefix of the new file was written. It takes no memory. (This
+    /// project's profile.)
+    pub fn upgrade<W: Write>(&mut self, writer: &mut W) -> Result<(), UpgradeFault>
+        ensures not_old { (result ≡ Err UpgradeFault.NotOld)
+            ↔ (version_in (T.accepted self.old) ≡ compact) }
+        ensures version { WhereTold (T.tells self.old)
+            (λ file. version_in (T.accepted self.old) ≡ version_of file) }
+        ensures nothing { result ≡ Err UpgradeFault.NotOld →
+            Keeps (W.contents writer.old) (W.contents writer.new) }
+        ensures upgraded { WhereTold (T.tells self.old) (λ file. OnOk result
+            (WritesUpgrade file (W.contents writer.old) (W.contents writer.new))) }
+        ensures refused { WhereTold (T.tells self.old) (λ file. IfErr result
+            (IsRefusedBy file (W.contents writer.old) (W.contents writer.new))) }
+        ensures stays { T.tells self.new ≡ T.tells self.old }
+        ensures accepted { T.accepted self.new ≡ T.accepted self.old }
+        ensures cause { WhereTold (T.tells self.old)
+            (λ _. UpgradeCounted (T.failures self.old) (T.failures self.new) result) }
+    {
+        if self.header.version == COMPACT_VERSION {
+            return Err(UpgradeFault::NotOld);
+        }
+        write_upgrade(&mut self.table, &self.ranks, &self.header, writer)
     }
 }

@@ -1,11 +1,12 @@
 //! The check of all records of a table, by rising rank.
-ghost use Rattle.std.specs.Prelude.{◌≡◌, ℕ, List, Some, IfOk, IfErr, OnOk};
+ghost use Rattle.std.specs.Prelude.{◌≡◌, ℕ, ◌+◌, ◌<◌, ◌≤◌, List, Some, IfOk, IfErr, OnOk};
 ghost use Rattle.race_model.specs.Versions.{version_by};
 ghost use Rattle.race_model.specs.Files.{version_of, bound_of};
 ghost use Rattle.race_model.specs.LocalEquations.{IsLocal};
 ghost use Rattle.db_reader.specs.Telling.{WhereTold};
 ghost use Rattle.db_reader.specs.Reads.{HasHeader};
 ghost use Rattle.certificate.specs.CheckFaults.{IsFirst, CheckCounted};
+ghost use Rattle.certificate.specs.KeptMeans.{HasRoom};
 
 use crate::check_fault::{CheckFault, fault_at};
 use crate::kept::LowerRecords;
@@ -14,8 +15,17 @@ use db_layout::Header;
 use db_reader::{Record, Table, TableFault};
 use ranking::Ranks;
 
+/// How many means are kept to 44 pips: those of all positions.
+const ROOM_TO_44: usize = 26314;
+
+/// How many means are kept to 58 pips: a throw takes at most 24 pips, and no 25 pip counts in a
+/// row have more positions.
+const ROOM_TO_58: usize = 35798;
+
 /// The header of a table whose records meet the local equations, or the first fault. It takes no
 /// memory, and adds a stored number to others only where it was accepted before.
+// so that the room of `check` is no larger than its result
+#[inline(never)]
 pub fn check_records<T: Table>(table: &mut T, ranks: &Ranks) -> Result<Header, CheckFault>
     ensures stays { T.tells table.new ≡ T.tells table.old }
     ensures accepted { IfOk result (λ header. T.accepted table.new ≡ Some header) }
@@ -33,15 +43,27 @@ pub fn check_records<T: Table>(table: &mut T, ranks: &Ranks) -> Result<Header, C
         Err(TableFault::Bad(fault)) => return Err(CheckFault::Header(fault)),
         Err(TableFault::Read) => return Err(CheckFault::Read),
     };
-    check_under(table, ranks, header)
+    if usize::from(header.count) <= ROOM_TO_44 {
+        check_under::<T, ROOM_TO_44>(table, ranks, header)
+    } else {
+        check_under::<T, ROOM_TO_58>(table, ranks, header)
+    }
 }
 
-/// The same, where the table has accepted this header.
+/// The same, where the table has accepted this header, with room for the means of so many
+/// ranks.
 // so that its room is on the stack while it checks, and not while the header is read or its
 // caller goes on
 #[inline(never)]
-fn check_under<T: Table>(table: &mut T, ranks: &Ranks, header: Header) -> Result<Header, CheckFault>
+fn check_under<T: Table, const ROOM: usize>(
+    table: &mut T,
+    ranks: &Ranks,
+    header: Header,
+) -> Result<Header, CheckFault>
     requires header { T.accepted table.old ≡ Some header }
+    requires room { header.count ≤ ROOM + ROOM }
+    requires near { (r : ℕ) → r < header.count → HasRoom ROOM r }
+    requires small { ROOM ≤ 46062 }
     requires file { WhereTold (T.tells table.old)
         (λ file. HasHeader file header) }
     ensures stays { T.tells table.new ≡ T.tells table.old }
@@ -52,7 +74,7 @@ fn check_under<T: Table>(table: &mut T, ranks: &Ranks, header: Header) -> Result
     ensures cause { WhereTold (T.tells table.old)
         (λ _. CheckCounted (T.failures table.old) (T.failures table.new) result) }
 {
-    let mut lower = LowerRecords::new();
+    let mut lower: LowerRecords<ROOM> = LowerRecords::new();
     let mut own = Record::new();
     let mut room = Record::new();
     for rank in 0..header.count {

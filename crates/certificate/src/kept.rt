@@ -6,69 +6,83 @@ ghost use Rattle.race_model.specs.Dice.{roll_at};
 ghost use Rattle.race_model.specs.Ranks.{rank as rank_of};
 ghost use Rattle.race_model.specs.BestPlays.{IsBestPlay};
 ghost use Rattle.least_plays.specs.Known.{Knows};
+ghost use Rattle.certificate.specs.KeptMeans.{place_of, kept_mean, HasRoom};
 
 use home_board::Position;
 use least_plays::{LeastPlays, Means};
 use ranking::Ranks;
 use std::marker::Model;
 
-/// How many positions have at most 58 pips.
-const RANKS: usize = 46062;
-
-/// The recorded means of the ranks whose records were accepted.
+/// The recorded means of the last `ROOM` ranks whose records were accepted: ranks from `ROOM` on
+/// have places again from the first one on.
 #[derive(Drop)]
-pub struct AcceptedMeans {
-    means: [u128; RANKS],
+pub struct AcceptedMeans<const ROOM: usize> {
+    means: [u128; ROOM],
 }
 
-// Clauses see a number for each rank.
-impl Model for AcceptedMeans {
+// Clauses see a number for each place.
+impl<const ROOM: usize> Model for AcceptedMeans<ROOM> {
     ghost use Rattle.std.specs.Prelude.{◌≡◌, ℕ, List, length};
 
     ghost Value = { List ℕ };
 
     ghost view = { λ accepted. accepted.means };
 
-    ghost invariant = { λ accepted. length accepted.means ≡ 46062 };
+    ghost invariant = { λ accepted. length accepted.means ≡ ROOM };
 }
 
-impl AcceptedMeans {
+impl<const ROOM: usize> AcceptedMeans<ROOM> {
     /// None was accepted.
     fn new() -> Self {
-        AcceptedMeans { means: [0; RANKS] }
+        AcceptedMeans { means: [0; ROOM] }
     }
 
-    /// The mean of one rank more.
+    /// The mean of one rank more, in the place of the one that is `ROOM` ranks before it.
+    #[tactic(auto, unfolding(crate::specs::KeptMeans::kept_mean))]
     fn set(&mut self, rank: u16, mean: u128)
-        requires { rank < 46062 }
-        ensures mean { slice_index self.new rank ≡ mean }
-        ensures others { (r : ℕ) → r ≢ rank → slice_index self.new r ≡ slice_index self.old r }
+        requires { rank < ROOM + ROOM }
+        ensures mean { kept_mean ROOM self.new rank ≡ mean }
+        ensures others { (r : ℕ) → place_of ROOM r ≢ place_of ROOM rank →
+            kept_mean ROOM self.new r ≡ kept_mean ROOM self.old r }
     {
-        self.means[usize::from(rank)] = mean;
+        self.means[place_of(rank, ROOM)] = mean;
     }
+}
+
+/// The place of a rank.
+#[tactic(auto, unfolding(crate::specs::KeptMeans::place_of))]
+fn place_of(rank: u16, room: usize) -> usize
+    requires { rank < room + room }
+    ensures value { result ≡ place_of room rank }
+    ensures range { result < room }
+    ensures few { result ≤ rank }
+{
+    let rank = usize::from(rank);
+    if rank < room { rank } else { rank - room }
 }
 
 /// They are what the best plays go by.
-impl Means for AcceptedMeans {
-    ghost mean = { λ accepted. slice_index accepted };
+impl<const ROOM: usize> Means for AcceptedMeans<ROOM> {
+    ghost mean = { λ accepted. kept_mean ROOM accepted };
 
-    ghost count = { λ accepted. 46062 };
+    ghost count = { λ accepted. ROOM + ROOM };
 
+    #[tactic(auto, unfolding(crate::specs::KeptMeans::kept_mean))]
     fn mean(&self, rank: u16) -> u128 {
-        self.means[usize::from(rank)]
+        self.means[place_of(rank, ROOM)]
     }
 }
 
-/// The means of the records that were accepted, and what the best plays of the next position are
-/// found by. It takes no memory but its own: 1,149,264 bytes, which lie where the value lies, as
-/// on the stack of `check`; so lend it by `&mut`.
+/// The means of the last `ROOM` records that were accepted, and what the best plays of the next
+/// position are found by. It takes no memory but its own: 16 bytes for each mean and 412,272 more,
+/// which lie where the value lies, as on the stack of `check`; so lend it by `&mut`.
 #[derive(Drop)]
-pub struct LowerRecords {
-    pub means: AcceptedMeans,
+pub struct LowerRecords<const ROOM: usize> {
+    pub means: AcceptedMeans<ROOM>,
     pub plays: LeastPlays,
 }
 
-impl LowerRecords {
+impl<const ROOM: usize> LowerRecords<ROOM> {
     /// No record was accepted: the next one is that of rank 0.
     pub fn new() -> Self
         ensures { (mean : ℕ → ℕ) → Knows mean result.plays 0 }
@@ -83,13 +97,14 @@ impl LowerRecords {
     pub fn best_plays(&mut self, ranks: &Ranks, position: &Position) -> [u16; 21]
         requires position { IsPosition position.now }
         requires low { pips position.now ≤ 58 }
-        requires known { Knows (slice_index self.old.means) self.old.plays
+        requires room { rank_of position.now ≤ ROOM + ROOM }
+        requires known { Knows (kept_mean ROOM self.old.means) self.old.plays
             (rank_of position.now) }
         ensures means { self.new.means ≡ self.old.means }
-        ensures known { Knows (slice_index self.new.means) self.new.plays
+        ensures known { Knows (kept_mean ROOM self.new.means) self.new.plays
             (rank_of position.now + 1) }
         ensures best { (i : ℕ) → i < 21 →
-            IsBestPlay (slice_index self.old.means) position.now (roll_at i)
+            IsBestPlay (kept_mean ROOM self.old.means) position.now (roll_at i)
             (slice_index result i) }
         ensures len { length result ≡ 21 }
     {
@@ -98,12 +113,13 @@ impl LowerRecords {
 
     /// Keeps the mean of the record of this rank, whose best plays were found.
     pub fn accept(&mut self, rank: u16, mean: u128)
-        requires room { rank < 46062 }
-        requires known { Knows (slice_index self.old.means) self.old.plays (rank + 1) }
-        ensures mean { slice_index self.new.means rank ≡ mean }
-        ensures others { (r : ℕ) → r ≢ rank →
-            slice_index self.new.means r ≡ slice_index self.old.means r }
-        ensures known { Knows (slice_index self.new.means) self.new.plays (rank + 1) }
+        requires room { rank < ROOM + ROOM }
+        requires near { HasRoom ROOM rank }
+        requires known { Knows (kept_mean ROOM self.old.means) self.old.plays (rank + 1) }
+        ensures mean { kept_mean ROOM self.new.means rank ≡ mean }
+        ensures others { (r : ℕ) → place_of ROOM r ≢ place_of ROOM rank →
+            kept_mean ROOM self.new.means r ≡ kept_mean ROOM self.old.means r }
+        ensures known { Knows (kept_mean ROOM self.new.means) self.new.plays (rank + 1) }
     {
         self.means.set(rank, mean);
     }

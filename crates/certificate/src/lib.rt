@@ -17,11 +17,15 @@ mod numbers;
 mod plays;
 mod query_fault;
 mod record_check;
+mod upgrade_fault;
+mod upgrading;
 
 pub use check_fault::CheckFault;
 pub use checked::{Checked, check};
 pub use lines::fault_line;
+pub use numbers::spread_in;
 pub use query_fault::QueryFault;
+pub use upgrade_fault::UpgradeFault;
 
 #[cfg(test)]
 mod tests;

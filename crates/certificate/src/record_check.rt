@@ -11,6 +11,7 @@ ghost use Rattle.fixed_fraction.specs.Totals.{IsAdded};
 ghost use Rattle.db_reader.specs.Telling.{WhereTold};
 ghost use Rattle.db_reader.specs.Reads.{HasHeader, HasRecord};
 ghost use Rattle.certificate.specs.PlayFaults.{FirstOfPlays};
+ghost use Rattle.certificate.specs.KeptMeans.{HasRoom};
 ghost use Rattle.certificate.specs.LowerRecords.{IsLower};
 ghost use Rattle.certificate.specs.RecordNumbers.{shares_of, AreSumsOf};
 ghost use Rattle.certificate.specs.RecordFaults.{IsFirstFaultAt, of_record, SumsCounted, RecordCounted};
@@ -141,18 +142,22 @@ fn sum_plays<T: Table>(
 }
 
 /// Tests the record of a rank of a table in which each record of lower rank was accepted, and
-/// keeps of it what the records of higher rank are tested by.
-pub fn check_record<T: Table>(
+/// keeps of it what the records of higher rank are tested by, where there is room for the
+/// means of so many ranks.
+pub fn check_record<T: Table, const ROOM: usize>(
     table: &mut T,
     ranks: &Ranks,
     header: Header,
     rank: u16,
-    lower: &mut LowerRecords,
+    lower: &mut LowerRecords<ROOM>,
     own: &mut Record,
     room: &mut Record,
 ) -> Result<(), RecordFault>
     requires header { T.accepted table.old ≡ Some header }
     requires rank { rank < header.count }
+    requires room { header.count ≤ ROOM + ROOM }
+    requires near { HasRoom ROOM rank }
+    requires small { ROOM ≤ 46062 }
     requires file { WhereTold (T.tells table.old)
         (λ file. HasHeader file header) }
     requires lower { WhereTold (T.tells table.old)

@@ -2,7 +2,20 @@
 use Rattle.std.proofs.Common.{ℕ, ◌+◌, List, [], ◌++◌, take, drop, Option, Some, None, sym, subst, ◌∙◌, append_assoc}
 use Rattle.std.proofs.lemmas.List.{append-nil}
 use Rattle.std.proofs.Math.Seq.{take-add}
+use Rattle.std.specs.Prelude.{◌≡◌, Result, Ok, Err, IfErr}
+use Rattle.std.specs.Result.{OnErr, IsErrAnd}
 use Rattle.std.specs.Io.KnownBytes.{Appends, Keeps}
+
+-- what holds at an error holds on an error
+pub on-error : {T E P : Type 0} (r : Result T E) → P → OnErr r P
+on-error (Ok x) p = tt
+on-error (Err e) p = p
+
+-- .. and so what holds of the one error that there can be
+pub one-error : {T E : Type 0} (r : Result T E) (e : E) (P : E → Type 0) →
+    IsErrAnd r (λ y. y ≡ e) → P e → IfErr r P
+one-error (Ok x) e P h p = tt
+one-error (Err y) e P h p = subst P (sym h) p
 
 -- bytes that nothing was done to have grown by none
 pub appends_none : (old : Option (List ℕ)) → Appends old old []

@@ -1,4 +1,6 @@
 pub mod Bounds
 pub mod Bytes
 pub mod Known
+pub mod Prefixes
 pub mod RecordPlaces
+pub mod WholeFiles

@@ -1,3 +1,4 @@
 pub mod HeaderFaults
 pub mod Records
+pub mod WholeFiles
 pub mod Writes

@@ -7,14 +7,14 @@ use Rattle.std.proofs.lemmas.List.Elements.{All-contains_itself}
 use Rattle.race_model.specs.Positions.{Board, IsPosition, finished}
 use Rattle.race_model.specs.Dice.{Throw}
 use Rattle.race_model.specs.Plays.{Legal}
-use Rattle.race_model.specs.Files.{spread}
+use Rattle.race_model.specs.Files.{bound_of, spread}
 use Rattle.race_model.specs.Losses.{loss}
 use Rattle.race_model.specs.Queries.{mean_query, dist_query, play_query, loss_query, moves_query, rank_query, IsAccepted}
 use Rattle.race_model.specs.Replies.{IsSharePart, IsDistReply, IsPlayReply, IsChoicePart, IsMovesReply, IsReply, answered, refused, fraction_text}
 use Rattle.epc_query.specs.declared.reply.Choice.{Choice}
 use Rattle.epc_query.specs.declared.reply.Reply.{Reply}
 use Rattle.epc_query.specs.declared.reply.Reply.TheVariants.{Mean, Dist, Play, Loss, Moves, Rank, Refused}
-use Rattle.epc_query.specs.Texts.{IsTextOf, why, choice_text, position_text}
+use Rattle.epc_query.specs.Texts.{IsTextOf, why, choice_text, list_text, position_text}
 use Rattle.epc_query.specs.Answers.{HasLoss, AreChoices, IsReplyTo}
 use Rattle.epc_query.proofs.Texts.{position_text_states}
 
@@ -98,6 +98,15 @@ moves_reply f x v choices text legal are e = record {
 
 module _ (position : (x : Board) (v : Throw) (y : Board) → IsPosition x → Legal x v y
     → IsPosition y) where
+  -- the text of every result of a roll by what it costs is the reply to the line that asks so
+  pub list_is_reply : (f line : List ℕ) (x : Board) (v : Throw) (choices : List Choice)
+      → IsAccepted (bound_of f) line (moves_query x v) → AreChoices f x v choices
+      → IsReply f line (list_text choices ++ 10 ∷ [])
+  list_is_reply f line x v choices accepted are =
+      answered (moves_query x v) (list_text choices) accepted
+      (moves_reply f x v choices (list_text choices)
+      (λ y legal. position x v y (moves_position _ line x v accepted) legal) are refl) refl
+
   -- the text of what a line is answered with is the reply
   pub reply_text : (f line : List ℕ) (reply : Reply) (text : List ℕ) → IsReplyTo f line reply
       → IsTextOf reply text
@@ -139,9 +148,7 @@ module _ (position : (x : Board) (v : Throw) (y : Board) → IsPosition x → Le
         is,
       ) refl
   reply_text f line (Moves choices) text (x, v, accepted, are) is =
-      answered (moves_query x v) text accepted
-      (moves_reply f x v choices.items text
-      (λ y legal. position x v y (moves_position _ line x v accepted) legal) are is) refl
+      rw is (list_is_reply f line x v choices.items accepted are)
   reply_text f line (Rank number) text (x, accepted, same) is =
       answered (rank_query x) text accepted (is ∙ ap (λ n. codes "rank " ++ decimal n) same) refl
   reply_text f line (Refused refusal) text refused_as is =

@@ -15,9 +15,10 @@ use Rattle.home_board.specs.declared.position.Position.{Position}
 use Rattle.legal_plays.specs.declared.roll.Roll.{Roll}
 use Rattle.epc_query.specs.declared.query.Kind.{Kind}
 use Rattle.epc_query.specs.declared.query.Kind.TheVariants.{Mean as MeanKind, Dist as DistKind, Play as PlayKind, Loss as LossKind, Moves as MovesKind, Rank as RankKind}
+use Rattle.epc_query.specs.declared.query.Query.{Query}
 use Rattle.epc_query.specs.declared.query.LineFault.{LineFault}
 use Rattle.epc_query.specs.declared.query.LineFault.TheVariants.{BadLine, TooMany}
-use Rattle.epc_query.specs.Readings.{kind_text, IsPositionReading, IsThrowReading, IsResultText, IsResultReading, IsReading, both}
+use Rattle.epc_query.specs.Readings.{kind_text, IsPositionReading, IsThrowReading, IsResultText, IsResultReading, IsRestFault, IsRestReading, IsReading, both}
 
 -- the byte is a space
 abbrev is_space : ℕ → Bool
@@ -218,19 +219,10 @@ pub no_kind : (line word : List ℕ) (more : List (List ℕ)) (q : Asked) → wo
     → ((k : Kind) → word ≢ kind_text k) → HasWords line q → ⊥
 no_kind line word more q e none has = none (kind_of q) (first_word line word more q e has)
 
--- what stands after the first word is refused
-unfoldable pub IsRestFault : Kind → List ℕ → LineFault → Type 0
-IsRestFault MeanKind rest fault = IsPositionReading rest (Err fault)
-IsRestFault DistKind rest fault = IsPositionReading rest (Err fault)
-IsRestFault PlayKind rest fault = IsThrowReading rest (Err fault)
-IsRestFault LossKind rest fault = IsResultReading rest (Err fault)
-IsRestFault MovesKind rest fault = IsThrowReading rest (Err fault)
-IsRestFault RankKind rest fault = IsPositionReading rest (Err fault)
-
 -- a line whose rest is refused as bad asks nothing
 bad_rest : (line rest : List ℕ) (q : Asked) → words line ≡ kind_text (kind_of q) ∷ words rest
     → IsRestFault (kind_of q) rest BadLine → HasWords line q → ⊥
-unfolding kind_of IsRestFault
+unfolding kind_of
 bad_rest line rest (mean_query x) e bad has = let one : words rest ≡ has.0 ∷ [] = cc (has.2) in
     bad x (subst (λ t. IsPositionText t x) (sym (one_word rest has.0 one)) has.1)
 bad_rest line rest (dist_query x) e bad has = let one : words rest ≡ has.0 ∷ [] = cc (has.2) in
@@ -259,7 +251,6 @@ loss_joined p r q =
 -- a line whose rest has too many checkers in a position asks that
 too_many_rest : (line rest : List ℕ) (k : Kind) → line ≡ kind_text k ++ (32 ∷ rest)
     → IsRestFault k rest TooMany → (q : Asked) × IsQuery line q × HasTooMany q
-unfolding IsRestFault
 too_many_rest line rest MeanKind e (x, is, many) = (mean_query x, (rest, is, e), many)
 too_many_rest line rest DistKind e (x, is, many) = (dist_query x, (rest, is, e), many)
 too_many_rest line rest RankKind e (x, is, many) = (rank_query x, (rest, is, e), many)
@@ -305,16 +296,18 @@ too_many_rest line rest LossKind e (x, v, y, is, many) =
       many,
     )
 
--- a line whose rest is refused is refused as that is
-pub refused_rest : (line word rest : List ℕ) (k : Kind) (fault : LineFault)
+-- the reading of what stands after the first word is that of the line
+pub rest_read : (line word rest : List ℕ) (k : Kind) (r : Result Query LineFault)
     → ((line : List ℕ) (q : Asked) → IsQuery line q ↔ HasWords line q)
     → (line ≡ word ++ (32 ∷ rest)) × (words line ≡ word ∷ words rest) → word ≡ kind_text k
-    → IsRestFault k rest fault → IsReading line (Err fault)
-refused_rest line word rest k BadLine law parts e bad = λ q is.
+    → IsRestReading k rest r → IsReading line r
+rest_read line word rest k (Ok query) law parts e read =
+    rw (parts.0 ∙ ap (λ w. w ++ (32 ∷ rest)) e) read
+rest_read line word rest k (Err BadLine) law parts e bad = λ q is.
     let has = (law line q).0 is in
     let same : k ≡ kind_of q = kinds_apart k (kind_of q) (sym e ∙ first_word line word
     (words rest) q parts.1 has) in
     bad_rest line rest q (parts.1 ∙ ap (λ w. w ∷ words rest) (e ∙ ap kind_text same))
     (subst (λ l. IsRestFault l rest BadLine) same bad) has
-refused_rest line word rest k TooMany law parts e many = too_many_rest line rest k (parts.0
+rest_read line word rest k (Err TooMany) law parts e many = too_many_rest line rest k (parts.0
     ∙ ap (λ w. w ++ (32 ∷ rest)) e) many

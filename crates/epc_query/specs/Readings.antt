@@ -81,6 +81,21 @@ both (Err BadLine) v reading = Err BadLine
 both (Err TooMany) v (Ok y) = Err TooMany
 both (Err TooMany) v (Err fault) = Err fault
 
+-- what stands after the word of a kind is refused
+abbrev pub IsRestFault : Kind → List ℕ → LineFault → Type 0
+IsRestFault MeanKind rest fault = IsPositionReading rest (Err fault)
+IsRestFault DistKind rest fault = IsPositionReading rest (Err fault)
+IsRestFault PlayKind rest fault = IsThrowReading rest (Err fault)
+IsRestFault LossKind rest fault = IsResultReading rest (Err fault)
+IsRestFault MovesKind rest fault = IsThrowReading rest (Err fault)
+IsRestFault RankKind rest fault = IsPositionReading rest (Err fault)
+
+-- what stands after the word of a kind asks this query, or is refused
+abbrev pub IsRestReading : Kind → List ℕ → Result Query LineFault → Type 0
+IsRestReading kind rest (Ok query) =
+    IsQuery (kind_text kind ++ (32 ∷ rest)) (asked query) × (¬ HasTooMany (asked query))
+IsRestReading kind rest (Err fault) = IsRestFault kind rest fault
+
 -- the line asks this query, or one with a position of too many checkers, or none
 abbrev pub IsReading : List ℕ → Result Query LineFault → Type 0
 IsReading line (Ok query) = IsQuery line (asked query) × (¬ HasTooMany (asked query))

@@ -35,6 +35,10 @@ ratio_text ratio = fraction_text ratio.numerator ratio.denominator
 abbrev pub choice_text : Choice → List ℕ
 choice_text choice = codes " " ++ position_text choice.to ++ codes ":" ++ ratio_text choice.loss
 
+-- a list of moves, without its line feed
+abbrev pub list_text : List Choice → List ℕ
+list_text choices = codes "moves" ++ flat_map choice_text choices
+
 -- the line of a level, without its line feed
 abbrev pub level_text : Level → List ℕ
 level_text level =
@@ -58,6 +62,6 @@ IsTextOf (Play play to) text =
     text ≡ codes "play" ++ flat_map (λ m. codes " " ++ move_text m)
     (moves_of play.items) ++ codes " to " ++ position_text to
 IsTextOf (Loss loss) text = text ≡ codes "loss " ++ ratio_text loss
-IsTextOf (Moves choices) text = text ≡ codes "moves" ++ flat_map choice_text choices.items
+IsTextOf (Moves choices) text = text ≡ list_text choices.items
 IsTextOf (Rank rank) text = text ≡ codes "rank " ++ decimal rank
 IsTextOf (Refused refusal) text = text ≡ refusal_text (why refusal)

@@ -3,8 +3,10 @@
 //! lines of an input. It rests on `certificate` for the answers of an accepted table, whatever
 //! table that is, and on `race_model` for what a line asks, what its reply is, and how an input
 //! is cut into lines. The crates above may use that a loss is the least mean after a result less
-//! the least such mean among all results, that `moves` has every result once, in order, and that
-//! `run` writes the replies to the lines that it read and nothing else.
+//! the least such mean among all results, that `moves` has every result once, in order, that
+//! `run` writes the replies to the lines that it read and nothing else, and for a database of
+//! their own what a line asks (`read_query`), the text of each reply, and the order and the price
+//! of the results of a roll.
 #![tactic(auto)]
 
 mod answer;
@@ -24,10 +26,14 @@ mod writing;
 pub use answer::{Stop, answer_line};
 pub use levels::audit_level;
 pub use losses::loss;
-pub use move_list::moves;
+pub use move_list::{Cost, include_cost, moves, price};
+pub use query::{LineFault, Query, read_query};
 pub use reply::{Choice, Level, Refusal, Reply};
 pub use run_fault::RunFault;
 pub use running::run;
+pub use text::{
+    Text, put_choice, put_dist, put_loss, put_mean, put_moves, put_play, put_rank, put_refusal,
+};
 pub use writing::{write_level, write_reply};
 
 #[cfg(test)]

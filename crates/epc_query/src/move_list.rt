@@ -27,7 +27,7 @@ use ranking::Ranks;
 use std::alloc::Global;
 
 /// A result of a roll as it is put in order: its mean as a numerator over 36 ^ 22, and its rank.
-type Cost = (u128, u16);
+pub type Cost = (u128, u16);
 
 /// Every result of a roll once, by rising loss and then by rising rank. Refused as `OverBound`
 /// where the position has more pips than the bound, else as `Finished` where no checker is left,
@@ -93,13 +93,14 @@ fn costs_of<T: Table>(
     let mut costs = ArrayVec::new();
     for to in found {
         let mean = recorded_mean(checked, to)?;
-        include(&mut costs, (mean.numerator(), ranks.rank(to)));
+        include_cost(&mut costs, (mean.numerator(), ranks.rank(to)));
     }
     Ok(costs)
 }
 
-/// Adds a result to those in order, unless it is there.
-fn include(costs: &mut ArrayVec<Cost, 1296>, cost: Cost)
+/// Adds a result to those in order, the smaller mean first and of equal means the lower rank,
+/// unless it is there.
+pub fn include_cost(costs: &mut ArrayVec<Cost, 1296>, cost: Cost)
     requires room { array_vec_len costs.old < 1296 }
     requires ordered { IsByCost costs.old.items }
     ensures members { (other : ℕ × ℕ)
@@ -128,8 +129,8 @@ fn priced(ranks: &Ranks, choices: Vec<Choice>, costs: &[Cost]) -> Vec<Choice>
     choices
 }
 
-/// A result with what it costs against the first.
-fn price(ranks: &Ranks, cost: Cost, first: Cost) -> Choice
+/// A result with what it costs against the first of those in order, whose mean is the least.
+pub fn price(ranks: &Ranks, cost: Cost, first: Cost) -> Choice
     requires bounded { IsCost cost }
     requires first { first.0 ≤ cost.0 }
     ensures { IsPriced first cost result }

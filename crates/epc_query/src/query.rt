@@ -2,7 +2,7 @@
 ghost use Rattle.std.specs.Prelude.{◌≡◌, ◌≢◌, ℕ, ◌<◌, List, [], ◌∷◌, ◌++◌, ◌==◌, length, position, IfSome, MatchOption};
 ghost use Rattle.race_model.specs.Dice.{Throw};
 ghost use Rattle.race_model.specs.Queries.{IsRollText, words};
-ghost use Rattle.epc_query.specs.Readings.{kind_text, IsPositionReading, IsThrowReading, IsResultReading, IsReading, both};
+ghost use Rattle.epc_query.specs.Readings.{kind_text, IsPositionReading, IsThrowReading, IsResultReading, IsRestReading, IsReading, both};
 
 use home_board::{Position, PositionFault, parse_position};
 use legal_plays::{Roll, parse_roll};
@@ -10,7 +10,7 @@ use race_model::laws;
 
 /// What a line asks.
 #[derive(Clone, Copy, Debug, PartialEq, Eq)]
-pub(crate) enum Query {
+pub enum Query {
     /// The mean number of rolls of a position, and its effective pip count.
     Mean(Position),
 
@@ -32,7 +32,7 @@ pub(crate) enum Query {
 
 /// Why a line asks nothing.
 #[derive(Clone, Copy, Debug, PartialEq, Eq)]
-pub(crate) enum LineFault {
+pub enum LineFault {
     /// It is not of the form of a query.
     BadLine,
 
@@ -51,34 +51,33 @@ enum Kind {
     Rank,
 }
 
-/// What a line asks. Refused as `BadLine` where it isn't of the form of a query, and else as
-/// `TooMany` where a position of it has more than 15 checkers.
-pub(crate) fn read_query(line: &[u8]) -> Result<Query, LineFault>
+/// What a line asks, which comes without its line feed. Refused as `BadLine` where it isn't of the
+/// form of a query, and else as `TooMany` where a position of it has more than 15 checkers (this
+/// project's profile).
+pub fn read_query(line: &[u8]) -> Result<Query, LineFault>
     ensures { IsReading line.now result }
 {
     laws::law_lines();
     let Some((word, rest)) = cut(line) else {
         return Err(LineFault::BadLine);
     };
-    let Some(kind) = read_kind(word) else {
-        return Err(LineFault::BadLine);
-    };
+    match read_kind(word) {
+        Some(kind) => read_rest(kind, rest),
+        None => Err(LineFault::BadLine),
+    }
+}
+
+/// What a line of a kind asks, of which this is what stands after the first word.
+fn read_rest(kind: Kind, rest: &[u8]) -> Result<Query, LineFault>
+    ensures { IsRestReading kind rest.now result }
+{
     match kind {
-        Kind::Mean => Ok(Query::Mean(read_position(rest)?)),
-        Kind::Dist => Ok(Query::Dist(read_position(rest)?)),
-        Kind::Play => {
-            let (position, roll) = read_throw(rest)?;
-            Ok(Query::Play(position, roll))
-        }
-        Kind::Loss => {
-            let (position, roll, to) = read_result(rest)?;
-            Ok(Query::Loss(position, roll, to))
-        }
-        Kind::Moves => {
-            let (position, roll) = read_throw(rest)?;
-            Ok(Query::Moves(position, roll))
-        }
-        Kind::Rank => Ok(Query::Rank(read_position(rest)?)),
+        Kind::Mean => read_position(rest).map(Query::Mean),
+        Kind::Dist => read_position(rest).map(Query::Dist),
+        Kind::Play => read_throw(rest).map(|(position, roll)| Query::Play(position, roll)),
+        Kind::Loss => read_result(rest).map(|(position, roll, to)| Query::Loss(position, roll, to)),
+        Kind::Moves => read_throw(rest).map(|(position, roll)| Query::Moves(position, roll)),
+        Kind::Rank => read_position(rest).map(Query::Rank),
     }
 }
 

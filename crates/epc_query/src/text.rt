@@ -14,7 +14,7 @@ use itoa::Buffer;
 use legal_plays::{Play, write_play};
 
 /// Room for the text of any reply but a long list of moves.
-pub(crate) type Text = ArrayString<4096>;
+pub type Text = ArrayString<4096>;
 
 /// 10 ^ 18. A number of more than 18 digits is written in two parts, each by divisions of 64 bits.
 const HALF: u128 = 1_000_000_000_000_000_000;
@@ -112,7 +112,7 @@ fn push_play(text: &mut Text, play: &Play)
     text.push_str(write_play(play).as_str());
 }
 
-/// Adds a result and its loss, after a space.
+/// Adds a result and its loss, after a space: at most 95 bytes.
 pub(crate) fn push_choice(text: &mut Text, choice: &Choice)
     requires { array_string_len text.old + 95 ≤ 4096 }
     ensures bytes { text.new.bytes ≡ text.old.bytes ++ choice_text choice.now }
@@ -124,8 +124,27 @@ pub(crate) fn push_choice(text: &mut Text, choice: &Choice)
     push_fraction(text, choice.loss);
 }
 
+/// Makes a text that of a result and its loss, as it stands in a list of moves after what is
+/// before it: a space, the position, a colon, and the loss in rolls, at most 95 bytes.
+pub fn put_choice(text: &mut Text, choice: &Choice)
+    ensures text { text.new.bytes ≡ choice_text choice.now }
+    ensures len { array_string_len text.new ≤ 95 }
+{
+    text.clear();
+    push_choice(text, choice);
+}
+
+/// Makes a text the word with which a list of moves begins.
+pub fn put_moves(text: &mut Text)
+    ensures text { text.new.bytes ≡ codes "moves" }
+    ensures len { array_string_len text.new ≤ 5 }
+{
+    text.clear();
+    text.push_str("moves");
+}
+
 /// Makes a text that of a mean and an effective pip count.
-pub(crate) fn put_mean(text: &mut Text, mean: Fraction, epc: Fraction)
+pub fn put_mean(text: &mut Text, mean: Fraction, epc: Fraction)
     ensures text { IsMeanText mean epc text.new.bytes }
     ensures len { array_string_len text.new ≤ 4000 }
 {
@@ -139,7 +158,7 @@ pub(crate) fn put_mean(text: &mut Text, mean: Fraction, epc: Fraction)
 }
 
 /// Makes a text that of the shares of 0 to 22 rolls.
-pub(crate) fn put_dist(text: &mut Text, spread: &Spread)
+pub fn put_dist(text: &mut Text, spread: &Spread)
     ensures text { IsDistReply (slice_index spread.now) text.new.bytes }
     ensures len { array_string_len text.new ≤ 4000 }
 {
@@ -151,7 +170,7 @@ pub(crate) fn put_dist(text: &mut Text, spread: &Spread)
 }
 
 /// Makes a text that of a play and the position that it leads to.
-pub(crate) fn put_play(text: &mut Text, play: &Play, to: &Position)
+pub fn put_play(text: &mut Text, play: &Play, to: &Position)
     ensures text { text.new.bytes ≡ codes "play"
         ++ flat_map (λ m. codes " " ++ move_text m)
         (moves_of play.now.items) ++ codes " to " ++ position_text to.now }
@@ -165,7 +184,7 @@ pub(crate) fn put_play(text: &mut Text, play: &Play, to: &Position)
 }
 
 /// Makes a text that of a loss.
-pub(crate) fn put_loss(text: &mut Text, loss: Fraction)
+pub fn put_loss(text: &mut Text, loss: Fraction)
     ensures text { text.new.bytes ≡ codes "loss " ++ ratio_text loss }
     ensures len { array_string_len text.new ≤ 4000 }
 {
@@ -175,7 +194,7 @@ pub(crate) fn put_loss(text: &mut Text, loss: Fraction)
 }
 
 /// Makes a text that of a rank.
-pub(crate) fn put_rank(text: &mut Text, rank: u16)
+pub fn put_rank(text: &mut Text, rank: u16)
     ensures text { text.new.bytes ≡ codes "rank " ++ decimal rank }
     ensures len { array_string_len text.new ≤ 4000 }
 {
@@ -185,7 +204,7 @@ pub(crate) fn put_rank(text: &mut Text, rank: u16)
 }
 
 /// Makes a text that of a refusal.
-pub(crate) fn put_refusal(text: &mut Text, refusal: Refusal)
+pub fn put_refusal(text: &mut Text, refusal: Refusal)
     ensures text { text.new.bytes ≡ refusal_text (why refusal) }
     ensures len { array_string_len text.new ≤ 4000 }
 {

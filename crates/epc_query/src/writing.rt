@@ -1,14 +1,15 @@
 //! Replies and levels as lines, written.
-ghost use Rattle.std.specs.Prelude.{◌≡◌, ℕ, ◌+◌, ◌≤◌, List, [], ◌∷◌, ◌++◌, flat_map, codes, OnOk, OnErr};
+ghost use Rattle.std.specs.Prelude.{◌≡◌, ℕ, ◌+◌, ◌≤◌, List, [], ◌∷◌, ◌++◌, OnOk, OnErr};
 ghost use Rattle.std.specs.Io.KnownBytes.{Appends};
 ghost use Rattle.arrayvec.specs.ArrayString.{array_string_len};
 ghost use Rattle.db_layout.specs.Writes.{AppendsPart};
-ghost use Rattle.epc_query.specs.Texts.{choice_text, level_text, IsTextOf};
+ghost use Rattle.epc_query.specs.Texts.{choice_text, list_text, level_text, IsTextOf};
 ghost use Rattle.epc_query.specs.Held.{Takes};
 
 use crate::reply::{Choice, Level, Reply};
 use crate::text::{
-    Text, push_choice, put_dist, put_level, put_loss, put_mean, put_play, put_rank, put_refusal,
+    Text, push_choice, put_dist, put_level, put_loss, put_mean, put_moves, put_play, put_rank,
+    put_refusal,
 };
 use db_layout::{WriteFault, write_bytes};
 use std::io::Write;
@@ -81,12 +82,11 @@ fn write_moves<W: Write>(
     writer: &mut W,
 ) -> Result<(), WriteFault>
     ensures all { OnOk result (Appends (W.contents writer.old) (W.contents writer.new)
-        (codes "moves" ++ flat_map choice_text choices.now ++ 10 ∷ [])) }
+        (list_text choices.now ++ 10 ∷ [])) }
     ensures part { OnErr result (AppendsPart (W.contents writer.old) (W.contents writer.new)
-        (codes "moves" ++ flat_map choice_text choices.now ++ 10 ∷ [])) }
+        (list_text choices.now ++ 10 ∷ [])) }
 {
-    text.clear();
-    text.push_str("moves");
+    put_moves(text);
     for choice in choices {
         write_choice(text, choice, writer)?;
     }

@@ -9,8 +9,7 @@ use Rattle.race_model.specs.BestPlays.{IsBestOf}
 use Rattle.race_model.proofs.Plays.Steps.{to_position, fewer_pips}
 use Rattle.race_model.proofs.Plays.Spent.{step_takes}
 use Rattle.race_model.proofs.Plays.Results.{run_stays}
-use Rattle.race_model.proofs.Ranks.RankOrder.{rank-fewer}
-use Rattle.race_model.proofs.Ranks.PositionTotals.{seven_levels}
+use Rattle.race_model.proofs.Ranks.RankOrder.{rank-fewer, rank_bound}
 use Rattle.race_model.proofs.Ranks.BestPlays.{run_lower}
 use Rattle.least_plays.specs.Choices.{IsNoWorse, IsLeastOf}
 use Rattle.least_plays.specs.Steps.{AreSteps}
@@ -102,9 +101,7 @@ module _ (mean : ℕ → ℕ) (count : ℕ) (plays : LeastPlays) (x : Board)
       let there = to_position x d z next.position step in
       next.known.each z there
       (rank-fewer z x there next.position (fewer_pips x d z step))
-      (let near = seven_levels x z next.position there next.low (step_takes x d z step) in
-      omega arith)
-      e n (omega arith)
+      ((rank_bound x (pips z + 6) next.position).1 (step_takes x d z step)) e n (omega arith)
 
   -- .. and a rank whose mean is there
   pub kept_held : (d e : Die) (n : ℕ) (ranks : List ℕ) (i : ℕ) → n ≤ 3 → AreSteps x d ranks →

@@ -3,12 +3,16 @@
 use Rattle.std.proofs.Common.{◌≡◌, ◌≢◌, ⊎_elim, ℕ, zero, suc, ◌+◌, ◌-◌, ◌%◌, ◌<◌, ◌≤◌, List, [], ◌∷◌, length, replicate, get_or, set, sym, ap, subst, ◌∙◌, arith, get_or-set_other, get_or-set_same}
 use Rattle.std.specs.Prelude.{slice_index, slice_index_or}
 use Rattle.std.proofs.lemmas.Bool.{cases_lt}
-use Rattle.race_model.specs.Positions.{Board, IsPosition}
+use Rattle.std.proofs.lemmas.List.{length-replicate}
+use Rattle.race_model.specs.Positions.{Board, IsPosition, pips}
 use Rattle.race_model.specs.Dice.{Die, one, two, three, four, five, six, number}
-use Rattle.race_model.specs.Ranks.{rank}
+use Rattle.race_model.specs.Ranks.{rank, count_to}
 use Rattle.race_model.proofs.Plays.MostPlays.{get_or-zeros}
-use Rattle.race_model.proofs.Ranks.RankOrder.{rank_apart}
-use Rattle.race_model.proofs.Ranks.BestPlays.{run-agree}
+use Rattle.race_model.proofs.Plays.Results.{run_to_position}
+use Rattle.race_model.proofs.Plays.Spent.{run_takes}
+use Rattle.race_model.proofs.Ranks.RankOrder.{rank_apart, rank_bound, count_to-rises}
+use Rattle.race_model.proofs.Ranks.PositionTotals.{seven_levels}
+use Rattle.race_model.proofs.Ranks.BestPlays.{run_lower, run-agree_reached}
 use Rattle.least_plays.specs.Known.{row_in, number_in, IsBestAfter, Knows}
 use Rattle.least_plays.specs.declared.room.Row.{Row}
 use Rattle.least_plays.specs.declared.room.LeastPlays.{LeastPlays}
@@ -46,21 +50,23 @@ number_in-same rows place r row d n same inside =
 
 -- the position of the next rank is known once its row is written
 pub knows_more : (mean : ℕ → ℕ) (plays : LeastPlays) (x : Board) (place : ℕ) (row : Row) →
-    IsPosition x → place ≡ rank x % 11452 → place < length plays.rows →
+    IsPosition x → pips x ≤ 58 → place ≡ rank x % 11452 → place < length plays.rows →
     Knows mean plays (rank x) →
     ((d : Die) (n : ℕ) → n < 3 →
     IsBestAfter mean x (d ∷ replicate n d)
     (slice_index (slice_index_or row.after (number d - 1) []) n)) →
     Knows mean (record plays { rows = set plays.rows place row }) (rank x + 1)
-knows_more mean plays x place row at placed inside known best = record { each = each } where
-  each : (y : Board) → IsPosition y → rank y < rank x + 1 → rank x + 1 ≤ rank y + 11452 →
+knows_more mean plays x place row at low placed inside known best = record { each = each } where
+  each : (y : Board) → IsPosition y → rank y < rank x + 1 → rank x + 1 < count_to (pips y + 6) →
       (d : Die) (n : ℕ) → n < 3 →
       IsBestAfter mean y (d ∷ replicate n d)
       (number_in (set plays.rows place row) (rank y) d (suc n))
   each y there lower near d n few = ⊎_elim
       (λ below.
+      let near_here = (rank_bound x (pips y + 6) at).0 (omega arith) in
       let apart : rank y % 11452 ≢ place =
-      λ e. rows_apart (rank y) (rank x) below (omega arith) (e ∙ placed) in
+      λ e. rows_apart (rank y) (rank x) below (seven_levels x y at there low near_here)
+      (e ∙ placed) in
       subst (λ r. IsBestAfter mean y (d ∷ replicate n d) r)
       (sym (number_in-other plays.rows place (rank y) row d n apart))
       (known.each y there below (omega arith) d n few))
@@ -75,14 +81,29 @@ knows_more mean plays x place row at placed inside known best = record { each = 
       (rank_apart x y at there e) (best d n few)))
       (cases_lt (rank y) (rank x))
 
--- the same is known by means that agree below the last rank
+-- the same is known by means that agree on the ranks of positions below the last one, from which
+-- the next one is at most 24 pips away
+pub knows_agree_near : (mean other : ℕ → ℕ) (plays : LeastPlays) (next : ℕ) →
+    ((z : Board) → IsPosition z → rank z + 1 < next → next < count_to (pips z + 24) →
+    mean (rank z) ≡ other (rank z)) →
+    Knows mean plays next → Knows other plays next
+knows_agree_near mean other plays next agree known = record {
+  each = λ y at lower near d n few.
+      run-agree_reached mean other d (replicate n d) y (number_in plays.rows (rank y) d (suc n))
+      (λ unfinished z run.
+      let below = run_lower d (replicate n d) y z at unfinished run in
+      let taken = run_takes (d ∷ replicate n d) y z run in
+      let count = length-replicate n d in
+      let above = count_to-rises (pips y + 6) (pips z + 24) (omega arith) in
+      agree z (run_to_position (d ∷ replicate n d) y z at run) (omega arith) (omega arith))
+      (known.each y at lower near d n few);
+}
+
+-- .. so it is by means that agree below the last rank
 pub knows_agree : (mean other : ℕ → ℕ) (plays : LeastPlays) (next : ℕ) →
     ((q : ℕ) → q + 1 < next → mean q ≡ other q) → Knows mean plays next → Knows other plays next
-knows_agree mean other plays next agree known = record {
-  each = λ y at lower near d n few.
-      run-agree mean other d (replicate n d) y (number_in plays.rows (rank y) d (suc n)) at
-      (λ q lt. agree q (omega arith)) (known.each y at lower near d n few);
-}
+knows_agree mean other plays next agree =
+    knows_agree_near mean other plays next (λ z at lower near. agree (rank z) lower)
 
 -- what is kept, by the places in a row
 pub number_in-some : (rows : List Row) (r : ℕ) (d : Die) (n place i j : ℕ) → place ≡ r →

@@ -3,7 +3,7 @@ use Rattle.std.specs.Prelude.{◌≡◌, ℕ, zero, suc, ◌+◌, ◌-◌, ◌%�
 use Rattle.race_model.specs.Positions.{Board, IsPosition, IsFinished, pips}
 use Rattle.race_model.specs.Dice.{Die, number}
 use Rattle.race_model.specs.Plays.{Run}
-use Rattle.race_model.specs.Ranks.{rank}
+use Rattle.race_model.specs.Ranks.{rank, count_to}
 use Rattle.race_model.specs.BestPlays.{IsBestOf}
 use Rattle.least_plays.specs.declared.room.Row.{Row}
 use Rattle.least_plays.specs.declared.room.LeastPlays.{LeastPlays}
@@ -27,7 +27,7 @@ number_in rows r d (suc n) =
 -- of each position below the next rank to which a step from there on can lead, the best ranks
 -- after each die once, twice and three times are kept
 pub record Knows (mean : ℕ → ℕ) (plays : LeastPlays) (next : ℕ) : Type 0 where
-  pub each : (y : Board) → IsPosition y → rank y < next → next ≤ rank y + 11452 →
+  pub each : (y : Board) → IsPosition y → rank y < next → next < count_to (pips y + 6) →
       (d : Die) (n : ℕ) → n < 3 →
       IsBestAfter mean y (d ∷ replicate n d) (number_in plays.rows (rank y) d (suc n))
 

@@ -10,3 +10,4 @@ pub mod Places
 pub mod ToldRecords
 pub mod SameBytes
 pub mod ToldShares
+pub mod SameNumbers

@@ -26,3 +26,4 @@ pub mod SameNumbers
 pub mod Samples
 pub mod Enumerations
 pub mod ToldShares
+pub mod Upgrades

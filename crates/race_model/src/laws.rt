@@ -12,6 +12,7 @@ pub use ranks::{law_at_rank, law_counts, law_rank};
 pub use replies::{law_lines, law_replies};
 pub use right_files::{law_agree, law_recorded, law_right, law_spread};
 pub use strategies::{law_horizon, law_least, law_sample, law_scale, law_turn};
+pub use upgrades::law_upgrade;
 
 pub mod bounds;
 pub mod dice;
@@ -24,3 +25,4 @@ pub mod ranks;
 pub mod replies;
 pub mod right_files;
 pub mod strategies;
+pub mod upgrades;

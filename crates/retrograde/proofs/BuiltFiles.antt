@@ -6,21 +6,21 @@ use Rattle.race_model.specs.Dice.{Throw, IsRoll, all_rolls, roll_at, roll_index,
 use Rattle.race_model.specs.Plays.{Legal}
 use Rattle.race_model.specs.Ranks.{rank, at_rank, count_to}
 use Rattle.race_model.specs.Versions.{Version, greatest_bound}
-use Rattle.race_model.specs.Files.{IsBytes, header, bytes_at, version_of, bound_of, record_place, told_record, record_at, IsFile, mean_of, play_of, share_of, mean_at, play_at, spread_at, play}
+use Rattle.race_model.specs.Files.{IsBytes, version_of, bound_of, mean_at, play_at, spread_at, play}
 use Rattle.race_model.specs.LocalEquations.{whole, weighted, IsPlayed, IsBest, HasMean, HasShare, IsLocalAt}
 use Rattle.race_model.specs.BuiltFile.{IsLowest, IsBuilt}
 use Rattle.race_model.proofs.Plays.Results.{legal_position, legal_pips}
 use Rattle.race_model.proofs.Ranks.RankOrder.{rank_bound, at_rank-rank, count_to-rises}
 use Rattle.race_model.proofs.Numbers.Sums.{sum_by-equal}
-use Rattle.race_model.proofs.RightFiles.Places.{length_at}
 use Rattle.race_model.proofs.RightFiles.Right.{greatest_bound-most}
 use Rattle.race_model.proofs.Dice.Throws.{index_of_roll}
 use Rattle.race_model.proofs.Dice.RollSums.{roll_index-range}
 use Rattle.race_model.specs.BestPlays.{IsBestPlay}
 use Rattle.retrograde.specs.BuiltRecords.{shares_of, sum_of_means, sum_of_shares, IsMade}
-use Rattle.retrograde.specs.AllRecords.{AllRecords, bytes_of_rank}
+use Rattle.retrograde.specs.AllRecords.{AllRecords, mean_of_rank, plays_of_rank, shares_of_rank, bytes_of_rank}
 use Rattle.retrograde.specs.BuiltBytes.{built_file}
-use Rattle.retrograde.proofs.Files.{file-version, file-bound, file-front, file-length, file-record, file-bytes}
+use Rattle.db_layout.proofs.WholeFiles.{file-version, file-bound, file-bytes, whole-mean, whole-play, whole-share, whole-is_file}
+use Rattle.db_layout.specs.Records.{IsRecordOf}
 use Rattle.db_layout.proofs.Bytes.{small_record}
 use Rattle.retrograde.proofs.Next.{best-legal}
 
@@ -48,55 +48,29 @@ module _ (version : Version) (full : AllRecords) (bound : ℕ)
   all-have : (r : ℕ) → r < count_to bound → r < count_to 58
   all-have r lt = omega (arith, count_to-rises bound 58 under-58)
 
-  -- each record is as long as its pip count says
-  pub each-length : (r : ℕ) → r < count_to bound →
-      length (bytes_of_rank version full r) ≡ length_at version r
-  each-length r lt = (full.made.reads r (all-have r lt) version).len
-
-  built-version : version_of built ≡ version
-  built-version = file-version version bound (bytes_of_rank version full) (count_to bound)
-
-  built-bound : bound_of built ≡ bound
-  built-bound =
-      file-bound version bound (bytes_of_rank version full) (count_to bound) under-58
-
-  -- the full record that stands for a rank
-  pub built-record : (r : ℕ) → r < count_to bound →
-      record_at built r ≡ told_record version (pips (at_rank r)) (bytes_of_rank version full r)
-  built-record r lt =
-      ap
-      (λ (v : Version).
-      told_record v (pips (at_rank r)) (bytes_at built (record_place v r) (length_at v r)))
-      built-version
-      ∙ ap (told_record version (pips (at_rank r)))
-      (file-record version bound (bytes_of_rank version full) r (count_to bound) lt each-length)
+  -- its records tell what was made
+  told : (r : ℕ) → r < count_to bound →
+      IsRecordOf version (pips (at_rank r)) (bytes_of_rank version full r) (mean_of_rank full r)
+      (plays_of_rank full r) (shares_of_rank full r)
+  told r lt = full.made.reads r (all-have r lt) version
 
   -- what one reads in the file
   mean-read : (r : ℕ) → r < count_to bound → mean_at built r ≡ slice_index means r
-  unfolding mean_at
-  mean-read r lt =
-      ap mean_of (built-record r lt) ∙ (full.made.reads r (all-have r lt) version).mean_is
+  mean-read =
+      whole-mean version bound low (bytes_of_rank version full) (mean_of_rank full)
+      (plays_of_rank full) (shares_of_rank full) told
 
   play-read : (r i : ℕ) → r < count_to bound → i < 21 →
       play_at built r i ≡ slice_index (slice_index_or plays r []) i
-  unfolding play_at
-  play-read r i lt few =
-      ap (λ (bs : List ℕ). play_of bs i) (built-record r lt)
-      ∙ (full.made.reads r (all-have r lt) version).play_is i few
+  play-read =
+      whole-play version bound low (bytes_of_rank version full) (mean_of_rank full)
+      (plays_of_rank full) (shares_of_rank full) told
 
   share-read : (r k : ℕ) → r < count_to bound → k ≤ 22 →
       spread_at built r k ≡ slice_index (shares_of spreads r) k
-  unfolding spread_at
-  share-read r k lt few =
-      ap (λ (bs : List ℕ). share_of bs k) (built-record r lt)
-      ∙ (full.made.reads r (all-have r lt) version).share_is k few
-
-  pub built-front : take 32 built ≡ header version bound
-  built-front = file-front version bound (bytes_of_rank version full) (count_to bound)
-
-  pub built-length : length built ≡ record_place version (count_to bound)
-  built-length =
-      file-length version bound (bytes_of_rank version full) (count_to bound) each-length
+  share-read =
+      whole-share version bound low (bytes_of_rank version full) (mean_of_rank full)
+      (plays_of_rank full) (shares_of_rank full) told
 
   built-bytes : IsBytes built
   built-bytes =
@@ -106,17 +80,12 @@ module _ (version : Version) (full : AllRecords) (bound : ℕ)
       (slice_index_or spreads r []))
       (count_to bound)
 
-  built-is_file : IsFile built
-  built-is_file = record {
-    bounded = omega (arith, built-bound, ap greatest_bound built-version, low);
-    headed =
-        built-front ∙ (ap (λ (v : Version). header v bound) (sym built-version)
-        ∙ ap (header (version_of built)) (sym built-bound));
-    whole =
-        built-length
-        ∙ (ap (λ (v : Version). record_place v (count_to bound)) (sym built-version)
-        ∙ ap (λ b. record_place (version_of built) (count_to b)) (sym built-bound));
-  }
+  built-version : version_of built ≡ version
+  built-version = file-version version bound (bytes_of_rank version full) (count_to bound)
+
+  built-bound : bound_of built ≡ bound
+  built-bound =
+      file-bound version bound (bytes_of_rank version full) (count_to bound) under-58
 
   -- a position of at most the bound
   module _ (x : Board) (at : IsPosition x) (under : pips x ≤ bound) where
@@ -240,7 +209,9 @@ module _ (version : Version) (full : AllRecords) (bound : ℕ)
     version_is = built-version;
     bound_is = built-bound;
     local = record {
-      file = built-is_file;
+      file =
+          whole-is_file version bound low (bytes_of_rank version full) (mean_of_rank full)
+          (plays_of_rank full) (shares_of_rank full) told;
       at_each = λ x at under. is-local_at x at (omega (arith, built-bound));
     };
     lowest = λ x at under v is. is-lowest x at under v is;

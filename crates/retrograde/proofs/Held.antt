@@ -3,22 +3,15 @@
 use Rattle.std.proofs.Common.{◌≡◌, ⊎_elim, ℕ, zero, suc, ◌≤◌, Bool, true, false, cond, leb, List, refl, ap, sym, ◌∙◌, arith, eq-eqb, ne_eqb, leb-false}
 use Rattle.std.specs.Prelude.{slice_index}
 use Rattle.race_model.specs.Positions.{Board, IsPosition, IsFinished, pips}
-use Rattle.race_model.specs.Dice.{roll_at}
 use Rattle.race_model.specs.Versions.{Version, full, compact}
 use Rattle.race_model.specs.Horizon.{most_rolls}
 use Rattle.race_model.specs.LocalEquations.{whole}
 use Rattle.race_model.specs.ToldShares.{told_share}
-use Rattle.race_model.proofs.Plays.Results.{finished_or_not, legal_somewhere, legal_fewer_pips}
+use Rattle.race_model.proofs.Plays.Results.{finished_or_not}
+use Rattle.race_model.proofs.RightFiles.ToldShares.{some_pips}
 use Rattle.race_model.proofs.Positions.Points.{no_pips}
 use Rattle.race_model.proofs.Strategies.Horizons.{count_of-beyond}
 use Rattle.retrograde.specs.BuiltRecords.{IsMade, IsReached}
-
--- an unfinished position has pips, since a roll takes some
-some_pips : (x : Board) → ¬ IsFinished x → pips x ≡ 0 → ⊥
-some_pips x unfinished none =
-    let result = legal_somewhere x (roll_at 0) in
-    let fewer = legal_fewer_pips x (roll_at 0) result.0 unfinished result.1 in
-    omega (arith, fewer, none)
 
 -- each share of a record is told by those that are stored
 pub held : (means : List ℕ) (spreads : List (List ℕ)) (x : Board) (mean : ℕ)

@@ -1,7 +1,6 @@
 pub mod Best
 pub mod BuiltFiles
 pub mod Existence
-pub mod Files
 pub mod Grown
 pub mod Held
 pub mod Kept

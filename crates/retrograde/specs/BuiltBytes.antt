@@ -1,23 +1,14 @@
 -- The built file of a version and a bound, and what a build says. Source: this project's profile.
-use Rattle.std.specs.Prelude.{ℕ, zero, suc, ◌<◌, ◌≤◌, List, [], ◌++◌, Option}
+use Rattle.std.specs.Prelude.{ℕ, ◌<◌, ◌≤◌, List, Option}
 use Rattle.std.specs.Io.KnownBytes.{Appends, Keeps}
 use Rattle.race_model.specs.BuiltFile.{IsBuilt}
 use Rattle.race_model.specs.Ranks.{count_to}
 use Rattle.race_model.specs.Versions.{Version}
-use Rattle.race_model.specs.Files.{header}
+use Rattle.db_layout.specs.WholeFiles.{file_of}
 use Rattle.db_layout.specs.Writes.{AppendsPart}
 use Rattle.retrograde.specs.AllRecords.{AllRecords, bytes_of_rank}
 use Rattle.retrograde.specs.declared.build_fault.BuildFault.{BuildFault}
 use Rattle.retrograde.specs.declared.build_fault.BuildFault.TheVariants.{OverBound, Memory, Write}
-
--- the records of n ranks from a rank on, one after another
-unfoldable pub records_from : (ℕ → List ℕ) → ℕ → ℕ → List ℕ
-records_from bytes r zero = []
-records_from bytes r (suc n) = bytes r ++ records_from bytes (suc r) n
-
--- a header, and a record for each of the first n ranks
-abbrev pub file_of : Version → ℕ → (ℕ → List ℕ) → ℕ → List ℕ
-file_of version bound bytes n = header version bound ++ records_from bytes 0 n
 
 -- the built file of a version and a bound up to a rank, and the whole of it
 abbrev pub built_to : Version → AllRecords → ℕ → ℕ → List ℕ

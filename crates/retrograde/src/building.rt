@@ -5,11 +5,12 @@ ghost use Rattle.std.specs.Io.KnownBytes.{Appends};
 ghost use Rattle.race_model.specs.Ranks.{first_of, count_to};
 ghost use Rattle.race_model.specs.Versions.{compact, version_by};
 ghost use Rattle.db_layout.specs.Records.{IsVersion};
+ghost use Rattle.db_layout.specs.WholeFiles.{records_from};
 ghost use Rattle.db_layout.specs.Writes.{AppendsPart};
 ghost use Rattle.least_plays.specs.Known.{Knows};
 ghost use Rattle.retrograde.specs.AllRecords.{AllRecords, mean_of_rank, bytes_of_rank};
 ghost use Rattle.retrograde.specs.KeptRecords.{AreKept};
-ghost use Rattle.retrograde.specs.BuiltBytes.{records_from, WritesBuilt, IsRefusedBy};
+ghost use Rattle.retrograde.specs.BuiltBytes.{WritesBuilt, IsRefusedBy};
 ghost use Rattle.retrograde.specs.UsualVersion.{usual_version};
 ghost use Rattle.retrograde.specs.declared.build_fault.BuildFault.TheVariants.{Memory};
 

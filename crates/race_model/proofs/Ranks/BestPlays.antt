@@ -54,25 +54,24 @@ best-alone mean other Reached x r alone best =
         ap rank (alone z got)
         ∙ (sym (ap rank (alone best.reached.0 best.reached.1)) ∙ best.reached.2)
 
--- so the best after dice goes by the means of lower ranks alone
-pub run-agree : (mean other : ℕ → ℕ) (d : Die) (dice : List Die) (x : Board) (r : ℕ) →
-    IsPosition x → ((q : ℕ) → q < rank x → mean q ≡ other q) →
+-- so the best after dice goes by the means of what an unfinished position leads to alone
+pub run-agree_reached : (mean other : ℕ → ℕ) (d : Die) (dice : List Die) (x : Board) (r : ℕ) →
+    (¬ IsFinished x → (z : Board) → Run x (d ∷ dice) z → mean (rank z) ≡ other (rank z)) →
     IsBestOf mean (Run x (d ∷ dice)) r → IsBestOf other (Run x (d ∷ dice)) r
-run-agree mean other d dice x r at agree best = ⊎_elim
+run-agree_reached mean other d dice x r agree best = ⊎_elim
     (λ none. best-alone mean other (Run x (d ∷ dice)) x r
     (λ z run. run_finished (d ∷ dice) x z none run) best)
-    (λ unfinished. best-agree mean other (Run x (d ∷ dice)) r
-    (λ z run. agree (rank z) (run_lower d dice x z at unfinished run)) best)
+    (λ unfinished. best-agree mean other (Run x (d ∷ dice)) r (agree unfinished) best)
     (finished_or_not x)
 
 -- .. and so does the best play
-pub play-agree : (mean other : ℕ → ℕ) (x : Board) (v : Throw) (r : ℕ) → IsPosition x →
-    ((q : ℕ) → q < rank x → mean q ≡ other q) → IsBestPlay mean x v r → IsBestPlay other x v r
-play-agree mean other x v r at agree best = ⊎_elim
+pub play-agree_reached : (mean other : ℕ → ℕ) (x : Board) (v : Throw) (r : ℕ) →
+    (¬ IsFinished x → (z : Board) → Legal x v z → mean (rank z) ≡ other (rank z)) →
+    IsBestPlay mean x v r → IsBestPlay other x v r
+play-agree_reached mean other x v r agree best = ⊎_elim
     (λ none. best-alone mean other (Legal x v) x r
     (λ z legal. legal_finished x v z none legal) best)
-    (λ unfinished. best-agree mean other (Legal x v) r
-    (λ z legal. agree (rank z) (legal_lower x v z at unfinished legal)) best)
+    (λ unfinished. best-agree mean other (Legal x v) r (agree unfinished) best)
     (finished_or_not x)
 
 -- the finished position has rank 0

@@ -340,3 +340,93 @@ seven_levels x y at there low near = by_low (cases_lt (pips y) 52) where
         first_of-rises 52 (pips y) above,
         (rank_within y there).0,
       )
+
+-- n levels from p on have no more positions each than those 25 above them, by sums alone
+abbrev are_rising : ℕ → ℕ → Bool
+are_rising p zero = true
+are_rising p (suc n) =
+    nat_le (ways_sum 6 1 15 p) (ways_sum 6 1 15 (25 + p)) && are_rising (suc p) n
+
+-- .. so each of them has
+rising-each : (p n q : ℕ) → are_rising p n ≡ true → p ≤ q → q < p + n →
+    ways_sum 6 1 15 q ≤ ways_sum 6 1 15 (25 + q)
+rising-each p zero q all low high = absurd (omega arith)
+rising-each p (suc n) q all low high =
+    let parts =
+    and_parts (nat_le (ways_sum 6 1 15 p) (ways_sum 6 1 15 (25 + p))) (are_rising (suc p) n) all in
+    ⊎_elim
+    (λ more. rising-each (suc p) n q parts.1 more (omega arith))
+    (λ here.
+    let e : p ≡ q = omega arith in
+    subst (λ q. ways_sum 6 1 15 q ≤ ways_sum 6 1 15 (25 + q)) e
+    (leb-true (ways_sum 6 1 15 p) (ways_sum 6 1 15 (25 + p)) parts.0))
+    (cases_lt p q)
+
+-- so it is from 21 pips to 26, and to 32
+rising-26 : are_rising 21 6 ≡ true
+rising-26 = refl
+
+rising-32 : are_rising 27 6 ≡ true
+rising-32 = refl
+
+-- the positions of at most 32 pips, and those of 58
+first_of-33 : first_of 33 ≡ 9233
+first_of-33 = first_of-sum 33
+
+first_of-58 : first_of 59 ≡ first_of 58 + 1031
+first_of-58 = first_of-next 58 1
+
+-- 25 levels from one of 21 to 33 pips on have at most as many positions as those
+levels-25 : (n q : ℕ) → n + q ≡ 33 → 21 ≤ q → first_of (25 + q) ≤ first_of q + 35798
+levels-25 zero q last low =
+    let e : 33 ≡ q = omega (arith, last) in
+    let at_33 : first_of 58 ≤ first_of 33 + 35798 =
+    omega (arith, first_of-33, first_of-58, first_of-suc 58, count_to-58) in
+    subst (λ q. first_of (25 + q) ≤ first_of q + 35798) e at_33
+levels-25 (suc n) q last low =
+    let rises = by_place (cases_lt q 27) in
+    let e : 25 + suc q ≡ suc (25 + q) = omega arith in
+    omega (
+      arith,
+      levels-25 n (suc q) (omega arith) (omega arith),
+      ap first_of e,
+      level q,
+      level (25 + q),
+      rises,
+    )
+  where
+    level : (p : ℕ) → first_of (suc p) ≡ first_of p + ways_sum 6 1 15 p
+    level p =
+        omega (arith, first_of-suc p, count_to-step p, ways-ways_sum 6 1 15 p (omega arith))
+
+    by_place : (q < 27) ⊎ (27 ≤ q) → ways_sum 6 1 15 q ≤ ways_sum 6 1 15 (25 + q)
+    by_place (inl below) = rising-each 21 6 q rising-26 low (omega arith)
+    by_place (inr above) = rising-each 27 6 q rising-32 above (omega arith)
+
+-- to 58 pips a rank is less than 35,798 after each position that is at most 24 pips away
+pub twenty_five_levels : (r : ℕ) (y : Board) → IsPosition y → r < count_to 58 →
+    r < count_to (pips y + 24) → r < rank y + 35798
+twenty_five_levels r y there low near = by_place (cases_lt (pips y) 21) (cases_lt (pips y) 34)
+  where
+    by_place : (pips y < 21) ⊎ (21 ≤ pips y) → (pips y < 34) ⊎ (34 ≤ pips y) →
+        r < rank y + 35798
+    by_place (inl few) later =
+        omega (arith, count_to-rises (pips y + 24) 44 (omega arith), count_to-44)
+    by_place (inr from) (inl few) =
+        let e : 25 + pips y ≡ suc (pips y + 24) = omega arith in
+        omega (
+          arith,
+          ap first_of e,
+          first_of-suc (pips y + 24),
+          levels-25 (33 - pips y) (pips y) (omega arith) from,
+          (rank_within y there).0,
+        )
+    by_place (inr from) (inr many) =
+        omega (
+          arith,
+          count_to-58,
+          first_of-rises 34 (pips y) many,
+          first_of-next 33 1,
+          first_of-33,
+          (rank_within y there).0,
+        )

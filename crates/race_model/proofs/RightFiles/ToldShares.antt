@@ -14,8 +14,8 @@ use Rattle.race_model.proofs.Strategies.Totals.{count_of-stop, count_of-turn_non
 use Rattle.race_model.proofs.RightFiles.FromLocal.{follow-finished, follow-unfinished}
 use Rattle.race_model.proofs.Positions.Points.{no_pips}
 
--- .. and no other has none
-some_pips : (x : Board) → ¬ IsFinished x → pips x ≡ 0 → ⊥
+-- an unfinished position has pips
+pub some_pips : (x : Board) → ¬ IsFinished x → pips x ≡ 0 → ⊥
 some_pips x unfinished none = unfinished (empty (checkers x) (pips x) (sum-at_most_pips 0 x) none)
   where
     empty : (c p : ℕ) → c ≤ p → p ≡ 0 → c ≡ 0

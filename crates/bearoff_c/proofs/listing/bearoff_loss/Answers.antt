@@ -1,4 +1,4 @@
-use Rattle.std.proofs.Common.{◌≡◌, ℕ, Some, Err, refl, ap, sym, ◌∙◌, arith}
+use Rattle.std.proofs.Common.{◌≡◌, Some, Err, refl, ap, sym, ◌∙◌, arith}
 use Rattle.bearoff_c.specs.Refusals.{status_of}
 use Rattle.bearoff_c.specs.declared.refusal.Refusal.{Refusal}
 use Rattle.bearoff_c.specs.declared.refusal.Refusal.TheVariants.{NotOpen, BadRoll, TooMany, OverBound, Finished, NotLegal, Changed}

@@ -13,12 +13,12 @@ invariant_of-result g c =
       version_is = λ file told. said.version file (sym said.stays ∙ told);
     }
 
-pub returns-in-Ok-clause-right : goal.returns-in-Ok-clause-right
-returns-in-Ok-clause-right g c file told =
+pub returns-clause-right : goal.returns-clause-right
+returns-clause-right g c file told =
     c.law_right.ensures.right file ((c.in-Ok.ensures {u = tt}).local file told)
 
-pub returns-in-Ok-clause-exactly : goal.returns-in-Ok-clause-exactly
-returns-in-Ok-clause-exactly g c file told none = (
+pub returns-clause-exactly : goal.returns-clause-exactly
+returns-clause-exactly g c file told none = (
   λ _. c.law_right.ensures.right file
       ((c.in-Ok.ensures {u = tt}).local file told),
   λ _. refl,

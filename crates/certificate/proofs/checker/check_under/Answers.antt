@@ -1,18 +1,40 @@
 -- The records are checked by rising rank; each is accepted or has the first fault.
-use Rattle.std.proofs.Common.{◌+◌, slice_index, sym, ap, subst, ◌∙◌, arith, rules}
+use Rattle.std.proofs.Common.{◌+◌, sym, ap, subst, ◌∙◌, arith, rules}
 use Rattle.race_model.specs.Ranks.{count_to}
 use Rattle.certificate.specs.CheckFaults.{IsFirst}
+use Rattle.certificate.specs.KeptMeans.{kept_mean}
 use Rattle.certificate.specs.LowerRecords.{IsLower}
 use Rattle.certificate.proofs.FileTests.{fault-of_file, accepted-more, accepted-all}
 use Rattle.certificate.proofs.checker.check_under.Goals as goal
 
-pub check_record-requires-clause-file : goal.check_record-requires-clause-file
-check_record-requires-clause-file g c file told =
-    c.requires.file file (sym c.loop-rank.invariant.stays ∙ told)
-
-pub check_record-requires-clause-lower : goal.check_record-requires-clause-lower
-check_record-requires-clause-lower g c file told =
-    c.loop-rank.invariant.lower file (sym c.loop-rank.invariant.stays ∙ told)
+pub check_record-requires : goal.check_record-requires
+check_record-requires g c =
+    let before = c.loop-rank.invariant in (
+      search rules,
+      (
+        before.header,
+        (
+          c.loop-rank-test.true,
+          (
+            c.requires.room,
+            (
+              c.requires.near c.loop-rank.rank c.loop-rank-test.true,
+              (
+                c.requires.small,
+                (
+                  (λ file told. c.requires.file file (sym before.stays ∙ told)),
+                  (
+                    (λ file told. before.lower file (sym before.stays ∙ told)),
+                    subst (λ told. IsLower told c.loop-rank.lower c.loop-rank.rank)
+                        (sym before.stays) before.kept,
+                  ),
+                ),
+              ),
+            ),
+          ),
+        ),
+      ),
+    )
 
 pub returns-in-Err-clause-first : goal.returns-in-Err-clause-first
 returns-in-Err-clause-first g c file told =
@@ -44,19 +66,14 @@ returns-clause-local g c file told =
     accepted-all file c.loop-rank.rank said.file (omega (arith, count, c.loop-rank-test.false))
     (c.loop-rank.invariant.lower file told)
 
-pub check_record-requires-clause-kept : goal.check_record-requires-clause-kept
-check_record-requires-clause-kept g c =
-    subst (λ told. IsLower told c.loop-rank.lower c.loop-rank.rank)
-    (sym c.loop-rank.invariant.stays) c.loop-rank.invariant.kept
-
 pub loop-rank-init : goal.loop-rank-init
 loop-rank-init g c = record {
   stays = search rules;
   header = search rules;
   cause = search rules;
   kept = record {
-    known = c.new-lower.ensures (slice_index c.new-lower.result.means);
-    means_are = λ file told r lt. absurd (omega arith);
+    known = c.new-lower.ensures (kept_mean g.row.ROOM c.new-lower.result.means);
+    means_are = λ file told r lt near. absurd (omega arith);
   };
   lower = λ file told z at lt. absurd (omega arith);
 }

@@ -1,15 +1,19 @@
 -- The tests of the record of one rank, from its plays to its shares.
-use Rattle.std.proofs.Common.{◌≡◌, ℕ, ◌<◌, ◌≤◌, List, Some, true, false, slice_index, sym, ap, subst, ◌∙◌, arith, rules, tests}
-use Rattle.race_model.specs.Positions.{Board}
-use Rattle.race_model.specs.Ranks.{count_to, at_rank}
+use Rattle.std.proofs.Common.{◌≡◌, ℕ, ◌+◌, ◌<◌, ◌≤◌, List, Some, true, false, slice_index, sym, ap, subst, ◌∙◌, arith, rules, tests}
+use Rattle.race_model.specs.Positions.{Board, pips}
+use Rattle.race_model.specs.Ranks.{rank, count_to, at_rank}
 use Rattle.race_model.specs.Dice.{roll_at}
 use Rattle.race_model.specs.Files.{bound_of, record_at, mean_of, mean_at, share_of}
-use Rattle.race_model.proofs.Ranks.BestPlays.{play-agree}
+use Rattle.race_model.proofs.Plays.Results.{legal_position}
+use Rattle.race_model.proofs.Plays.Spent.{legal_takes}
+use Rattle.race_model.proofs.Ranks.RankOrder.{rank_bound}
+use Rattle.race_model.proofs.Ranks.BestPlays.{legal_lower, play-agree_reached}
 use Rattle.race_model.proofs.RightFiles.Right.{bound_of-most}
 use Rattle.certificate.specs.PlayFaults.{FirstOfPlays, PlayCauses}
 use Rattle.certificate.specs.declared.plays.PlayFault.{PlayFault}
 use Rattle.certificate.specs.declared.plays.PlayFault.TheVariants.{NotLegal, NotLeast, Read}
 use Rattle.std.proofs.lemmas.Bool.{false≢true}
+use Rattle.certificate.specs.KeptMeans.{kept_mean}
 use Rattle.certificate.specs.RecordNumbers.{IsMeanOf, IsShareOf}
 use Rattle.certificate.specs.RecordFaults.{IsFirstFaultAt, RecordCauses, of_record}
 use Rattle.certificate.proofs.RecordBytes.{mean-of_record}
@@ -149,9 +153,14 @@ sum_plays-requires-clause-best g c file told i lt =
     let ranked = rw c.unwrap-position.ensures at c.unrank.ensures.ranked in
     let at = rw c.unwrap-position.ensures at c.unrank.ensures.position in
     let now = sym (c.in_default.ensures {u = tt}).stays ∙ told in
-    play-agree (slice_index c.args.lower.now.means) (mean_at file) x (roll_at i)
-    (slice_index c.best_plays-best.result i) at
-    (λ q less. c.requires.kept.means_are file now q (omega (arith, ranked)))
+    play-agree_reached (kept_mean g.row.ROOM c.args.lower.now.means) (mean_at file) x (roll_at i)
+    (slice_index c.best_plays-best.result i)
+    (λ unfinished z legal.
+    let there = legal_position x (roll_at i) z at legal in
+    let below = legal_lower x (roll_at i) z at unfinished legal in
+    let taken = (rank_bound x (pips z + 24) at).1 (legal_takes x (roll_at i) z legal) in
+    let near = c.requires.near z there (omega (arith, ranked)) in
+    c.requires.kept.means_are file now (rank z) (omega (arith, ranked)) (omega arith))
     (c.best_plays-best.ensures.best i lt)
 
 pub returns-in-None-clause-kept : goal.returns-in-None-clause-kept
@@ -163,9 +172,9 @@ returns-in-None-clause-kept g c = record {
       let before = c.args.lower.now.means in
       let read = c.mean.ensures ∙ (ap mean_of (c.lend-view.ensures file (fine.stays ∙ now))
       ∙ mean-of_record file c.args.rank) in
-      accepted-mean_more file before c.accept.new.self.means c.args.rank
+      accepted-mean_more file before c.accept.new.self.means g.row.ROOM c.args.rank
       (c.accept.ensures.mean ∙ read)
       (λ r other. c.accept.ensures.others r other
-      ∙ ap (λ means. slice_index means r) c.best_plays-best.ensures.means)
+      ∙ ap (λ means. kept_mean g.row.ROOM means r) c.best_plays-best.ensures.means)
       (c.requires.kept.means_are file told);
 }

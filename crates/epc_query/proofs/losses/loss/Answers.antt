@@ -1,4 +1,4 @@
-use Rattle.std.proofs.Common.{◌≤◌, lit≤, arith, rules}
+use Rattle.std.proofs.Common.{◌≤◌, arith, rules}
 use Rattle.race_model.specs.Positions.{pips}
 use Rattle.race_model.specs.Plays.{Legal}
 use Rattle.race_model.specs.Files.{bound_of}

@@ -1,4 +1,4 @@
-use Rattle.std.proofs.Common.{◌≡◌, ◌≤◌, lit≤, subst, ◌∙◌, arith}
+use Rattle.std.proofs.Common.{◌≡◌, ◌≤◌, subst, ◌∙◌, arith}
 use Rattle.race_model.specs.Positions.{pips}
 use Rattle.race_model.specs.Files.{bound_of}
 use Rattle.race_model.specs.LocalEquations.{whole}

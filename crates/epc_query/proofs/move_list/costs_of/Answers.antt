@@ -10,16 +10,16 @@ loop-to-preserved g c =
     let told = c.in_ok-mean.ensures {u = tt} in
     let i = c.loop-to.to-index in
     record {
-      ordered = c.include.ensures.ordered;
+      ordered = c.include_cost.ensures.ordered;
       bounded = still_costs c.loop-to.costs.items _ _ c.loop-to.invariant.bounded
-          (c.numerator.ensures.range, c.rank.ensures.range) c.include.ensures.members;
-      few = omega (arith, c.include.ensures.len, c.loop-to.invariant.few);
+          (c.numerator.ensures.range, c.rank.ensures.range) c.include_cost.ensures.members;
+      few = omega (arith, c.include_cost.ensures.len, c.loop-to.invariant.few);
       members = λ file t cost.
           one_more_cost file c.args.found.now i c.to-item.result cost _ _ _ _ c.loop-to-test.true
           c.to-item.is
           (c.numerator.ensures.value ∙ told.recorded file (c.loop-to.invariant.stays
           ∙ t)) c.rank.ensures.value
-          (c.include.ensures.members cost) (c.loop-to.invariant.members file t cost);
+          (c.include_cost.ensures.members cost) (c.loop-to.invariant.members file t cost);
       stays = c.recorded_mean.ensures.stays ∙ c.loop-to.invariant.stays;
       accepted = c.recorded_mean.ensures.accepted ∙ c.loop-to.invariant.accepted;
       count = λ file t. told.cause file (c.loop-to.invariant.stays ∙ t)

@@ -1,4 +1,4 @@
-use Rattle.std.proofs.Common.{◌≡◌, ◌≤◌, ◌↔◌, Contains, List, lit≤, get_or, sym, subst, arith}
+use Rattle.std.proofs.Common.{◌≡◌, ◌≤◌, ◌↔◌, Contains, List, get_or, sym, subst, arith}
 use Rattle.std.proofs.lemmas.List.Elements.{All-contains_itself}
 use Rattle.race_model.specs.Positions.{Board, pips}
 use Rattle.race_model.specs.Plays.{Legal}

@@ -5,12 +5,14 @@ use Rattle.race_model.specs.Versions.{version_by}
 use Rattle.race_model.proofs.Ranks.RankOrder.{first_of-zero, first_of-suc, first_of-rises, count_to-rises}
 use Rattle.db_layout.proofs.Bounds.{bound-most}
 use Rattle.std.proofs.KnownBytes.{Appends-nil}
-use Rattle.retrograde.specs.AllRecords.{mean_of_rank}
+use Rattle.retrograde.specs.AllRecords.{mean_of_rank, bytes_of_rank}
 use Rattle.retrograde.specs.BuiltBytes.{built_to, IsRefusedBy}
 use Rattle.retrograde.specs.declared.build_fault.BuildFault.TheVariants.{Memory, Write}
 use Rattle.retrograde.proofs.Existence.{all-records}
+use Rattle.db_layout.proofs.Known.{one-error}
+use Rattle.db_layout.proofs.Prefixes.{header-first, more-written}
 use Rattle.retrograde.proofs.Kept.{kept-none}
-use Rattle.retrograde.proofs.Prefixes.{nothing-written, header-written, header-first, ranks-written, more-written, level-written, all-written, one-error}
+use Rattle.retrograde.proofs.Prefixes.{nothing-written, header-written, ranks-written, part-written, all-written}
 use Rattle.retrograde.proofs.building.build_with.Goals as goal
 
 -- a level begins where the one below ends
@@ -83,11 +85,12 @@ returns-in_err-write_level-clause-refused g c =
     let start : 0 ≡ first = omega (arith, level.level, first_of-zero) in
     let before : Appends old mid (built_to version all-records bound first) =
     subst (λ (n : ℕ). Appends old mid (built_to version all-records bound n)) start
-    (header-first version all-records bound low old mid c.in_ok-write_header.ensures.all) in
+    (header-first version bound (bytes_of_rank version all-records) old mid
+    c.in_ok-write_header.ensures.all) in
     one-error c.from_residual-in_err-write_level.result Write (IsRefusedBy version bound old new)
     c.from_residual-in_err-write_level.ensures.1 (
       bound-most c.args.header,
-      more-written version all-records bound low old mid new first
+      part-written version all-records bound low old mid new first
           (length (g.K.Keeper.plays records))
           (omega (arith, level.made, level.level, count_to-rises 0 bound (omega arith))) before
           c.in_err-write_level.ensures.part,
@@ -109,14 +112,15 @@ loop-below-init g c =
     omega (arith, level.level) in
     let before : Appends old mid (built_to version all-records bound first) =
     subst (λ (n : ℕ). Appends old mid (built_to version all-records bound n)) start
-    (header-first version all-records bound low old mid c.in_ok-write_header.ensures.all) in
+    (header-first version bound (bytes_of_rank version all-records) old mid
+    c.in_ok-write_header.ensures.all) in
     record {
       kept = level.kept;
       known = rw (first_of-suc 0) level.known;
       made = level.made ∙ sym (first_of-suc 0);
       recent = level.recent;
       written = subst (λ (n : ℕ). Appends old new (built_to version all-records bound n)) all
-          (level-written version all-records bound low old mid new first
+          (more-written version bound (bytes_of_rank version all-records) old mid new first
           (length (g.K.Keeper.plays records)) before
           c.in_ok-write_level.ensures.all);
     }
@@ -183,7 +187,7 @@ returns-in_err-write_level-2-clause-refused g c =
     one-error c.from_residual-in_err-write_level-2.result Write (IsRefusedBy version bound old new)
     c.from_residual-in_err-write_level-2.ensures.1 (
       bound-most c.args.header,
-      more-written version all-records bound low old mid new first
+      part-written version all-records bound low old mid new first
           (length (g.K.Keeper.plays records))
           (omega (arith, level.made, level.level, count_to-rises (below + 1) bound (omega arith)))
           before
@@ -215,7 +219,7 @@ loop-below-preserved g c =
       made = level.made ∙ sym (first_of-one (below + 1));
       recent = level.recent;
       written = subst (λ (n : ℕ). Appends old new (built_to version all-records bound n)) all
-          (level-written version all-records bound low old mid new first
+          (more-written version bound (bytes_of_rank version all-records) old mid new first
           (length (g.K.Keeper.plays records)) before
           c.in_ok-write_level-2.ensures.all);
     }

@@ -1,6 +1,4 @@
 use Rattle.std.proofs.Common.{◌≡◌, ℕ, ◌+◌, ◌-◌, ◌<◌, List, length, subst, sym, ap, ◌∙◌, arith}
-use Rattle.std.specs.Prelude.{Result, Ok, Err}
-use Rattle.std.specs.Result.{OnErr}
 use Rattle.std.specs.Io.KnownBytes.{Appends}
 use Rattle.race_model.specs.Positions.{pips}
 use Rattle.race_model.specs.Ranks.{at_rank, first_of, count_to}
@@ -8,20 +6,15 @@ use Rattle.race_model.specs.Versions.{version_by}
 use Rattle.race_model.proofs.Ranks.RankOrder.{count_to-rises}
 use Rattle.db_layout.specs.Writes.{AppendsPart}
 use Rattle.db_layout.proofs.Bounds.{bound-most}
-use Rattle.db_layout.proofs.Known.{appends_twice}
+use Rattle.db_layout.proofs.Known.{on-error, appends_twice}
 use Rattle.std.proofs.KnownBytes.{Appends-nil}
 use Rattle.retrograde.specs.AllRecords.{shares_of_rank, bytes_of_rank}
-use Rattle.retrograde.specs.BuiltBytes.{records_from}
-use Rattle.retrograde.proofs.Files.{records-apart, records-next}
+use Rattle.db_layout.specs.WholeFiles.{records_from}
+use Rattle.db_layout.proofs.WholeFiles.{records-apart, records-next}
 use Rattle.retrograde.proofs.Kept.{kept-bytes, kept-held}
 use Rattle.retrograde.proofs.Levels.{pips-at_rank}
-use Rattle.retrograde.proofs.Prefixes.{flat_map-take_more}
+use Rattle.db_layout.proofs.Prefixes.{part-behind}
 use Rattle.retrograde.proofs.building.write_level.Goals as goal
-
--- what holds at an error holds on an error
-on-error : {T E P : Type 0} (r : Result T E) → P → OnErr r P
-on-error (Ok x) p = tt
-on-error (Err e) p = p
 
 -- the ranks that are written are those of the pip count
 level-pips : (p means plays index : ℕ) → first_of p + plays ≡ means → means ≡ count_to p →
@@ -86,7 +79,7 @@ returns-in_err-write_record-clause-part g c =
     on-error c.from_residual.result
     (subst (λ (bs : List ℕ). AppendsPart old new bs)
     (sym (records-apart (bytes_of_rank version g.full) first index count lt))
-    (flat_map-take_more old mid new (records_from (bytes_of_rank version g.full) first index)
+    (part-behind old mid new (records_from (bytes_of_rank version g.full) first index)
     (bytes_of_rank version g.full (first + index)) rest
     c.loop-index.invariant part))
 

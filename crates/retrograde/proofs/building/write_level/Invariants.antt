@@ -2,7 +2,7 @@ use Rattle.std.proofs.Common.{◌-◌, length}
 use Rattle.std.specs.Io.KnownBytes.{Appends}
 use Rattle.race_model.specs.Versions.{version_by}
 use Rattle.retrograde.specs.AllRecords.{bytes_of_rank}
-use Rattle.retrograde.specs.BuiltBytes.{records_from}
+use Rattle.db_layout.specs.WholeFiles.{records_from}
 use Rattle.retrograde.proofs.building.write_level.Given as goal
 
 abbrev pub ghost-spread_of : goal.ghost-spread_of

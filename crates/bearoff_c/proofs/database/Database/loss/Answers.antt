@@ -21,8 +21,8 @@ returns-then-is_none-clause-not_legal c =
       λ both. refl,
     )
 
-pub returns-in-Some-lost-clause-not_legal : goal.returns-in-Some-lost-clause-not_legal
-returns-in-Some-lost-clause-not_legal c =
+pub returns-in-Some-clause-not_legal : goal.returns-in-Some-clause-not_legal
+returns-in-Some-clause-not_legal c =
     let told = c.in_ok-turn.ensures {u = tt} in
     let found : Legal c.in_ok-turn.turn.position c.in_ok-turn.turn.roll c.in-Ok.after = search
     rules in
@@ -31,8 +31,8 @@ returns-in-Some-lost-clause-not_legal c =
       λ both. absurd (both.1 legal),
     )
 
-pub returns-in-Some-lost-clause-lost : goal.returns-in-Some-lost-clause-lost
-returns-in-Some-lost-clause-lost c =
+pub returns-in-Some-clause-lost : goal.returns-in-Some-clause-lost
+returns-in-Some-clause-lost c =
     let f = c.args.self.now.bytes.now in
     let x = c.args.counts.now.points in
     let v = roll_of (face c.args.one) (face c.args.other) in

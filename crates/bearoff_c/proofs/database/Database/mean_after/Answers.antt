@@ -1,21 +1,19 @@
-use Rattle.std.proofs.Common.{◌≤◌, arith}
+use Rattle.std.proofs.Common.{arith}
+use Rattle.std.proofs.Math.Bridge.{le_prop}
 use mathlib.Core.Logic.{∥∥₁_elim}
-use Rattle.race_model.specs.Positions.{pips}
 use Rattle.bearoff_c.proofs.Known.{known_result}
-use Rattle.bearoff_c.proofs.Refusing.{none_refused}
 use Rattle.bearoff_c.proofs.database.Database.mean_after.Goals as goal
 
-pub returns-in-Err-clause-some : goal.returns-in-Err-clause-some
-returns-in-Err-clause-some c =
+pub mean_of-requires-clause-within : goal.mean_of-requires-clause-within
+mean_of-requires-clause-within c =
     let f = c.args.self.now.bytes.now in
     let x = c.args.turn.now.position in
     let v = c.args.turn.now.roll in
     let y = c.args.to.now in
-    absurd (∥∥₁_elim c.requires.known (λ a b. absurd a) (λ known.
-    ∥∥₁_elim c.args.self.now.accepted (λ a b. absurd a) (λ held.
-    let result = known_result f x known v y c.requires.legal in
-    let low : pips y ≤ c.args.self.now.bound =
-    omega (arith, (held c.requires.opened).bound_is, result.within) in
-    let none = none_refused c.args.self.now.bound y result.position low in
-    let refused = rw (c.requires.opened, c.of.ensures) at (c.in-Err.ensures {u = tt}).refusal in
-    cc)))
+    ∥∥₁_elim c.requires.known le_prop (λ known.
+    ∥∥₁_elim c.args.self.now.accepted le_prop (λ held.
+    omega (
+      arith,
+      (held c.requires.opened).bound_is,
+      (known_result f x known v y c.requires.legal).within,
+    )))

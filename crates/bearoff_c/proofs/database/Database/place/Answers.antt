@@ -1,7 +1,7 @@
-use Rattle.std.proofs.Common.{◌≡◌, ℕ, suc, ◌+◌, ◌-◌, ◌*◌, ◌<◌, ◌≤◌, sym, ap, ap₂, ◌∙◌, w64, arith, le_trans, le_of_eq}
+use Rattle.std.proofs.Common.{◌≡◌, ℕ, suc, ◌+◌, ◌-◌, ◌*◌, ◌<◌, sym, ap, ap₂, ◌∙◌, w64, arith, le_trans, le_of_eq}
 use Rattle.std.proofs.Math.Facts.{Fits-of_lt}
 use Rattle.race_model.specs.Positions.{pips}
-use Rattle.race_model.specs.Ranks.{rank, at_rank, first_of, count_to}
+use Rattle.race_model.specs.Ranks.{rank, first_of, count_to}
 use Rattle.race_model.specs.Versions.{version_by, record_length}
 use Rattle.race_model.specs.Files.{version_of, bound_of, record_place}
 use Rattle.race_model.proofs.Ranks.RankOrder.{rank_within, rank_bound, at_rank-rank, count_to-rises}

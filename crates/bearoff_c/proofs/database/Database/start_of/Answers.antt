@@ -1,4 +1,4 @@
-use Rattle.std.proofs.Common.{◌≡◌, ◌+◌, ◌*◌, sym, ap, ◌∙◌, w64, arith}
+use Rattle.std.proofs.Common.{◌≡◌, ◌+◌, ◌*◌, sym, ap, w64, arith}
 use Rattle.std.proofs.Math.Facts.{Fits-of_lt}
 use Rattle.race_model.specs.Ranks.{first_of}
 use Rattle.race_model.specs.Versions.{version_by}

@@ -30,7 +30,7 @@ returns-then-is_finished-clause-known g c =
     let x = c.args.position.now in
     let none : IsFinished x = c.is_finished.ensures.value.0 c.if-is_finished.true in
     knows_more (g.M.Means.mean c.args.means.now) c.args.self.now x (c.from-place.result % 11452)
-    (record { after = replicate 6 (replicate 3 0) }) c.is_finished.ensures.position
+    (record { after = replicate 6 (replicate 3 0) }) c.is_finished.ensures.position c.requires.low
     (ap (λ r. r % 11452) (c.from-place.ensures ∙ c.rank.ensures.value))
     (omega arith) c.requires.known
     (λ d n few.
@@ -53,7 +53,7 @@ returns-clause-known g c =
     let x = c.args.position.now in
     let starts = c.starts-starts.result in
     knows_more mean c.args.self.now x (c.from-place.result % 11452) c.row_of.result
-    c.is_finished.ensures.position
+    c.is_finished.ensures.position c.requires.low
     (ap (λ r. r % 11452) (c.from-place.ensures ∙ c.rank.ensures.value))
     (omega arith) c.requires.known
     (λ d n few.

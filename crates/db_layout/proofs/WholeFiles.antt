@@ -1,12 +1,17 @@
--- The file that holds the records, and what one reads in it.
-use Rattle.std.proofs.Common.{◌≡◌, ℕ, zero, suc, ◌+◌, ◌-◌, ◌<◌, ◌≤◌, List, ◌++◌, length, take, drop, refl, sym, ap, subst, ◌∙◌, arith, append_assoc, length-append}
+-- A whole file of records, and what one reads in it.
+use Rattle.std.proofs.Common.{◌≡◌, ℕ, zero, suc, ◌+◌, ◌-◌, ◌<◌, ◌≤◌, List, ◌++◌, length, take, drop, refl, sym, ap, subst, ◌∙◌, arith, le_trans, append_assoc, length-append}
+use Rattle.std.specs.Prelude.{slice_index}
 use Rattle.std.proofs.lemmas.List.{append-nil}
 use Rattle.std.proofs.Math.Seq.{take-append_seam, drop-append_seam}
-use Rattle.race_model.specs.Versions.{Version, full, compact}
-use Rattle.race_model.specs.Files.{IsBytes, header, bytes_at, version_of, bound_of, record_place}
+use Rattle.race_model.specs.Positions.{pips}
+use Rattle.race_model.specs.Ranks.{at_rank, count_to}
+use Rattle.race_model.specs.Versions.{Version, full, compact, greatest_bound}
+use Rattle.race_model.specs.Files.{IsBytes, IsFile, header, bytes_at, version_of, bound_of, record_place, told_record, record_at, mean_of, play_of, share_of, mean_at, play_at, spread_at}
 use Rattle.race_model.proofs.RightFiles.Places.{length_at, record_place-first, record_place-next}
+use Rattle.race_model.proofs.RightFiles.Right.{greatest_bound-most}
+use Rattle.db_layout.specs.Records.{IsRecordOf}
+use Rattle.db_layout.specs.WholeFiles.{records_from, file_of}
 use Rattle.db_layout.proofs.Bytes.{small_append, small_header}
-use Rattle.retrograde.specs.BuiltBytes.{records_from, file_of}
 
 -- a header has 32 bytes
 pub header-length : (version : Version) (bound : ℕ) → length (header version bound) ≡ 32
@@ -149,3 +154,62 @@ module _ (version : Version) (bound : ℕ) (bytes : ℕ → List ℕ) where
   file-bytes small n =
       small_append (header version bound) (records_from bytes 0 n) (small_header version bound)
       (records-bytes bytes small 0 n)
+
+-- the file of a version and a bound that it allows, whose records tell these numbers
+module _ (version : Version) (bound : ℕ) (low : bound ≤ greatest_bound version)
+    (bytes : ℕ → List ℕ) (mean : ℕ → ℕ) (plays shares : ℕ → List ℕ)
+    (told : (r : ℕ) → r < count_to bound →
+    IsRecordOf version (pips (at_rank r)) (bytes r) (mean r) (plays r) (shares r)) where
+  abbrev whole : List ℕ
+  whole = file_of version bound bytes (count_to bound)
+
+  whole-version : version_of whole ≡ version
+  whole-version = file-version version bound bytes (count_to bound)
+
+  whole-bound : bound_of whole ≡ bound
+  whole-bound =
+      file-bound version bound bytes (count_to bound) (le_trans low (greatest_bound-most version))
+
+  each-length : (r : ℕ) → r < count_to bound → length (bytes r) ≡ length_at version r
+  each-length r lt = (told r lt).len
+
+  -- the full record that stands for a rank
+  whole-record : (r : ℕ) → r < count_to bound →
+      record_at whole r ≡ told_record version (pips (at_rank r)) (bytes r)
+  whole-record r lt =
+      ap
+      (λ (v : Version).
+      told_record v (pips (at_rank r)) (bytes_at whole (record_place v r) (length_at v r)))
+      whole-version
+      ∙ ap (told_record version (pips (at_rank r)))
+      (file-record version bound bytes r (count_to bound) lt each-length)
+
+  -- what one reads in the file
+  pub whole-mean : (r : ℕ) → r < count_to bound → mean_at whole r ≡ mean r
+  unfolding mean_at
+  whole-mean r lt = ap mean_of (whole-record r lt) ∙ (told r lt).mean_is
+
+  pub whole-play : (r i : ℕ) → r < count_to bound → i < 21 →
+      play_at whole r i ≡ slice_index (plays r) i
+  unfolding play_at
+  whole-play r i lt few =
+      ap (λ (bs : List ℕ). play_of bs i) (whole-record r lt) ∙ (told r lt).play_is i few
+
+  pub whole-share : (r k : ℕ) → r < count_to bound → k ≤ 22 →
+      spread_at whole r k ≡ slice_index (shares r) k
+  unfolding spread_at
+  whole-share r k lt few =
+      ap (λ (bs : List ℕ). share_of bs k) (whole-record r lt) ∙ (told r lt).share_is k few
+
+  pub whole-is_file : IsFile whole
+  whole-is_file = record {
+    bounded = omega (arith, whole-bound, ap greatest_bound whole-version, low);
+    headed =
+        file-front version bound bytes (count_to bound)
+        ∙ (ap (λ (v : Version). header v bound) (sym whole-version)
+        ∙ ap (header (version_of whole)) (sym whole-bound));
+    whole =
+        file-length version bound bytes (count_to bound) each-length
+        ∙ (ap (λ (v : Version). record_place v (count_to bound)) (sym whole-version)
+        ∙ ap (λ b. record_place (version_of whole) (count_to b)) (sym whole-bound));
+  }

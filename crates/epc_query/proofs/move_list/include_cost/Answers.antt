@@ -1,6 +1,6 @@
 use Rattle.legal_plays.proofs.OrderLemmas.{Contains-insert, AllPairs-insert, rising}
 use Rattle.epc_query.proofs.CostOrder.{cost_cmp_total}
-use Rattle.epc_query.proofs.move_list.include.Goals as goal
+use Rattle.epc_query.proofs.move_list.include_cost.Goals as goal
 
 pub returns-in-Err-clause-members : goal.returns-in-Err-clause-members
 returns-in-Err-clause-members c other =

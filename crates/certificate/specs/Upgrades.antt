@@ -1,0 +1,54 @@
+-- What an upgrade writes. Source: this project's profile.
+use Rattle.std.specs.Prelude.{◌≡◌, ℕ, ◌<◌, List, Option, Result, Ok, Err, map}
+use Rattle.std.specs.List.{range_with_len}
+use Rattle.std.specs.Io.KnownBytes.{Appends, Keeps}
+use Rattle.race_model.specs.Positions.{pips}
+use Rattle.race_model.specs.Ranks.{at_rank}
+use Rattle.race_model.specs.Versions.{compact}
+use Rattle.race_model.specs.Files.{record_at, mean_of, play_of}
+use Rattle.race_model.specs.Upgrades.{IsUpgrade}
+use Rattle.db_layout.specs.Records.{record_of}
+use Rattle.db_layout.specs.Writes.{AppendsPart}
+use Rattle.certificate.specs.RecordNumbers.{shares_of}
+use Rattle.certificate.specs.declared.upgrade_fault.UpgradeFault.{UpgradeFault}
+use Rattle.certificate.specs.declared.upgrade_fault.UpgradeFault.TheVariants.{NotOld, Read, Write}
+
+-- the upgrade of a file was written, and nothing else
+abbrev pub WritesUpgrade : List ℕ → Option (List ℕ) → Option (List ℕ) → Type 0
+WritesUpgrade f old new = (g : List ℕ) × (IsUpgrade f g) × (Appends old new g)
+
+-- a prefix of the upgrade of a file was written
+abbrev pub WritesPart : List ℕ → Option (List ℕ) → Option (List ℕ) → Type 0
+WritesPart f old new = (g : List ℕ) × (IsUpgrade f g) × (AppendsPart old new g)
+
+-- what was written where an upgrade was refused: nothing, or a prefix
+abbrev pub IsRefusedBy : List ℕ → Option (List ℕ) → Option (List ℕ) → UpgradeFault → Type 0
+IsRefusedBy f old new NotOld = Keeps old new
+IsRefusedBy f old new Read = WritesPart f old new
+IsRefusedBy f old new Write = WritesPart f old new
+
+-- a fault that comes while records are written
+abbrev pub IsLater : UpgradeFault → Type 0
+IsLater NotOld = ⊥
+IsLater Read = Unit {0}
+IsLater Write = Unit {0}
+
+-- the read fault is answered exactly where the count of failures rose
+abbrev pub UpgradeCauses : ℕ → ℕ → UpgradeFault → Type 0
+UpgradeCauses before now NotOld = now ≡ before
+UpgradeCauses before now Read = before < now
+UpgradeCauses before now Write = now ≡ before
+
+abbrev pub UpgradeCounted : {T : Type 0} → ℕ → ℕ → Result T UpgradeFault → Type 0
+UpgradeCounted before now (Ok x) = now ≡ before
+UpgradeCounted before now (Err fault) = UpgradeCauses before now fault
+
+-- the plays of the rolls 0 to 20 in the bytes of a record
+unfoldable pub plays_of : List ℕ → List ℕ
+plays_of bytes = map (play_of bytes) (range_with_len 0 21)
+
+-- the record of a rank of a file, as a file of version 2 stores it
+unfoldable pub compact_record : List ℕ → ℕ → List ℕ
+compact_record f r =
+    record_of compact (pips (at_rank r)) (mean_of (record_at f r)) (plays_of (record_at f r))
+    (shares_of (record_at f r))
