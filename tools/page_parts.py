@@ -28,7 +28,8 @@ def script(web, name, start):
     """One script of a module and those below it, which ends with a call."""
     parts = {}
     in_order(web, name, parts)
-    names = [word for text in parts.values() for word in re.findall(r"^(?:export )?(?:async )?(?:const|function|class) (\w+)", text, re.M)]
+    named = re.compile(r"^(?:export )?(?:async )?(?:const|function|class) (\w+)", re.MULTILINE)
+    names = [word for text in parts.values() for word in named.findall(text)]
     twice = sorted({word for word in names if names.count(word) > 1})
     if twice:
         sys.exit(f"page: two modules name the same: {', '.join(twice)}")

@@ -66,7 +66,9 @@ export function start(document, window, parts) {
         state.answer = answer;
         state.rolls = [];
         if (!answer.refusal) {
-            say(`${answer.standing.pips} pips, mean ${answer.mean.text} rolls, effective pip count ${answer.effective.text}, wastage ${answer.wastage.text}.`);
+            const { standing, mean, effective, wastage } = answer;
+            say(`${standing.pips} pips, mean ${mean.text} rolls, effective pip count ${effective.text}, `
+                + `wastage ${wastage.text}.`);
         } else {
             say(answer.refusal);
         }
@@ -108,7 +110,8 @@ export function start(document, window, parts) {
     }
 
     function keep() {
-        if (state.kept.length >= MOST_KEPT || state.kept.some(({ points }) => points.join() === state.points.join())) return;
+        const isKept = state.kept.some(({ points }) => points.join() === state.points.join());
+        if (isKept || state.kept.length >= MOST_KEPT) return;
         state.kept.push({ points: state.points, caption: "", answer: state.answer });
         say("The position is kept.");
         drawKept();
@@ -184,7 +187,8 @@ export function start(document, window, parts) {
             document.body.dataset.ready = String(bound);
         } catch (failure) {
             complain(failure.status
-                ? `The file was refused, and nothing of it is used. ${FAULTS[failure.status] || failure.message} First fault: ${failure.line}.`
+                ? "The file was refused, and nothing of it is used. "
+                    + `${FAULTS[failure.status] || failure.message} First fault: ${failure.line}.`
                 : `This didn't work: ${failure.message}.`);
         }
         progress(1, "");
@@ -227,8 +231,13 @@ export function start(document, window, parts) {
                 say("The link is the address of this page.");
             }
         });
-        at("file").addEventListener("change", (event) => { if (event.target.files[0]) take(event.target.files[0]); });
-        document.addEventListener("dragover", (event) => { event.preventDefault(); document.body.classList.add("over"); });
+        at("file").addEventListener("change", (event) => {
+            if (event.target.files[0]) take(event.target.files[0]);
+        });
+        document.addEventListener("dragover", (event) => {
+            event.preventDefault();
+            document.body.classList.add("over");
+        });
         document.addEventListener("dragleave", () => document.body.classList.remove("over"));
         document.addEventListener("drop", (event) => {
             event.preventDefault();
@@ -250,7 +259,8 @@ export function start(document, window, parts) {
     listen();
     const able = abilities(window.WebAssembly);
     if (able === "none") {
-        complain("This browser runs no WebAssembly, so nothing can be computed here. A browser of the last few years can.");
+        complain("This browser runs no WebAssembly, so nothing can be computed here. "
+            + "A browser of the last few years can.");
         progress(1, "");
         return state;
     }

@@ -88,8 +88,8 @@ function column(points, point, free, change) {
 // The board of a position, which calls `change` with a point and the count that is wanted on it.
 export function board(points, free, moves, change) {
     const small = (label, point, value, enabled) => h("button", {
-        type: "button", "data-key": `${label} ${point}`, "aria-label": `${label} a checker ${label === "Add" ? "to" : "from"} point ${point}`,
-        disabled: !enabled, click: () => change(point, value),
+        type: "button", "data-key": `${label} ${point}`, disabled: !enabled, click: () => change(point, value),
+        "aria-label": `${label} a checker ${label === "Add" ? "to" : "from"} point ${point}`,
     }, label === "Add" ? "+" : "\u2212");
     return h("div", { class: "board" },
         h("svg", { viewBox: "0 0 700 372", role: "group", "aria-label": "Home board, set up point by point" },
@@ -102,7 +102,8 @@ export function board(points, free, moves, change) {
                 h("rect", { class: "tray", x: 606, y: 6, width: 88, height: FLOOR - 4, rx: 8 }),
                 tray(free)),
             h("g", { class: "arcs", "aria-hidden": "true" }, arcs(points, moves)),
-            POINTS.map((point) => h("text", { class: "number", x: middle(point), y: 362, "aria-hidden": "true" }, point)),
+            POINTS.map((point) =>
+                h("text", { class: "number", x: middle(point), y: 362, "aria-hidden": "true" }, point)),
             h("text", { class: "number", x: 650, y: 362, "aria-hidden": "true" }, `off ${free}`)),
         h("div", { class: "steps" },
             POINTS.map((point) => h("span", {},

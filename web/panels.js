@@ -59,7 +59,8 @@ export function chances(list) {
 // The best first; of plays that lose as much, as they came.
 export function byLoss(plays) {
     const rank = (play) => (play.isRecorded ? 0 : play.isBest ? 1 : 2);
-    return [...plays].sort((one, other) => rank(one) - rank(other) || (one.loss < other.loss ? -1 : one.loss > other.loss ? 1 : 0));
+    const order = (one, other) => (one < other ? -1 : one > other ? 1 : 0);
+    return [...plays].sort((one, other) => rank(one) - rank(other) || order(one.loss, other.loss));
 }
 
 export const sameRoll = (one, other) => Boolean(one && other && one.join() === other.join());
@@ -73,7 +74,8 @@ export function rolls(list, chosen, hidden, choose) {
         const isChosen = sameRoll(dice, chosen);
         return h("li", {}, h("button", {
             type: "button", "aria-pressed": String(isChosen), "data-key": `roll ${dice.join("")}`,
-            "aria-label": `Roll ${spoken(dice)}${hidden ? "" : `, best ${best.text}`}`, click: () => choose(isChosen ? null : dice),
+            "aria-label": `Roll ${spoken(dice)}${hidden ? "" : `, best ${best.text}`}`,
+            click: () => choose(isChosen ? null : dice),
         },
             h("span", { class: "dice" }, die(dice[0]), die(dice[1])),
             h("span", { class: "best" }, hidden ? "\u2026" : best.text),
@@ -85,7 +87,8 @@ const cost = (play) => (play.isRecorded ? "best" : play.isBest ? "as good" : `\u
 
 // The plays of a roll, with what each loses; in a guess they stand in the order of their texts.
 export function plays(roll, shown, guessing, choose) {
-    const list = guessing ? [...roll.plays].sort((one, other) => one.text.localeCompare(other.text)) : byLoss(roll.plays);
+    const byText = (one, other) => one.text.localeCompare(other.text);
+    const list = guessing ? [...roll.plays].sort(byText) : byLoss(roll.plays);
     return h("div", { class: "plays" },
         h("h3", {}, h("span", { class: "dice" }, die(roll.dice[0]), die(roll.dice[1])),
             guessing ? "Which play is best?" : `${list.length === 1 ? "One play" : `${list.length} plays`}`),
@@ -94,7 +97,8 @@ export function plays(roll, shown, guessing, choose) {
             click: () => choose(play),
         },
             h("span", { class: "moves" }, play.text),
-            h("span", { class: "cost", title: guessing ? null : `${play.exact} of a roll` }, guessing ? "" : cost(play)))))));
+            h("span", { class: "cost", title: guessing ? null : `${play.exact} of a roll` },
+                guessing ? "" : cost(play)))))));
 }
 
 // What a guess lost, and all guesses so far.
@@ -127,8 +131,8 @@ export function kept(list, actions) {
                     "aria-label": `Show ${points.join(" ")} on the board`,
                 }, miniature(points))),
                 h("td", { class: "caption" }, h("span", { class: "printed" }, caption), h("input", {
-                    type: "text", value: caption, maxlength: 200, placeholder: "a caption", "data-key": `caption ${place}`,
-                    "aria-label": `Caption of ${points.join(" ")}`,
+                    type: "text", value: caption, maxlength: 200, placeholder: "a caption",
+                    "data-key": `caption ${place}`, "aria-label": `Caption of ${points.join(" ")}`,
                     change: (event) => actions.caption(entry, event.target.value),
                 })),
                 h("td", { "data-head": "Pips" }, answer?.standing ? answer.standing.pips : "\u2026"),

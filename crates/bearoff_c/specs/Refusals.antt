@@ -66,4 +66,5 @@ loss_refusal opened bound x one other y =
 
 -- why no play of two dice from x to y is told, but that the roll doesn't lead there
 abbrev pub lead_refusal : Board → ℕ → ℕ → Board → Option Refusal
-lead_refusal x one other y = or_else (roll_refusal one other) (or_else (many_refusal x) (many_refusal y))
+lead_refusal x one other y = or_else (roll_refusal one other)
+    (or_else (many_refusal x) (many_refusal y))

@@ -86,7 +86,8 @@ fn best_plays<K: Keeper>(
     requires known { Knows (mean_of_rank full) least.old (rank_of position.now) }
     ensures known { Knows (mean_of_rank full) least.new (rank_of position.now + 1) }
     ensures best { (i : ℕ) → i < 21 →
-        IsBestPlay (slice_index (K.means records.now)) position.now (roll_at i) (slice_index result i) }
+        IsBestPlay (slice_index (K.means records.now)) position.now (roll_at i)
+        (slice_index result i) }
     ensures len { length result ≡ 21 }
 {
     least.advance(ranks, position, &MeansOf { records })

@@ -17,7 +17,8 @@ ghost-add_record g a = g.full
 -- the records of the level so far
 abbrev pub invariant-loop-rank : goal.invariant-loop-rank
 invariant-loop-rank g l = record {
-  kept : AreKept g.full (g.K.Keeper.means l.records) (g.K.Keeper.spreads l.records) (g.K.Keeper.plays l.records);
+  kept : AreKept g.full (g.K.Keeper.means l.records) (g.K.Keeper.spreads l.records)
+      (g.K.Keeper.plays l.records);
   made : length (g.K.Keeper.means l.records) ≡ l.rank;
   recent : l.rank ≤ first_of (l.pips - 24) + length (g.K.Keeper.spreads l.records);
   known : Knows (mean_of_rank g.full) l.least l.rank;

@@ -158,7 +158,8 @@ returns-in_err-add_level-2-clause-refused g c =
     omega (arith, is.made, first_of-one below, count_to-rises below bound (omega arith)) in
     let refused : IsRefusedBy version bound old new Memory = (
       bound-most c.args.header,
-      ranks-written version all-records bound low old new (length (g.K.Keeper.means c.loop-below.records)) few
+      ranks-written version all-records bound low old new
+          (length (g.K.Keeper.means c.loop-below.records)) few
           is.written,
     ) in
     one-error c.from_residual-in_err-add_level-2.result c.in_err-add_level-2.field-0.0
@@ -179,7 +180,8 @@ returns-in_err-write_level-2-clause-refused g c =
     let records = c.add_level-in-loop-below.new.records in
     let level = c.in_ok-add_level-2.ensures in
     let first : ℕ = length (g.K.Keeper.means records) - length (g.K.Keeper.plays records) in
-    let start : length (g.K.Keeper.means c.loop-below.records) ≡ first = omega (arith, level.level, is.made) in
+    let start : length (g.K.Keeper.means c.loop-below.records) ≡ first = omega
+    (arith, level.level, is.made) in
     let before : Appends old mid (built_to version all-records bound first) =
     subst (λ (n : ℕ). Appends old mid (built_to version all-records bound n)) start is.written in
     one-error c.from_residual-in_err-write_level-2.result Write (IsRefusedBy version bound old new)
@@ -205,7 +207,8 @@ loop-below-preserved g c =
     let records = c.add_level-in-loop-below.new.records in
     let level = c.in_ok-add_level-2.ensures in
     let first : ℕ = length (g.K.Keeper.means records) - length (g.K.Keeper.plays records) in
-    let start : length (g.K.Keeper.means c.loop-below.records) ≡ first = omega (arith, level.level, is.made) in
+    let start : length (g.K.Keeper.means c.loop-below.records) ≡ first = omega
+    (arith, level.level, is.made) in
     let all : first + length (g.K.Keeper.plays records) ≡ length (g.K.Keeper.means records) =
     omega (arith, level.level) in
     let before : Appends old mid (built_to version all-records bound first) =
@@ -230,5 +233,6 @@ returns-clause-built g c =
     let is = c.loop-below.invariant in
     let low = c.args.header.bounded in
     let last : c.loop-below.below ≡ bound = omega arith in
-    all-written version all-records bound low old new (length (g.K.Keeper.means c.loop-below.records))
+    all-written version all-records bound low old new
+    (length (g.K.Keeper.means c.loop-below.records))
     (is.made ∙ (first_of-one c.loop-below.below ∙ ap count_to last)) is.written

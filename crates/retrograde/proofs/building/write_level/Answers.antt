@@ -30,7 +30,8 @@ write_record-requires g c =
     let plays : ℕ = length (g.K.Keeper.plays records) in
     let index = c.loop-index.index in
     let lt : index < plays = omega (arith, ap length c.plays-unwritten.ensures) in
-    let place : c.count.result - length c.plays-unwritten.result.now + index ≡ means - plays + index =
+    let place : c.count.result - length c.plays-unwritten.result.now + index ≡ means - plays +
+    index =
     omega (arith, ap length c.plays-unwritten.ensures) in
     let rises =
     count_to-rises c.args.pips 58 (omega (arith, c.requires.1.1.0, bound-most c.args.header.now))
@@ -40,7 +41,8 @@ write_record-requires g c =
       held =
           kept-held (version_by c.args.header.now.version) g.full (means - plays + index)
           c.args.pips c.spread_of.result.now (omega (arith, c.requires.1.1.1.1.1.0, lt, rises))
-          (level-pips c.args.pips means plays index c.requires.1.1.1.1.1.1 c.requires.1.1.1.1.1.0 lt)
+          (level-pips c.args.pips means plays index c.requires.1.1.1.1.1.1 c.requires.1.1.1.1.1.0
+          lt)
           (c.spread_of.ensures ∙ ap (shares_of_rank g.full) place);
     }
 
@@ -61,9 +63,11 @@ returns-in_err-write_record-clause-part g c =
     let lt : index < count = omega (arith, ap length c.plays-unwritten.ensures) in
     let place : c.count.result - length c.plays-unwritten.result.now + index ≡ first + index =
     omega (arith, ap length c.plays-unwritten.ensures) in
-    let bytes = kept-bytes version g.full (g.K.Keeper.means records) (g.K.Keeper.spreads records) (g.K.Keeper.plays records)
+    let bytes = kept-bytes version g.full (g.K.Keeper.means records) (g.K.Keeper.spreads records)
+    (g.K.Keeper.plays records)
     c.requires.1.1.1.0 c.args.pips index
-    (c.count.result - length c.plays-unwritten.result.now + index) c.unwrap-mean.result c.spread_of.result.now lt place
+    (c.count.result - length c.plays-unwritten.result.now + index) c.unwrap-mean.result
+    c.spread_of.result.now lt place
     (level-pips c.args.pips (length (g.K.Keeper.means records)) count index c.requires.1.1.1.1.1.1
     c.requires.1.1.1.1.1.0 lt)
     (rw c.unwrap-mean.ensures at c.mean.ensures.value) c.spread_of.ensures in
@@ -92,9 +96,11 @@ loop-index-preserved g c =
     let lt : index < count = omega (arith, ap length c.plays-unwritten.ensures) in
     let place : c.count.result - length c.plays-unwritten.result.now + index ≡ first + index =
     omega (arith, ap length c.plays-unwritten.ensures) in
-    let bytes = kept-bytes version g.full (g.K.Keeper.means records) (g.K.Keeper.spreads records) (g.K.Keeper.plays records)
+    let bytes = kept-bytes version g.full (g.K.Keeper.means records) (g.K.Keeper.spreads records)
+    (g.K.Keeper.plays records)
     c.requires.1.1.1.0 c.args.pips index
-    (c.count.result - length c.plays-unwritten.result.now + index) c.unwrap-mean.result c.spread_of.result.now lt place
+    (c.count.result - length c.plays-unwritten.result.now + index) c.unwrap-mean.result
+    c.spread_of.result.now lt place
     (level-pips c.args.pips (length (g.K.Keeper.means records)) count index c.requires.1.1.1.1.1.1
     c.requires.1.1.1.1.1.0 lt)
     (rw c.unwrap-mean.ensures at c.mean.ensures.value) c.spread_of.ensures in

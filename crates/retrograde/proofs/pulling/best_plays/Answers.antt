@@ -7,13 +7,16 @@ use Rattle.retrograde.proofs.pulling.best_plays.Goals as goal
 
 pub advance-requires-clause-known : goal.advance-requires-clause-known
 advance-requires-clause-known g c =
-    knows_agree (mean_of_rank g.full) (slice_index (g.K.Keeper.means c.args.records.now)) c.args.least.now
+    knows_agree (mean_of_rank g.full) (slice_index (g.K.Keeper.means c.args.records.now))
+    c.args.least.now
     (rank c.args.position.now)
-    (λ q lt. let next = c.requires.1.1.1.0 in sym (c.requires.1.1.0 q (omega arith))) c.requires.1.1.1.1
+    (λ q lt. let next = c.requires.1.1.1.0 in sym (c.requires.1.1.0 q (omega arith)))
+    c.requires.1.1.1.1
 
 pub returns-clause-known : goal.returns-clause-known
 returns-clause-known g c =
-    knows_agree (slice_index (g.K.Keeper.means c.args.records.now)) (mean_of_rank g.full) c.advance.new.self
+    knows_agree (slice_index (g.K.Keeper.means c.args.records.now)) (mean_of_rank g.full)
+    c.advance.new.self
     (rank c.args.position.now + 1)
     (λ q lt. let next = c.requires.1.1.1.0 in c.requires.1.1.0 q (omega arith))
     c.advance.ensures.known

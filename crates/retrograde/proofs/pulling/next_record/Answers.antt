@@ -43,13 +43,15 @@ sums_of-sums-requires g c =
       (
         c.requires.1.1.1.0,
         (
-          plays-held g.full x c.requires.1.0 c.requires.1.1.0 unfinished (g.K.Keeper.means c.args.records.now) agree
+          plays-held g.full x c.requires.1.0 c.requires.1.1.0 unfinished
+              (g.K.Keeper.means c.args.records.now) agree
               next
               c.best_plays-plays.result best.len best.best,
           λ i lt. omega (
             arith,
             recent,
-            plays-recent g.full x c.requires.1.0 c.requires.1.1.0 unfinished (g.K.Keeper.means c.args.records.now)
+            plays-recent g.full x c.requires.1.0 c.requires.1.1.0 unfinished
+                (g.K.Keeper.means c.args.records.now)
                 agree
                 next c.best_plays-plays.result best.len best.best i lt,
           ),
@@ -65,7 +67,8 @@ unwrap-mean-requires g c =
     let yes = c.is_finished.ensures.value.1 none in
     let not = c.if-is_finished.false in cc in
     let best = c.best_plays-plays.ensures in
-    let exact = mean-exact g.full x c.requires.1.0 c.requires.1.1.0 unfinished (g.K.Keeper.means c.args.records.now)
+    let exact = mean-exact g.full x c.requires.1.0 c.requires.1.1.0 unfinished
+    (g.K.Keeper.means c.args.records.now)
     c.requires.1.1.1.0.means_are c.requires.1.1.1.1.0 c.best_plays-plays.result best.len best.best
     in
     c.mean.ensures.some.1 (
@@ -83,7 +86,8 @@ unwrap-spread-requires g c =
     let not = c.if-is_finished.false in cc in
     let best = c.best_plays-plays.ensures in
     let sums = c.sums_of-sums.ensures.shares in
-    let last = no-last g.full x c.requires.1.0 c.requires.1.1.0 unfinished (g.K.Keeper.means c.args.records.now)
+    let last = no-last g.full x c.requires.1.0 c.requires.1.1.0 unfinished
+    (g.K.Keeper.means c.args.records.now)
     c.requires.1.1.1.0.means_are c.requires.1.1.1.1.0 c.best_plays-plays.result best.len best.best
     in
     let exact = shares-exact g.full x c.requires.1.0 c.requires.1.1.0 unfinished
@@ -108,7 +112,8 @@ returns g c =
     let moved = rw c.unwrap-spread.ensures at c.spread.ensures.moved in
     record {
       record_is =
-          record-before g.full x c.requires.1.0 c.requires.1.1.0 unfinished (g.K.Keeper.means c.args.records.now)
+          record-before g.full x c.requires.1.0 c.requires.1.1.0 unfinished
+          (g.K.Keeper.means c.args.records.now)
           c.requires.1.1.1.0.means_are c.requires.1.1.1.1.0 c.best_plays-plays.result best.len
           best.best
           c.unwrap-mean.result c.unwrap-spread.result mean start

@@ -36,7 +36,8 @@ loop-index-preserved g c =
     let roll = rw c.unwrap-roll.ensures at c.from_index.ensures.value in
     let play = get_or plays c.from.result 0 in
     let here = at-index plays i c.from.result lt c.from.ensures in
-    let held : play < length (g.K.Keeper.means c.args.records.now) = rw c.from.ensures (c.requires.1.1.0 i lt) in
+    let held : play < length (g.K.Keeper.means c.args.records.now) = rw c.from.ensures
+    (c.requires.1.1.0 i lt) in
     let mean = (rw c.unwrap-mean.ensures at c.mean.ensures.value)
     ∙ (c.requires.1.0.means_are play held
     ∙ ap (mean_of_rank g.full) here) in
