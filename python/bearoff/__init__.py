@@ -251,7 +251,7 @@ class Database:
 
     @property
     def version(self) -> int:
-        """The version of its file: 1, or 2 where the records leave out the shares that are known."""
+        """The version of its file: 1, or 2 where records leave out the shares that are known."""
         version = ctypes.c_uint16()
         self._check(self._library.bearoff_version(self._pointer, ctypes.byref(version)))
         return version.value

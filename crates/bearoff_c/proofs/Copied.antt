@@ -80,7 +80,8 @@ listed_none costs old new part e part_is e_is size put = record {
   count = refl;
   each = λ k c d low. absurd (omega (arith, low));
   end_is = omega (arith, e_is, ap length part_is);
-  copied = rw (← part_is) (copied_more [] part old old new 0 e refl e_is (copied_none old) size put);
+  copied = rw (← part_is)
+      (copied_more [] part old old new 0 e refl e_is (copied_none old) size put);
   short = omega (arith, e_is, ap length part_is);
 }
 
