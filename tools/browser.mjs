@@ -108,8 +108,9 @@ export class Page {
         return performance.now() - start;
     }
 
-    // A click in the middle of an element.
+    // A click in the middle of an element, once it is there.
     async click(selector, { shift = false } = {}) {
+        await this.until(`document.querySelector(${JSON.stringify(selector)})`);
         const { x, y } = await this.value(`(() => {
             const element = document.querySelector(${JSON.stringify(selector)});
             element.scrollIntoView({ block: "center", behavior: "instant" });
