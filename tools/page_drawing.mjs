@@ -4,6 +4,7 @@ import { abilities, bytesOf } from "../web/client.js";
 import { decimal, notation, percent } from "../web/engine.js";
 import { MOST_KEPT, readLink, readPoints, START, writeLink } from "../web/link.js";
 import { byLoss, chances, kept, numbers, plays, rolls, verdict } from "../web/panels.js";
+import { reached } from "../web/progress.js";
 import { build, textOf } from "../web/tree.js";
 
 let failed = 0;
@@ -20,6 +21,10 @@ for (const [thousandths, text] of [[0n, "0.000"], [7n, "0.007"], [999n, "0.999"]
 }
 for (const [thousandths, text] of [[0n, "0.0 %"], [4n, "0.4 %"], [306n, "30.6 %"], [1000n, "100.0 %"]]) equal("a percentage", percent(thousandths), text);
 equal("a play", notation([[4, 2], [2, 0]]), "4/2 2/off");
+
+// a step that goes on, and doesn't end before it is done
+const parts = [0, 100, 400, 4000].map((passed) => reached({ from: 0.1, until: 0.5, usual: 400 }, passed));
+equal("a bar that moves on", parts.every((part, place) => part < 0.5 && (place === 0 ? part === 0.1 : part > parts[place - 1])), true);
 
 // positions and addresses
 for (const [text, points] of [

@@ -23,6 +23,18 @@ const wrong = (text) => {
 const equal = (name, is, wanted) => JSON.stringify(is) === JSON.stringify(wanted) || wrong(`${name}: ${JSON.stringify(is)}, and not ${JSON.stringify(wanted)}`);
 const READY = 'document.body.dataset.ready && document.querySelector("#numbers .figures")';
 
+// Keeps what the bar shows, and for how many milliseconds from the page's start.
+const WATCH = `window.watched = { ready: 0, seen: [] };
+(function look() {
+    const bar = document.getElementById("bar");
+    if (document.body && document.body.dataset.ready) {
+        watched.ready = performance.now();
+        return;
+    }
+    if (bar && !bar.hidden) watched.seen.push(document.getElementById("progress").value);
+    requestAnimationFrame(look);
+})();`;
+
 // What the page shows, read from it.
 const SHOWN = `({
     counts: document.getElementById("counts").value,
@@ -69,9 +81,12 @@ const drop = (page, bytes) => page.value(`(() => {
 })()`);
 
 async function driveBoard(browser) {
-    const page = await browser.open(address);
-    const ready = await page.until(READY);
-    console.log(`page: ready after ${ready.toFixed(0)} ms`);
+    const page = await browser.open(address, { before: WATCH });
+    await page.until(READY);
+    const { ready, seen } = await page.value("watched");
+    console.log(`page: ready after ${ready.toFixed(0)} ms, with a bar that moved ${new Set(seen).size} times`);
+    (new Set(seen).size > 5 && seen.every((part, place) => place === 0 || part >= seen[place - 1])) ||
+        wrong(`the bar moved on so: ${seen.join(" ")}`);
     await compare(page, "the first position", "2,2,2,2,2,2");
     await page.click('[data-key="clear"]');
     await page.until('document.getElementById("counts").value === "0,0,0,0,0,0"');

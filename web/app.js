@@ -4,6 +4,7 @@ import { board } from "./board.js";
 import { decimal, FAULTS } from "./engine.js";
 import { MOST_KEPT, readLink, readPoints, writeLink } from "./link.js";
 import { byLoss, chances, kept, numbers, plays, rolls, sameRoll, verdict } from "./panels.js";
+import { Bar } from "./progress.js";
 import { draw, h } from "./tree.js";
 
 // Starts the page: `parts` are the worker's script and the two modules in base 64.
@@ -19,11 +20,7 @@ export function start(document, window, parts) {
         at("trouble").hidden = !text;
         at("trouble").textContent = text;
     };
-    const progress = (part, text) => {
-        at("progress").value = part;
-        at("step").textContent = text;
-        at("bar").hidden = part >= 1;
-    };
+    const bar = new Bar(document, window);
 
     // Some browsers take only so many changes of an address in a while.
     const remember = () => {
@@ -178,7 +175,7 @@ export function start(document, window, parts) {
     async function load(question, lent) {
         state.busy = true;
         complain("");
-        progress(0.02, question.kind === "build" ? "Starting\u2026" : "Reading the file\u2026");
+        bar.show({ from: 0.02, until: 0.1, usual: 200, text: "Starting\u2026" });
         try {
             const { bound, positions } = await state.client.ask(question, lent);
             state.bound = bound;
@@ -191,7 +188,7 @@ export function start(document, window, parts) {
                     + `${FAULTS[failure.status] || failure.message} First fault: ${failure.line}.`
                 : `This didn't work: ${failure.message}.`);
         }
-        progress(1, "");
+        bar.show(null);
         state.busy = false;
         if (!document.body.dataset.ready) return;
         remember();
@@ -210,7 +207,7 @@ export function start(document, window, parts) {
             Object.assign(state, { guess: event.target.checked, verdict: null, guessed: null });
             showBest();
             drawBoard();
-        drawRolls();
+            drawRolls();
             remember();
         });
         at("counts").addEventListener("change", (event) => {
@@ -261,10 +258,10 @@ export function start(document, window, parts) {
     if (able === "none") {
         complain("This browser runs no WebAssembly, so nothing can be computed here. "
             + "A browser of the last few years can.");
-        progress(1, "");
+        bar.show(null);
         return state;
     }
-    state.client = new Client(parts.worker, progress);
+    state.client = new Client(parts.worker, (step) => bar.show(step));
     const modules = able === "wide" ? unpacked(bytesOf(parts.wide)) : Promise.resolve(bytesOf(parts.narrow));
     modules.then((module) => state.client.ask({ kind: "start", module }))
         .then(() => load({ kind: "build", bound: state.bound }))

@@ -35,7 +35,7 @@ export class Failure extends Error {
 }
 
 export class Client {
-    // A worker that runs a script, and what is called with the part that is done and a text for it.
+    // A worker that runs a script, and what is called with each step that it begins.
     constructor(script, tell) {
         this.address = URL.createObjectURL(new Blob([script], { type: "text/javascript" }));
         this.tell = tell;
@@ -48,7 +48,7 @@ export class Client {
 
     receive(data) {
         if (data.number === undefined) {
-            this.tell(data.part, data.text);
+            this.tell(data.step);
             return;
         }
         const { keep, refuse } = this.waiting.get(data.number);

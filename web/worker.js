@@ -45,10 +45,11 @@ export class Desk {
 
     // Builds the database of a bound, checks it like any other, and opens it.
     async build(bound) {
-        this.tell(0.05, `Building the database of ${bound} pips\u2026`);
+        const usual = bound > 44 ? 800 : 400;
+        this.tell({ from: 0.1, until: 0.55, usual, text: `Building the database of ${bound} pips\u2026` });
         const builder = await Engine.start(this.module);
         const file = builder.build(bound);
-        this.tell(0.5, `Checking all of its ${(file.length / 1e6).toFixed(0)} MB\u2026`);
+        this.tell({ from: 0.55, until: 1, usual, text: `Checking all of its ${(file.length / 1e6).toFixed(0)} MB\u2026` });
         return this.open(file);
     }
 
@@ -57,7 +58,6 @@ export class Desk {
         const engine = await Engine.start(this.module);
         engine.open(file);
         this.engine = engine;
-        this.tell(1, "");
         return { bound: engine.bound, positions: engine.positions };
     }
 
@@ -66,7 +66,7 @@ export class Desk {
             case "build":
                 return this.build(bound);
             case "open":
-                this.tell(0.3, "Checking the file\u2026");
+                this.tell({ from: 0.1, until: 1, usual: 400, text: "Checking the file\u2026" });
                 return this.open(file);
             case "ask":
                 return answer(this.engine, points);
@@ -87,7 +87,7 @@ export function serve(scope) {
     const answerOne = async ({ number, question }) => {
         try {
             if (question.kind === "start") {
-                const tell = (part, text) => scope.postMessage({ part, text });
+                const tell = (step) => scope.postMessage({ step });
                 desk = await Desk.at(question.module, tell);
                 scope.postMessage({ number, reply: true });
                 return;
