@@ -8,6 +8,9 @@ use crate::scaled::{MOST, Scaled, WHOLE};
 use crate::spread::Spread;
 use std::marker::Model;
 
+/// By which 9 is to be multiplied to come to 1 modulo 2 ^ 128.
+const INVERSE_OF_NINE: u128 = 75618303760208547436305468318170713657;
+
 /// The means and the shares of what some rolls lead to, added up with the weights of these rolls:
 /// 1 for a double, else 2 (the rules of backgammon: 36 throws count equally). Of all 21 rolls the
 /// weights add up to 36, so that the record of a position is one roll and a 36th of these sums,
@@ -85,11 +88,7 @@ impl Sums {
             ((mean : ℕ) × (mean ≤ 22 * whole) × (36 * mean ≡ 36 * whole + self.now.mean)) }
     {
         let total = 36 * WHOLE + self.mean;
-        if total % 36 == 0 {
-            Scaled::new(total / 36)
-        } else {
-            None
-        }
+        Scaled::new(part_of_36(total)?)
     }
 
     /// A 36th of the shares, each moved on by one roll. None exactly where one is no whole
@@ -110,13 +109,24 @@ impl Sums {
         }
         let mut shares = [0; 23];
         for k in 0..22 {
-            let total = self.shares[k];
-            if total % 36 != 0 {
-                return None;
-            }
-            shares[k + 1] = total / 36;
+            shares[k + 1] = part_of_36(self.shares[k])?;
         }
         Spread::new(shares)
+    }
+}
+
+/// A 36th of a number; none exactly where it is no multiple of 36. There is no division: modulo
+/// 2 ^ 128 nine has an inverse, by which its multiples, and they alone, become numbers small
+/// enough.
+fn part_of_36(total: u128) -> Option<u128>
+    ensures value { IfSome result (λ part. 36 * part ≡ total) }
+    ensures some { IsSome result ↔ (total % 36 ≡ 0) }
+{
+    let ninth = (total >> 2).wrapping_mul(INVERSE_OF_NINE);
+    if total % 4 == 0 && ninth <= u128::MAX / 9 {
+        Some(ninth)
+    } else {
+        None
     }
 }
 
