@@ -165,7 +165,7 @@ fn read_wide(bytes: &[u8], place: usize) -> u128
 fn wide_of(number: [u8; 16]) -> u128
     ensures { result ≡ from_be_bytes w128 number }
 {
-    if number == [0; 16] {
+    if u128::from_le_bytes(number) == 0 {
         0
     } else {
         u128::from_be_bytes(number)
