@@ -156,19 +156,8 @@ fn read_wide(bytes: &[u8], place: usize) -> u128
     ensures { result ≡ from_be_bytes w128 (bytes_at bytes.now place 16) }
 {
     match bytes[place..place + 16].try_into() {
-        Ok(number) => wide_of(number),
+        Ok(number) => u128::from_be_bytes(number),
         Err(_) => unreachable!(),
-    }
-}
-
-/// The number in 16 bytes, high byte first. Most shares are none, and those need no turning round.
-fn wide_of(number: [u8; 16]) -> u128
-    ensures { result ≡ from_be_bytes w128 number }
-{
-    if u128::from_le_bytes(number) == 0 {
-        0
-    } else {
-        u128::from_be_bytes(number)
     }
 }
 
