@@ -32,12 +32,9 @@ impl Spread {
         ensures some { IsSome result ↔ (sum shares ≡ whole) }
         ensures value { IfSome result (λ spread. spread ≡ shares) }
     {
-        let mut total = 0;
+        let mut total: u128 = 0;
         for share in shares {
-            if share > WHOLE - total {
-                return None;
-            }
-            total += share;
+            total = total.checked_add(share)?;
         }
         if total == WHOLE {
             Some(Spread { shares })
