@@ -32,6 +32,8 @@ pub struct RankTable {
 
 impl RankTable {
     /// The table, counted anew. It takes no memory but its own.
+    // so that it is counted where it is to stand, and not copied there
+    #[inline(never)]
     pub fn new() -> Self
         ensures { IsRankTable result }
     {
