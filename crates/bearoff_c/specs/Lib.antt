@@ -1,4 +1,3 @@
-pub mod RankTables
 pub mod Wides
 pub mod Databases
 pub mod Refusals

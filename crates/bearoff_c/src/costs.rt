@@ -66,14 +66,12 @@ impl<'a> Database<'a> {
             ↔ ((y : Board) × Legal position.now roll y
             × (cost ≡ (mean_of self.now.bytes.now y, rank y))) }
     {
-        laws::law_rank();
         let turn = self.turn_of(position, roll);
         let found = results(position, roll);
         for to in found.as_slice() {
             let Some(mean) = self.mean_after(&turn, to) else {
                 return false;
             };
-            let _checkers = to.checkers();
             include_cost(costs, (mean.numerator(), self.ranks.rank(to)));
         }
         true

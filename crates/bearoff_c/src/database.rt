@@ -4,15 +4,15 @@ ghost use Rattle.race_model.specs.Ranks.{rank as rank_of, first_of, count_to};
 ghost use Rattle.race_model.specs.Versions.{version_by, version_number, record_length as length_of};
 ghost use Rattle.race_model.specs.Files.{IsFile, version_of, bound_of, record_place, record_at, mean as mean_of};
 ghost use Rattle.race_model.specs.Strategies.{IsLeast};
+ghost use Rattle.ranking.specs.Tables.{IsRankTable};
 ghost use Rattle.bearoff_c.specs.Databases.{IsOpened, IsKnown};
-ghost use Rattle.bearoff_c.specs.RankTables.{IsRankTable};
 ghost use Rattle.bearoff_c.specs.Refusals.{position_refusal, refusal_in};
 
-use crate::rank_table::RankTable;
 use crate::refusal::Refusal;
 use db_layout::{COMPACT_VERSION, Place, RecordView, VERSION, record_length};
 use fixed_fraction::Scaled;
 use home_board::Position;
+use ranking::RankTable;
 
 /// How many checkers stand on the points 1 to 6 of the home board, as the caller says. Each is 0
 /// to 255; they are a position where they add up to at most 15.

@@ -7,9 +7,9 @@ ghost use Rattle.bearoff_c.specs.Wides.{number_of};
 
 use crate::database::{Counts, Database};
 use crate::refusal::OK;
+use crate::rounded::Rounded;
 use crate::wide::Wide;
-use crate::wide_fraction::WideFraction;
-use fixed_fraction::{Fraction, epc, thousandths};
+use fixed_fraction::epc;
 
 /// The least mean number of rolls of a position over all strategies, also those that look at the
 /// history, as a numerator over 36 ^ 22. Refused as `NotOpen`, `TooMany` or `OverBound`; then
@@ -32,25 +32,10 @@ pub extern "C" fn bearoff_mean(database: &Database<'_>, position: &Counts, mean:
     }
 }
 
-/// An effective pip count, in pips.
-#[repr(C)]
-#[derive(Clone, Copy, Debug, PartialEq, Eq)]
-pub struct EffectivePips {
-    /// In lowest terms.
-    pub exact: WideFraction,
-
-    /// In thousandths of a pip, rounded to the nearest, and a half upward.
-    pub thousandths: u64,
-}
-
 /// The effective pip count of a position: 49/6 of the least mean number of rolls (the GNU
 /// Backgammon manual). Refused as `bearoff_mean` is; then `pips` stays as it was.
 #[unsafe(no_mangle)]
-pub extern "C" fn bearoff_epc(
-    database: &Database<'_>,
-    position: &Counts,
-    pips: &mut EffectivePips,
-) -> u32
+pub extern "C" fn bearoff_epc(database: &Database<'_>, position: &Counts, pips: &mut Rounded) -> u32
     ensures status { result ≡ status_of
         (position_refusal database.now.is_open database.now.bound position.now.points) }
     ensures least { result ≡ 0 → ∥ IsLeast position.now.points
@@ -65,21 +50,9 @@ pub extern "C" fn bearoff_epc(
 {
     match database.scaled(position) {
         Ok(rolls) => {
-            let exact = epc(rolls);
-            *pips = EffectivePips {
-                exact: WideFraction::of(exact),
-                thousandths: rounded(exact),
-            };
+            *pips = Rounded::of(epc(rolls));
             OK
         }
         Err(refusal) => refusal.status(),
     }
-}
-
-/// A fraction in thousandths.
-pub fn rounded(fraction: Fraction) -> u64
-    ensures { IsThousandths fraction.numerator fraction.denominator result }
-{
-    let _denominator = fraction.denominator();
-    thousandths(&fraction) as u64
 }

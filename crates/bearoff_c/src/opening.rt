@@ -10,12 +10,12 @@ ghost use Rattle.bearoff_c.specs.Buffers.{HasText};
 ghost use Rattle.bearoff_c.specs.Refusals.{open_refusal, status_of};
 
 use crate::database::Database;
-use crate::rank_table::RankTable;
 use crate::refusal::{OK, Refusal};
 use crate::text::put_text;
 use certificate::{CheckFault, Checked, check, fault_line};
 use db_layout::HeaderFault;
 use db_reader::{Table, Whole};
+use ranking::RankTable;
 
 /// Checks the bytes of a file and opens a database over them. The status is 0 exactly where they
 /// are a right database of at most 58 pips; then the database answers for as long as neither it

@@ -8,16 +8,16 @@ ghost use Rattle.race_model.specs.FirstPlays.{IsFirstPlay};
 ghost use Rattle.race_model.specs.LocalEquations.{recorded};
 ghost use Rattle.legal_plays.specs.Faces.{face, roll_of};
 ghost use Rattle.legal_plays.specs.MoveLists.{moves_of};
+ghost use Rattle.ranking.specs.Tables.{IsRankTable};
 ghost use Rattle.bearoff_c.specs.Databases.{IsKnown};
-ghost use Rattle.bearoff_c.specs.RankTables.{IsRankTable};
 ghost use Rattle.bearoff_c.specs.Refusals.{play_refusal, roll_refusal, refusal_in};
 
 use crate::database::{Counts, Database};
-use crate::rank_table::RankTable;
 use crate::refusal::Refusal;
 use db_layout::RecordView;
 use home_board::Position;
 use legal_plays::{Die, Play, Roll, play_to, results};
+use ranking::RankTable;
 
 /// A position that is to be played, a roll, and the record of the position.
 #[derive(Drop)]

@@ -10,12 +10,11 @@ ghost use Rattle.bearoff_c.specs.RoundedPips.{IsRoundedPips};
 ghost use Rattle.bearoff_c.specs.Wides.{number_of};
 
 use crate::database::{Counts, Database};
-use crate::means::rounded;
 use crate::refusal::OK;
 use crate::wide_fraction::WideFraction;
-use fixed_fraction::{WHOLE, epc, mean};
+use fixed_fraction::{Fraction, WHOLE, epc, mean};
 
-/// A number, exact and rounded.
+/// A fraction, exact and rounded.
 #[repr(C)]
 #[derive(Clone, Copy, Debug, PartialEq, Eq)]
 pub struct Rounded {
@@ -24,6 +23,21 @@ pub struct Rounded {
 
     /// In thousandths, rounded to the nearest, and a half upward.
     pub thousandths: u64,
+}
+
+impl Rounded {
+    /// A fraction, exact and rounded.
+    pub fn of(fraction: Fraction) -> Rounded
+        ensures numerator { number_of result.exact.numerator ≡ fraction.numerator }
+        ensures denominator { number_of result.exact.denominator ≡ fraction.denominator }
+        ensures rounded { IsThousandths fraction.numerator fraction.denominator
+            result.thousandths }
+    {
+        Rounded {
+            exact: WideFraction::of(fraction),
+            thousandths: nearest(fraction.numerator(), fraction.denominator()),
+        }
+    }
 }
 
 /// The least mean number of rolls of a position over all strategies, as a fraction and in
@@ -48,11 +62,7 @@ pub extern "C" fn bearoff_rounded_mean(
 {
     match database.scaled(position) {
         Ok(scaled) => {
-            let exact = mean(scaled);
-            *rolls = Rounded {
-                exact: WideFraction::of(exact),
-                thousandths: rounded(exact),
-            };
+            *rolls = Rounded::of(mean(scaled));
             OK
         }
         Err(refusal) => refusal.status(),
@@ -95,7 +105,7 @@ pub extern "C" fn bearoff_wastage(
     match database.scaled(position) {
         Ok(rolls) => {
             let pips = 1000 * u64::from(found.pips());
-            let effective = rounded(epc(rolls));
+            let effective = Rounded::of(epc(rolls)).thousandths;
             let is_below = effective < pips;
             *wastage = Wastage {
                 thousandths: effective.abs_diff(pips),

@@ -5,7 +5,7 @@ use Rattle.std.proofs.lemmas.Bool.{lt-ltb, le-ltb, ne_eqb, cases_lt, cases_order
 use Rattle.std.proofs.lemmas.List.{length-set, get_or-replicate}
 use Rattle.ranking.specs.declared.row.Row.{Row}
 use Rattle.ranking.specs.Lists.{ways, used}
-use Rattle.ranking.specs.Tables.{IsRow, IsTable}
+use Rattle.ranking.specs.Tables.{IsRow, IsPointTable}
 use Rattle.ranking.proofs.Cells.{zeros}
 use Rattle.ranking.proofs.TableCounts.{ways-most, ways-end, ways-step, used-none, used-step}
 
@@ -20,7 +20,7 @@ row_end k = record { each = λ m h. at m } where
       (ways-end k (suc m) ∙ ap (λ b. cond {A = ℕ} b 1 0) (ne_eqb 0 (suc m) (λ e. omega arith)))
 
 -- the table of the lists on no points
-pub table_end : IsTable (ways 7)
+pub table_end : IsPointTable (ways 7)
     (record { rows = replicate 16 (record { cells = slice_set (replicate 91 0) 0 1 }) })
 table_end = record {
   long = refl;

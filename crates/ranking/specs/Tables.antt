@@ -1,13 +1,23 @@
 -- What the cells of a table say.
-use Rattle.std.specs.Prelude.{◌≡◌, ℕ, ◌<◌, length, slice_index, slice_index_or}
+use Rattle.std.specs.Prelude.{◌≡◌, ℕ, ◌+◌, ◌<◌, length, slice_index, slice_index_or}
+use Rattle.race_model.specs.Ranks.{first_of}
 use Rattle.ranking.specs.declared.row.Row.{Row}
-use Rattle.ranking.specs.declared.table.Table.{Table}
+use Rattle.ranking.specs.declared.point_table.PointTable.{PointTable}
+use Rattle.ranking.specs.declared.rank_table.RankTable.{RankTable}
+use Rattle.ranking.specs.Lists.{used}
 
 -- a row has the value of f at each pip count
 pub record IsRow (f : ℕ → ℕ) (row : Row) : Type 0 where
   pub each : (m : ℕ) → m < 91 → slice_index row.cells m ≡ f m
 
 -- a table has such a row for each number of checkers
-pub record IsTable (f : ℕ → ℕ → ℕ) (table : Table) : Type 0 where
+pub record IsPointTable (f : ℕ → ℕ → ℕ) (table : PointTable) : Type 0 where
   pub long : length table.rows ≡ 16
   pub each : (k : ℕ) (d : Row) → k < 16 → IsRow (f k) (slice_index_or table.rows k d)
+
+-- for each point how many lists from it on have a checker there, and
+-- for each pip count, and one beyond, how many positions have fewer
+pub record IsRankTable (table : RankTable) : Type 0 where
+  pub counted : (i : ℕ) (d : PointTable) → i < 6 →
+      IsPointTable (used (i + 1)) (slice_index_or table.points i d)
+  pub summed : (m : ℕ) → m < 92 → slice_index table.starts m ≡ first_of m

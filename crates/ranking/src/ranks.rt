@@ -1,51 +1,27 @@
-ghost use Rattle.std.specs.Prelude.{◌≡◌, ℕ, ◌+◌, ◌-◌, ◌*◌, ◌<◌, ◌≤◌, ◌↔◌, List, IsSome, IfSome, slice_index, slice_index_or};
+ghost use Rattle.std.specs.Prelude.{◌≡◌, ◌<◌, ◌↔◌, IsSome, IfSome};
 ghost use Rattle.race_model.specs.Positions.{IsPosition};
 ghost use Rattle.race_model.specs.Ranks.{rank, at_rank, first_of, count_to};
-ghost use Rattle.ranking.specs.declared.table.Table.{Table};
-ghost use Rattle.ranking.specs.Lists.{ways, used};
-ghost use Rattle.ranking.specs.Tables.{IsTable, IsRow};
+ghost use Rattle.ranking.specs.Tables.{IsRankTable};
 
-use crate::row::{PIP_COUNTS, Row};
-use crate::table::Table;
+use crate::rank_table::RankTable;
 use home_board::Position;
-
-/// The greatest pip count of a position: 15 checkers on point 6.
-const MOST_PIPS: u8 = 90;
-
-/// How many positions there are.
-const POSITIONS: u16 = 54264;
 
 /// The ranks of all positions, by a table that is counted once. The rank of a position is the
 /// number of positions before it: those of fewer pips, and of as many pips those with the smaller
 /// list of counts. (This project's profile.)
-///
-/// A rank is counted back from the last position of as many pips: those that come after it have a
-/// checker more on some point than it has, and as many on each point below, which is one number of
-/// the table a point.
 #[derive(Drop)]
 pub struct Ranks {
-    // for each point: how many lists on the points from it on have a checker there
-    tables: [Table; 6],
-    // for each pip count, and one beyond: how many positions have fewer pips
-    starts: [u16; 92],
-    ghost counted: { (i : ℕ) (d : Table) → i < 6 →
-        IsTable (used (i + 1)) (slice_index_or tables i d) },
-    ghost summed: { (m : ℕ) → m < 92 → slice_index starts m ≡ first_of m },
+    table: RankTable,
+    ghost counted: { IsRankTable table },
 }
 
 impl Ranks {
     /// The table, counted anew. It takes no memory but its own.
+    // so that it is counted where it is to stand, and not copied there
+    #[inline(never)]
     pub fn new() -> Self {
-        let mut ways = Table::of_no_points();
-        let sixes = ways.add_point(6);
-        let fives = ways.add_point(5);
-        let fours = ways.add_point(4);
-        let threes = ways.add_point(3);
-        let twos = ways.add_point(2);
-        let ones = ways.add_point(1);
         Ranks {
-            tables: [ones, twos, threes, fours, fives, sixes],
-            starts: starts_of(&ways.rows[15]),
+            table: RankTable::new(),
         }
     }
 
@@ -54,14 +30,14 @@ impl Ranks {
     pub fn first_of(&self, pips: u8) -> u16
         ensures { result ≡ first_of pips }
     {
-        self.starts[usize::from(pips.min(MOST_PIPS + 1))]
+        self.table.first_of(pips)
     }
 
     /// How many positions have at most so many pips; 54,264 from 90 pips on.
     pub fn count_to(&self, pips: u8) -> u16
         ensures { result ≡ count_to pips }
     {
-        self.starts[usize::from(pips.min(MOST_PIPS)) + 1]
+        self.table.count_to(pips)
     }
 
     /// The rank of a position: how many positions are before it.
@@ -69,17 +45,7 @@ impl Ranks {
         ensures value { result ≡ rank position.now }
         ensures range { result < 54264 }
     {
-        let pips = position.pips();
-        let mut checkers_left = 15;
-        let mut pips_left = pips;
-        let mut later = 0;
-        for point in 1..=6 {
-            let count = position.count(point);
-            checkers_left -= count;
-            pips_left -= point * count;
-            later += self.used(point, checkers_left, pips_left);
-        }
-        self.starts[usize::from(pips) + 1] - 1 - later
+        self.table.rank(position)
     }
 
     /// The position of a rank; none for 54,264 and above, which are no ranks.
@@ -89,80 +55,8 @@ impl Ranks {
         ensures value { IfSome result (λ position. position ≡ at_rank index) }
         ensures position { IfSome result IsPosition }
     {
-        if index >= POSITIONS {
-            return None;
-        }
-        let pips = self.pips_of(index);
-        let mut later = self.starts[usize::from(pips) + 1] - 1 - index;
-        let mut checkers_left = 15;
-        let mut pips_left = pips;
-        let mut counts = [0; 6];
-        for point in 1..=6 {
-            let count = self.count_at(point, checkers_left, pips_left, later);
-            counts[usize::from(point) - 1] = count;
-            checkers_left -= count;
-            pips_left -= point * count;
-            later -= self.used(point, checkers_left, pips_left);
-        }
-        Position::new(counts).ok()
+        self.table.unrank(index)
     }
-
-    // The pip count of the position of a rank.
-    fn pips_of(&self, index: u16) -> u8
-        requires { index < 54264 }
-        ensures from { first_of result ≤ index }
-        ensures to { index < first_of (result + 1) }
-        ensures range { result ≤ 90 }
-    {
-        let above = self.starts.partition_point(|start| *start <= index);
-        above as u8 - 1
-    }
-
-    // How many checkers stand on a point, where so many positions come later: the
-    // least number for which no more come later with a checker more on that point.
-    fn count_at(&self, point: u8, checkers: u8, pips: u8, later: u16) -> u8
-        requires first { 1 ≤ point }
-        requires last { point ≤ 6 }
-        requires few { checkers ≤ 15 }
-        requires low { pips ≤ 90 }
-        ensures fits { result ≤ checkers }
-        ensures weight { point * result ≤ pips }
-        ensures enough { used point (checkers - result) (pips - point * result) ≤ later }
-        ensures least { (j : ℕ) → j < result →
-            later < used point (checkers - j) (pips - point * j) }
-    {
-        let mut count = 0;
-        while later < self.used(point, checkers - count, pips - point * count) {
-            count += 1;
-        }
-        count
-    }
-
-    // How many lists of counts on the points from one on have a
-    // checker there, at most so many checkers, and so many pips.
-    fn used(&self, point: u8, checkers: u8, pips: u8) -> u16
-        requires first { 1 ≤ point }
-        requires last { point ≤ 6 }
-        requires few { checkers ≤ 15 }
-        requires low { pips ≤ 90 }
-        ensures { result ≡ used point checkers pips }
-    {
-        let table = &self.tables[usize::from(point) - 1];
-        let row = &table.rows[usize::from(checkers)];
-        row.cells[usize::from(pips)]
-    }
-}
-
-/// How many positions have fewer pips, for each pip count from 0 to 91.
-fn starts_of(row: &Row) -> [u16; 92]
-    requires { IsRow (ways 1 15) row.now }
-    ensures { (m : ℕ) → m < 92 → slice_index result m ≡ first_of m }
-{
-    let mut starts = [0; 92];
-    for pips in 0..PIP_COUNTS {
-        starts[pips + 1] = starts[pips] + row.cells[pips];
-    }
-    starts
 }
 
 // The values are those of an independent count of all positions.

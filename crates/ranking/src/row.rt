@@ -4,6 +4,7 @@ ghost use Rattle.std.specs.Prelude.{◌≡◌, ℕ, ◌+◌, ◌-◌, ◌<◌, �
 pub const PIP_COUNTS: usize = 91;
 
 /// A number for each pip count from 0 to 90.
+#[repr(C)]
 #[derive(Clone, Copy)]
 pub struct Row {
     pub cells: [u16; PIP_COUNTS],

@@ -20,7 +20,7 @@ loop-to-preserved c =
     let i = c.loop-to.to-index in
     let at = c.to-item.is ∙ get_or_default items i c.to-item.result [] c.loop-to-test.true in
     below_more (λ k. ¬ (rank (get_or items k []) ≡ c.args.rank)) i c.loop-to.invariant
-    (λ e. c.if-rank.false (c.rank.ensures ∙ (ap rank at ∙ e)))
+    (λ e. c.if-rank.false (c.rank.ensures.value ∙ (ap rank at ∙ e)))
 
 pub returns-clause-none : goal.returns-clause-none
 returns-clause-none c = λ y legal e.

@@ -19,18 +19,17 @@ mean_after-requires-clause-legal c =
 pub loop-to-preserved : goal.loop-to-preserved
 loop-to-preserved c =
     let told = c.in-Some.ensures {u = tt} in
-    let ranked = c.law_rank.ensures.ranked c.to-item.result c.checkers-checkers.ensures.position in
     record {
       ordered = c.include_cost.ensures.ordered;
       bounded = still_costs c.loop-to.costs.items _ _ c.loop-to.invariant.bounded
-          (c.numerator.ensures.range, omega (arith, ranked, c.rank.ensures))
+          (c.numerator.ensures.range, c.rank.ensures.range)
           c.include_cost.ensures.members;
       few = omega (arith, c.include_cost.ensures.len, c.loop-to.invariant.few);
       members = λ cost.
           one_more_cost c.args.self.now.bytes.now c.as_slice-to-items.result.now
           c.loop-to.to-index c.to-item.result cost
           _ _ _ _ c.loop-to-test.true c.to-item.is
-          (c.numerator.ensures.value ∙ told.recorded) c.rank.ensures
+          (c.numerator.ensures.value ∙ told.recorded) c.rank.ensures.value
           (c.include_cost.ensures.members cost) (c.loop-to.invariant.members cost);
     }
 

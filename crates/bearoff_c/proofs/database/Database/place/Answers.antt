@@ -16,7 +16,7 @@ overflow_sub-rank c =
     omega (
       arith,
       c.first_of.ensures,
-      c.rank.ensures,
+      c.rank.ensures.value,
       ap first_of c.pips-pips.ensures.value,
       (rank_within c.args.position.now c.pips-pips.ensures.position).0,
     )
@@ -35,7 +35,7 @@ offset c =
     ∙ ap (λ p. record_place (version_by c.stated_version-version.result) (first_of p))
     c.pips-pips.ensures.value)
     (c.from-earlier.ensures
-    ∙ ap₂ (λ a b. a - b) c.rank.ensures (c.first_of.ensures
+    ∙ ap₂ (λ a b. a - b) c.rank.ensures.value (c.first_of.ensures
     ∙ ap first_of c.pips-pips.ensures.value))
     (c.from.ensures ∙ c.record_length-length.ensures
     ∙ ap (record_length (version_by c.stated_version-version.result))

@@ -50,4 +50,4 @@ returns-in_ok-lost-in-Loss-clause-told c = λ line accepted.
 pub returns-in-Rank-clause-told : goal.returns-in-Rank-clause-told
 returns-in-Rank-clause-told c = λ line accepted.
     let asks = rw c.in-Rank.is at accepted in
-    (Rank c.rank.result, (c.in-Rank.position, asks, c.rank.ensures), c.put_rank.ensures.text)
+    (Rank c.rank.result, (c.in-Rank.position, asks, c.rank.ensures.value), c.put_rank.ensures.text)

@@ -1,8 +1,0 @@
-use Rattle.race_model.specs.Ranks.{at_rank}
-use Rattle.ranking.proofs.Counting.{IsWritten}
-use Rattle.ranking.proofs.ranks.Ranks.unrank.Given as goal
-
--- the counts of the points below have been found
-abbrev pub invariant-loop-point : goal.invariant-loop-point
-invariant-loop-point l =
-    IsWritten (at_rank l.index) l.point l.checkers_left l.pips_left l.later l.counts

@@ -1,0 +1,48 @@
+ghost use Rattle.std.specs.Prelude.{◌≡◌, ℕ, ◌+◌, ◌<◌, ◌≤◌};
+ghost use Rattle.ranking.specs.Lists.{ways, used};
+ghost use Rattle.ranking.specs.Tables.{IsPointTable};
+
+use crate::row::{PIP_COUNTS, Row};
+
+/// How many numbers of checkers there are: 0 to 15.
+pub const CHECKER_COUNTS: usize = 16;
+
+/// A number of lists for each number of checkers from 0 to 15 and each pip count from 0 to 90.
+#[repr(C)]
+#[derive(Clone, Copy)]
+pub struct PointTable {
+    pub rows: [Row; CHECKER_COUNTS],
+}
+
+impl PointTable {
+    /// The lists on no points at all: one, which has no pips.
+    pub fn of_no_points() -> PointTable
+        ensures { IsPointTable (ways 7) result }
+    {
+        let mut cells = [0; PIP_COUNTS];
+        cells[0] = 1;
+        PointTable {
+            rows: [Row { cells }; CHECKER_COUNTS],
+        }
+    }
+
+    /// Turns the table of the lists on the points above one into that of the lists
+    /// from that point on, and gives the table of those that have a checker there.
+    pub fn add_point(&mut self, point: u8) -> PointTable
+        requires first { 1 ≤ point }
+        requires last { point ≤ 6 }
+        requires above { IsPointTable (ways (point + 1)) self.old }
+        ensures ways { IsPointTable (ways point) self.new }
+        ensures used { IsPointTable (used point) result }
+    {
+        let mut used = PointTable {
+            rows: [Row::EMPTY; CHECKER_COUNTS],
+        };
+        for checkers in 1..CHECKER_COUNTS {
+            let more = self.rows[checkers - 1].shifted(point);
+            self.rows[checkers] = self.rows[checkers].plus(&more);
+            used.rows[checkers] = more;
+        }
+        used
+    }
+}
