@@ -1,5 +1,5 @@
 -- Every result of a roll with what it costs, as C has them.
-use Rattle.std.specs.Prelude.{ℕ, ◌↔◌, List, map, Contains, All}
+use Rattle.std.specs.Prelude.{◌≡◌, ℕ, ◌↔◌, List, length, map, Contains, All}
 use Rattle.race_model.specs.Positions.{Board}
 use Rattle.race_model.specs.Dice.{Throw}
 use Rattle.race_model.specs.Plays.{Legal}
@@ -24,3 +24,10 @@ pub record IsResultList (f : List ℕ) (x : Board) (v : Throw) (choices : List C
   pub members : (y : Board) → Contains (places choices) y ↔ Legal x v y
   pub ordered : IsInRankOrder (places choices)
   pub losses : All (HasLoss f x v) choices
+
+-- there are so many positions that the throw leads to: a list has each of them once
+pub record IsResultCount (x : Board) (v : Throw) (n : ℕ) : Type 0 where
+  pub found : List Board
+  pub members : (y : Board) → Contains found y ↔ Legal x v y
+  pub ordered : IsInRankOrder found
+  pub count_is : n ≡ length found

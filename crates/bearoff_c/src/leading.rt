@@ -1,10 +1,10 @@
 //! The play to a position, also where it isn't the best.
-ghost use Rattle.std.specs.Prelude.{◌≡◌, ◌<◌, None, map, take, length};
+ghost use Rattle.std.specs.Prelude.{◌≡◌, ◌<◌, ◌≤◌, None, map, take, length};
 ghost use Rattle.race_model.specs.Plays.{Legal};
 ghost use Rattle.race_model.specs.FirstPlays.{IsFirstPlay};
 ghost use Rattle.legal_plays.specs.Faces.{face, roll_of};
 ghost use Rattle.bearoff_c.specs.Refusals.{lead_refusal, status_of};
-ghost use Rattle.bearoff_c.specs.PlayLists.{moves_in};
+ghost use Rattle.bearoff_c.specs.PlayLists.{moves_in, AreZerosAfter};
 
 use crate::database::Counts;
 use crate::playing::read_roll;
@@ -34,6 +34,8 @@ pub extern "C" fn bearoff_play_to(
     ensures to { result ≡ 0 → play.new.to.points ≡ to.now.points }
     ensures first { result ≡ 0 → IsFirstPlay position.now.points (roll_of (face one) (face other))
         to.now.points (moves_in play.new) }
+    ensures few { result ≡ 0 → play.new.count ≤ 4 }
+    ensures zeros { result ≡ 0 → AreZerosAfter play.new.count play.new.moves }
     ensures left { ¬ (result ≡ 0) → play.new ≡ play.old }
 {
     let roll = match read_roll(one, other) {

@@ -1,5 +1,5 @@
 //! What C asks about plays: what one costs, and every result of a roll.
-ghost use Rattle.std.specs.Prelude.{◌≡◌, ◌<◌, ◌≤◌, ◌↔◌, IsTrue, None, All, length, map, take, drop};
+ghost use Rattle.std.specs.Prelude.{◌≡◌, ◌<◌, ◌≤◌, ◌⊎◌, ◌↔◌, IsTrue, None, All, length, map, take, drop};
 ghost use Rattle.race_model.specs.Plays.{Legal};
 ghost use Rattle.race_model.specs.Files.{mean_at, play as play_of};
 ghost use Rattle.race_model.specs.LocalEquations.{whole};
@@ -8,7 +8,7 @@ ghost use Rattle.race_model.specs.Losses.{loss as loss_of, IsLoss};
 ghost use Rattle.legal_plays.specs.Faces.{face, roll_of};
 ghost use Rattle.bearoff_c.specs.Databases.{IsKnown};
 ghost use Rattle.bearoff_c.specs.Refusals.{loss_refusal, play_refusal, status_of};
-ghost use Rattle.bearoff_c.specs.ResultLists.{places, HasLoss, IsResultList};
+ghost use Rattle.bearoff_c.specs.ResultLists.{places, HasLoss, IsResultList, IsResultCount};
 ghost use Rattle.bearoff_c.specs.Wides.{number_of};
 
 use crate::choice::Choice;
@@ -75,7 +75,10 @@ pub extern "C" fn bearoff_results(
         database.now.bound position.now.points one other) }
     ensures listed { result ≡ 0 → IsResultList database.now.bytes.now position.now.points
         (roll_of (face one) (face other)) (take count.new room.new) }
+    ensures told { result ≡ 8 → IsResultCount position.now.points
+        (roll_of (face one) (face other)) count.new }
     ensures counted { result ≡ 0 → count.new ≤ length room.old }
+    ensures most { (result ≡ 0) ⊎ (result ≡ 8) → count.new ≤ 1296 }
     ensures rest { result ≡ 0 → drop count.new room.new ≡ drop count.new room.old }
     ensures left { ¬ (result ≡ 0) → room.new ≡ room.old }
     ensures untold { ¬ (result ≡ 0) → ¬ (result ≡ 8) → count.new ≡ count.old }

@@ -1,11 +1,11 @@
-ghost use Rattle.std.specs.Prelude.{◌≡◌, map, take, length};
+ghost use Rattle.std.specs.Prelude.{◌≡◌, ◌≤◌, map, take, length};
 ghost use Rattle.race_model.specs.Plays.{Legal};
 ghost use Rattle.race_model.specs.FirstPlays.{IsFirstPlay};
 ghost use Rattle.race_model.specs.LocalEquations.{recorded};
 ghost use Rattle.legal_plays.specs.Faces.{face, roll_of};
 ghost use Rattle.legal_plays.specs.MoveLists.{moves_of};
 ghost use Rattle.bearoff_c.specs.Refusals.{play_refusal, status_of};
-ghost use Rattle.bearoff_c.specs.PlayLists.{moves_in};
+ghost use Rattle.bearoff_c.specs.PlayLists.{moves_in, AreZerosAfter};
 
 use crate::database::{Counts, Database};
 use crate::refusal::OK;
@@ -55,6 +55,8 @@ pub extern "C" fn bearoff_play(
         Legal position.now.points (roll_of (face one) (face other)) play.new.to.points }
     ensures first { result ≡ 0 → IsFirstPlay position.now.points (roll_of (face one) (face other))
         play.new.to.points (moves_in play.new) }
+    ensures few { result ≡ 0 → play.new.count ≤ 4 }
+    ensures zeros { result ≡ 0 → AreZerosAfter play.new.count play.new.moves }
     ensures left { ¬ (result ≡ 0) → play.new ≡ play.old }
 {
     match database.play(position, one, other) {
@@ -72,8 +74,10 @@ pub extern "C" fn bearoff_play(
 
 /// The moves of a play, and zeros after the last.
 pub fn listed(play: &Play) -> [Move; 4]
-    ensures { map (λ m. (m.from, m.to)) (take (length play.now.items) result)
+    ensures moves { map (λ m. (m.from, m.to)) (take (length play.now.items) result)
         ≡ moves_of play.now.items }
+    ensures zeros { AreZerosAfter (length play.now.items) result }
+    ensures few { length play.now.items ≤ 4 }
 {
     let mut moves = [Move { from: 0, to: 0 }; 4];
     for (index, one) in play.as_slice().iter().enumerate() {

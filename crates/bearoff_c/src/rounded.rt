@@ -96,6 +96,9 @@ pub extern "C" fn bearoff_wastage(
     ensures below { result ≡ 0 → wastage.new.is_below ≡ true → IsRoundedPips
         (mean_of database.now.bytes.now position.now.points)
         (1000 * pips_of position.now.points - wastage.new.thousandths) }
+    ensures positive { result ≡ 0 → wastage.new.is_below ≡ true → 0 < wastage.new.thousandths }
+    ensures within { result ≡ 0 → wastage.new.is_below ≡ true →
+        wastage.new.thousandths ≤ 1000 * pips_of position.now.points }
     ensures left { ¬ (result ≡ 0) → wastage.new ≡ wastage.old }
 {
     let found = match database.find(position) {

@@ -33,9 +33,12 @@ pub extern "C" fn bearoff_upgrade(
     ensures upgraded { result ≡ 0 → IsUpgrade bytes.now (take filled.new room.new) }
     ensures fits { result ≡ 0 → filled.new ≤ length room.old }
     ensures rest { result ≡ 0 → drop filled.new room.new ≡ drop filled.new room.old }
+    ensures right { (result < 10) ↔ IsRight bytes.now }
     ensures not_old { (result ≡ 9) ↔ (IsRight bytes.now × (version_of bytes.now ≡ compact)) }
     ensures fault { 9 < result → (fault : Fault) × IsFirst bytes.now fault
         × (result ≡ fault_status fault) }
+    ensures read { result < 28 }
+    ensures short { 0 < result → result < 9 → result ≡ 8 }
     ensures left { ¬ (result ≡ 0) → room.new ≡ room.old }
     ensures untold { ¬ (result ≡ 0) → filled.new ≡ filled.old }
 {

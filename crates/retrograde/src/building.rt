@@ -438,6 +438,41 @@ mod tests {
         }
     }
 
+    // There are 64 positions of at most 8 pips, and 20 of exactly 8.
+    #[test]
+    fn rooms_that_are_lent(rt: HostRuntime) -> Result<(), Fail> {
+        let header = Header::new(VERSION, 8).ok_or("no header")?;
+        let mut grown = Vec::new(rt.alloc());
+        build(rt.alloc(), 8, &mut grown)?;
+        for (positions, of_shares, of_a_level, written) in [
+            (64, 64, 20, 27296),
+            (63, 64, 20, 18776),
+            (64, 63, 20, 18776),
+            (64, 64, 19, 18776),
+            (0, 64, 20, 0),
+        ] {
+            let mut means = [Scaled::ZERO; 64];
+            let mut spreads = [Spread::finished(); 64];
+            let mut plays = [[0; 21]; 20];
+            let (means, _) = means.split_at_mut(positions.min(64));
+            let (spreads, _) = spreads.split_at_mut(of_shares.min(64));
+            let (plays, _) = plays.split_at_mut(of_a_level.min(20));
+            let mut records = LentRecords {
+                means,
+                spreads,
+                plays,
+                made: 0,
+                unwritten: 0,
+            };
+            let mut bytes = Vec::new(rt.alloc());
+            let told = build_with(&mut records, header, &mut bytes);
+            assert_eq!(rt; told.is_ok(), written == grown.len());
+            assert_eq!(rt; bytes.len(), written);
+            assert!(rt; grown.as_slice().starts_with(bytes.as_slice()));
+        }
+        Ok(())
+    }
+
     // Two bytes behind the first eight state the version.
     #[test]
     fn version_by_bound(rt: HostRuntime) {

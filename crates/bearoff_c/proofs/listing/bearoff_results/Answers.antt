@@ -5,7 +5,7 @@ use Rattle.race_model.specs.Dice.{Throw}
 use Rattle.race_model.specs.Plays.{Legal}
 use Rattle.legal_plays.specs.Faces.{face, roll_of}
 use Rattle.legal_plays.specs.RankOrder.{IsInRankOrder}
-use Rattle.bearoff_c.specs.ResultLists.{places, IsResultList}
+use Rattle.bearoff_c.specs.ResultLists.{places, IsResultList, IsResultCount}
 use Rattle.bearoff_c.proofs.listing.bearoff_results.Goals as goal
 
 pub list-requires-clause-legal : goal.list-requires-clause-legal
@@ -37,3 +37,18 @@ returns-then-list-clause-listed c = λ ok.
     let listed = take c.len.result room in
     subst (λ (x : Board). IsResultList f x v listed) told.position
     (subst (λ (u : Throw). IsResultList f turn.position u listed) told.roll whole)
+
+pub returns-then-len-room-clause-told : goal.returns-then-len-room-clause-told
+returns-then-len-room-clause-told c = λ short.
+    let turn = c.in-Ok.turn in
+    let told = c.in-Ok.ensures {u = tt} in
+    let count = c.len.result in
+    let counted : IsResultCount turn.position turn.roll count = record {
+      found = c.results-found.result.items;
+      members = c.results-found.ensures.members;
+      ordered = c.results-found.ensures.ordered;
+      count_is = c.len.ensures.value;
+    } in
+    let v = roll_of (face c.args.one) (face c.args.other) in
+    subst (λ (x : Board). IsResultCount x v count) told.position
+    (subst (λ (u : Throw). IsResultCount turn.position u count) told.roll counted)
