@@ -4,7 +4,7 @@ use Rattle.std.proofs.lemmas.Bool.{cases_lt}
 use Rattle.std.proofs.Math.Path.{ap₂}
 use Rattle.race_model.specs.Positions.{Board, IsPosition, pips}
 use Rattle.race_model.specs.Ranks.{rank, at_rank, count_to, first_of}
-use Rattle.race_model.specs.Files.{mean_at}
+use Rattle.race_model.specs.Files.{mean, mean_at}
 use Rattle.race_model.specs.Levels.{IsLevel, IsLevelLine}
 use Rattle.epc_query.specs.declared.reply.Level.{Level}
 use Rattle.epc_query.specs.Texts.{ratio_text, level_text}
@@ -138,32 +138,21 @@ module _ (found : (x : Board) → IsPosition x → at_rank (rank x) ≡ x)
       (count_to p) least greatest → IsLevel f p least greatest
   level_means f p least greatest low are =
       let some = some_rank p low in
-      let a = are.least_reached some in
-      let b = are.greatest_reached some in
       record {
-        least_reached = (
-          at_rank a.0,
-          position a.0,
-          at a.0 a.1 a.2,
-          ap (mean_at f)
-              (under p a.0 a.2).0 ∙ a.3,
-        );
+        least_reached = at least (are.least_reached some);
         none_under = λ x is e. are.none_under (rank x) (not_below p x is e)
             ((within x p is).1 (omega (arith, e)));
-        greatest_reached = (
-          at_rank b.0,
-          position b.0,
-          at b.0 b.1 b.2,
-          ap (mean_at f)
-              (under p b.0 b.2).0 ∙ b.3,
-        );
+        greatest_reached = at greatest (are.greatest_reached some);
         none_over = λ x is e. are.none_over (rank x) (not_below p x is e)
             ((within x p is).1 (omega (arith, e)));
       }
     where
-      at : (r : ℕ) → first_of p ≤ r → r < count_to p → pips (at_rank r) ≡ p
-      at r first last = let few = (under p r last).1 in let many = not_fewer p r first last in
-          omega arith
+      at : (n : ℕ) → IsReached f (first_of p) (count_to p) n →
+          (x : Board) × IsPosition x × (pips x ≡ p) × (mean f x ≡ n)
+      at n (r, first, last, is) =
+          let few = (under p r last).1 in
+          let many = not_fewer p r first last in
+          (at_rank r, position r, omega arith, ap (mean_at f) (under p r last).0 ∙ is)
 
 -- the text of a level is its line
 pub level_line : (f : List ℕ) (p : ℕ) (level : Level) → HasLevel f p level
