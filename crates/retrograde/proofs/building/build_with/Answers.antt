@@ -1,12 +1,11 @@
 use Rattle.std.proofs.Common.{◌≡◌, ℕ, suc, ◌+◌, ◌-◌, ◌≤◌, length, sym, ap, subst, ◌∙◌, arith}
-use Rattle.std.specs.Io.KnownBytes.{Appends}
 use Rattle.race_model.specs.Ranks.{first_of, count_to}
 use Rattle.race_model.specs.Versions.{version_by}
 use Rattle.race_model.proofs.Ranks.RankOrder.{first_of-zero, first_of-suc, first_of-rises, count_to-rises}
 use Rattle.db_layout.proofs.Bounds.{bound-most}
 use Rattle.std.proofs.KnownBytes.{Appends-nil}
 use Rattle.retrograde.specs.AllRecords.{mean_of_rank, bytes_of_rank}
-use Rattle.retrograde.specs.BuiltBytes.{built_to, IsRefusedBy}
+use Rattle.retrograde.specs.BuiltBytes.{IsRefusedBy}
 use Rattle.retrograde.specs.declared.build_fault.BuildFault.TheVariants.{Memory, Write}
 use Rattle.retrograde.proofs.Existence.{all-records}
 use Rattle.db_layout.proofs.Known.{one-error}
