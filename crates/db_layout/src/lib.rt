@@ -12,5 +12,6 @@ pub use writing::{law_record, write_bytes, write_header, write_record};
 pub mod header;
 pub mod places;
 pub mod record;
+pub mod trial;
 pub mod write_fault;
 pub mod writing;

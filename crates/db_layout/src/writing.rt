@@ -134,36 +134,10 @@ fn add_bytes<const CAP: usize>(bytes: &mut ArrayVec<u8, CAP>, more: &[u8])
 mod tests {
     use super::*;
     use crate::record::RecordView;
+    use crate::trial::{Refusal, RefuseAt};
     use fixed_fraction::WHOLE;
     use legal_plays::Roll;
-    use std::io;
     use std::test::Fail;
-
-    /// A writer that takes so many bytes, one a call, and then fails or takes no byte.
-    #[derive(Drop)]
-    struct Tired {
-        left: usize,
-        fails: bool,
-        written: Vec<u8>,
-    }
-
-    impl Write for Tired {
-        fn write(&mut self, buf: &[u8]) -> io::Result<usize> {
-            match buf.first() {
-                Some(byte) if self.left > 0 => {
-                    self.left -= 1;
-                    self.written.push(*byte)?;
-                    Ok(1)
-                }
-                Some(_) if self.fails => Err(io::Error::from(io::ErrorKind::Other)),
-                _ => Ok(0),
-            }
-        }
-
-        fn flush(&mut self) -> io::Result<()> {
-            Ok(())
-        }
-    }
 
     #[test]
     fn headers_to_writers_that_stop(rt: HostRuntime) -> Result<(), Fail> {
@@ -172,17 +146,12 @@ mod tests {
         assert!(rt; write_header(&header, &mut whole).is_ok());
         assert_eq!(rt; whole.len(), 32);
         for left in 0..33 {
-            for fails in [true, false] {
-                let written = Vec::new(rt.alloc());
-                let mut tired = Tired {
-                    left,
-                    fails,
-                    written,
-                };
-                let told = write_header(&header, &mut tired);
+            for refusal in [Refusal::Fails, Refusal::TakesNothing] {
+                let mut writer = RefuseAt::new(rt.alloc(), 1, left + 1, refusal);
+                let told = write_header(&header, &mut writer);
                 assert_eq!(rt; told.is_ok(), left == 32, "after {left} bytes");
-                assert_eq!(rt; tired.written.len(), left);
-                assert!(rt; whole.as_slice().starts_with(tired.written.as_slice()));
+                assert_eq!(rt; writer.written.len(), left as usize);
+                assert!(rt; whole.as_slice().starts_with(writer.written.as_slice()));
             }
         }
         Ok(())
@@ -198,17 +167,12 @@ mod tests {
         assert!(rt; write_record(&header, 0, mean, &plays, &spread, &mut whole).is_ok());
         assert_eq!(rt; whole.len(), 426);
         for left in 0..427 {
-            for fails in [true, false] {
-                let written = Vec::new(rt.alloc());
-                let mut tired = Tired {
-                    left,
-                    fails,
-                    written,
-                };
-                let told = write_record(&header, 0, mean, &plays, &spread, &mut tired);
+            for refusal in [Refusal::Fails, Refusal::TakesNothing] {
+                let mut writer = RefuseAt::new(rt.alloc(), 1, left + 1, refusal);
+                let told = write_record(&header, 0, mean, &plays, &spread, &mut writer);
                 assert_eq!(rt; told.is_ok(), left == 426, "after {left} bytes");
-                assert_eq!(rt; tired.written.len(), left);
-                assert!(rt; whole.as_slice().starts_with(tired.written.as_slice()));
+                assert_eq!(rt; writer.written.len(), left as usize);
+                assert!(rt; whole.as_slice().starts_with(writer.written.as_slice()));
             }
         }
         Ok(())

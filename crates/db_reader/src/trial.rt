@@ -6,15 +6,46 @@ use crate::source::{Source, SourceFault};
 use crate::table::{ReadFault, Table, TableFault};
 use db_layout::{Header, RecordView};
 
+/// Calls that are counted down to the one that fails.
+#[derive(Drop)]
+struct Countdown {
+    calls_left: u64,
+    has_failed: bool,
+    ghost later: { 0 < calls_left → has_failed ≡ false },
+}
+
+impl Countdown {
+    /// The `call`th call fails, counted from 1, and none where that is 0.
+    fn new(call: u64) -> Self
+        ensures { result.has_failed ≡ false }
+    {
+        Countdown {
+            calls_left: call,
+            has_failed: false,
+        }
+    }
+
+    /// Counts one call down, and tells whether it is the one that fails.
+    fn is_due(&mut self) -> bool
+        ensures due { (if self.new.has_failed then 1 else 0)
+            ≡ (if self.old.has_failed then 1 else 0) + (if result then 1 else 0) }
+    {
+        let is_due = self.calls_left == 1;
+        self.calls_left = self.calls_left.saturating_sub(1);
+        if is_due {
+            self.has_failed = true;
+        }
+        is_due
+    }
+}
+
 /// Another table, which fails once, at a certain call of `header` or `load`, and else answers as
 /// it does. It tells the bytes that the other table tells.
 #[derive(Drop)]
 pub struct FailOnce<T> {
     table: T,
-    calls_left: u64,
-    has_failed: bool,
+    countdown: Countdown,
     is_refused: bool,
-    ghost later: { 0 < calls_left → has_failed ≡ false },
 }
 
 impl<T: Table> FailOnce<T> {
@@ -26,8 +57,7 @@ impl<T: Table> FailOnce<T> {
     {
         FailOnce {
             table,
-            calls_left: call,
-            has_failed: false,
+            countdown: Countdown::new(call),
             is_refused: false,
         }
     }
@@ -44,31 +74,25 @@ impl<T: Table> FailOnce<T> {
 impl<T: Table> Table for FailOnce<T> {
     ghost tells = { λ trial. T.tells trial.table };
 
-    ghost failures = { λ trial. T.failures trial.table + (if trial.has_failed then 1 else 0) };
+    ghost failures = { λ trial.
+        T.failures trial.table + (if trial.countdown.has_failed then 1 else 0) };
 
     ghost accepted = { λ trial. if trial.is_refused then None else T.accepted trial.table };
 
     ghost ready = { λ trial bytes rank. T.ready trial.table bytes rank };
 
     fn header(&mut self) -> Result<Header, TableFault> {
-        if self.calls_left == 1 {
-            self.calls_left = 0;
-            self.has_failed = true;
-            self.is_refused = true;
+        self.is_refused = self.countdown.is_due();
+        if self.is_refused {
             return Err(TableFault::Read);
         }
-        self.calls_left = self.calls_left.saturating_sub(1);
-        self.is_refused = false;
         self.table.header()
     }
 
     fn load(&mut self, rank: u16, room: &mut Record) -> Result<(), ReadFault> {
-        if self.calls_left == 1 {
-            self.calls_left = 0;
-            self.has_failed = true;
+        if self.countdown.is_due() {
             return Err(ReadFault);
         }
-        self.calls_left = self.calls_left.saturating_sub(1);
         self.table.load(rank, room)
     }
 
@@ -83,9 +107,7 @@ impl<T: Table> Table for FailOnce<T> {
 #[derive(Drop)]
 pub struct FailAt<S> {
     source: S,
-    calls_left: u64,
-    has_failed: bool,
-    ghost later: { 0 < calls_left → has_failed ≡ false },
+    countdown: Countdown,
 }
 
 impl<S: Source> FailAt<S> {
@@ -97,40 +119,26 @@ impl<S: Source> FailAt<S> {
     {
         FailAt {
             source,
-            calls_left: n,
-            has_failed: false,
+            countdown: Countdown::new(n),
         }
-    }
-
-    /// Counts one call down, and tells whether it is the one that fails.
-    fn is_due(&mut self) -> bool
-        ensures source { self.new.source ≡ self.old.source }
-        ensures due { ⟦<FailAt<S> as Source>⟧.failures self.new
-            ≡ ⟦<FailAt<S> as Source>⟧.failures self.old + (if result then 1 else 0) }
-    {
-        let is_due = self.calls_left == 1;
-        self.calls_left = self.calls_left.saturating_sub(1);
-        if is_due {
-            self.has_failed = true;
-        }
-        is_due
     }
 }
 
 impl<S: Source> Source for FailAt<S> {
     ghost tells = { λ trial. S.tells trial.source };
 
-    ghost failures = { λ trial. S.failures trial.source + (if trial.has_failed then 1 else 0) };
+    ghost failures = { λ trial.
+        S.failures trial.source + (if trial.countdown.has_failed then 1 else 0) };
 
     fn length(&mut self) -> Result<u64, SourceFault> {
-        if self.is_due() {
+        if self.countdown.is_due() {
             return Err(SourceFault);
         }
         self.source.length()
     }
 
     fn read_at(&mut self, offset: u64, into: &mut [u8]) -> Result<(), SourceFault> {
-        if self.is_due() {
+        if self.countdown.is_due() {
             return Err(SourceFault);
         }
         self.source.read_at(offset, into)

@@ -1,10 +1,10 @@
 -- The ranks of the positions of one pip count, and the means of some ranks.
-use Rattle.std.proofs.Common.{◌≡◌, ◌↔◌, inl, inr, ℕ, zero, suc, ◌+◌, ◌*◌, ◌/◌, ◌%◌, ◌<◌, ◌≤◌, min, max, List, [], ◌∷◌, ◌++◌, codes, decimal, refl, ap, sym, subst, ◌∙◌, arith}
+use Rattle.std.proofs.Common.{◌≡◌, ◌↔◌, ◌⊎◌, inl, inr, ℕ, zero, suc, ◌+◌, ◌*◌, ◌/◌, ◌%◌, ◌<◌, ◌≤◌, min, max, List, [], ◌∷◌, ◌++◌, codes, decimal, refl, ap, sym, subst, ◌∙◌, arith, below_more}
 use Rattle.std.proofs.lemmas.Bool.{cases_lt}
 use Rattle.std.proofs.Math.Path.{ap₂}
 use Rattle.race_model.specs.Positions.{Board, IsPosition, pips}
 use Rattle.race_model.specs.Ranks.{rank, at_rank, count_to, first_of}
-use Rattle.race_model.specs.Files.{mean_at}
+use Rattle.race_model.specs.Files.{mean, mean_at}
 use Rattle.race_model.specs.Levels.{IsLevel, IsLevelLine}
 use Rattle.epc_query.specs.declared.reply.Level.{Level}
 use Rattle.epc_query.specs.Texts.{ratio_text, level_text}
@@ -57,58 +57,42 @@ no_means f first end least greatest none = record {
   none_over = λ r low high. absurd (omega arith);
 }
 
+-- the mean is that of a rank from the first on and before the end
+abbrev IsReached : List ℕ → ℕ → ℕ → ℕ → Type 0
+IsReached f first end mean = (r : ℕ) × (first ≤ r) × (r < end) × (mean_at f r ≡ mean)
+
+-- with one rank more, its mean or one that was reached is reached
+reached_more : (f : List ℕ) (first r kept n chosen : ℕ) → first ≤ r → n ≡ mean_at f r
+    → (first < r → IsReached f first r kept) → (first ≡ r → chosen ≡ n)
+    → (chosen ≡ n) ⊎ (chosen ≡ kept) → IsReached f first (r + 1) chosen
+reached_more f first r kept n chosen within e before fresh either = elim (cases_lt first r) [
+  | inl some ↦ elim either [
+    | inl new ↦ (r, within, omega arith, sym e ∙ sym new)
+    | inr old ↦ let w = before some in (w.0, w.1, omega (arith, w.2), w.3 ∙ sym old)
+  ]
+  | inr none ↦ (r, within, omega arith, sym e ∙ sym (fresh (omega arith)))
+]
+
 -- one rank more
 pub more_means : (f : List ℕ) (first r least greatest n : ℕ) → first ≤ r
     → AreMeansOf f first r least greatest → n ≡ mean_at f r
     → (first ≡ r → n ≤ least) → (first ≡ r → greatest ≤ n) → AreMeansOf f first (r + 1)
     (min least n) (max greatest n)
 more_means f first r least greatest n within are e fresh_least fresh_greatest = record {
-  least_reached = λ _. elim (cases_lt n least) [
-    | inl smaller ↦ (r, within, omega arith, sym e ∙ omega arith)
-    | inr other ↦ elim (cases_lt first r) [
-      | inl some ↦ let w = are.least_reached some in (
-        w.0,
-        w.1,
-        omega (arith, w.2),
-        w.3
-            ∙ omega arith,
-      )
-      | inr none ↦ (
-        r,
-        within,
-        omega arith,
-        let same : first ≡ r = omega arith in let low =
-            fresh_least same in sym e ∙ omega arith,
-      )
-    ]
-  ];
-  none_under = λ k low high. elim (cases_lt k r) [
-    | inl before ↦ omega (arith, are.none_under k low before)
-    | inr here ↦ let same : k ≡ r = omega arith in omega (arith, e, ap (mean_at f) same)
-  ];
-  greatest_reached = λ _. elim (cases_lt greatest n) [
-    | inl larger ↦ (r, within, omega arith, sym e ∙ omega arith)
-    | inr other ↦ elim (cases_lt first r) [
-      | inl some ↦ let w = are.greatest_reached some in (
-        w.0,
-        w.1,
-        omega (arith, w.2),
-        w.3
-            ∙ omega arith,
-      )
-      | inr none ↦ (
-        r,
-        within,
-        omega arith,
-        let same : first ≡ r = omega arith in let high =
-            fresh_greatest same in sym e ∙ omega arith,
-      )
-    ]
-  ];
-  none_over = λ k low high. elim (cases_lt k r) [
-    | inl before ↦ omega (arith, are.none_over k low before)
-    | inr here ↦ let same : k ≡ r = omega arith in omega (arith, e, ap (mean_at f) same)
-  ];
+  least_reached = λ _.
+      reached_more f first r least n (min least n) within e are.least_reached
+      (λ same. let low = fresh_least same in omega arith)
+      (elim (cases_lt n least) [ inl lt ↦ inl (omega arith) | inr not ↦ inr (omega arith) ]);
+  none_under = λ k low high.
+      below_more (λ j. first ≤ j → min least n ≤ mean_at f j) r
+      (λ j lt from. omega (arith, are.none_under j from lt)) (λ _. omega (arith, e)) k high low;
+  greatest_reached = λ _.
+      reached_more f first r greatest n (max greatest n) within e are.greatest_reached
+      (λ same. let high = fresh_greatest same in omega arith)
+      (elim (cases_lt greatest n) [ inl lt ↦ inl (omega arith) | inr not ↦ inr (omega arith) ]);
+  none_over = λ k low high.
+      below_more (λ j. first ≤ j → mean_at f j ≤ max greatest n) r
+      (λ j lt from. omega (arith, are.none_over j from lt)) (λ _. omega (arith, e)) k high low;
 }
 
 -- the ranks of a pip count are those of its positions
@@ -154,32 +138,21 @@ module _ (found : (x : Board) → IsPosition x → at_rank (rank x) ≡ x)
       (count_to p) least greatest → IsLevel f p least greatest
   level_means f p least greatest low are =
       let some = some_rank p low in
-      let a = are.least_reached some in
-      let b = are.greatest_reached some in
       record {
-        least_reached = (
-          at_rank a.0,
-          position a.0,
-          at a.0 a.1 a.2,
-          ap (mean_at f)
-              (under p a.0 a.2).0 ∙ a.3,
-        );
+        least_reached = at least (are.least_reached some);
         none_under = λ x is e. are.none_under (rank x) (not_below p x is e)
             ((within x p is).1 (omega (arith, e)));
-        greatest_reached = (
-          at_rank b.0,
-          position b.0,
-          at b.0 b.1 b.2,
-          ap (mean_at f)
-              (under p b.0 b.2).0 ∙ b.3,
-        );
+        greatest_reached = at greatest (are.greatest_reached some);
         none_over = λ x is e. are.none_over (rank x) (not_below p x is e)
             ((within x p is).1 (omega (arith, e)));
       }
     where
-      at : (r : ℕ) → first_of p ≤ r → r < count_to p → pips (at_rank r) ≡ p
-      at r first last = let few = (under p r last).1 in let many = not_fewer p r first last in
-          omega arith
+      at : (n : ℕ) → IsReached f (first_of p) (count_to p) n →
+          (x : Board) × IsPosition x × (pips x ≡ p) × (mean f x ≡ n)
+      at n (r, first, last, is) =
+          let few = (under p r last).1 in
+          let many = not_fewer p r first last in
+          (at_rank r, position r, omega arith, ap (mean_at f) (under p r last).0 ∙ is)
 
 -- the text of a level is its line
 pub level_line : (f : List ℕ) (p : ℕ) (level : Level) → HasLevel f p level

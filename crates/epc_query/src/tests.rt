@@ -2,11 +2,12 @@
 //! worked out by hand and with exact fractions, and not from this program.
 use super::*;
 use certificate::{CheckFault, QueryFault, check};
+use db_layout::trial::{Refusal, RefuseAt};
 use db_reader::Whole;
 use db_reader::trial::FailOnce;
 use retrograde::build;
 use std::alloc::Global;
-use std::io::{self, Read, Write};
+use std::io::{self, Read};
 use std::test::Fail;
 
 /// The database that the builder makes of a bound.
@@ -51,32 +52,6 @@ impl<'a> Read for OneByte<'a> {
         buf[0] = *first;
         self.left = rest;
         Ok(1)
-    }
-}
-
-/// A writer that takes so many bytes, one a call, and then fails or takes no byte.
-#[derive(Drop)]
-struct Tired {
-    left: usize,
-    fails: bool,
-    written: Vec<u8>,
-}
-
-impl Write for Tired {
-    fn write(&mut self, buf: &[u8]) -> io::Result<usize> {
-        match buf.first() {
-            Some(byte) if self.left > 0 => {
-                self.left -= 1;
-                self.written.push(*byte)?;
-                Ok(1)
-            }
-            Some(_) if self.fails => Err(io::Error::from(io::ErrorKind::Other)),
-            _ => Ok(0),
-        }
-    }
-
-    fn flush(&mut self) -> io::Result<()> {
-        Ok(())
     }
 }
 
@@ -258,23 +233,18 @@ fn writers_that_stop(rt: HostRuntime) -> Result<(), Fail> {
     let file = built(rt.alloc(), 1)?;
     let mut checked = check(Whole::new(file.as_slice())).ok().ok_or("refused")?;
     for left in 0..51 {
-        for fails in [true, false] {
+        for refusal in [Refusal::Fails, Refusal::TakesNothing] {
             let mut reader = input.as_slice();
-            let written = Vec::new(rt.alloc());
-            let mut tired = Tired {
-                left,
-                fails,
-                written,
-            };
-            let told = run(rt.alloc(), &mut checked, &mut reader, &mut tired, 1 << 40);
+            let mut writer = RefuseAt::new(rt.alloc(), 1, left + 1, refusal);
+            let told = run(rt.alloc(), &mut checked, &mut reader, &mut writer, 1 << 40);
             let expected = if left < 50 {
                 Err(RunFault::Write)
             } else {
                 Ok(3)
             };
             assert_eq!(rt; told, expected, "after {left} bytes");
-            assert_eq!(rt; tired.written.len(), left.min(50));
-            assert!(rt; replies.as_slice().starts_with(tired.written.as_slice()));
+            assert_eq!(rt; writer.written.len(), left.min(50) as usize);
+            assert!(rt; replies.as_slice().starts_with(writer.written.as_slice()));
         }
     }
     Ok(())

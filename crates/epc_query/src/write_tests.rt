@@ -1,55 +1,17 @@
 //! In how many calls replies are written, and that they are flushed before the next read.
 use super::*;
 use certificate::check;
+use db_layout::trial::RefuseAt;
 use db_reader::Whole;
 use retrograde::build;
 use std::alloc::Global;
-use std::io::{self, Write};
 use std::test::Fail;
-
-/// A writer that counts the calls of `write`, and knows how many bytes it held when it was last
-/// flushed.
-#[derive(Drop)]
-struct Pipe {
-    written: Vec<u8>,
-    calls: usize,
-    flushed: usize,
-    fails: bool,
-}
-
-impl Pipe {
-    /// One that holds no byte, and whose flushes fail or not.
-    fn new(alloc: Global, fails: bool) -> Self {
-        Pipe {
-            written: Vec::new(alloc),
-            calls: 0,
-            flushed: 0,
-            fails,
-        }
-    }
-}
-
-impl Write for Pipe {
-    fn write(&mut self, buf: &[u8]) -> io::Result<usize> {
-        self.calls = self.calls.saturating_add(1);
-        self.written.extend_from_slice(buf)?;
-        Ok(buf.len())
-    }
-
-    fn flush(&mut self) -> io::Result<()> {
-        if self.fails {
-            return Err(io::Error::from(io::ErrorKind::Other));
-        }
-        self.flushed = self.written.len();
-        Ok(())
-    }
-}
 
 /// What `run` gives of an input over the database of 8 pips, with so many reads at most.
 fn answered(
     alloc: Global,
     input: &[u8],
-    pipe: &mut Pipe,
+    pipe: &mut RefuseAt,
     turns: u64,
 ) -> Result<Result<u64, RunFault>, Fail> {
     let mut file = Vec::new(alloc);
@@ -61,7 +23,7 @@ fn answered(
 
 #[test]
 fn whole_lines_are_flushed_before_the_next_read(rt: HostRuntime) -> Result<(), Fail> {
-    let mut pipe = Pipe::new(rt.alloc(), false);
+    let mut pipe = RefuseAt::never(rt.alloc(), usize::MAX);
     let input = b"rank 0,0,0,0,0,1\nplay 0,0,0,2,0,0 21\nrank 1,0";
     assert_eq!(rt;
         answered(rt.alloc(), input, &mut pipe, 1)?,
@@ -87,7 +49,7 @@ fn one_call_of_write_for_each_reply(rt: HostRuntime) -> Result<(), Fail> {
         b"none\n",
     ];
     for line in lines {
-        let mut pipe = Pipe::new(rt.alloc(), false);
+        let mut pipe = RefuseAt::never(rt.alloc(), usize::MAX);
         assert_eq!(rt; answered(rt.alloc(), line, &mut pipe, 2)?, Ok(1));
         assert_eq!(rt; pipe.calls, 1);
         assert_eq!(rt; pipe.flushed, pipe.written.len());
@@ -97,7 +59,8 @@ fn one_call_of_write_for_each_reply(rt: HostRuntime) -> Result<(), Fail> {
 
 #[test]
 fn a_flush_that_fails(rt: HostRuntime) -> Result<(), Fail> {
-    let mut pipe = Pipe::new(rt.alloc(), true);
+    let mut pipe = RefuseAt::never(rt.alloc(), usize::MAX);
+    pipe.flush_fails = true;
     let input = b"rank 0,0,0,0,0,1\n";
     assert_eq!(rt;
         answered(rt.alloc(), input, &mut pipe, 2)?,

@@ -2,6 +2,7 @@
 use crate::inputs::{INPUT, REPLIES};
 use crate::wrong::{Wrong, database};
 use certificate::Checked;
+use db_layout::trial::{Refusal, RefuseAt};
 use db_layout::{Header, write_header, write_record};
 use db_reader::{Table, Whole};
 use epc_query::{Choice, Reply, answer_line, audit_level, run, write_level, write_reply};
@@ -9,7 +10,6 @@ use fixed_fraction::{Scaled, Spread, WHOLE, mean};
 use home_board::Position;
 use retrograde::build;
 use std::alloc::Global;
-use std::io::{self, Write};
 
 /// What is written.
 #[derive(Clone, Copy)]
@@ -36,62 +36,6 @@ pub enum Text {
     Run,
 }
 
-/// What a writer does at the call that it refuses.
-#[derive(Clone, Copy)]
-enum Refusal {
-    Fails,
-    TakesNothing,
-}
-
-/// A writer that takes at most so many bytes a call, and refuses one call of `write`. It counts
-/// its calls.
-#[derive(Drop)]
-struct Tired {
-    takes: usize,
-    refused: u64,
-    refusal: Refusal,
-    is_flushed: bool,
-    calls: u64,
-    written: Vec<u8>,
-}
-
-impl Tired {
-    /// A writer that refuses its call of this number, counted from 1, and none where it is 0.
-    fn new(alloc: Global, takes: usize, refused: u64, refusal: Refusal) -> Self {
-        Tired {
-            takes,
-            refused,
-            refusal,
-            is_flushed: true,
-            calls: 0,
-            written: Vec::new(alloc),
-        }
-    }
-}
-
-impl Write for Tired {
-    fn write(&mut self, buf: &[u8]) -> io::Result<usize> {
-        self.calls = self.calls.saturating_add(1);
-        if self.calls == self.refused {
-            return match self.refusal {
-                Refusal::Fails => Err(io::Error::from(io::ErrorKind::Other)),
-                Refusal::TakesNothing => Ok(0),
-            };
-        }
-        let taken = &buf[..buf.len().min(self.takes)];
-        self.written.extend_from_slice(taken)?;
-        Ok(taken.len())
-    }
-
-    fn flush(&mut self) -> io::Result<()> {
-        if self.is_flushed {
-            Ok(())
-        } else {
-            Err(io::Error::from(io::ErrorKind::Other))
-        }
-    }
-}
-
 /// Refuses each call of `write` in turn, as one that fails and as one that takes nothing: want of
 /// the writer has to be told at once, a prefix has to be written and no more asked of the writer;
 /// and the whole text where no call is refused. It gives the number of calls.
@@ -102,14 +46,14 @@ pub(crate) fn fail_writes(
     takes: usize,
 ) -> Result<u64, Wrong> {
     let mut checked = database(file)?;
-    let mut whole = Tired::new(alloc, usize::MAX, 0, Refusal::Fails);
+    let mut whole = RefuseAt::never(alloc, usize::MAX);
     if !write_text(alloc, &mut checked, text, &mut whole) {
         return Err(Wrong::At(0));
     }
     for call in 1..10_000 {
-        let failing = Tired::new(alloc, takes, call, Refusal::Fails);
+        let failing = RefuseAt::new(alloc, takes, call, Refusal::Fails);
         let has_ended = refuse(alloc, &mut checked, text, failing, whole.written.as_slice())?;
-        let idle = Tired::new(alloc, takes, call, Refusal::TakesNothing);
+        let idle = RefuseAt::new(alloc, takes, call, Refusal::TakesNothing);
         if refuse(alloc, &mut checked, text, idle, whole.written.as_slice())? != has_ended {
             return Err(Wrong::At(call));
         }
@@ -126,7 +70,7 @@ fn refuse<T: Table>(
     alloc: Global,
     checked: &mut Checked<T>,
     text: Text,
-    writer: Tired,
+    writer: RefuseAt,
     whole: &[u8],
 ) -> Result<bool, Wrong> {
     let mut writer = writer;
@@ -149,10 +93,10 @@ fn refuse<T: Table>(
 /// gives the number of calls that were refused.
 pub(crate) fn fail_flush(alloc: Global, file: &[u8], text: Text) -> Result<u64, Wrong> {
     let mut checked = database(file)?;
-    let mut whole = Tired::new(alloc, usize::MAX, 0, Refusal::Fails);
+    let mut whole = RefuseAt::never(alloc, usize::MAX);
     let is_written = write_text(alloc, &mut checked, text, &mut whole);
-    let mut writer = Tired::new(alloc, usize::MAX, 0, Refusal::Fails);
-    writer.is_flushed = false;
+    let mut writer = RefuseAt::never(alloc, usize::MAX);
+    writer.flush_fails = true;
     let is_done = write_text(alloc, &mut checked, text, &mut writer);
     let is_right = match text {
         Text::Run => !is_done && whole.written.starts_with(writer.written.as_slice()),
@@ -170,7 +114,7 @@ fn write_text<T: Table>(
     alloc: Global,
     checked: &mut Checked<T>,
     text: Text,
-    writer: &mut Tired,
+    writer: &mut RefuseAt,
 ) -> bool {
     match text {
         Text::Header => write_a_header(writer),
@@ -189,14 +133,14 @@ fn write_text<T: Table>(
     }
 }
 
-fn write_a_header(writer: &mut Tired) -> bool {
+fn write_a_header(writer: &mut RefuseAt) -> bool {
     match Header::new(1, 44) {
         Some(header) => write_header(&header, writer).is_ok(),
         None => false,
     }
 }
 
-fn write_a_record(writer: &mut Tired) -> bool {
+fn write_a_record(writer: &mut RefuseAt) -> bool {
     let Some(header) = Header::new(1, 44) else {
         return false;
     };
@@ -220,7 +164,7 @@ const KINDS: [&str; 7] = [
     "rank 4,0,0,0,0,0",
 ];
 
-fn write_replies<T: Table>(alloc: Global, checked: &mut Checked<T>, writer: &mut Tired) -> bool {
+fn write_replies<T: Table>(alloc: Global, checked: &mut Checked<T>, writer: &mut RefuseAt) -> bool {
     for line in KINDS {
         let is_done = match answer_line(alloc, checked, line.as_bytes()) {
             Ok(reply) => write_reply(&reply, writer).is_ok(),
@@ -233,7 +177,7 @@ fn write_replies<T: Table>(alloc: Global, checked: &mut Checked<T>, writer: &mut
     true
 }
 
-fn write_moves(alloc: Global, writer: &mut Tired) -> bool {
+fn write_moves(alloc: Global, writer: &mut RefuseAt) -> bool {
     let Ok(choices) = three_hundred(alloc) else {
         return false;
     };

@@ -1,12 +1,13 @@
 -- What was written of the built file, part by part.
-use Rattle.std.proofs.Common.{◌≡◌, ℕ, ◌+◌, ◌≤◌, List, [], Option, subst}
+use Rattle.std.proofs.Common.{◌≡◌, ℕ, ◌+◌, ◌-◌, ◌≤◌, List, [], Option, subst, arith}
 use Rattle.std.specs.Io.KnownBytes.{Appends}
 use Rattle.race_model.specs.Ranks.{count_to}
 use Rattle.race_model.specs.Versions.{Version, greatest_bound}
 use Rattle.race_model.specs.Files.{header}
+use Rattle.race_model.proofs.Ranks.RankOrder.{count_to-rises}
 use Rattle.db_layout.specs.WholeFiles.{records_from}
 use Rattle.db_layout.specs.Writes.{AppendsPart}
-use Rattle.db_layout.proofs.Prefixes.{nothing-part, header-part, ranks-part, more-part}
+use Rattle.db_layout.proofs.Prefixes.{nothing-part, header-part, ranks-part, more-part, more-written}
 use Rattle.retrograde.specs.AllRecords.{AllRecords, bytes_of_rank}
 use Rattle.retrograde.specs.BuiltBytes.{built_to, built_file, WritesBuilt, WritesPart}
 use Rattle.retrograde.proofs.BuiltFiles.{is-built}
@@ -41,15 +42,32 @@ module _ (version : Version) (full : AllRecords) (bound : ℕ)
       part-refused old new
       (ranks-part version bound (bytes_of_rank version full) (count_to bound) old new n le all)
 
-  -- .. and a prefix of more ranks
-  pub part-written : (old mid new : Option (List ℕ)) (n m : ℕ) → n + m ≤ count_to bound
-      → Appends old mid (built_to version full bound n) →
-      AppendsPart mid new (records_from (bytes_of_rank version full) n m)
+  -- .. and a prefix of the level after it, of `count` positions
+  pub level-part : (old mid new : Option (List ℕ)) (pips before made count : ℕ) → pips ≤ bound
+      → before + count ≡ made → made ≡ count_to pips →
+      Appends old mid (built_to version full bound before) →
+      AppendsPart mid new (records_from (bytes_of_rank version full) (made - count) count)
       → WritesPart version bound old new
-  part-written old mid new n m le before part =
+  level-part old mid new pips before made count le all to first part =
+      let here : made - count ≡ before = omega arith in
       part-refused old new
-      (more-part version bound (bytes_of_rank version full) (count_to bound) old mid new n m le
-      before part)
+      (more-part version bound (bytes_of_rank version full) (count_to bound) old mid new before
+      count (omega (arith, count_to-rises pips bound le)) first
+      (subst (λ (n : ℕ). AppendsPart mid new (records_from (bytes_of_rank version full) n count))
+      here part))
+
+  -- .. or the whole of it
+  pub level-written : (old mid new : Option (List ℕ)) (before made count : ℕ)
+      → before + count ≡ made →
+      Appends old mid (built_to version full bound before) →
+      Appends mid new (records_from (bytes_of_rank version full) (made - count) count)
+      → Appends old new (built_to version full bound made)
+  level-written old mid new before made count all first more =
+      let here : made - count ≡ before = omega arith in
+      subst (λ (n : ℕ). Appends old new (built_to version full bound n)) all
+      (more-written version bound (bytes_of_rank version full) old mid new before count first
+      (subst (λ (n : ℕ). Appends mid new (records_from (bytes_of_rank version full) n count))
+      here more))
 
   -- the whole file, and nothing else
   pub all-written : (old new : Option (List ℕ)) (n : ℕ) → n ≡ count_to bound →

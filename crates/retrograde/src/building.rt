@@ -243,71 +243,12 @@ fn write_level<K: Keeper, W: Write>(
 #[cfg(test)]
 mod tests {
     use super::*;
+    use db_layout::trial::{Refusal, RefuseAt};
     use db_layout::{Places, RecordView};
     use fixed_fraction::WHOLE;
     use home_board::Position;
     use std::alloc::AllocError;
-    use std::io;
     use std::test::Fail;
-
-    /// A writer that takes so many writes, and then fails or takes no byte.
-    #[derive(Drop)]
-    struct Tired {
-        writes: u8,
-        fails: bool,
-        written: Vec<u8>,
-    }
-
-    impl Tired {
-        /// One to which nothing was written yet.
-        fn new(alloc: Global, writes: u8, fails: bool) -> Self {
-            Tired {
-                writes,
-                fails,
-                written: Vec::new(alloc),
-            }
-        }
-    }
-
-    impl Write for Tired {
-        fn write(&mut self, buf: &[u8]) -> io::Result<usize> {
-            if self.writes > 0 {
-                self.writes -= 1;
-                self.written.extend_from_slice(buf)?;
-                return Ok(buf.len());
-            }
-            if self.fails {
-                return Err(io::Error::from(io::ErrorKind::Other));
-            }
-            Ok(0)
-        }
-
-        fn flush(&mut self) -> io::Result<()> {
-            Ok(())
-        }
-    }
-
-    /// A writer that takes one byte a call.
-    #[derive(Drop)]
-    struct Slow {
-        written: Vec<u8>,
-    }
-
-    impl Write for Slow {
-        fn write(&mut self, buf: &[u8]) -> io::Result<usize> {
-            match buf.first() {
-                Some(byte) => {
-                    self.written.push(*byte)?;
-                    Ok(1)
-                }
-                None => Ok(0),
-            }
-        }
-
-        fn flush(&mut self) -> io::Result<()> {
-            Ok(())
-        }
-    }
 
     /// Bytes, each followed by so many zeros.
     fn with_zeros(alloc: Global, parts: &[(&[u8], u16)]) -> Result<Vec<u8>, AllocError> {
@@ -351,9 +292,7 @@ mod tests {
                 (WHOLE_BYTES, 336),
             ],
         )?;
-        let mut slow = Slow {
-            written: Vec::new(rt.alloc()),
-        };
+        let mut slow = RefuseAt::never(rt.alloc(), 1);
         assert_eq!(rt; build(rt.alloc(), 1, &mut slow), Ok(()));
         assert_eq!(rt; slow.written.as_slice(), one.as_slice());
         Ok(())
@@ -383,9 +322,7 @@ mod tests {
                 (WHOLE_BYTES, 0),
             ],
         )?;
-        let mut slow = Slow {
-            written: Vec::new(rt.alloc()),
-        };
+        let mut slow = RefuseAt::never(rt.alloc(), 1);
         assert_eq!(rt; build_compact(rt.alloc(), 1, &mut slow), Ok(()));
         assert_eq!(rt; slow.written.as_slice(), one.as_slice());
         Ok(())
@@ -424,11 +361,11 @@ mod tests {
     #[test]
     fn refused_writes(rt: HostRuntime) {
         for (writes, full, compact) in [(0, 0, 0), (1, 32, 32), (2, 458, 90)] {
-            for fails in [true, false] {
-                let mut writer = Tired::new(rt.alloc(), writes, fails);
+            for refusal in [Refusal::Fails, Refusal::TakesNothing] {
+                let mut writer = RefuseAt::new(rt.alloc(), usize::MAX, writes + 1, refusal);
                 assert_eq!(rt; build(rt.alloc(), 1, &mut writer), Err(BuildFault::Write));
                 assert_eq!(rt; writer.written.len(), full, "after {writes} writes");
-                let mut writer = Tired::new(rt.alloc(), writes, fails);
+                let mut writer = RefuseAt::new(rt.alloc(), usize::MAX, writes + 1, refusal);
                 assert_eq!(rt;
                     build_compact(rt.alloc(), 1, &mut writer),
                     Err(BuildFault::Write)
@@ -477,13 +414,13 @@ mod tests {
     #[test]
     fn version_by_bound(rt: HostRuntime) {
         for (bound, version) in [(0, 1), (44, 1), (45, 2), (58, 2)] {
-            let mut writer = Tired::new(rt.alloc(), 1, true);
+            let mut writer = RefuseAt::new(rt.alloc(), usize::MAX, 2, Refusal::Fails);
             assert_eq!(rt;
                 build(rt.alloc(), bound, &mut writer),
                 Err(BuildFault::Write)
             );
             assert_eq!(rt; writer.written.get(9), Some(&version), "of {bound} pips");
-            let mut writer = Tired::new(rt.alloc(), 1, true);
+            let mut writer = RefuseAt::new(rt.alloc(), usize::MAX, 2, Refusal::Fails);
             assert_eq!(rt;
                 build_compact(rt.alloc(), bound, &mut writer),
                 Err(BuildFault::Write)

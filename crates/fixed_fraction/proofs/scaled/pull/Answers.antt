@@ -1,27 +1,12 @@
-use Rattle.std.proofs.Common.{◌+◌, ◌*◌, ◌<◌, ◌≤◌, ◌/◌, length, sum_by, take, arith}
+use Rattle.std.proofs.Common.{◌+◌, ◌*◌, ◌^◌, ◌<◌, ◌≤◌, ◌/◌, length, sum_by, take, arith}
 use Rattle.std.proofs.lemmas.List.{take_all}
-use Rattle.std.proofs.lemmas.List.Sums.{sum_by_more, sum_by_more_le}
+use Rattle.std.proofs.lemmas.List.Sums.{sum_by_more}
 use Rattle.race_model.specs.LocalEquations.{whole}
-use Rattle.fixed_fraction.proofs.Pulls.{part_small, sum_fits, whole_is}
+use Rattle.fixed_fraction.proofs.Pulls.{next_small, sum_fits, whole_is}
 use Rattle.fixed_fraction.proofs.scaled.pull.Goals as goal
 
 pub loop-weight-init : goal.loop-weight-init
 loop-weight-init c = record { total = omega (arith, whole_is); small = omega (arith, whole_is) }
-
--- the weights so far and the next one are within 36
-weights : (c : goal.After-numerator) →
-    sum_by (λ part. part.0) (take (c.loop-weight.weight-index + 1) c.args.parts.now) ≤ 36
-weights c =
-    let lt : c.loop-weight.weight-index < length c.args.parts.now = omega arith in
-    let more =
-    sum_by_more (λ part. part.0) c.args.parts.now c.loop-weight.weight-index
-    c.loop-weight-item.result lt in
-    omega (
-      arith,
-      sum_by_more_le (λ part. part.0) c.args.parts.now c.loop-weight.weight-index
-          c.loop-weight-item.result lt,
-      c.requires,
-    )
 
 -- the sum with the next part is within the bound by the weights
 bounded : (c : goal.After-numerator) →
@@ -30,21 +15,26 @@ bounded : (c : goal.After-numerator) →
     + sum_by (λ part. part.0) (take (c.loop-weight.weight-index + 1) c.args.parts.now)
     * (22 * whole)
 bounded c =
-    let lt : c.loop-weight.weight-index < length c.args.parts.now = omega arith in
-    let more =
-    sum_by_more (λ part. part.0) c.args.parts.now c.loop-weight.weight-index
-    c.loop-weight-item.result lt in
-    part_small c.loop-weight.total c.from.result c.numerator.result _ _ (22 * whole) (36 * whole)
-    c.numerator.ensures.range (rw c.from.ensures more) c.loop-weight.invariant.small
+    rw c.from.ensures
+    (next_small c.args.parts.now c.loop-weight.weight-index c.loop-weight-item.result (omega arith)
+    c.loop-weight.total c.numerator.result (22 * whole) (36 * whole)
+    c.numerator.ensures.range c.loop-weight.invariant.small)
+
+-- .. so it fits 128 bits
+fits : (c : goal.After-numerator) →
+    c.loop-weight.total + c.from.result * c.numerator.result < 2 ^ 128
+fits c =
+    sum_fits c.args.parts.now c.loop-weight.weight-index c.loop-weight-item.result (omega arith) _
+    c.requires (bounded c)
 
 pub overflow_mul-total-in-loop-weight : goal.overflow_mul-total-in-loop-weight
 overflow_mul-total-in-loop-weight c =
-    let fits = sum_fits _ _ (weights c) (bounded c) in
+    let small = fits c in
     omega arith
 
 pub overflow_add-total : goal.overflow_add-total
 overflow_add-total c =
-    let fits = sum_fits _ _ (weights c) (bounded c) in
+    let small = fits c in
     omega arith
 
 pub loop-weight-preserved : goal.loop-weight-preserved

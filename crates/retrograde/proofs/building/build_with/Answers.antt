@@ -1,18 +1,17 @@
 use Rattle.std.proofs.Common.{◌≡◌, ℕ, suc, ◌+◌, ◌-◌, ◌≤◌, length, sym, ap, subst, ◌∙◌, arith}
-use Rattle.std.specs.Io.KnownBytes.{Appends}
 use Rattle.race_model.specs.Ranks.{first_of, count_to}
 use Rattle.race_model.specs.Versions.{version_by}
 use Rattle.race_model.proofs.Ranks.RankOrder.{first_of-zero, first_of-suc, first_of-rises, count_to-rises}
 use Rattle.db_layout.proofs.Bounds.{bound-most}
 use Rattle.std.proofs.KnownBytes.{Appends-nil}
 use Rattle.retrograde.specs.AllRecords.{mean_of_rank, bytes_of_rank}
-use Rattle.retrograde.specs.BuiltBytes.{built_to, IsRefusedBy}
+use Rattle.retrograde.specs.BuiltBytes.{IsRefusedBy}
 use Rattle.retrograde.specs.declared.build_fault.BuildFault.TheVariants.{Memory, Write}
 use Rattle.retrograde.proofs.Existence.{all-records}
 use Rattle.db_layout.proofs.Known.{one-error}
-use Rattle.db_layout.proofs.Prefixes.{header-first, more-written}
+use Rattle.db_layout.proofs.Prefixes.{header-first}
 use Rattle.retrograde.proofs.Kept.{kept-none}
-use Rattle.retrograde.proofs.Prefixes.{nothing-written, header-written, ranks-written, part-written, all-written}
+use Rattle.retrograde.proofs.Prefixes.{nothing-written, header-written, ranks-written, level-part, level-written, all-written}
 use Rattle.retrograde.proofs.building.build_with.Goals as goal
 
 -- a level begins where the one below ends
@@ -78,21 +77,16 @@ returns-in_err-write_level-clause-refused g c =
     let old = g.W.Write.contents c.args.writer.now in
     let mid = g.W.Write.contents c.write_header.new.writer in
     let new = g.W.Write.contents c.write_level.new.writer in
-    let low = c.args.header.bounded in
     let records = c.add_level.new.records in
     let level = c.in_ok-add_level.ensures in
-    let first : ℕ = length (g.K.Keeper.means records) - length (g.K.Keeper.plays records) in
-    let start : 0 ≡ first = omega (arith, level.level, first_of-zero) in
-    let before : Appends old mid (built_to version all-records bound first) =
-    subst (λ (n : ℕ). Appends old mid (built_to version all-records bound n)) start
-    (header-first version bound (bytes_of_rank version all-records) old mid
-    c.in_ok-write_header.ensures.all) in
     one-error c.from_residual-in_err-write_level.result Write (IsRefusedBy version bound old new)
     c.from_residual-in_err-write_level.ensures.1 (
       bound-most c.args.header,
-      part-written version all-records bound low old mid new first
-          (length (g.K.Keeper.plays records))
-          (omega (arith, level.made, level.level, count_to-rises 0 bound (omega arith))) before
+      level-part version all-records bound c.args.header.bounded old mid new 0 0
+          (length (g.K.Keeper.means records)) (length (g.K.Keeper.plays records)) (omega arith)
+          (omega (arith, level.level, first_of-zero)) level.made
+          (header-first version bound (bytes_of_rank version all-records) old mid
+          c.in_ok-write_header.ensures.all)
           c.in_err-write_level.ensures.part,
     )
 
@@ -103,26 +97,20 @@ loop-below-init g c =
     let old = g.W.Write.contents c.args.writer.now in
     let mid = g.W.Write.contents c.write_header.new.writer in
     let new = g.W.Write.contents c.write_level.new.writer in
-    let low = c.args.header.bounded in
     let records = c.add_level.new.records in
     let level = c.in_ok-add_level.ensures in
-    let first : ℕ = length (g.K.Keeper.means records) - length (g.K.Keeper.plays records) in
-    let start : 0 ≡ first = omega (arith, level.level, first_of-zero) in
-    let all : first + length (g.K.Keeper.plays records) ≡ length (g.K.Keeper.means records) =
-    omega (arith, level.level) in
-    let before : Appends old mid (built_to version all-records bound first) =
-    subst (λ (n : ℕ). Appends old mid (built_to version all-records bound n)) start
-    (header-first version bound (bytes_of_rank version all-records) old mid
-    c.in_ok-write_header.ensures.all) in
     record {
       kept = level.kept;
       known = rw (first_of-suc 0) level.known;
       made = level.made ∙ sym (first_of-suc 0);
       recent = level.recent;
-      written = subst (λ (n : ℕ). Appends old new (built_to version all-records bound n)) all
-          (more-written version bound (bytes_of_rank version all-records) old mid new first
-          (length (g.K.Keeper.plays records)) before
-          c.in_ok-write_level.ensures.all);
+      written =
+          level-written version all-records bound c.args.header.bounded old mid new 0
+          (length (g.K.Keeper.means records)) (length (g.K.Keeper.plays records))
+          (omega (arith, level.level, first_of-zero))
+          (header-first version bound (bytes_of_rank version all-records) old mid
+          c.in_ok-write_header.ensures.all)
+          c.in_ok-write_level.ensures.all;
     }
 
 pub add_level-requires-in-loop-below : goal.add_level-requires-in-loop-below
@@ -174,54 +162,40 @@ returns-in_err-write_level-2-clause-refused g c =
     let old = g.W.Write.contents c.args.writer.now in
     let mid = g.W.Write.contents c.loop-below.writer in
     let new = g.W.Write.contents c.write_level-in-loop-below.new.writer in
-    let below = c.loop-below.below in
     let is = c.loop-below.invariant in
-    let low = c.args.header.bounded in
     let records = c.add_level-in-loop-below.new.records in
     let level = c.in_ok-add_level-2.ensures in
-    let first : ℕ = length (g.K.Keeper.means records) - length (g.K.Keeper.plays records) in
-    let start : length (g.K.Keeper.means c.loop-below.records) ≡ first = omega
-    (arith, level.level, is.made) in
-    let before : Appends old mid (built_to version all-records bound first) =
-    subst (λ (n : ℕ). Appends old mid (built_to version all-records bound n)) start is.written in
     one-error c.from_residual-in_err-write_level-2.result Write (IsRefusedBy version bound old new)
     c.from_residual-in_err-write_level-2.ensures.1 (
       bound-most c.args.header,
-      part-written version all-records bound low old mid new first
-          (length (g.K.Keeper.plays records))
-          (omega (arith, level.made, level.level, count_to-rises (below + 1) bound (omega arith)))
-          before
+      level-part version all-records bound c.args.header.bounded old mid new
+          (c.loop-below.below + 1) (length (g.K.Keeper.means c.loop-below.records))
+          (length (g.K.Keeper.means records)) (length (g.K.Keeper.plays records)) (omega arith)
+          (omega (arith, level.level, is.made)) level.made is.written
           c.in_err-write_level-2.ensures.part,
     )
 
 pub loop-below-preserved : goal.loop-below-preserved
 loop-below-preserved g c =
     let version = version_by c.args.header.version in
-    let bound = c.args.header.bound in
     let old = g.W.Write.contents c.args.writer.now in
     let mid = g.W.Write.contents c.loop-below.writer in
     let new = g.W.Write.contents c.write_level-in-loop-below.new.writer in
     let below = c.loop-below.below in
     let is = c.loop-below.invariant in
-    let low = c.args.header.bounded in
     let records = c.add_level-in-loop-below.new.records in
     let level = c.in_ok-add_level-2.ensures in
-    let first : ℕ = length (g.K.Keeper.means records) - length (g.K.Keeper.plays records) in
-    let start : length (g.K.Keeper.means c.loop-below.records) ≡ first = omega
-    (arith, level.level, is.made) in
-    let all : first + length (g.K.Keeper.plays records) ≡ length (g.K.Keeper.means records) =
-    omega (arith, level.level) in
-    let before : Appends old mid (built_to version all-records bound first) =
-    subst (λ (n : ℕ). Appends old mid (built_to version all-records bound n)) start is.written in
     record {
       kept = level.kept;
       known = rw (first_of-one (below + 1)) level.known;
       made = level.made ∙ sym (first_of-one (below + 1));
       recent = level.recent;
-      written = subst (λ (n : ℕ). Appends old new (built_to version all-records bound n)) all
-          (more-written version bound (bytes_of_rank version all-records) old mid new first
-          (length (g.K.Keeper.plays records)) before
-          c.in_ok-write_level-2.ensures.all);
+      written =
+          level-written version all-records c.args.header.bound c.args.header.bounded old mid new
+          (length (g.K.Keeper.means c.loop-below.records))
+          (length (g.K.Keeper.means records)) (length (g.K.Keeper.plays records))
+          (omega (arith, level.level, is.made)) is.written
+          c.in_ok-write_level-2.ensures.all;
     }
 
 pub returns-clause-built : goal.returns-clause-built

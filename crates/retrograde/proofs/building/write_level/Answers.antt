@@ -1,9 +1,10 @@
-use Rattle.std.proofs.Common.{◌≡◌, ℕ, ◌+◌, ◌-◌, ◌<◌, List, length, subst, sym, ap, ◌∙◌, arith}
+use Rattle.std.proofs.Common.{◌≡◌, ℕ, ◌+◌, ◌-◌, ◌<◌, List, [], length, get_or, subst, sym, ap, ◌∙◌, arith}
 use Rattle.std.specs.Io.KnownBytes.{Appends}
 use Rattle.race_model.specs.Positions.{pips}
 use Rattle.race_model.specs.Ranks.{at_rank, first_of, count_to}
 use Rattle.race_model.specs.Versions.{version_by}
 use Rattle.race_model.proofs.Ranks.RankOrder.{count_to-rises}
+use Rattle.db_layout.specs.Records.{record_of}
 use Rattle.db_layout.specs.Writes.{AppendsPart}
 use Rattle.db_layout.proofs.Bounds.{bound-most}
 use Rattle.db_layout.proofs.Known.{on-error, appends_twice}
@@ -14,6 +15,8 @@ use Rattle.db_layout.proofs.WholeFiles.{records-apart, records-next}
 use Rattle.retrograde.proofs.Kept.{kept-bytes, kept-held}
 use Rattle.retrograde.proofs.Levels.{pips-at_rank}
 use Rattle.db_layout.proofs.Prefixes.{part-behind}
+use Rattle.retrograde.proofs.building.write_level.Given.{Over}
+use Rattle.retrograde.proofs.building.write_level.Goals.{After-write_record}
 use Rattle.retrograde.proofs.building.write_level.Goals as goal
 
 -- the ranks that are written are those of the pip count
@@ -50,8 +53,31 @@ pub loop-index-init : goal.loop-index-init
 unfolding records_from
 loop-index-init g c = Appends-nil (g.W.Write.contents c.args.writer.now)
 
+-- the bytes that are written of a record are those of its rank
+record_is : (g : Over) (c : After-write_record g) →
+    record_of (version_by c.args.header.now.version) c.args.pips c.unwrap-mean.result
+    (get_or (g.K.Keeper.plays c.args.records.now) c.loop-index.index []) c.spread_of.result.now
+    ≡ bytes_of_rank (version_by c.args.header.now.version) g.full
+    (length (g.K.Keeper.means c.args.records.now)
+    - length (g.K.Keeper.plays c.args.records.now) + c.loop-index.index)
+record_is g c =
+    let records = c.args.records.now in
+    let count : ℕ = length (g.K.Keeper.plays records) in
+    let lt : c.loop-index.index < count = omega (arith, ap length c.plays-unwritten.ensures) in
+    kept-bytes (version_by c.args.header.now.version) g.full (g.K.Keeper.means records)
+    (g.K.Keeper.spreads records) (g.K.Keeper.plays records) c.requires.1.1.1.0 c.args.pips
+    c.loop-index.index
+    (c.count.result - length c.plays-unwritten.result.now + c.loop-index.index)
+    c.unwrap-mean.result c.spread_of.result.now lt
+    (omega (arith, ap length c.plays-unwritten.ensures))
+    (level-pips c.args.pips (length (g.K.Keeper.means records)) count c.loop-index.index
+    c.requires.1.1.1.1.1.1 c.requires.1.1.1.1.1.0 lt)
+    (rw c.unwrap-mean.ensures at c.mean.ensures.value) c.spread_of.ensures
+
 pub returns-in_err-write_record-clause-part : goal.returns-in_err-write_record-clause-part
 returns-in_err-write_record-clause-part g c =
+    let bytes =
+    record_is g (goal.at.returns-in_err-write_record-clause-part g c).After-write_record in
     let version = version_by c.args.header.now.version in
     let records = c.args.records.now in
     let first : ℕ = length (g.K.Keeper.means records) - length (g.K.Keeper.plays records) in
@@ -61,16 +87,6 @@ returns-in_err-write_record-clause-part g c =
     let mid = g.W.Write.contents c.loop-index.writer in
     let new = g.W.Write.contents c.write_record.new.writer in
     let lt : index < count = omega (arith, ap length c.plays-unwritten.ensures) in
-    let place : c.count.result - length c.plays-unwritten.result.now + index ≡ first + index =
-    omega (arith, ap length c.plays-unwritten.ensures) in
-    let bytes = kept-bytes version g.full (g.K.Keeper.means records) (g.K.Keeper.spreads records)
-    (g.K.Keeper.plays records)
-    c.requires.1.1.1.0 c.args.pips index
-    (c.count.result - length c.plays-unwritten.result.now + index) c.unwrap-mean.result
-    c.spread_of.result.now lt place
-    (level-pips c.args.pips (length (g.K.Keeper.means records)) count index c.requires.1.1.1.1.1.1
-    c.requires.1.1.1.1.1.0 lt)
-    (rw c.unwrap-mean.ensures at c.mean.ensures.value) c.spread_of.ensures in
     let written = rw c.plays-unwritten.ensures at c.in_err-write_record.ensures.part in
     let part : AppendsPart mid new (bytes_of_rank version g.full (first + index)) =
     subst (λ (bs : List ℕ). AppendsPart mid new bs) bytes written in
@@ -85,6 +101,7 @@ returns-in_err-write_record-clause-part g c =
 
 pub loop-index-preserved : goal.loop-index-preserved
 loop-index-preserved g c =
+    let bytes = record_is g (goal.at.loop-index-preserved g c).After-write_record in
     let version = version_by c.args.header.now.version in
     let records = c.args.records.now in
     let first : ℕ = length (g.K.Keeper.means records) - length (g.K.Keeper.plays records) in
@@ -92,18 +109,6 @@ loop-index-preserved g c =
     let old = g.W.Write.contents c.args.writer.now in
     let mid = g.W.Write.contents c.loop-index.writer in
     let new = g.W.Write.contents c.write_record.new.writer in
-    let count : ℕ = length (g.K.Keeper.plays records) in
-    let lt : index < count = omega (arith, ap length c.plays-unwritten.ensures) in
-    let place : c.count.result - length c.plays-unwritten.result.now + index ≡ first + index =
-    omega (arith, ap length c.plays-unwritten.ensures) in
-    let bytes = kept-bytes version g.full (g.K.Keeper.means records) (g.K.Keeper.spreads records)
-    (g.K.Keeper.plays records)
-    c.requires.1.1.1.0 c.args.pips index
-    (c.count.result - length c.plays-unwritten.result.now + index) c.unwrap-mean.result
-    c.spread_of.result.now lt place
-    (level-pips c.args.pips (length (g.K.Keeper.means records)) count index c.requires.1.1.1.1.1.1
-    c.requires.1.1.1.1.1.0 lt)
-    (rw c.unwrap-mean.ensures at c.mean.ensures.value) c.spread_of.ensures in
     let written = rw c.plays-unwritten.ensures at c.in_ok-write_record.ensures.all in
     subst (λ (bs : List ℕ). Appends old new bs)
     (sym (records-next (bytes_of_rank version g.full) first index))

@@ -1,8 +1,12 @@
-use Rattle.std.proofs.Common.{◌+◌, ◌*◌, ◌%◌, sym, ap, ◌∙◌, arith}
+use Rattle.std.proofs.Common.{◌≡◌, ◌↔◌, Bool, true, false, ◌+◌, ◌*◌, ◌%◌, sym, ap, ◌∙◌, arith}
 use Rattle.race_model.specs.Positions.{IsFinished}
 use Rattle.race_model.specs.LocalEquations.{whole}
 use Rattle.retrograde.proofs.Unique.{record-at_end, plays-held, plays-recent, mean-exact, shares-exact, no-last, record-before}
 use Rattle.retrograde.proofs.pulling.next_record.Goals as goal
+
+-- what a test that answers no is about doesn't hold
+denied : {answer : Bool} {P : Type 0} → (answer ≡ true) ↔ P → answer ≡ false → ¬ P
+denied is refused = λ holds. let yes = is.1 holds in cc
 
 pub returns-then-is_finished : goal.returns-then-is_finished
 returns-then-is_finished g c =
@@ -31,10 +35,7 @@ best_plays-plays-requires g c = λ κs within. (
 pub sums_of-sums-requires : goal.sums_of-sums-requires
 sums_of-sums-requires g c =
     let x = c.args.position.now in
-    let unfinished : ¬ IsFinished x =
-    λ none.
-    let yes = c.is_finished.ensures.value.1 none in
-    let not = c.if-is_finished.false in cc in
+    let unfinished = denied c.is_finished.ensures.value c.if-is_finished.false in
     let agree = c.requires.1.1.1.0.means_are in
     let next = c.requires.1.1.1.1.0 in
     let recent = c.requires.1.1.1.1.1.0 in
@@ -62,10 +63,7 @@ sums_of-sums-requires g c =
 pub unwrap-mean-requires : goal.unwrap-mean-requires
 unwrap-mean-requires g c =
     let x = c.args.position.now in
-    let unfinished : ¬ IsFinished x =
-    λ none.
-    let yes = c.is_finished.ensures.value.1 none in
-    let not = c.if-is_finished.false in cc in
+    let unfinished = denied c.is_finished.ensures.value c.if-is_finished.false in
     let best = c.best_plays-plays.ensures in
     let exact = mean-exact g.full x c.requires.1.0 c.requires.1.1.0 unfinished
     (g.K.Keeper.means c.args.records.now)
@@ -80,10 +78,7 @@ unwrap-mean-requires g c =
 pub unwrap-spread-requires : goal.unwrap-spread-requires
 unwrap-spread-requires g c =
     let x = c.args.position.now in
-    let unfinished : ¬ IsFinished x =
-    λ none.
-    let yes = c.is_finished.ensures.value.1 none in
-    let not = c.if-is_finished.false in cc in
+    let unfinished = denied c.is_finished.ensures.value c.if-is_finished.false in
     let best = c.best_plays-plays.ensures in
     let sums = c.sums_of-sums.ensures.shares in
     let last = no-last g.full x c.requires.1.0 c.requires.1.1.0 unfinished
@@ -100,10 +95,7 @@ unwrap-spread-requires g c =
 pub returns : goal.returns
 returns g c =
     let x = c.args.position.now in
-    let unfinished : ¬ IsFinished x =
-    λ none.
-    let yes = c.is_finished.ensures.value.1 none in
-    let not = c.if-is_finished.false in cc in
+    let unfinished = denied c.is_finished.ensures.value c.if-is_finished.false in
     let best = c.best_plays-plays.ensures in
     let sums = c.sums_of-sums.ensures in
     let mean =
