@@ -17,8 +17,6 @@ pub struct Ranks {
 
 impl Ranks {
     /// The table, counted anew. It takes no memory but its own.
-    // so that it is counted where it is to stand, and not copied there
-    #[inline(never)]
     pub fn new() -> Self {
         Ranks {
             table: RankTable::new(),
