@@ -1,5 +1,5 @@
 -- The upgrade of an accepted file: its records hold what those of the file hold.
-use Rattle.std.proofs.Common.{◌≡◌, ⊎_elim, ℕ, zero, suc, ◌+◌, ◌*◌, ◌^◌, ◌<◌, ◌≤◌, List, Option, length, get_or, sum, refl, sym, ap, subst, ◌∙◌, arith, le_trans, cond, leb}
+use Rattle.std.proofs.Common.{◌≡◌, ⊎_elim, ℕ, zero, suc, ◌*◌, ◌^◌, ◌<◌, ◌≤◌, List, Option, length, get_or, sum, refl, sym, ap, subst, ◌∙◌, arith, le_trans, cond, leb}
 use Rattle.std.specs.Prelude.{slice_index}
 use Rattle.std.specs.List.{range_with_len}
 use Rattle.std.proofs.lemmas.List.{length-map, get_or_past}

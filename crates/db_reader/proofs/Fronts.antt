@@ -1,5 +1,5 @@
 -- The first 32 bytes of a file, or all where there are fewer.
-use Rattle.std.proofs.Common.{◌≡◌, ⊎_elim, ℕ, zero, suc, ◌+◌, ◌-◌, ◌*◌, ◌<◌, min, List, ◌++◌, take, length, length-take, length-append, replicate, get_or, subst, Result, Ok, Err, IfOk, OnOk, sym, ap, ap₂, ◌∙◌, arith}
+use Rattle.std.proofs.Common.{◌≡◌, ⊎_elim, ℕ, zero, suc, ◌-◌, ◌<◌, min, List, ◌++◌, take, length, length-take, length-append, replicate, get_or, subst, sym, ap, ap₂, ◌∙◌, arith}
 use Rattle.std.proofs.lemmas.Bool.{cases_lt}
 use Rattle.std.proofs.lemmas.List.{take_all, length-replicate}
 use Rattle.std.proofs.Math.Seq.{take-append_seam}
@@ -9,7 +9,6 @@ use Rattle.race_model.specs.Files.{IsFile, version_of, bound_of, record_place, h
 use Rattle.race_model.specs.Headers.{IsHeader, long_enough}
 use Rattle.db_layout.proofs.Bytes.{small_append}
 use Rattle.race_model.proofs.FirstFaults.HeaderFacts.{file_of_header, bound_of-front, version_of-front}
-use Rattle.db_layout.specs.declared.header.Header.{Header}
 
 -- taking 32 bytes, or as many as there are
 pub take-within : (f : List ℕ) (n k : ℕ) → k ≡ min (length f) n → take k f ≡ take n f

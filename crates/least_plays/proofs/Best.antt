@@ -1,14 +1,13 @@
 -- The best of what dice lead to, from the best of what they lead to after a step.
-use Rattle.std.proofs.Common.{◌≡◌, ◌⊎◌, inl, inr, ⊎_elim, ◌↔◌, ℕ, zero, suc, ◌+◌, ◌-◌, ◌<◌, ◌≤◌, List, [], ◌∷◌, length, replicate, refl, sym, ap, subst, ◌∙◌, arith}
+use Rattle.std.proofs.Common.{◌≡◌, inr, ⊎_elim, ◌↔◌, ℕ, zero, suc, ◌+◌, ◌<◌, ◌≤◌, List, ◌∷◌, length, replicate, refl, ap, subst, ◌∙◌, arith}
 use Rattle.std.specs.Prelude.{slice_index}
-use Rattle.race_model.specs.Positions.{Board, IsPosition, IsFinished, pips}
+use Rattle.race_model.specs.Positions.{Board, IsFinished, pips}
 use Rattle.race_model.specs.Dice.{Die}
 use Rattle.race_model.specs.Plays.{Step, Run}
 use Rattle.race_model.specs.Ranks.{rank}
 use Rattle.race_model.specs.BestPlays.{IsBestOf}
 use Rattle.race_model.proofs.Plays.Steps.{to_position, fewer_pips}
 use Rattle.race_model.proofs.Plays.Spent.{step_takes}
-use Rattle.race_model.proofs.Plays.Results.{run_stays}
 use Rattle.race_model.proofs.Ranks.RankOrder.{rank-fewer, rank_bound}
 use Rattle.race_model.proofs.Ranks.BestPlays.{run_lower}
 use Rattle.least_plays.specs.Choices.{IsNoWorse, IsLeastOf}

@@ -1,12 +1,12 @@
 -- The best play of a roll, from the best after its dice in either order.
-use Rattle.std.proofs.Common.{◌≡◌, ◌≢◌, ◌⊎◌, inl, inr, ⊎_elim, ◌↔◌, ℕ, ◌-◌, ◌<◌, ◌≤◌, [], ◌∷◌, replicate, sym, ap, subst, ◌∙◌, arith}
+use Rattle.std.proofs.Common.{◌≡◌, ◌≢◌, ◌⊎◌, inl, inr, ⊎_elim, ◌↔◌, ℕ, ◌-◌, ◌<◌, [], ◌∷◌, replicate, sym, ap, subst, ◌∙◌, arith}
 use Rattle.std.specs.Prelude.{slice_index, slice_index_or}
 use Rattle.std.proofs.lemmas.Bool.{eq-eqb, ne_eqb}
 use Rattle.race_model.specs.Positions.{Board}
 use Rattle.race_model.specs.Dice.{Die, Throw, number}
 use Rattle.race_model.specs.Plays.{Run, Legal}
 use Rattle.race_model.specs.Ranks.{rank}
-use Rattle.race_model.specs.BestPlays.{IsBestOf, IsBestPlay}
+use Rattle.race_model.specs.BestPlays.{IsBestPlay}
 use Rattle.race_model.proofs.Dice.Faces.{same_number, number_positive}
 use Rattle.race_model.proofs.Ranks.BestPlays.{run_lower}
 use Rattle.legal_plays.proofs.LegalLemmas.{legal_double, legal_apart}

@@ -1,5 +1,5 @@
 -- The file of the records that were made is the built file.
-use Rattle.std.proofs.Common.{◌≡◌, ℕ, zero, suc, ◌+◌, ◌*◌, ◌<◌, ◌≤◌, List, [], length, take, sym, ap, subst, ◌∙◌, arith, le_trans}
+use Rattle.std.proofs.Common.{◌≡◌, ℕ, zero, suc, ◌+◌, ◌*◌, ◌<◌, ◌≤◌, List, [], sym, ap, subst, ◌∙◌, arith, le_trans}
 use Rattle.std.specs.Prelude.{slice_index, slice_index_or}
 use Rattle.race_model.specs.Positions.{Board, IsPosition, pips}
 use Rattle.race_model.specs.Dice.{Throw, IsRoll, all_rolls, roll_at, roll_index, weight}

@@ -1,8 +1,8 @@
 -- No share of a record is lost in a file of either version: those that a compact record leaves out
 -- are known, since the record is that of a strategy.
-use Rattle.std.proofs.Common.{◌≡◌, ⊎_elim, ℕ, zero, suc, ◌≤◌, Bool, true, false, cond, leb, List, refl, ap, sym, ◌∙◌, arith, eq-eqb, ne_eqb, leb-false}
+use Rattle.std.proofs.Common.{◌≡◌, ⊎_elim, ℕ, zero, suc, ◌≤◌, Bool, true, false, cond, leb, List, refl, ap, sym, ◌∙◌, eq-eqb, ne_eqb, leb-false}
 use Rattle.std.specs.Prelude.{slice_index}
-use Rattle.race_model.specs.Positions.{Board, IsPosition, IsFinished, pips}
+use Rattle.race_model.specs.Positions.{Board, IsPosition, pips}
 use Rattle.race_model.specs.Versions.{Version, full, compact}
 use Rattle.race_model.specs.Horizon.{most_rolls}
 use Rattle.race_model.specs.LocalEquations.{whole}

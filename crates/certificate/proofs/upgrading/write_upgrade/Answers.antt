@@ -1,18 +1,15 @@
-use Rattle.std.proofs.Common.{◌≡◌, ℕ, ◌+◌, ◌≤◌, List, Option, refl, sym, ap, subst, ◌∙◌, arith}
-use Rattle.std.specs.Prelude.{Some}
+use Rattle.std.proofs.Common.{◌≡◌, ℕ, List, refl, sym, ap, subst, ◌∙◌, arith}
 use Rattle.std.specs.Io.KnownBytes.{Appends}
 use Rattle.race_model.specs.Ranks.{count_to}
-use Rattle.race_model.specs.Versions.{Version, compact, version_by}
+use Rattle.race_model.specs.Versions.{compact, version_by}
 use Rattle.race_model.specs.Files.{header, bound_of}
 use Rattle.db_layout.specs.Writes.{AppendsPart}
-use Rattle.db_layout.specs.WholeFiles.{records_from}
-use Rattle.db_layout.specs.declared.header.Header.{Header}
 use Rattle.db_layout.proofs.Known.{one-error}
 use Rattle.db_layout.proofs.Prefixes.{header-first, header-part, more-part, more-written}
 use Rattle.db_layout.proofs.WholeFiles.{records-one}
 use Rattle.certificate.specs.Upgrades.{compact_record, IsRefusedBy}
 use Rattle.certificate.specs.declared.upgrade_fault.UpgradeFault.TheVariants.{Write}
-use Rattle.certificate.proofs.Upgrades.{upgraded_to, part-written, all-written, refused-later}
+use Rattle.certificate.proofs.Upgrades.{part-written, all-written, refused-later}
 use Rattle.certificate.proofs.upgrading.write_upgrade.Goals as goal
 
 -- the header that is written, by what it states

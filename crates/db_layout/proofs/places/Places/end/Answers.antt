@@ -1,5 +1,4 @@
 use Rattle.std.proofs.Common.{ap, ◌∙◌, ◌+◌, slice_index, sym, arith}
-use Rattle.race_model.specs.Ranks.{count_to}
 use Rattle.race_model.specs.Versions.{version_by}
 use Rattle.race_model.specs.Files.{record_place}
 use Rattle.db_layout.specs.declared.header.Header.{Header}

@@ -1,6 +1,5 @@
-use Rattle.std.proofs.Common.{◌≡◌, ℕ, suc, ◌+◌, ◌-◌, ◌*◌, ◌<◌, ◌≤◌, ap, ap₂, sym, ◌∙◌, slice_index, arith}
-use Rattle.race_model.specs.Ranks.{first_of}
-use Rattle.race_model.specs.Versions.{Version, version_by, record_length}
+use Rattle.std.proofs.Common.{◌≡◌, ℕ, suc, ◌+◌, ◌-◌, ◌<◌, ap, ap₂, sym, ◌∙◌, slice_index, arith}
+use Rattle.race_model.specs.Versions.{version_by, record_length}
 use Rattle.race_model.specs.Files.{record_place}
 use Rattle.race_model.proofs.RightFiles.Places.{record_place-rises}
 use Rattle.db_layout.specs.declared.header.Header.{Header}

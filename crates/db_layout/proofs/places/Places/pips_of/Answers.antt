@@ -1,4 +1,4 @@
-use Rattle.std.proofs.Common.{ℕ, nat_le, rules, arith}
+use Rattle.std.proofs.Common.{nat_le, rules, arith}
 use Rattle.std.specs.List.Sorted.{IsNonDecreasingBy}
 use Rattle.std.proofs.lemmas.List.Sorted.{IsPartitionPoint-from_clause, IsPartitionedBy-leb}
 use Rattle.ranking.proofs.Counting.{IsPipsOf, pips_found, starts_rise}

@@ -1,8 +1,6 @@
-use Rattle.std.proofs.Common.{◌≡◌, ℕ, List, Some, Contains, sym, ap, subst, ◌∙◌}
+use Rattle.std.proofs.Common.{Contains, sym, ap, subst, ◌∙◌}
 use Rattle.std.specs.Option.{option_copied}
-use Rattle.race_model.specs.Files.{record_at}
-use Rattle.db_layout.specs.declared.header.Header.{Header}
-use Rattle.db_reader.proofs.Pages.{looked_up, found, after_put, succeeded}
+use Rattle.db_reader.proofs.Pages.{looked_up, found, after_put}
 use Rattle.db_reader.proofs.paged.PagedTable.load.Goals as goal
 
 pub invariant_of-self : goal.invariant_of-self

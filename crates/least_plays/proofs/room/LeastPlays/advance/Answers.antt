@@ -1,7 +1,7 @@
 -- The position's row is written, and its best plays are those of its starts.
-use Rattle.std.proofs.Common.{◌≡◌, ℕ, ◌-◌, ◌%◌, ◌<◌, ◌∷◌, [], true, false, length, replicate, slice_index, slice_index_or, sym, ap, subst, ◌∙◌, arith, rules}
-use Rattle.race_model.specs.Positions.{Board, IsPosition, IsFinished}
-use Rattle.race_model.specs.Dice.{Die, number, roll_at}
+use Rattle.std.proofs.Common.{◌-◌, ◌%◌, ◌∷◌, [], replicate, slice_index, slice_index_or, sym, ap, subst, ◌∙◌, arith}
+use Rattle.race_model.specs.Positions.{IsFinished}
+use Rattle.race_model.specs.Dice.{number, roll_at}
 use Rattle.race_model.specs.BestPlays.{IsBestPlay}
 use Rattle.race_model.proofs.Dice.Faces.{number_positive}
 use Rattle.race_model.proofs.Plays.Spent.{number_most}

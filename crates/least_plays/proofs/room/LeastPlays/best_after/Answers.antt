@@ -1,5 +1,5 @@
 -- The best of what is kept of the steps is the best after the die and the rest.
-use Rattle.std.proofs.Common.{◌≡◌, ℕ, ◌<◌, List, length, replicate, sym, ap, subst, ◌∙◌, arith}
+use Rattle.std.proofs.Common.{length, replicate, sym, ap, subst, arith}
 use Rattle.least_plays.specs.Known.{number_in}
 use Rattle.least_plays.specs.Steps.{AreSteps}
 use Rattle.race_model.proofs.Plays.Steps.{playable}

@@ -1,5 +1,5 @@
 -- One rank more.
-use Rattle.std.proofs.Common.{◌≡◌, ⊎_elim, ℕ, ◌<◌, slice_index, sym, ap, ◌∙◌, arith, below_more}
+use Rattle.std.proofs.Common.{⊎_elim, ℕ, slice_index, sym, ap, ◌∙◌, arith, below_more}
 use Rattle.least_plays.specs.Choices.{IsNoWorse}
 use Rattle.least_plays.specs.Known.{number_in}
 use Rattle.least_plays.proofs.Best.{no_worse_on}

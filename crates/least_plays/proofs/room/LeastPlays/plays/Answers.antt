@@ -1,5 +1,5 @@
 -- One die more.
-use Rattle.std.proofs.Common.{◌≡◌, ℕ, ◌+◌, ◌-◌, ◌∷◌, replicate, length-set, sym, ap, subst, ◌∙◌, arith, rules}
+use Rattle.std.proofs.Common.{◌≡◌, ◌+◌, ◌-◌, ◌∷◌, replicate, length-set, sym, subst, ◌∙◌, arith}
 use Rattle.race_model.specs.Dice.{Die, number}
 use Rattle.race_model.proofs.Dice.Faces.{same_number, number_positive}
 use Rattle.race_model.proofs.Plays.Spent.{number_most}

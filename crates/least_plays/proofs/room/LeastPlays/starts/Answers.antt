@@ -1,12 +1,11 @@
 -- One die more.
-use Rattle.std.proofs.Common.{◌≡◌, ℕ, ◌+◌, ◌-◌, ◌<◌, ◌∷◌, List, length, replicate, slice_index, length-set, sym, ap, subst, ◌∙◌, arith}
+use Rattle.std.proofs.Common.{◌≡◌, ℕ, ◌+◌, ◌-◌, ◌<◌, ◌∷◌, List, replicate, slice_index, length-set, sym, subst, ◌∙◌, arith}
 use Rattle.race_model.specs.Positions.{Board}
 use Rattle.race_model.specs.Dice.{Die, number}
 use Rattle.race_model.proofs.Dice.Faces.{same_number, number_positive}
 use Rattle.race_model.proofs.Plays.Spent.{number_most}
 use Rattle.race_model.proofs.Numbers.Members.{set_next}
 use Rattle.least_plays.specs.Known.{dice_left, IsBestAfter, IsStart}
-use Rattle.least_plays.specs.Steps.{AreSteps}
 use Rattle.least_plays.specs.declared.starts.Start.{Start}
 use Rattle.least_plays.proofs.room.LeastPlays.starts.Goals as goal
 

@@ -1,5 +1,5 @@
 -- The places of the two dice, and the better of their two orders.
-use Rattle.std.proofs.Common.{◌≡◌, ◌-◌, ◌⊎◌, inl, inr, ⊎_elim, ap, sym, ◌∙◌, [], arith}
+use Rattle.std.proofs.Common.{◌-◌, inl, inr, ⊎_elim, ap, sym, ◌∙◌, [], arith}
 use Rattle.race_model.specs.Dice.{number}
 use Rattle.least_plays.specs.declared.starts.Start.{Start}
 use Rattle.least_plays.proofs.Rolls.{play_held, double_best, apart_best}

@@ -1,5 +1,5 @@
 -- The steps from one point after another, up to the highest.
-use Rattle.std.proofs.Common.{◌+◌, ◌++◌, ◌∷◌, [], ap, arith, length-append}
+use Rattle.std.proofs.Common.{◌+◌, ap, arith}
 use Rattle.least_plays.proofs.StepRanks.{steps_none, steps_same, steps_more, steps_all}
 use Rattle.least_plays.proofs.steps.Steps.of.Goals as goal
 use Rattle.least_plays.proofs.steps.Steps.of.Goals.{in-Some, in_default}
