@@ -118,13 +118,13 @@ function compare(engine, bound) {
 // A built file is byte for byte the program's, and answers as it does.
 async function compareBuilt(bound, name) {
     const told = [];
-    const desk = new Desk(module, (part) => told.push(part));
+    const desk = new Desk(module, ({ from, until }) => told.push(`${from} to ${until}`));
     await desk.build(bound);
     const builder = await Engine.start(module);
     const file = builder.build(bound);
     Buffer.compare(Buffer.from(file), readFileSync(join(folder, name))) === 0 || wrong(`the file of ${bound} pips is another`);
     equal(`the bound of ${bound} pips`, desk.engine.bound, bound);
-    equal("the bar", told.join(), "0.05,0.5,1");
+    equal("the steps of the bar", told.join(), "0.1 to 0.55,0.55 to 1");
     compare(desk.engine, bound);
     return file;
 }
