@@ -1,14 +1,14 @@
 //! The whole program, over the files of a system, a reader and two writers.
-use crate::fault::{Fault, write_fault};
 use crate::files::{build_file, flush, read_file, upgrade_file};
-use crate::words::{Request, read_words};
 use arrayvec::ArrayString;
 use certificate::{CheckFault, Checked, check};
 use clap::Error;
 use clap::error::ErrorKind;
+use command_line::{Request, read_words};
 use db_layout::{COMPACT_VERSION, write_bytes};
 use db_reader::{FileSource, Paged, Table, Whole};
 use epc_query::{audit_level, run, write_level};
+use exit_status::{Fault, write_fault};
 use home_board::MAX_BOUND;
 use itoa::Buffer;
 use ranking::Ranks;

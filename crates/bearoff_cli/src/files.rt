@@ -1,7 +1,7 @@
 //! Files, read and written by blocks.
-use crate::fault::Fault;
 use certificate::Checked;
 use db_reader::Table;
+use exit_status::Fault;
 use retrograde::build;
 use std::alloc::Global;
 use std::fs;

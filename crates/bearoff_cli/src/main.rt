@@ -4,14 +4,12 @@
 #![tactic(auto)]
 
 use act::act;
-use fault::{Fault, write_fault};
+use exit_status::{Fault, write_fault};
 use std::process::ExitCode;
 use std::{env, io};
 
 pub mod act;
-pub mod fault;
 pub mod files;
-pub mod words;
 
 fn main(rt: HostRuntime) -> ExitCode {
     let words = match words_of(&rt) {
@@ -47,8 +45,4 @@ fn words_of(rt: &(impl env::Env + AllocGlobal)) -> Result<Vec<String>, Fault> {
 }
 
 #[cfg(test)]
-mod page_tests;
-#[cfg(test)]
 mod tests;
-#[cfg(test)]
-mod upgrade_tests;

@@ -2,6 +2,7 @@
 //! temporary ones. The values are from outside: the worked rows, and counts of an independent
 //! program.
 use crate::act::act;
+use retrograde::build_compact;
 use std::env::Env;
 use std::io::{Read, Write};
 use std::process::Abort;
@@ -34,7 +35,7 @@ fn outcome_of(
 }
 
 /// Asserts the status, the whole output, and the whole of what was written to standard error.
-pub fn assert_outcome(
+fn assert_outcome(
     rt: &(impl Abort + AllocGlobal + Files),
     words: &[&str],
     input: &str,
@@ -48,14 +49,14 @@ pub fn assert_outcome(
 }
 
 /// A file of a test's own in the folder for temporary ones.
-pub fn path_of(rt: &(impl Env + AllocGlobal), name: &str) -> Result<String, Fail> {
+fn path_of(rt: &(impl Env + AllocGlobal), name: &str) -> Result<String, Fail> {
     let folder = env::temp_dir(rt)?;
     let folder = folder.as_str();
     Ok(format!(in rt.alloc(); "{folder}/garombyi-test-{name}.db")?)
 }
 
 /// The database of a bound, built by the program into a file.
-pub fn build(
+fn build(
     rt: &(impl Abort + AllocGlobal + Files),
     bound: &str,
     path: &str,
@@ -80,7 +81,7 @@ fn assert_refused(
 }
 
 /// Writes these bytes into a file's, as far as they reach.
-pub fn put(file: &mut [u8], place: usize, bytes: &[u8]) {
+fn put(file: &mut [u8], place: usize, bytes: &[u8]) {
     for (byte, new) in file.iter_mut().skip(place).zip(bytes) {
         *byte = *new;
     }
@@ -297,9 +298,93 @@ fn audits(rt: HostRuntime) -> Result<(), Fail> {
     Ok(())
 }
 
+#[test]
+fn upgrades(rt: HostRuntime) -> Result<(), Fail> {
+    let old = path_of(&rt, "old")?;
+    let new = path_of(&rt, "new")?;
+    let words = ["upgrade", old.as_str(), new.as_str()];
+    build(&rt, "8", old.as_str())?;
+    let upgraded = (0, "upgraded pips 8 positions 64\n", "");
+    assert_outcome(&rt, &words, "", upgraded);
+    let file = fs::read(&rt, new.as_str())?;
+    let mut compact = Vec::new(rt.alloc());
+    build_compact(rt.alloc(), 8, &mut compact)?;
+    assert_eq!(rt; file.len(), 7696);
+    assert!(rt; file.as_slice() == compact.as_slice());
+    assert_outcome(
+        &rt,
+        &["query", new.as_str()],
+        THREE_LINES,
+        (0, THREE_REPLIES, ""),
+    );
+
+    // a new file is left alone, and so is what stands where it would be written
+    let again = ["upgrade", new.as_str(), old.as_str()];
+    assert_outcome(&rt, &again, "", (3, "", "bearoff: not-old\n"));
+    assert_eq!(rt; fs::read(&rt, old.as_str())?.len(), 27296);
+    assert!(rt; fs::read(&rt, new.as_str())?.as_slice() == compact.as_slice());
+
+    // one path for both
+    let same = ["upgrade", old.as_str(), old.as_str()];
+    assert_outcome(&rt, &same, "", upgraded);
+    assert!(rt; fs::read(&rt, old.as_str())?.as_slice() == compact.as_slice());
+    fs::remove_file(&rt, old.as_str())?;
+    fs::remove_file(&rt, new.as_str())?;
+    Ok(())
+}
+
+#[test]
+fn a_tied_play_is_kept(rt: HostRuntime) -> Result<(), Fail> {
+    let path = path_of(&rt, "tied-old")?;
+    let path = path.as_str();
+    let line = "play 0,1,0,1,0,0 21\n";
+    let mut file = build(&rt, "6", path)?;
+    put(&mut file, 32 + 426 * 21 + 18, &5u16.to_be_bytes());
+    fs::write(&rt, path, file.as_slice())?;
+    let done = (0, "upgraded pips 6 positions 30\n", "");
+    assert_outcome(&rt, &["upgrade", path, path], "", done);
+    assert_eq!(rt; fs::read(&rt, path)?.len(), 3228);
+    assert_outcome(
+        &rt,
+        &["check", path],
+        "",
+        (0, "ok pips 6 positions 30\n", ""),
+    );
+    let play = (0, "play 4/2 2/1 to 1,1,0,0,0,0\n", "");
+    assert_outcome(&rt, &["query", path], line, play);
+    assert_outcome(&rt, &["query", "--cache", "1", path], line, play);
+    fs::remove_file(&rt, path)?;
+    Ok(())
+}
+
+#[test]
+fn upgrades_that_are_refused(rt: HostRuntime) -> Result<(), Fail> {
+    let old = path_of(&rt, "bad-old")?;
+    let new = path_of(&rt, "bad-new")?;
+    let words = ["upgrade", old.as_str(), new.as_str()];
+    let unopened = (1, "", "bearoff: open\n");
+    assert_outcome(&rt, &words, "", unopened);
+    let mut damaged = build(&rt, "1", old.as_str())?;
+    assert_outcome(&rt, &["upgrade", old.as_str(), "/"], "", unopened);
+    put(&mut damaged, 473, &[1]);
+    fs::write(&rt, old.as_str(), damaged.as_slice())?;
+    let refused = (3, "", "bearoff: refused mean rank 1\n");
+    assert_outcome(&rt, &words, "", refused);
+
+    // a new file that is damaged is refused as damaged
+    let mut compact = Vec::new(rt.alloc());
+    build_compact(rt.alloc(), 1, &mut compact)?;
+    put(&mut compact, 90 + 15, &[1]);
+    fs::write(&rt, old.as_str(), compact.as_slice())?;
+    assert_outcome(&rt, &words, "", refused);
+    assert!(rt; fs::read(&rt, new.as_str()).is_err());
+    fs::remove_file(&rt, old.as_str())?;
+    Ok(())
+}
+
 /// A reader that fails, and a writer that does.
 #[derive(Drop)]
-pub struct Broken;
+struct Broken;
 
 impl Read for Broken {
     fn read(&mut self, _buf: &mut [u8]) -> io::Result<usize> {

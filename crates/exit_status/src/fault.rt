@@ -1,7 +1,7 @@
 //! Why the program ends with another status than 0, and the one line that it then writes to
 //! standard error.
-ghost use Rattle.std.specs.Prelude.{◌≡◌, ◌≤◌};
-ghost use Rattle.certificate.specs.declared.check_fault.CheckFault.{CheckFault as Refusal};
+ghost use Rattle.std.specs.Prelude.{◌≡◌};
+ghost use Rattle.exit_status.specs.Statuses.{status_of};
 
 use arrayvec::ArrayString;
 use certificate::{CheckFault, UpgradeFault, fault_line};
@@ -56,10 +56,7 @@ impl Fault {
     /// The exit status: 1 for what failed outside the database, 2 for a bound that is too large,
     /// 3 for a database that was refused, or that is no old one.
     pub fn status(&self) -> u8
-        ensures over_bound { self.now ≡ Fault.OverBound → result ≡ 2 }
-        ensures refused { (refusal : Refusal) → self.now ≡ Fault.Refused refusal → result ≡ 3 }
-        ensures not_old { self.now ≡ Fault.NotOld → result ≡ 3 }
-        ensures known { 1 ≤ result }
+        ensures { result ≡ status_of self.now }
     {
         match self {
             Fault::OverBound => 2,
