@@ -20,7 +20,5 @@ pub mod record;
 pub mod slice_source;
 pub mod source;
 pub mod table;
-#[cfg(test)]
-mod tests;
 pub mod trial;
 pub mod whole;

@@ -35,8 +35,3 @@ pub use text::{
     Text, put_choice, put_dist, put_loss, put_mean, put_moves, put_play, put_rank, put_refusal,
 };
 pub use writing::{write_level, write_reply};
-
-#[cfg(test)]
-mod tests;
-#[cfg(test)]
-mod write_tests;

@@ -233,31 +233,3 @@ pub(crate) fn put_level(text: &mut Text, level: &Level)
     text.push_str(" greatest ");
     push_fraction(text, level.greatest);
 }
-
-#[cfg(test)]
-mod tests {
-    use super::*;
-
-    #[test]
-    fn numbers_of_one_and_two_parts(rt: HostRuntime) {
-        for (number, expected) in [
-            (0, "0"),
-            (999999999999999999, "999999999999999999"),
-            (1000000000000000000, "1000000000000000000"),
-            (1000000000000000001, "1000000000000000001"),
-            (
-                17324272922341479351919144385642496,
-                "17324272922341479351919144385642496",
-            ),
-            (
-                700000000000000000000000000000000007,
-                "700000000000000000000000000000000007",
-            ),
-            (u128::MAX, "340282366920938463463374607431768211455"),
-        ] {
-            let mut text = Text::new();
-            push_number(&mut text, number);
-            assert_eq!(rt; text.as_str(), expected);
-        }
-    }
-}

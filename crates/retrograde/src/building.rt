@@ -124,10 +124,31 @@ fn build_lent<W: Write>(header: Header, writer: &mut W) -> Result<(), BuildFault
     let mut means = [Scaled::ZERO; POSITIONS];
     let mut spreads = [Spread::finished(); POSITIONS];
     let mut plays = [[0; 21]; POSITIONS_OF_A_LEVEL];
+    build_in_rooms(header, &mut means, &mut spreads, &mut plays, writer)
+}
+
+/// Writes the database of the version and the bound of a header, and takes no memory but rooms
+/// that are lent to it: for each position one for its mean and one for its shares, and for each
+/// position of one pip count one for its plays. `Memory` where these are too few, and `Write`
+/// where a `write` failed or took no byte: a prefix of the database was written.
+pub fn build_in_rooms<W: Write>(
+    header: Header,
+    means: &mut [Scaled],
+    spreads: &mut [Spread],
+    plays: &mut [[u16; 21]],
+    writer: &mut W,
+) -> Result<(), BuildFault>
+    ensures built { OnOk result
+        (WritesBuilt (version_by header.version) header.bound (W.contents writer.old)
+        (W.contents writer.new)) }
+    ensures refused { IfErr result
+        (IsRefusedBy (version_by header.version) header.bound (W.contents writer.old)
+        (W.contents writer.new)) }
+{
     let mut records = LentRecords {
-        means: &mut means,
-        spreads: &mut spreads,
-        plays: &mut plays,
+        means,
+        spreads,
+        plays,
         made: 0,
         unwritten: 0,
     };
@@ -237,272 +258,4 @@ fn write_level<K: Keeper, W: Write>(
         write_record(header, pips, mean, plays, spread_of(records, rank), writer)?;
     }
     Ok(())
-}
-
-// The bytes and the means are those of an independent count with exact numbers.
-#[cfg(test)]
-mod tests {
-    use super::*;
-    use db_layout::trial::{Refusal, RefuseAt};
-    use db_layout::{Places, RecordView};
-    use fixed_fraction::WHOLE;
-    use home_board::Position;
-    use std::alloc::AllocError;
-    use std::test::Fail;
-
-    /// Bytes, each followed by so many zeros.
-    fn with_zeros(alloc: Global, parts: &[(&[u8], u16)]) -> Result<Vec<u8>, AllocError> {
-        let mut bytes = Vec::new(alloc);
-        for (part, zeros) in parts {
-            bytes.extend_from_slice(part)?;
-            for _ in 0..*zeros {
-                bytes.push(0)?;
-            }
-        }
-        Ok(bytes)
-    }
-
-    const WHOLE_BYTES: &[u8] = b"\x00\x03\x56\x27\x10\xdf\xf0\x31\x87\x27\x10\x00\x00\x00\x00\x00";
-
-    #[test]
-    fn bytes_of_0_and_1(rt: HostRuntime) -> Result<(), Fail> {
-        let zero = with_zeros(
-            rt.alloc(),
-            &[
-                (
-                    b"EPCTABLE\x00\x01\x00\x00\x00\x00\x00\x01\x00\x00\x01\xaa",
-                    12 + 58,
-                ),
-                (WHOLE_BYTES, 352),
-            ],
-        )?;
-        let mut written = Vec::new(rt.alloc());
-        assert_eq!(rt; build(rt.alloc(), 0, &mut written), Ok(()));
-        assert_eq!(rt; written.as_slice(), zero.as_slice());
-
-        let one = with_zeros(
-            rt.alloc(),
-            &[
-                (
-                    b"EPCTABLE\x00\x01\x00\x01\x00\x00\x00\x02\x00\x00\x01\xaa",
-                    12 + 58,
-                ),
-                (WHOLE_BYTES, 352),
-                (WHOLE_BYTES, 42 + 16),
-                (WHOLE_BYTES, 336),
-            ],
-        )?;
-        let mut slow = RefuseAt::never(rt.alloc(), 1);
-        assert_eq!(rt; build(rt.alloc(), 1, &mut slow), Ok(()));
-        assert_eq!(rt; slow.written.as_slice(), one.as_slice());
-        Ok(())
-    }
-
-    #[test]
-    fn bytes_of_compact_0_and_1(rt: HostRuntime) -> Result<(), Fail> {
-        let zero = with_zeros(
-            rt.alloc(),
-            &[(
-                b"EPCTABLE\x00\x02\x00\x00\x00\x00\x00\x01\x00\x00\x00\x00",
-                12 + 58,
-            )],
-        )?;
-        let mut written = Vec::new(rt.alloc());
-        assert_eq!(rt; build_compact(rt.alloc(), 0, &mut written), Ok(()));
-        assert_eq!(rt; written.as_slice(), zero.as_slice());
-
-        let one = with_zeros(
-            rt.alloc(),
-            &[
-                (
-                    b"EPCTABLE\x00\x02\x00\x01\x00\x00\x00\x02\x00\x00\x00\x00",
-                    12 + 58,
-                ),
-                (WHOLE_BYTES, 42),
-                (WHOLE_BYTES, 0),
-            ],
-        )?;
-        let mut slow = RefuseAt::never(rt.alloc(), 1);
-        assert_eq!(rt; build_compact(rt.alloc(), 1, &mut slow), Ok(()));
-        assert_eq!(rt; slow.written.as_slice(), one.as_slice());
-        Ok(())
-    }
-
-    #[test]
-    fn sizes(rt: HostRuntime) {
-        for (bound, size) in [(0, 458), (1, 884), (8, 27296)] {
-            let mut bytes = Vec::new(rt.alloc());
-            assert_eq!(rt; build(rt.alloc(), bound, &mut bytes), Ok(()));
-            assert_eq!(rt; bytes.len(), size, "of {bound} pips");
-        }
-        for (bound, size) in [(0, 90), (1, 164), (2, 344), (3, 614), (8, 7696)] {
-            let mut bytes = Vec::new(rt.alloc());
-            assert_eq!(rt; build_compact(rt.alloc(), bound, &mut bytes), Ok(()));
-            assert_eq!(rt; bytes.len(), size, "compact of {bound} pips");
-        }
-    }
-
-    #[test]
-    fn over_the_greatest_bound(rt: HostRuntime) {
-        let mut bytes = Vec::new(rt.alloc());
-        for bound in [59, 255] {
-            assert_eq!(rt;
-                build(rt.alloc(), bound, &mut bytes),
-                Err(BuildFault::OverBound)
-            );
-            assert_eq!(rt;
-                build_compact(rt.alloc(), bound, &mut bytes),
-                Err(BuildFault::OverBound)
-            );
-            assert_eq!(rt; bytes.len(), 0);
-        }
-    }
-
-    #[test]
-    fn refused_writes(rt: HostRuntime) {
-        for (writes, full, compact) in [(0, 0, 0), (1, 32, 32), (2, 458, 90)] {
-            for refusal in [Refusal::Fails, Refusal::TakesNothing] {
-                let mut writer = RefuseAt::new(rt.alloc(), usize::MAX, writes + 1, refusal);
-                assert_eq!(rt; build(rt.alloc(), 1, &mut writer), Err(BuildFault::Write));
-                assert_eq!(rt; writer.written.len(), full, "after {writes} writes");
-                let mut writer = RefuseAt::new(rt.alloc(), usize::MAX, writes + 1, refusal);
-                assert_eq!(rt;
-                    build_compact(rt.alloc(), 1, &mut writer),
-                    Err(BuildFault::Write)
-                );
-                assert_eq!(rt; writer.written.len(), compact, "after {writes} writes");
-            }
-        }
-    }
-
-    // There are 64 positions of at most 8 pips, and 20 of exactly 8.
-    #[test]
-    fn rooms_that_are_lent(rt: HostRuntime) -> Result<(), Fail> {
-        let header = Header::new(VERSION, 8).ok_or("no header")?;
-        let mut grown = Vec::new(rt.alloc());
-        build(rt.alloc(), 8, &mut grown)?;
-        for (positions, of_shares, of_a_level, written) in [
-            (64, 64, 20, 27296),
-            (63, 64, 20, 18776),
-            (64, 63, 20, 18776),
-            (64, 64, 19, 18776),
-            (0, 64, 20, 0),
-        ] {
-            let mut means = [Scaled::ZERO; 64];
-            let mut spreads = [Spread::finished(); 64];
-            let mut plays = [[0; 21]; 20];
-            let (means, _) = means.split_at_mut(positions.min(64));
-            let (spreads, _) = spreads.split_at_mut(of_shares.min(64));
-            let (plays, _) = plays.split_at_mut(of_a_level.min(20));
-            let mut records = LentRecords {
-                means,
-                spreads,
-                plays,
-                made: 0,
-                unwritten: 0,
-            };
-            let mut bytes = Vec::new(rt.alloc());
-            let told = build_with(&mut records, header, &mut bytes);
-            assert_eq!(rt; told.is_ok(), written == grown.len());
-            assert_eq!(rt; bytes.len(), written);
-            assert!(rt; grown.as_slice().starts_with(bytes.as_slice()));
-        }
-        Ok(())
-    }
-
-    // Two bytes behind the first eight state the version.
-    #[test]
-    fn version_by_bound(rt: HostRuntime) {
-        for (bound, version) in [(0, 1), (44, 1), (45, 2), (58, 2)] {
-            let mut writer = RefuseAt::new(rt.alloc(), usize::MAX, 2, Refusal::Fails);
-            assert_eq!(rt;
-                build(rt.alloc(), bound, &mut writer),
-                Err(BuildFault::Write)
-            );
-            assert_eq!(rt; writer.written.get(9), Some(&version), "of {bound} pips");
-            let mut writer = RefuseAt::new(rt.alloc(), usize::MAX, 2, Refusal::Fails);
-            assert_eq!(rt;
-                build_compact(rt.alloc(), bound, &mut writer),
-                Err(BuildFault::Write)
-            );
-            assert_eq!(rt; writer.written.get(9), Some(&2), "compact of {bound} pips");
-        }
-    }
-
-    /// The recorded mean of a rank, in a database with this header.
-    fn mean_at(file: &[u8], header: Header, rank: u16) -> Option<u128> {
-        if rank >= header.count {
-            return None;
-        }
-        let place = Places::of(header).find(rank);
-        let bytes = file.get(place.offset as usize..)?;
-        let bytes = bytes.get(..place.length as usize)?;
-        RecordView::of(bytes, &header, place.pips).map(|record| record.mean())
-    }
-
-    #[test]
-    fn means_to_6_pips(rt: HostRuntime) -> Result<(), Fail> {
-        let mut file = Vec::new(rt.alloc());
-        build(rt.alloc(), 6, &mut file)?;
-        assert_eq!(rt; file.len(), 12812);
-        let header = Header::new(VERSION, 6).ok_or("no header")?;
-        let mut compact_file = Vec::new(rt.alloc());
-        build_compact(rt.alloc(), 6, &mut compact_file)?;
-        assert_eq!(rt; compact_file.len(), 3228);
-        let compact_header = Header::new(COMPACT_VERSION, 6).ok_or("no header")?;
-        for (rank, numerator, denominator) in [
-            (0, 0u8, 1),
-            (1, 1, 1),
-            (2, 1, 1),
-            (3, 1, 1),
-            (4, 1, 1),
-            (5, 1, 1),
-            (6, 11, 6),
-            (7, 19, 18),
-            (8, 23, 18),
-            (9, 19, 18),
-            (10, 11, 6),
-            (11, 11, 6),
-            (12, 41, 36),
-            (13, 47, 36),
-            (14, 43, 36),
-            (15, 67, 36),
-            (16, 67, 36),
-            (17, 67, 36),
-            (18, 97, 36),
-            (19, 5, 4),
-            (20, 55, 36),
-            (21, 49, 36),
-            (22, 67, 36),
-            (23, 49, 36),
-            (24, 67, 36),
-            (25, 67, 36),
-            (26, 67, 36),
-            (27, 209, 108),
-            (28, 97, 36),
-            (29, 97, 36),
-        ] {
-            let mean = mean_at(file.as_slice(), header, rank).ok_or("no record")?;
-            let expected = u128::from(numerator) * WHOLE;
-            assert_eq!(rt;
-                mean.checked_mul(denominator),
-                Some(expected),
-                "rank {rank}"
-            );
-            let compact = mean_at(compact_file.as_slice(), compact_header, rank);
-            assert_eq!(rt; compact, Some(mean), "rank {rank}");
-        }
-        Ok(())
-    }
-
-    #[test]
-    fn fifteen_checkers_on_point_1(rt: HostRuntime) -> Result<(), Fail> {
-        let mut file = Vec::new(rt.alloc());
-        build(rt.alloc(), 15, &mut file)?;
-        let rank = Ranks::new().rank(&Position::new([15, 0, 0, 0, 0, 0])?);
-        let header = Header::new(VERSION, 15).ok_or("no header")?;
-        let mean = mean_at(file.as_slice(), header, rank);
-        assert_eq!(rt; mean, Some(WHOLE / 279936 * 1953839));
-        Ok(())
-    }
 }

@@ -7,7 +7,7 @@
 #![tactic(auto)]
 
 pub use build_fault::BuildFault;
-pub use building::{build, build_compact, build_in_place};
+pub use building::{build, build_compact, build_in_place, build_in_rooms};
 pub use means::Means;
 pub use plays::best_play;
 

@@ -69,25 +69,3 @@ impl least_plays::Means for Means {
         self.get(rank).unwrap().numerator()
     }
 }
-
-#[cfg(test)]
-mod tests {
-    use super::*;
-    use fixed_fraction::WHOLE;
-    use std::test::Fail;
-
-    // The means of the ranks 0 to 6, of which the last is 11/6.
-    #[test]
-    fn means_to_rank_6(rt: HostRuntime) -> Result<(), Fail> {
-        let mut means = Means::new(rt.alloc());
-        let last = 11 * (WHOLE / 6);
-        for numerator in [0, WHOLE, WHOLE, WHOLE, WHOLE, WHOLE, last] {
-            assert!(rt; means.len() < 7);
-            means.push(Scaled::new(numerator).ok_or("over 22 rolls")?)?;
-        }
-        assert_eq!(rt; means.len(), 7);
-        assert_eq!(rt; means.get(6).map(Scaled::numerator), Some(last));
-        assert_eq!(rt; means.get(7), None);
-        Ok(())
-    }
-}

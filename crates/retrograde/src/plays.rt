@@ -61,27 +61,3 @@ fn is_better(mean: u128, rank: u16, least: u128, best: u16) -> bool
 {
     mean < least || (mean == least && rank < best)
 }
-
-#[cfg(test)]
-mod tests {
-    use super::*;
-    use fixed_fraction::{Scaled, WHOLE};
-    use legal_plays::parse_roll;
-    use std::test::Fail;
-
-    // The results of 21 are those of ranks 13 and 14, with the means 47/36 and 43/36.
-    #[test]
-    fn two_checkers_on_point_4(rt: HostRuntime) -> Result<(), Fail> {
-        let mut means = Means::new(rt.alloc());
-        for rank in 0..45u16 {
-            let turns = if rank == 13 { 47 } else { 43 };
-            assert!(rt; means.len() < 100);
-            means.push(Scaled::new(WHOLE / 36 * turns).ok_or("over 22 rolls")?)?;
-        }
-        let position = Position::new([0, 0, 0, 2, 0, 0])?;
-        let roll = parse_roll(b"21").ok_or("no roll")?;
-        assert!(rt; Ranks::new().first_of(position.pips()) <= means.len());
-        assert_eq!(rt; best_play(&position, roll, &means), 14);
-        Ok(())
-    }
-}

@@ -1,34 +1,14 @@
 //! Lines and what is answered to them. The expected numbers come from the rules of backgammon,
 //! worked out by hand and with exact fractions, and not from this program.
-use super::*;
+use crate::given::{accepted, answers, database, put};
 use certificate::{CheckFault, QueryFault, check};
 use db_layout::trial::{Refusal, RefuseAt};
 use db_reader::Whole;
 use db_reader::trial::FailOnce;
-use retrograde::build;
-use std::alloc::Global;
+use epc_query::{RunFault, Text, audit_level, put_loss, run, write_level};
+use fixed_fraction::{Scaled, mean};
 use std::io::{self, Read};
 use std::test::Fail;
-
-/// The database that the builder makes of a bound.
-fn built(alloc: Global, bound: u8) -> Result<Vec<u8>, Fail> {
-    let mut file = Vec::new(alloc);
-    build(alloc, bound, &mut file)?;
-    Ok(file)
-}
-
-/// What is written of the lines of an input, and what `run` gives.
-fn answers(
-    alloc: Global,
-    file: &[u8],
-    input: &[u8],
-) -> Result<(Vec<u8>, Result<u64, RunFault>), Fail> {
-    let mut checked = check(Whole::new(file)).ok().ok_or("refused")?;
-    let mut reader = input;
-    let mut written = Vec::new(alloc);
-    let told = run(alloc, &mut checked, &mut reader, &mut written, 1 << 40);
-    Ok((written, told))
-}
 
 /// A reader that gives one byte a read, and then fails or is at its end.
 #[derive(Drop)]
@@ -117,8 +97,9 @@ error not-legal
 
 #[test]
 fn worked_rows_of_44_pips(rt: HostRuntime) -> Result<(), Fail> {
-    let file = built(rt.alloc(), 44)?;
-    let (written, told) = answers(rt.alloc(), file.as_slice(), LINES_OF_44)?;
+    let file = database(rt.alloc(), 44)?;
+    let mut checked = accepted(Whole::new(file.as_slice()))?;
+    let (written, told) = answers(rt.alloc(), &mut checked, LINES_OF_44);
     assert_eq!(rt; written.as_slice(), REPLIES_OF_44);
     assert_eq!(rt; told, Ok(27));
     Ok(())
@@ -178,10 +159,10 @@ const INPUTS: [(&[u8], &[u8], u64); 12] = [
 
 #[test]
 fn inputs_and_replies(rt: HostRuntime) -> Result<(), Fail> {
-    let file = built(rt.alloc(), 8)?;
-    let mut checked = check(Whole::new(file.as_slice())).ok().ok_or("refused")?;
+    let file = database(rt.alloc(), 8)?;
+    let mut checked = accepted(Whole::new(file.as_slice()))?;
     for (input, replies, lines) in INPUTS {
-        let (written, told) = answers(rt.alloc(), file.as_slice(), input)?;
+        let (written, told) = answers(rt.alloc(), &mut checked, input);
         assert_eq!(rt; written.as_slice(), replies);
         assert_eq!(rt; told, Ok(lines));
 
@@ -199,8 +180,8 @@ fn inputs_and_replies(rt: HostRuntime) -> Result<(), Fail> {
 
 #[test]
 fn reads_that_fail_and_reads_that_run_out(rt: HostRuntime) -> Result<(), Fail> {
-    let file = built(rt.alloc(), 1)?;
-    let mut checked = check(Whole::new(file.as_slice())).ok().ok_or("refused")?;
+    let file = database(rt.alloc(), 1)?;
+    let mut checked = accepted(Whole::new(file.as_slice()))?;
     for (fails, turns, expected) in [
         (false, 18, Ok(1)),
         (false, 17, Err(RunFault::Turns)),
@@ -230,8 +211,8 @@ fn reads_that_fail_and_reads_that_run_out(rt: HostRuntime) -> Result<(), Fail> {
 fn writers_that_stop(rt: HostRuntime) -> Result<(), Fail> {
     let input = b"dist 1,0,0,0,0,0\nmoves 1,0,0,0,0,0 66\nmean 0,1,0,0,0,0";
     let replies = b"dist 1:1/1\nmoves 0,0,0,0,0,0:0/1\nerror over-bound\n";
-    let file = built(rt.alloc(), 1)?;
-    let mut checked = check(Whole::new(file.as_slice())).ok().ok_or("refused")?;
+    let file = database(rt.alloc(), 1)?;
+    let mut checked = accepted(Whole::new(file.as_slice()))?;
     for left in 0..51 {
         for refusal in [Refusal::Fails, Refusal::TakesNothing] {
             let mut reader = input.as_slice();
@@ -252,7 +233,8 @@ fn writers_that_stop(rt: HostRuntime) -> Result<(), Fail> {
 
 #[test]
 fn long_lines(rt: HostRuntime) -> Result<(), Fail> {
-    let file = built(rt.alloc(), 1)?;
+    let file = database(rt.alloc(), 1)?;
+    let mut checked = accepted(Whole::new(file.as_slice()))?;
     for length in [127, 128, 129, 130, 131, 1_000_000] {
         let mut input = Vec::new(rt.alloc());
         input.extend_from_slice(b"rank 1,0,0,0,0,0")?;
@@ -260,7 +242,7 @@ fn long_lines(rt: HostRuntime) -> Result<(), Fail> {
             input.push(b' ')?;
         }
         input.extend_from_slice(b"\r\nrank 1,0,0,0,0,0\n")?;
-        let (written, told) = answers(rt.alloc(), file.as_slice(), input.as_slice())?;
+        let (written, told) = answers(rt.alloc(), &mut checked, input.as_slice());
         assert_eq!(rt; written.as_slice(), b"error bad-line\nrank 1\n".as_slice());
         assert_eq!(rt; told, Ok(2), "{length} bytes");
     }
@@ -270,19 +252,18 @@ fn long_lines(rt: HostRuntime) -> Result<(), Fail> {
 #[test]
 fn recorded_plays_are_told(rt: HostRuntime) -> Result<(), Fail> {
     let input = b"play 0,1,0,1,0,0 21\n";
-    let mut file = built(rt.alloc(), 6)?;
-    let (written, _) = answers(rt.alloc(), file.as_slice(), input)?;
+    let mut file = database(rt.alloc(), 6)?;
+    let mut checked = accepted(Whole::new(file.as_slice()))?;
+    let (written, _) = answers(rt.alloc(), &mut checked, input);
     assert_eq!(rt;
         written.as_slice(),
         b"play 2/off 4/3 to 0,0,1,0,0,0\n".as_slice()
     );
 
     // rank 21 with 21 is recorded as rank 5, which needs as many rolls as rank 4
-    let place = 32 + 426 * 21 + 16 + 2;
-    if place + 1 < file.len() {
-        file[place + 1] = 5;
-    }
-    let (written, _) = answers(rt.alloc(), file.as_slice(), input)?;
+    put(&mut file, 32 + 426 * 21 + 18, &[0, 5]);
+    let mut checked = accepted(Whole::new(file.as_slice()))?;
+    let (written, _) = answers(rt.alloc(), &mut checked, input);
     assert_eq!(rt;
         written.as_slice(),
         b"play 4/2 2/1 to 1,1,0,0,0,0\n".as_slice()
@@ -296,7 +277,7 @@ fn a_table_that_fails_once(rt: HostRuntime) -> Result<(), Fail> {
         b"mean 1,0,0,0,0,0\nrank 1,0,0,0,0,0\nmoves 1,0,0,0,0,0 11\nplay 1,0,0,0,0,0 11\nloss 1,0,0,0,0,0 11 0,0,0,0,0,0\ndist 1,0,0,0,0,0\n";
     let replies =
         b"mean 1/1 epc 49/6 8.167\nrank 1\nmoves 0,0,0,0,0,0:0/1\nplay 1/off to 0,0,0,0,0,0\nloss 0/1\ndist 1:1/1\n";
-    let file = built(rt.alloc(), 1)?;
+    let file = database(rt.alloc(), 1)?;
     let mut refused = 0_u64;
     let mut stopped = 0;
     for call in 1..200 {
@@ -328,8 +309,8 @@ fn a_table_that_fails_once(rt: HostRuntime) -> Result<(), Fail> {
 
 #[test]
 fn levels_of_3_pips(rt: HostRuntime) -> Result<(), Fail> {
-    let file = built(rt.alloc(), 3)?;
-    let mut checked = check(Whole::new(file.as_slice())).ok().ok_or("refused")?;
+    let file = database(rt.alloc(), 3)?;
+    let mut checked = accepted(Whole::new(file.as_slice()))?;
     let mut written = Vec::new(rt.alloc());
     for pips in 0..4 {
         let level = audit_level(&mut checked, pips)?;
@@ -345,5 +326,39 @@ pips 3 positions 3 least 1/1 greatest 11/6
         audit_level(&mut checked, 4).err(),
         Some(QueryFault::OverBound)
     );
+    Ok(())
+}
+
+// 36 ^ 22 is 17324272922341479351919144385642496, and 3 ^ 44 is 984770902183611232881. A number of
+// more than 18 digits is written in two parts.
+#[test]
+fn numbers_of_one_and_two_parts(rt: HostRuntime) -> Result<(), Fail> {
+    for (numerator, expected) in [
+        (0, "loss 0/1"),
+        (1, "loss 1/17324272922341479351919144385642496"),
+        (
+            999999999999999997,
+            "loss 999999999999999997/17324272922341479351919144385642496",
+        ),
+        (
+            17592186044416000000000000000000,
+            "loss 1000000000000000000/984770902183611232881",
+        ),
+        (
+            1000000000000000001,
+            "loss 1000000000000000001/17324272922341479351919144385642496",
+        ),
+        (
+            300000000000000000000000000000000007,
+            "loss 300000000000000000000000000000000007/17324272922341479351919144385642496",
+        ),
+    ] {
+        let mut text = Text::new();
+        put_loss(
+            &mut text,
+            mean(Scaled::new(numerator).ok_or("over 22 rolls")?),
+        );
+        assert_eq!(rt; text.as_str(), expected);
+    }
     Ok(())
 }

@@ -1,9 +1,8 @@
 //! In how many calls replies are written, and that they are flushed before the next read.
-use super::*;
-use certificate::check;
+use crate::given::{accepted, database};
 use db_layout::trial::RefuseAt;
 use db_reader::Whole;
-use retrograde::build;
+use epc_query::{RunFault, run};
 use std::alloc::Global;
 use std::test::Fail;
 
@@ -14,9 +13,8 @@ fn answered(
     pipe: &mut RefuseAt,
     turns: u64,
 ) -> Result<Result<u64, RunFault>, Fail> {
-    let mut file = Vec::new(alloc);
-    build(alloc, 8, &mut file)?;
-    let mut checked = check(Whole::new(file.as_slice())).ok().ok_or("refused")?;
+    let file = database(alloc, 8)?;
+    let mut checked = accepted(Whole::new(file.as_slice()))?;
     let mut reader = input;
     Ok(run(alloc, &mut checked, &mut reader, pipe, turns))
 }

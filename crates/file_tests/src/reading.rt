@@ -1,9 +1,9 @@
 //! A table over known bytes, and over one that fails once.
 ghost use Rattle.std.specs.Prelude.{◌≡◌, length};
 
-use super::*;
-use crate::trial::FailOnce;
 use db_layout::{Header, HeaderFault};
+use db_reader::trial::FailOnce;
+use db_reader::{Record, Table, TableFault, Whole};
 use std::test::Fail;
 
 /// The header of bound 0 and a record whose mean is one more than its last byte.

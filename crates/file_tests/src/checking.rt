@@ -1,18 +1,14 @@
 //! Files with known bytes, and what the checker says of them.
 ghost use Rattle.std.specs.Prelude.{◌≡◌, length};
 
-use super::*;
+use crate::given::{WHOLE_BYTES, accepted};
+use certificate::{CheckFault, QueryFault, check, fault_line};
 use db_layout::HeaderFault;
 use db_reader::trial::FailOnce;
 use db_reader::{Table, Whole};
 use home_board::Position;
 use legal_plays::{Roll, write_play};
 use std::test::Fail;
-
-/// 36 ^ 22 in 16 bytes.
-const WHOLE_BYTES: [u8; 16] = [
-    0x00, 0x03, 0x56, 0x27, 0x10, 0xdf, 0xf0, 0x31, 0x87, 0x27, 0x10, 0, 0, 0, 0, 0,
-];
 
 /// The file of bound 1: the finished position, and one checker on the ace point, whose mean is
 /// one roll.
@@ -229,7 +225,7 @@ fn damaged_files_of_version_2(rt: HostRuntime) {
 #[test]
 fn the_version_and_the_answers_of_version_2(rt: HostRuntime) -> Result<(), Fail> {
     let (file, old) = (compact_one(), bound_one());
-    let mut checked = check(Whole::new(&file)).ok().ok_or("refused")?;
+    let mut checked = accepted(Whole::new(&file))?;
     assert_eq!(rt;
         (checked.version(), checked.bound(), checked.positions()),
         (2, 1, 2)
@@ -238,7 +234,7 @@ fn the_version_and_the_answers_of_version_2(rt: HostRuntime) -> Result<(), Fail>
     assert_eq!(rt; checked.scaled(&ace)?.numerator(), fixed_fraction::WHOLE);
     assert_eq!(rt; checked.spread(&ace)?.at(1), fixed_fraction::WHOLE);
     assert_eq!(rt; checked.spread(&aces(0)?)?.at(0), fixed_fraction::WHOLE);
-    let checked = check(Whole::new(&old)).ok().ok_or("refused")?;
+    let checked = accepted(Whole::new(&old))?;
     assert_eq!(rt; checked.version(), 1);
     Ok(())
 }
@@ -253,7 +249,7 @@ fn a_record_of_ones(rt: HostRuntime) {
 #[test]
 fn answers_of_bound_one(rt: HostRuntime) -> Result<(), Fail> {
     let file = bound_one();
-    let mut checked = check(Whole::new(&file)).ok().ok_or("refused")?;
+    let mut checked = accepted(Whole::new(&file))?;
     assert_eq!(rt; (checked.bound(), checked.positions()), (1, 2));
     let (end, ace, two) = (aces(0)?, aces(1)?, aces(2)?);
     let roll = Roll::from_index(4).ok_or("no roll")?;
@@ -291,7 +287,7 @@ fn each_read_failing_once(rt: HostRuntime) -> Result<(), Fail> {
     let (ace, roll) = (aces(1)?, Roll::from_index(0).ok_or("no roll")?);
     for query in 1..=4 {
         let trial = FailOnce::new(Whole::new(&file), reads + query);
-        let mut checked = check(trial).ok().ok_or("refused")?;
+        let mut checked = accepted(trial)?;
         let faults = [
             checked.scaled(&ace).err(),
             checked.spread(&ace).err(),

@@ -1,0 +1,286 @@
+//! What the builder writes: the bytes and the means are those of an independent count with exact
+//! numbers.
+use crate::given::{WHOLE_BYTES, compact_database, database};
+use db_layout::trial::{Refusal, RefuseAt};
+use db_layout::{COMPACT_VERSION, Header, Places, RecordView, VERSION};
+use fixed_fraction::{Scaled, Spread, WHOLE};
+use home_board::Position;
+use legal_plays::parse_roll;
+use ranking::Ranks;
+use retrograde::{BuildFault, Means, best_play, build, build_compact, build_in_rooms};
+use std::alloc::{AllocError, Global};
+use std::test::Fail;
+
+/// Bytes, each followed by so many zeros.
+fn with_zeros(alloc: Global, parts: &[(&[u8], u16)]) -> Result<Vec<u8>, AllocError> {
+    let mut bytes = Vec::new(alloc);
+    for (part, zeros) in parts {
+        bytes.extend_from_slice(part)?;
+        for _ in 0..*zeros {
+            bytes.push(0)?;
+        }
+    }
+    Ok(bytes)
+}
+
+#[test]
+fn bytes_of_0_and_1(rt: HostRuntime) -> Result<(), Fail> {
+    let zero = with_zeros(
+        rt.alloc(),
+        &[
+            (
+                b"EPCTABLE\x00\x01\x00\x00\x00\x00\x00\x01\x00\x00\x01\xaa",
+                12 + 58,
+            ),
+            (&WHOLE_BYTES, 352),
+        ],
+    )?;
+    let mut written = Vec::new(rt.alloc());
+    assert_eq!(rt; build(rt.alloc(), 0, &mut written), Ok(()));
+    assert_eq!(rt; written.as_slice(), zero.as_slice());
+
+    let one = with_zeros(
+        rt.alloc(),
+        &[
+            (
+                b"EPCTABLE\x00\x01\x00\x01\x00\x00\x00\x02\x00\x00\x01\xaa",
+                12 + 58,
+            ),
+            (&WHOLE_BYTES, 352),
+            (&WHOLE_BYTES, 42 + 16),
+            (&WHOLE_BYTES, 336),
+        ],
+    )?;
+    let mut slow = RefuseAt::never(rt.alloc(), 1);
+    assert_eq!(rt; build(rt.alloc(), 1, &mut slow), Ok(()));
+    assert_eq!(rt; slow.written.as_slice(), one.as_slice());
+    Ok(())
+}
+
+#[test]
+fn bytes_of_compact_0_and_1(rt: HostRuntime) -> Result<(), Fail> {
+    let zero = with_zeros(
+        rt.alloc(),
+        &[(
+            b"EPCTABLE\x00\x02\x00\x00\x00\x00\x00\x01\x00\x00\x00\x00",
+            12 + 58,
+        )],
+    )?;
+    let mut written = Vec::new(rt.alloc());
+    assert_eq!(rt; build_compact(rt.alloc(), 0, &mut written), Ok(()));
+    assert_eq!(rt; written.as_slice(), zero.as_slice());
+
+    let one = with_zeros(
+        rt.alloc(),
+        &[
+            (
+                b"EPCTABLE\x00\x02\x00\x01\x00\x00\x00\x02\x00\x00\x00\x00",
+                12 + 58,
+            ),
+            (&WHOLE_BYTES, 42),
+            (&WHOLE_BYTES, 0),
+        ],
+    )?;
+    let mut slow = RefuseAt::never(rt.alloc(), 1);
+    assert_eq!(rt; build_compact(rt.alloc(), 1, &mut slow), Ok(()));
+    assert_eq!(rt; slow.written.as_slice(), one.as_slice());
+    Ok(())
+}
+
+#[test]
+fn sizes(rt: HostRuntime) {
+    for (bound, size) in [(0, 458), (1, 884), (8, 27296)] {
+        let mut bytes = Vec::new(rt.alloc());
+        assert_eq!(rt; build(rt.alloc(), bound, &mut bytes), Ok(()));
+        assert_eq!(rt; bytes.len(), size, "of {bound} pips");
+    }
+    for (bound, size) in [(0, 90), (1, 164), (2, 344), (3, 614), (8, 7696)] {
+        let mut bytes = Vec::new(rt.alloc());
+        assert_eq!(rt; build_compact(rt.alloc(), bound, &mut bytes), Ok(()));
+        assert_eq!(rt; bytes.len(), size, "compact of {bound} pips");
+    }
+}
+
+#[test]
+fn over_the_greatest_bound(rt: HostRuntime) {
+    let mut bytes = Vec::new(rt.alloc());
+    for bound in [59, 255] {
+        assert_eq!(rt;
+            build(rt.alloc(), bound, &mut bytes),
+            Err(BuildFault::OverBound)
+        );
+        assert_eq!(rt;
+            build_compact(rt.alloc(), bound, &mut bytes),
+            Err(BuildFault::OverBound)
+        );
+        assert_eq!(rt; bytes.len(), 0);
+    }
+}
+
+#[test]
+fn refused_writes(rt: HostRuntime) {
+    for (writes, full, compact) in [(0, 0, 0), (1, 32, 32), (2, 458, 90)] {
+        for refusal in [Refusal::Fails, Refusal::TakesNothing] {
+            let mut writer = RefuseAt::new(rt.alloc(), usize::MAX, writes + 1, refusal);
+            assert_eq!(rt; build(rt.alloc(), 1, &mut writer), Err(BuildFault::Write));
+            assert_eq!(rt; writer.written.len(), full, "after {writes} writes");
+            let mut writer = RefuseAt::new(rt.alloc(), usize::MAX, writes + 1, refusal);
+            assert_eq!(rt;
+                build_compact(rt.alloc(), 1, &mut writer),
+                Err(BuildFault::Write)
+            );
+            assert_eq!(rt; writer.written.len(), compact, "after {writes} writes");
+        }
+    }
+}
+
+// There are 64 positions of at most 8 pips, and 20 of exactly 8.
+#[test]
+fn rooms_that_are_lent(rt: HostRuntime) -> Result<(), Fail> {
+    let header = Header::new(VERSION, 8).ok_or("no header")?;
+    let grown = database(rt.alloc(), 8)?;
+    for (positions, of_shares, of_a_level, written) in [
+        (64, 64, 20, 27296),
+        (63, 64, 20, 18776),
+        (64, 63, 20, 18776),
+        (64, 64, 19, 18776),
+        (0, 64, 20, 0),
+    ] {
+        let mut means = [Scaled::ZERO; 64];
+        let mut spreads = [Spread::finished(); 64];
+        let mut plays = [[0; 21]; 20];
+        let (means, _) = means.split_at_mut(positions.min(64));
+        let (spreads, _) = spreads.split_at_mut(of_shares.min(64));
+        let (plays, _) = plays.split_at_mut(of_a_level.min(20));
+        let mut bytes = Vec::new(rt.alloc());
+        let told = build_in_rooms(header, means, spreads, plays, &mut bytes);
+        assert_eq!(rt; told.is_ok(), written == grown.len());
+        assert_eq!(rt; bytes.len(), written);
+        assert!(rt; grown.as_slice().starts_with(bytes.as_slice()));
+    }
+    Ok(())
+}
+
+// Two bytes behind the first eight state the version.
+#[test]
+fn version_by_bound(rt: HostRuntime) {
+    for (bound, version) in [(0, 1), (44, 1), (45, 2), (58, 2)] {
+        let mut writer = RefuseAt::new(rt.alloc(), usize::MAX, 2, Refusal::Fails);
+        assert_eq!(rt;
+            build(rt.alloc(), bound, &mut writer),
+            Err(BuildFault::Write)
+        );
+        assert_eq!(rt; writer.written.get(9), Some(&version), "of {bound} pips");
+        let mut writer = RefuseAt::new(rt.alloc(), usize::MAX, 2, Refusal::Fails);
+        assert_eq!(rt;
+            build_compact(rt.alloc(), bound, &mut writer),
+            Err(BuildFault::Write)
+        );
+        assert_eq!(rt; writer.written.get(9), Some(&2), "compact of {bound} pips");
+    }
+}
+
+/// The recorded mean of a rank, in a database with this header.
+fn mean_at(file: &[u8], header: Header, rank: u16) -> Option<u128> {
+    if rank >= header.count {
+        return None;
+    }
+    let place = Places::of(header).find(rank);
+    let bytes = file.get(place.offset as usize..)?;
+    let bytes = bytes.get(..place.length as usize)?;
+    RecordView::of(bytes, &header, place.pips).map(|record| record.mean())
+}
+
+#[test]
+fn means_to_6_pips(rt: HostRuntime) -> Result<(), Fail> {
+    let file = database(rt.alloc(), 6)?;
+    assert_eq!(rt; file.len(), 12812);
+    let header = Header::new(VERSION, 6).ok_or("no header")?;
+    let compact_file = compact_database(rt.alloc(), 6)?;
+    assert_eq!(rt; compact_file.len(), 3228);
+    let compact_header = Header::new(COMPACT_VERSION, 6).ok_or("no header")?;
+    for (rank, numerator, denominator) in [
+        (0, 0u8, 1),
+        (1, 1, 1),
+        (2, 1, 1),
+        (3, 1, 1),
+        (4, 1, 1),
+        (5, 1, 1),
+        (6, 11, 6),
+        (7, 19, 18),
+        (8, 23, 18),
+        (9, 19, 18),
+        (10, 11, 6),
+        (11, 11, 6),
+        (12, 41, 36),
+        (13, 47, 36),
+        (14, 43, 36),
+        (15, 67, 36),
+        (16, 67, 36),
+        (17, 67, 36),
+        (18, 97, 36),
+        (19, 5, 4),
+        (20, 55, 36),
+        (21, 49, 36),
+        (22, 67, 36),
+        (23, 49, 36),
+        (24, 67, 36),
+        (25, 67, 36),
+        (26, 67, 36),
+        (27, 209, 108),
+        (28, 97, 36),
+        (29, 97, 36),
+    ] {
+        let mean = mean_at(file.as_slice(), header, rank).ok_or("no record")?;
+        let expected = u128::from(numerator) * WHOLE;
+        assert_eq!(rt;
+            mean.checked_mul(denominator),
+            Some(expected),
+            "rank {rank}"
+        );
+        let compact = mean_at(compact_file.as_slice(), compact_header, rank);
+        assert_eq!(rt; compact, Some(mean), "rank {rank}");
+    }
+    Ok(())
+}
+
+#[test]
+fn fifteen_checkers_on_point_1(rt: HostRuntime) -> Result<(), Fail> {
+    let file = database(rt.alloc(), 15)?;
+    let rank = Ranks::new().rank(&Position::new([15, 0, 0, 0, 0, 0])?);
+    let header = Header::new(VERSION, 15).ok_or("no header")?;
+    let mean = mean_at(file.as_slice(), header, rank);
+    assert_eq!(rt; mean, Some(WHOLE / 279936 * 1953839));
+    Ok(())
+}
+
+// The means of the ranks 0 to 6, of which the last is 11/6.
+#[test]
+fn means_to_rank_6(rt: HostRuntime) -> Result<(), Fail> {
+    let mut means = Means::new(rt.alloc());
+    let last = 11 * (WHOLE / 6);
+    for numerator in [0, WHOLE, WHOLE, WHOLE, WHOLE, WHOLE, last] {
+        assert!(rt; means.len() < 7);
+        means.push(Scaled::new(numerator).ok_or("over 22 rolls")?)?;
+    }
+    assert_eq!(rt; means.len(), 7);
+    assert_eq!(rt; means.get(6).map(Scaled::numerator), Some(last));
+    assert_eq!(rt; means.get(7), None);
+    Ok(())
+}
+
+// The results of 21 are those of ranks 13 and 14, with the means 47/36 and 43/36.
+#[test]
+fn two_checkers_on_point_4(rt: HostRuntime) -> Result<(), Fail> {
+    let mut means = Means::new(rt.alloc());
+    for rank in 0..45u16 {
+        let turns = if rank == 13 { 47 } else { 43 };
+        assert!(rt; means.len() < 100);
+        means.push(Scaled::new(WHOLE / 36 * turns).ok_or("over 22 rolls")?)?;
+    }
+    let position = Position::new([0, 0, 0, 2, 0, 0])?;
+    let roll = parse_roll(b"21").ok_or("no roll")?;
+    assert!(rt; Ranks::new().first_of(position.pips()) <= means.len());
+    assert_eq!(rt; best_play(&position, roll, &means), 14);
+    Ok(())
+}

@@ -1,0 +1,197 @@
+//! Databases that are read page by page: how often the source is read, and that the replies are
+//! the same.
+ghost use Rattle.std.specs.Prelude.{ℕ};
+
+use crate::given::{accepted, assert_replies, compact_database, database, pages, put};
+use certificate::{CheckFault, QueryFault, check};
+use db_reader::trial::FailOnce;
+use db_reader::{FileSource, Paged, PagedFault, SliceSource, Source, SourceFault, Whole};
+use home_board::Position;
+use std::process::Abort;
+use std::rt::Files;
+use std::test::Fail;
+use std::{env, fs};
+
+/// Bytes in memory as a source that counts its reads: those of a record, and all others.
+#[derive(Drop)]
+struct Counting<'a> {
+    source: SliceSource<'a>,
+    records: u32,
+    others: u32,
+}
+
+impl<'a> Counting<'a> {
+    fn new(bytes: &'a [u8]) -> Self {
+        Counting {
+            source: SliceSource::new(bytes),
+            records: 0,
+            others: 0,
+        }
+    }
+}
+
+impl<'a> Source for Counting<'a> {
+    ghost tells = { λ counting. ⟦<SliceSource<'a> as Source>⟧.tells counting.source };
+
+    ghost failures = { λ _. 0 };
+
+    fn length(&mut self) -> Result<u64, SourceFault> {
+        self.source.length()
+    }
+
+    fn read_at(&mut self, offset: u64, into: &mut [u8]) -> Result<(), SourceFault> {
+        if into.len() == 426 {
+            self.records = self.records.saturating_add(1);
+        } else {
+            self.others = self.others.saturating_add(1);
+        }
+        self.source.read_at(offset, into)
+    }
+}
+
+#[test]
+fn a_record_is_read_once_where_there_is_room(rt: HostRuntime) -> Result<(), Fail> {
+    let file = database(rt.alloc(), 8)?;
+    let checked = accepted(pages(rt.alloc(), Counting::new(file.as_slice()), 64)?)?;
+    let source = checked.into_table().into_source();
+    assert_eq!(rt; source.records, 64);
+    assert_eq!(rt; source.others, 1);
+    let mut checked = accepted(pages(rt.alloc(), Counting::new(file.as_slice()), 64)?)?;
+    assert_replies(&rt, &mut checked);
+    let source = checked.into_table().into_source();
+    assert_eq!(rt; source.records, 64);
+    assert_eq!(rt; source.others, 1);
+    let mut checked = accepted(pages(rt.alloc(), Counting::new(file.as_slice()), 1)?)?;
+    assert_replies(&rt, &mut checked);
+    let source = checked.into_table().into_source();
+    assert!(rt; source.records > 64);
+    Ok(())
+}
+
+#[test]
+fn replies_do_not_depend_on_the_version(rt: HostRuntime) -> Result<(), Fail> {
+    let file = compact_database(rt.alloc(), 8)?;
+    assert_eq!(rt; file.len(), 7696);
+    let mut checked = accepted(Whole::new(file.as_slice()))?;
+    assert_eq!(rt; checked.version(), 2);
+    assert_replies(&rt, &mut checked);
+    for records in [1, 2, 64] {
+        let source = SliceSource::new(file.as_slice());
+        assert_replies(&rt, &mut accepted(pages(rt.alloc(), source, records)?)?);
+    }
+    Ok(())
+}
+
+#[test]
+fn replies_do_not_depend_on_the_pages(rt: HostRuntime) -> Result<(), Fail> {
+    let file = database(rt.alloc(), 8)?;
+    assert_replies(&rt, &mut accepted(Whole::new(file.as_slice()))?);
+    for records in [1, 2, 64, 65535] {
+        let source = SliceSource::new(file.as_slice());
+        assert_replies(&rt, &mut accepted(pages(rt.alloc(), source, records)?)?);
+    }
+    let source = SliceSource::new(file.as_slice());
+    match Paged::new(rt.alloc(), source, 0) {
+        Err((mut source, fault)) => {
+            assert!(rt; fault == PagedFault::NoCapacity);
+            assert_eq!(rt; source.length()?, 27296);
+        }
+        Ok(_) => return Err(Fail::from(PagedFault::NoCapacity)),
+    }
+    Ok(())
+}
+
+#[test]
+fn a_read_that_fails_is_told_and_passes(rt: HostRuntime) -> Result<(), Fail> {
+    let file = database(rt.alloc(), 3)?;
+    for call in 1..=6 {
+        let source = SliceSource::new(file.as_slice());
+        let table = FailOnce::new(pages(rt.alloc(), source, 2)?, call);
+        match check(table) {
+            Err((table, fault)) => {
+                assert!(rt; fault == CheckFault::Read);
+                accepted(table)?;
+            }
+            Ok(_) => return Err(Fail::from(CheckFault::Read)),
+        }
+    }
+    Ok(())
+}
+
+/// Asserts that a source over the file at a path answers its length and its bytes.
+fn assert_source(
+    rt: &(impl Abort + AllocGlobal + Files),
+    path: &str,
+    file: &[u8],
+) -> Result<(), Fail> {
+    let mut source = FileSource::new(fs::open(rt, path)?);
+    assert_eq!(rt; source.length()?, file.len() as u64);
+    let (header, records) = file.split_at(file.len().min(32));
+    let mut front = [0; 32];
+    source.read_at(0, &mut front)?;
+    assert!(rt; front.as_slice() == header);
+    let mut place = 32;
+    for record in records.chunks_exact(426) {
+        let mut read = [0; 426];
+        source.read_at(place, &mut read)?;
+        assert!(rt; read.as_slice() == record);
+        place = place.saturating_add(426);
+    }
+    assert_eq!(rt; place, file.len() as u64);
+    let mut beyond = [0];
+    assert!(rt; source.read_at(place, &mut beyond).is_err());
+    accepted(pages(rt.alloc(), source, 3)?)?;
+    Ok(())
+}
+
+#[test]
+fn a_file_is_read_byte_for_byte(rt: HostRuntime) -> Result<(), Fail> {
+    let folder = env::temp_dir(&rt)?;
+    let folder = folder.as_str();
+    let path = format!(in rt.alloc(); "{folder}/garombyi-test-pages.db")?;
+    let path = path.as_str();
+    let mut tied = database(rt.alloc(), 6)?;
+    put(&mut tied, 32 + 426 * 21 + 18, &[0, 5]);
+    for file in [tied, database(rt.alloc(), 8)?] {
+        fs::write(&rt, path, file.as_slice())?;
+        assert_source(&rt, path, file.as_slice())?;
+    }
+    fs::remove_file(&rt, path)?;
+    Ok(())
+}
+
+#[test]
+fn a_file_that_changed_is_no_number(rt: HostRuntime) -> Result<(), Fail> {
+    let folder = env::temp_dir(&rt)?;
+    let folder = folder.as_str();
+    let path = format!(in rt.alloc(); "{folder}/garombyi-test-changed.db")?;
+    let path = path.as_str();
+    let file = database(rt.alloc(), 3)?;
+    for shrinks in [false, true] {
+        fs::write(&rt, path, file.as_slice())?;
+        let source = FileSource::new(fs::open(&rt, path)?);
+        let mut checked = accepted(pages(rt.alloc(), source, 1)?)?;
+        if shrinks {
+            fs::write(&rt, path, b"")?;
+        } else {
+            let mut changed = file.clone()?;
+            for byte in changed.iter_mut().skip(32) {
+                *byte = 0xff;
+            }
+            fs::write(&rt, path, changed.as_slice())?;
+        }
+        let mut is_told = false;
+        for counts in [[1, 0, 0, 0, 0, 0], [0, 1, 0, 0, 0, 0]] {
+            match checked.mean(&Position::new(counts)?) {
+                Ok(mean) => assert!(rt; mean.numerator() == 1 && mean.denominator() == 1),
+                Err(fault) => {
+                    assert!(rt; fault == QueryFault::Read);
+                    is_told = true;
+                }
+            }
+        }
+        assert!(rt; is_told);
+    }
+    fs::remove_file(&rt, path)?;
+    Ok(())
+}
