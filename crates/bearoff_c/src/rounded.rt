@@ -12,7 +12,7 @@ ghost use Rattle.bearoff_c.specs.Wides.{number_of};
 use crate::database::{Counts, Database};
 use crate::refusal::OK;
 use crate::wide_fraction::WideFraction;
-use fixed_fraction::{Fraction, WHOLE, epc, mean};
+use fixed_fraction::{Fraction, WHOLE, epc, mean, thousandths_of};
 
 /// A fraction, exact and rounded.
 #[repr(C)]
@@ -35,7 +35,7 @@ impl Rounded {
     {
         Rounded {
             exact: WideFraction::of(fraction),
-            thousandths: nearest(fraction.numerator(), fraction.denominator()),
+            thousandths: thousandths_of(fraction.numerator(), fraction.denominator()),
         }
     }
 }
@@ -138,19 +138,6 @@ pub extern "C" fn bearoff_thousandths(fraction: &WideFraction, thousandths: &mut
     if denominator == 0 || denominator > 6 * WHOLE || numerator > 180 * denominator {
         return false;
     }
-    *thousandths = nearest(numerator, denominator);
+    *thousandths = thousandths_of(numerator, denominator);
     true
-}
-
-/// A fraction of at most 180 in thousandths, rounded to the nearest, and a half upward.
-#[tactic(auto, unfolding(race_model::specs::LocalEquations::whole))]
-pub fn nearest(numerator: u128, denominator: u128) -> u64
-    requires positive { 0 < denominator }
-    requires short { denominator ≤ 6 * whole }
-    requires within { numerator ≤ 180 * denominator }
-    ensures { IsThousandths numerator denominator result }
-{
-    let units = numerator / denominator;
-    let rest = numerator - units * denominator;
-    (1000 * units + (2000 * rest + denominator) / (2 * denominator)) as u64
 }

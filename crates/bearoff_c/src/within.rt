@@ -10,9 +10,8 @@ ghost use Rattle.bearoff_c.specs.Refusals.{position_refusal, status_of};
 
 use crate::database::{Counts, Database};
 use crate::refusal::{OK, Refusal};
-use crate::rounded::nearest;
 use db_layout::RecordView;
-use fixed_fraction::WHOLE;
+use fixed_fraction::{WHOLE, thousandths_of};
 
 /// The chance that all checkers are off within a number of rolls where each play is the recorded
 /// one, in thousandths, rounded to the nearest, and a half upward; from 22 rolls on it is 1,000.
@@ -35,7 +34,7 @@ pub extern "C" fn bearoff_within(
     match database.find(position) {
         Ok((_, view)) => match shares_to(&view, rolls) {
             Some(total) => {
-                *thousandths = nearest(total, WHOLE);
+                *thousandths = thousandths_of(total, WHOLE);
                 OK
             }
             None => Refusal::Changed.status(),

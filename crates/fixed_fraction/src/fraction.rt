@@ -89,9 +89,21 @@ pub fn share(spread: &Spread, k: u8) -> Fraction
 pub fn thousandths(fraction: &Fraction) -> u128
     ensures { IsThousandths fraction.now.numerator fraction.now.denominator result }
 {
-    let units = fraction.numerator / fraction.denominator;
-    let rest = fraction.numerator - units * fraction.denominator;
-    1000 * units + (2000 * rest + fraction.denominator) / (2 * fraction.denominator)
+    u128::from(thousandths_of(fraction.numerator, fraction.denominator))
+}
+
+/// A numerator over a denominator, at most 180 of them, in thousandths, rounded the same way. They
+/// need not be in lowest terms.
+#[tactic(auto, unfolding(race_model::specs::LocalEquations::whole))]
+pub fn thousandths_of(numerator: u128, denominator: u128) -> u64
+    requires positive { 0 < denominator }
+    requires short { denominator ≤ 6 * whole }
+    requires within { numerator ≤ 180 * denominator }
+    ensures { IsThousandths numerator denominator result }
+{
+    let units = numerator / denominator;
+    let rest = numerator - units * denominator;
+    (1000 * units + (2000 * rest + denominator) / (2 * denominator)) as u64
 }
 
 /// A numerator over a denominator in lowest terms. The denominator is a product of twos and

@@ -1,10 +1,10 @@
 //! Weighted sums over the 21 rolls.
-ghost use Rattle.std.specs.Prelude.{◌≡◌, ℕ, suc, ◌+◌, ◌*◌, ◌%◌, ◌<◌, ◌≤◌, ◌↔◌, List, replicate, slice_index, sum_by, take, IsTrue, IsSome, IfSome};
+ghost use Rattle.std.specs.Prelude.{◌≡◌, ℕ, suc, ◌+◌, ◌*◌, ◌%◌, ◌<◌, ◌≤◌, ◌↔◌, List, replicate, slice_index, sum_by, take, IsSome, IfSome};
 ghost use Rattle.race_model.specs.Dice.{Throw, all_rolls, roll_at, weight};
 ghost use Rattle.race_model.specs.LocalEquations.{whole, weighted};
 ghost use Rattle.fixed_fraction.specs.Totals.{Totals, IsAdded, AreTotals};
 
-use crate::scaled::{MOST, Scaled, WHOLE};
+use crate::scaled::{Scaled, WHOLE};
 use crate::spread::Spread;
 use std::marker::Model;
 
@@ -57,26 +57,6 @@ impl Sums {
         self.weight += weight;
         self.mean += u128::from(weight) * mean.numerator();
         add_shares(&mut self.shares, weight, spread.shares());
-    }
-
-    /// Whether a number is one roll and a 36th of the means, and no more than 22 rolls. It is
-    /// compared without a division.
-    #[tactic(auto, unfolding(race_model::specs::LocalEquations::whole))]
-    pub fn is_mean(&self, number: u128) -> bool
-        ensures { IsTrue result ↔
-            ((number ≤ 22 * whole) × (36 * number ≡ 36 * whole + self.now.mean)) }
-    {
-        number <= MOST && 36 * number == 36 * WHOLE + self.mean
-    }
-
-    /// Whether a number is a 36th of the shares of exactly `k` rolls, and so the share of one
-    /// roll more; none is from 23 rolls on. It is compared without a division.
-    #[tactic(auto, unfolding(race_model::specs::LocalEquations::whole))]
-    pub fn is_later_share(&self, k: u8, number: u128) -> bool
-        requires { k ≤ 22 }
-        ensures { IsTrue result ↔ (36 * number ≡ slice_index self.now.shares k) }
-    {
-        number <= WHOLE && 36 * number == self.shares[usize::from(k)]
     }
 
     /// One roll and a 36th of the means. None exactly where that is no whole numerator or over 22

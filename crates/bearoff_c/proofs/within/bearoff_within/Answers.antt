@@ -32,7 +32,8 @@ returns-in-Some-clause-chance c = λ ok.
     (λ k lt.
     read k (omega (arith, few)) ∙ (known_right f x known).spread_is k (omega (arith, few)))) in
     let total = (c.in-Some.ensures {u = tt}).value ∙ same in
-    subst (λ (n : ℕ). IsThousandths n whole c.nearest.result) total c.nearest.ensures
+    subst (λ (n : ℕ). IsThousandths n whole c.thousandths_of.result) total
+    c.thousandths_of.ensures
 
 -- the shares of a right file are the whole, so they are never more
 pub returns-in-None-clause-status : goal.returns-in-None-clause-status
