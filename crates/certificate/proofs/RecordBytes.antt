@@ -1,8 +1,9 @@
 -- What a record says, by its bytes.
-use Rattle.std.proofs.Common.{◌≡◌, ℕ, ◌<◌, List, length, get_or, refl, sym, ◌∙◌, arith}
+use Rattle.std.proofs.Common.{◌≡◌, ℕ, ◌+◌, ◌<◌, List, length, sum, take, get_or, refl, sym, ◌∙◌, arith}
 use Rattle.std.specs.List.{range_with_len}
 use Rattle.std.proofs.lemmas.Grind.{same_number_lists}
 use Rattle.std.proofs.lemmas.List.{length-map}
+use Rattle.std.proofs.lemmas.List.Sums.{sum_by_more}
 use Rattle.std.proofs.lemmas.List.FromFn.{get_or-map-range_with_len}
 use Rattle.race_model.specs.Files.{record_at, mean_of, play_of, share_of, mean_at, play_at, spread_at}
 use Rattle.certificate.specs.RecordNumbers.{shares_of}
@@ -25,6 +26,18 @@ pub get_or-shares_of : (bytes : List ℕ) (k : ℕ) → k < 23
 unfolding shares_of
 get_or-shares_of bytes k lt =
     get_or-map-range_with_len (share_of bytes) 0 23 k k 0 (omega arith) (omega arith)
+
+pub length-shares_of : (bytes : List ℕ) → length (shares_of bytes) ≡ 23
+unfolding shares_of
+length-shares_of bytes = length-map (range_with_len 0 23) (share_of bytes)
+
+-- the sum over one share more
+pub shares-more : (bytes : List ℕ) (k share : ℕ) → k < 23 → share ≡ share_of bytes k
+    → sum (take (k + 1) (shares_of bytes)) ≡ sum (take k (shares_of bytes)) + share
+shares-more bytes k share lt is =
+    let long = length-shares_of bytes in
+    let more = sum_by_more (λ x. x) (shares_of bytes) k 0 (omega (arith, long)) in
+    omega (arith, more, get_or-shares_of bytes k lt, is)
 
 -- 23 numbers that are these shares one by one
 pub are_shares : (xs bytes : List ℕ) → length xs ≡ 23

@@ -1,6 +1,6 @@
 -- The numbers of a record, and the mean and spread equations over sums of what is recorded for the
 -- rolls.
-use Rattle.std.specs.Prelude.{◌≡◌, ℕ, zero, suc, ◌+◌, ◌*◌, ◌<◌, ◌≤◌, List, map, slice_index}
+use Rattle.std.specs.Prelude.{◌≡◌, ℕ, zero, suc, ◌+◌, ◌*◌, ◌<◌, ◌≤◌, List, length, map, slice_index}
 use Rattle.std.specs.List.{range_with_len}
 use Rattle.race_model.specs.Positions.{Board, IsFinished}
 use Rattle.race_model.specs.Dice.{Throw}
@@ -11,6 +11,13 @@ use Rattle.fixed_fraction.specs.Totals.{Totals}
 -- the shares of 0 to 22 rolls in the bytes of a record
 unfoldable pub shares_of : List ℕ → List ℕ
 shares_of bytes = map (share_of bytes) (range_with_len 0 23)
+
+-- sums of means of at most 22 rolls and of shares of at most the whole, with a weight of at most 36
+pub record AreBounded (totals : Totals) : Type 0 where
+  pub len : length totals.shares ≡ 23
+  pub light : totals.weight ≤ 36
+  pub mean : totals.mean ≤ totals.weight * (22 * whole)
+  pub shares : (k : ℕ) → k < 23 → slice_index totals.shares k ≤ totals.weight * whole
 
 -- the mean of a record is that of these sums
 pub record IsMeanOf (x : Board) (mean : ℕ) (sums : Totals) : Type 0 where

@@ -5,13 +5,14 @@ ghost use Rattle.race_model.specs.Positions.{IsFinished};
 ghost use Rattle.race_model.specs.Files.{mean_of, share_of};
 ghost use Rattle.certificate.specs.RecordNumbers.{IsMeanOf, IsShareOf};
 
+use crate::record_sums::RecordSums;
 use db_layout::RecordView;
-use fixed_fraction::{Sums, WHOLE};
+use fixed_fraction::WHOLE;
 use home_board::Position;
 
 /// Whether the mean of a record is one roll and that of the sums, or no roll for the finished
 /// position.
-pub fn has_mean(position: &Position, view: &RecordView<'_>, sums: &Sums) -> bool
+pub fn has_mean(position: &Position, view: &RecordView<'_>, sums: &RecordSums) -> bool
     ensures { IsTrue result ↔ IsMeanOf position.now (mean_of view.now) sums.now }
 {
     let stored = view.mean();
@@ -23,7 +24,7 @@ pub fn has_mean(position: &Position, view: &RecordView<'_>, sums: &Sums) -> bool
 
 /// Whether the share of exactly `k` rolls is that of the sums at one roll fewer, or the whole at
 /// no roll for the finished position.
-fn has_share(position: &Position, view: &RecordView<'_>, sums: &Sums, k: u8) -> bool
+fn has_share(position: &Position, view: &RecordView<'_>, sums: &RecordSums, k: u8) -> bool
     requires { k ≤ 22 }
     ensures { IsTrue result ↔ IsShareOf position.now (share_of view.now) sums.now k }
 {
@@ -39,7 +40,7 @@ fn has_share(position: &Position, view: &RecordView<'_>, sums: &Sums, k: u8) -> 
 
 /// The least number of rolls whose share is not that of the sums; none where there is no such
 /// number.
-pub fn wrong_share(position: &Position, view: &RecordView<'_>, sums: &Sums) -> Option<u8>
+pub fn wrong_share(position: &Position, view: &RecordView<'_>, sums: &RecordSums) -> Option<u8>
     ensures right { IfNone result
         ((k : ℕ) → k ≤ 22 → IsShareOf position.now (share_of view.now) sums.now k) }
     ensures few { IfSome result (λ k. k ≤ 22) }

@@ -94,6 +94,8 @@ impl<const ROOM: usize> LowerRecords<ROOM> {
     }
 
     /// The best plays of the 21 rolls from the next position, by the means of lower ranks.
+    // a function of its own, since a browser makes a function fast only between two calls of it
+    #[inline(never)]
     pub fn best_plays(&mut self, ranks: &Ranks, position: &Position) -> [u16; 21]
         requires position { IsPosition position.now }
         requires low { pips position.now ≤ 58 }

@@ -17,6 +17,7 @@ mod numbers;
 mod plays;
 mod query_fault;
 mod record_check;
+mod record_sums;
 mod upgrade_fault;
 mod upgrading;
 
@@ -26,6 +27,3 @@ pub use lines::fault_line;
 pub use numbers::spread_in;
 pub use query_fault::QueryFault;
 pub use upgrade_fault::UpgradeFault;
-
-#[cfg(test)]
-mod tests;

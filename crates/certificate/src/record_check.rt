@@ -18,11 +18,12 @@ ghost use Rattle.certificate.specs.RecordFaults.{IsFirstFaultAt, of_record, Sums
 
 use crate::equations::{has_mean, wrong_share};
 use crate::kept::LowerRecords;
-use crate::numbers::{mean_in, spread_in};
+use crate::numbers::mean_in;
 use crate::plays::{PlayFault, check_recorded};
+use crate::record_sums::RecordSums;
 use db_layout::{Header, RecordView};
 use db_reader::{ReadFault, Record, Table};
-use fixed_fraction::{Sums, law_sums};
+use fixed_fraction::law_sums;
 use home_board::Position;
 use legal_plays::Roll;
 use race_model::laws;
@@ -69,7 +70,7 @@ pub enum RecordFault {
 
 /// Adds the numbers of a record with the weight of a roll, where an accepted record can hold
 /// them.
-fn add_numbers(sums: &mut Sums, roll: Roll, view: &RecordView<'_>) -> Result<(), ReadFault>
+fn add_numbers(sums: &mut RecordSums, roll: Roll, view: &RecordView<'_>) -> Result<(), ReadFault>
     requires { sums.old.weight + weight roll ≤ 36 }
     ensures added { OnOk result
         (IsAdded sums.old (weight roll) (mean_of view.now) (shares_of view.now) sums.new) }
@@ -77,9 +78,11 @@ fn add_numbers(sums: &mut Sums, roll: Roll, view: &RecordView<'_>) -> Result<(),
         (¬ ((mean_of view.now ≤ 22 * whole) × (sum (shares_of view.now) ≡ whole))) }
 {
     let mean = mean_in(view).ok_or(ReadFault)?;
-    let spread = spread_in(view).ok_or(ReadFault)?;
-    sums.add(roll.weight(), mean, &spread);
-    Ok(())
+    if sums.add(roll.weight(), mean, view) {
+        Ok(())
+    } else {
+        Err(ReadFault)
+    }
 }
 
 /// The sums of what is recorded for the 21 rolls, where each is the rank of a result with the
@@ -93,7 +96,7 @@ fn sum_plays<T: Table>(
     best: &[u16; 21],
     own: &Record,
     room: &mut Record,
-) -> Result<Sums, RefusedPlay>
+) -> Result<RecordSums, RefusedPlay>
     requires position { IsPosition position.now }
     requires short { pips position.now ≤ 58 }
     requires rank { rank ≡ rank_of position.now }
@@ -120,7 +123,7 @@ fn sum_plays<T: Table>(
         (λ _. SumsCounted (T.failures table.old) (T.failures table.new) result) }
 {
     law_sums();
-    let mut sums = Sums::new();
+    let mut sums = RecordSums::new();
     for index in 0..21 {
         let roll = Roll::from_index(index).unwrap();
         let recorded = table.lend(rank, own).play(roll);
@@ -144,6 +147,8 @@ fn sum_plays<T: Table>(
 /// Tests the record of a rank of a table in which each record of lower rank was accepted, and
 /// keeps of it what the records of higher rank are tested by, where there is room for the
 /// means of so many ranks.
+// a function of its own, since a browser makes a function fast only between two calls of it
+#[inline(never)]
 pub fn check_record<T: Table, const ROOM: usize>(
     table: &mut T,
     ranks: &Ranks,
