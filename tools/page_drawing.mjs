@@ -1,6 +1,7 @@
 // What the page's script draws, and what it reads from an address, under node. Says what went wrong, and fails.
 import { board, miniature, pressed } from "../web/board.js";
-import { abilities, bytesOf } from "../web/client.js";
+import { abilities } from "../web/client.js";
+import { bytesOf } from "../web/packed.js";
 import { decimal, notation, percent } from "../web/engine.js";
 import { MOST_KEPT, readLink, readPoints, START, writeLink } from "../web/link.js";
 import { byLoss, chances, kept, numbers, plays, rolls, verdict } from "../web/panels.js";

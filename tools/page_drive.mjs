@@ -197,7 +197,8 @@ async function driveWider(browser) {
     await page.until('location.hash.includes("pips=58")', 3000).catch(() => wrong("the address doesn't say 58"));
 }
 
-// A browser without memories of 64-bit addresses gets the narrowed module; one without WebAssembly is told so.
+// A browser without memories of 64-bit addresses gets the narrowed module; one without WebAssembly, or without workers,
+// is told so, and has the board all the same.
 async function driveOlder(browser) {
     const older = "const validate = WebAssembly.validate; WebAssembly.validate = (bytes) => bytes.length === 8 && validate(bytes); delete window.DecompressionStream;";
     const page = await browser.open(`${address}#at=7,4,2,0,0,0`, { before: older });
@@ -207,6 +208,9 @@ async function driveOlder(browser) {
     const oldest = await browser.open(address, { before: "delete window.WebAssembly;" });
     await oldest.until('!document.getElementById("trouble").hidden');
     equal("no WebAssembly", await oldest.value('document.getElementById("trouble").textContent.includes("no WebAssembly")'), true);
+    const alone = await browser.open(address, { before: "delete window.Worker;" });
+    await alone.until('!document.getElementById("trouble").hidden && document.querySelector("[role=spinbutton]")');
+    equal("no workers", await alone.value('document.getElementById("trouble").textContent.startsWith("Nothing can be computed")'), true);
 }
 
 async function takePictures(browser) {

@@ -1,5 +1,5 @@
 // The page: its state, what is clicked, and what is drawn again.
-import { abilities, bytesOf, Client, unpacked } from "./client.js";
+import { abilities, Client } from "./client.js";
 import { board } from "./board.js";
 import { decimal, FAULTS } from "./engine.js";
 import { MOST_KEPT, readLink, readPoints, writeLink } from "./link.js";
@@ -251,20 +251,22 @@ export function start(document, window, parts) {
         at("promises").addEventListener("click", () => at("proved").showModal());
     }
 
+    // Starts the worker, which compiles and builds while the page is drawn; says so where nothing can be computed.
+    function begin() {
+        const able = abilities(window.WebAssembly);
+        if (able === "none") throw new Error("this browser runs no WebAssembly; one of the last few years can");
+        state.client = new Client(parts.worker, (step) => bar.show(step));
+        load({ kind: "start", module: { text: parts[able], isPacked: able === "wide" }, bound: state.bound });
+    }
+
+    try {
+        begin();
+    } catch (error) {
+        complain(`Nothing can be computed here: ${error.message}.`);
+        bar.show(null);
+    }
     drawLesson();
     drawKept();
     listen();
-    const able = abilities(window.WebAssembly);
-    if (able === "none") {
-        complain("This browser runs no WebAssembly, so nothing can be computed here. "
-            + "A browser of the last few years can.");
-        bar.show(null);
-        return state;
-    }
-    state.client = new Client(parts.worker, (step) => bar.show(step));
-    const modules = able === "wide" ? unpacked(bytesOf(parts.wide)) : Promise.resolve(bytesOf(parts.narrow));
-    modules.then((module) => state.client.ask({ kind: "start", module }))
-        .then(() => load({ kind: "build", bound: state.bound }))
-        .catch((error) => complain(`This didn't work: ${error.message}.`));
     return state;
 }

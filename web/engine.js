@@ -123,20 +123,27 @@ export class Engine {
         return this.scratch + place;
     }
 
-    // Builds the database of a bound with the proved builder. The bytes are a copy.
+    // Builds the database of a bound with the proved builder. The bytes lie in the module's memory.
     build(bound, room = ROOMS[bound > 44 ? 58 : 44]) {
         const work = this.take(room);
         const front = this.take(room);
         const length = BigInt(room);
         const filled = this.call("bearoff_build", 64, bound, BigInt(work), length, BigInt(front), length);
         const count = Number(this.view().getBigUint64(filled, true));
-        return this.bytes(front, count).slice();
+        return this.bytes(front, count);
+    }
+
+    // Where the bytes of a file lie in the module's memory; a file that lies elsewhere is copied there.
+    placeOf(file) {
+        if (file.buffer === this.exports.memory.buffer) return file.byteOffset;
+        const start = this.take(file.length || 1);
+        this.bytes(start, file.length).set(file);
+        return start;
     }
 
     // Checks a file with the proved checker. A refusal has the status and the line of the first fault.
     open(file) {
-        const start = this.take(file.length || 1);
-        this.bytes(start, file.length).set(file);
+        const start = this.placeOf(file);
         const line = BigInt(this.scratch + 64);
         const needed = BigInt(this.scratch + 128);
         const status = this.exports.bearoff_open(

@@ -1,5 +1,6 @@
 // What the worker does: it builds, checks and answers, so that the page never stands still.
 import { Engine, Refused } from "./engine.js";
+import { bytesOf, unpacked } from "./packed.js";
 
 // Every roll, the higher die first.
 export const ROLLS = Array.from({ length: 6 }, (_, high) =>
@@ -33,7 +34,9 @@ export function rollsOf(engine, points) {
 
 // One desk of the worker: the compiled module, and the engine of the open database.
 export class Desk {
-    static async at(bytes, tell) {
+    // A desk with the module that a page carries.
+    static async at({ text, isPacked }, tell) {
+        const bytes = isPacked ? await unpacked(bytesOf(text)) : bytesOf(text);
         return new Desk(await WebAssembly.compile(bytes), tell);
     }
 
@@ -47,15 +50,18 @@ export class Desk {
     async build(bound) {
         const usual = bound > 44 ? 800 : 400;
         this.tell({ from: 0.1, until: 0.55, usual, text: `Building the database of ${bound} pips\u2026` });
-        const builder = await Engine.start(this.module);
-        const file = builder.build(bound);
+        const engine = await Engine.start(this.module);
+        const file = engine.build(bound);
         this.tell({ from: 0.55, until: 1, usual, text: `Checking all of its ${(file.length / 1e6).toFixed(0)} MB\u2026` });
-        return this.open(file);
+        return this.openIn(engine, file);
     }
 
     // Checks a file and opens it; where it is refused the database that was open stays so.
     async open(file) {
-        const engine = await Engine.start(this.module);
+        return this.openIn(await Engine.start(this.module), file);
+    }
+
+    openIn(engine, file) {
         engine.open(file);
         this.engine = engine;
         return { bound: engine.bound, positions: engine.positions };
@@ -80,7 +86,8 @@ export class Desk {
     }
 }
 
-// Answers the messages of a page, one after the other.
+// Answers the messages of a page, one after the other. The first one has the module, and a bound to build: so nothing
+// waits for the page, which draws meanwhile.
 export function serve(scope) {
     let desk = null;
     let last = Promise.resolve();
@@ -89,7 +96,7 @@ export function serve(scope) {
             if (question.kind === "start") {
                 const tell = (step) => scope.postMessage({ step });
                 desk = await Desk.at(question.module, tell);
-                scope.postMessage({ number, reply: true });
+                scope.postMessage({ number, reply: await desk.build(question.bound) });
                 return;
             }
             scope.postMessage({ number, reply: await desk.take(question) });
