@@ -1,5 +1,5 @@
 -- What is asked of a header, in order. Source: this project's profile.
-use Rattle.std.specs.Prelude.{◌≡◌, ℕ, ◌+◌, ◌*◌, ◌<◌, ◌≤◌, List, length, replicate, codes}
+use Rattle.std.specs.Prelude.{◌≡◌, ℕ, ◌<◌, ◌≤◌, List, length, replicate, codes}
 use Rattle.std.specs.Int.{w16, w32, from_be_bytes}
 use Rattle.race_model.specs.Ranks.{count_to}
 use Rattle.race_model.specs.Versions.{version_number, greatest_bound, stated_length}

@@ -1,5 +1,5 @@
 -- A file begins with a header exactly where all questions about its header are answered yes.
-use Rattle.std.proofs.Common.{◌≡◌, ◌⊎◌, ⊎_elim, ℕ, ◌+◌, ◌*◌, ◌^◌, ◌<◌, ◌≤◌, List, ◌++◌, length, get_or, take, drop, replicate, codes, refl, ap, ap₂, sym, subst, ◌∙◌, arith, length-take, length-drop, take-take}
+use Rattle.std.proofs.Common.{◌≡◌, ◌⊎◌, ⊎_elim, ℕ, ◌+◌, ◌^◌, ◌<◌, ◌≤◌, List, ◌++◌, length, get_or, take, drop, replicate, codes, refl, ap, ap₂, sym, subst, ◌∙◌, arith, length-take, take-take}
 use Rattle.std.specs.Int.{w16, w32, from_be_bytes, to_be_bytes}
 use Rattle.std.proofs.Math.Seq.{take-add}
 use Rattle.std.proofs.lemmas.List.{drop-take, get_or-take, get_or-drop, get_or_past}

@@ -1,6 +1,6 @@
 -- The best of some positions: what a throw or a run leads to has lower ranks, so the best goes by
 -- the means of lower ranks alone, and at the end it is rank 0.
-use Rattle.std.proofs.Common.{◌≡◌, ◌⊎◌, inl, inr, ⊎_elim, ℕ, ◌<◌, ◌≤◌, List, ◌∷◌, sym, ap, subst, ◌∙◌, arith}
+use Rattle.std.proofs.Common.{◌≡◌, ⊎_elim, ℕ, ◌<◌, List, ◌∷◌, sym, ap, subst, ◌∙◌, arith}
 use Rattle.race_model.specs.Positions.{Board, IsPosition, IsFinished}
 use Rattle.race_model.specs.Dice.{Die, Throw}
 use Rattle.race_model.specs.Plays.{Run, Legal}

@@ -1,9 +1,8 @@
 -- Where the records of a file stand: each behind the one before it.
-use Rattle.std.proofs.Common.{◌≡◌, ◌⊎◌, ⊎_elim, ℕ, zero, suc, ◌+◌, ◌-◌, ◌*◌, ◌<◌, ◌≤◌, List, ◌∷◌, length, drop, sum_by, refl, ap, sym, subst, ◌∙◌, arith, le_trans, le_of_eq, length-take, length-drop}
+use Rattle.std.proofs.Common.{◌≡◌, ℕ, zero, suc, ◌+◌, ◌-◌, ◌*◌, ◌<◌, ◌≤◌, List, length, drop, sum_by, refl, ap, sym, ◌∙◌, arith, le_trans, le_of_eq, length-take, length-drop}
 use Rattle.std.proofs.lemmas.List.Sums.{sum_by-cons}
 use Rattle.race_model.specs.Positions.{pips}
 use Rattle.race_model.specs.Ranks.{at_rank, count_to, numbers_from}
-use Rattle.race_model.specs.Horizon.{most_rolls}
 use Rattle.race_model.specs.Versions.{Version, full, compact, record_length}
 use Rattle.race_model.specs.Files.{bytes_at, version_of, bound_of, record_place, IsFile, stored_at}
 use Rattle.race_model.proofs.Strategies.Horizons.{most_rolls-most}

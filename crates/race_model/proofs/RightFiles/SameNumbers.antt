@@ -1,10 +1,10 @@
 -- A file that holds the numbers of a right file is right, and so is the upgrade of one.
-use Rattle.std.proofs.Common.{◌≡◌, ℕ, zero, suc, ◌+◌, ◌*◌, ◌≤◌, ◌↔◌, List, refl, sym, ap, subst, subst₂, ◌∙◌, arith, le_trans}
+use Rattle.std.proofs.Common.{◌≡◌, ℕ, zero, suc, ◌+◌, ◌*◌, ◌≤◌, List, refl, sym, ap, subst, subst₂, ◌∙◌, arith, le_trans}
 use Rattle.race_model.specs.Positions.{Board, IsPosition, pips}
 use Rattle.race_model.specs.Dice.{Throw, all_rolls, weight}
 use Rattle.race_model.specs.Plays.{Legal}
 use Rattle.race_model.specs.Ranks.{rank, at_rank}
-use Rattle.race_model.specs.Files.{IsFile, bound_of, mean, mean_at, play, spread, spread_at}
+use Rattle.race_model.specs.Files.{IsFile, bound_of, mean_at, play, spread_at}
 use Rattle.race_model.specs.LocalEquations.{whole, recorded, IsPlayed, HasShare, IsLocalAt}
 use Rattle.race_model.specs.RightFiles.{IsRight}
 use Rattle.race_model.specs.SameNumbers.{HasSameNumbers}
