@@ -128,38 +128,3 @@ fn weighted_share(parts: &[(u8, Spread); 21], k: u8) -> u128
     }
     total
 }
-
-#[cfg(test)]
-mod tests {
-    use super::*;
-    use std::test::Fail;
-
-    // 1 for a double and 2 for each other roll
-    const WEIGHTS: [u8; 21] = [
-        1, 2, 1, 2, 2, 1, 2, 2, 2, 1, 2, 2, 2, 2, 1, 2, 2, 2, 2, 2, 1,
-    ];
-
-    // the parts of 21 rolls that all lead to one spread
-    fn parts(spread: Spread) -> [(u8, Spread); 21]
-        ensures { sum_by (λ part. part.0) result ≡ 36 }
-    {
-        WEIGHTS.map(|weight| (weight, spread))
-    }
-
-    #[test]
-    fn pulls(rt: HostRuntime) -> Result<(), Fail> {
-        let mut shares = [0; 23];
-        assert_eq!(rt; Spread::new(shares), None);
-        shares[1] = WHOLE;
-        assert_eq!(rt;
-            Spread::pull(&parts(Spread::finished())),
-            Spread::new(shares)
-        );
-        shares[1] = 0;
-        shares[22] = WHOLE;
-        let latest = Spread::new(shares).ok_or("not a whole")?;
-        assert_eq!(rt; Spread::pull(&parts(latest)), None);
-        assert_eq!(rt; (latest.at(22), latest.at(23)), (WHOLE, 0));
-        Ok(())
-    }
-}

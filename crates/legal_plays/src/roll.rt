@@ -100,31 +100,3 @@ impl Roll {
         if self.high == self.low { 1 } else { 2 }
     }
 }
-
-#[cfg(test)]
-mod tests {
-    use super::*;
-    use crate::parse_roll;
-    use std::test::Fail;
-
-    #[test]
-    fn indexes_and_weights(rt: HostRuntime) -> Result<(), Fail> {
-        let rows: [(&[u8], u8, u8); 6] = [
-            (b"11", 0, 1),
-            (b"12", 1, 2),
-            (b"22", 2, 1),
-            (b"31", 3, 2),
-            (b"45", 13, 2),
-            (b"66", 20, 1),
-        ];
-        for (text, index, weight) in rows {
-            let roll = parse_roll(text).ok_or("no roll")?;
-            assert_eq!(rt; roll.index(), index);
-            assert_eq!(rt; roll.weight(), weight);
-            assert_eq!(rt; Roll::from_index(index), Some(roll));
-        }
-        assert_eq!(rt; parse_roll(b"70"), None);
-        assert_eq!(rt; Roll::from_index(21), None);
-        Ok(())
-    }
-}

@@ -1,7 +1,7 @@
 -- The next rank is the one of the loop.
 use Rattle.std.proofs.Common.{slice_index}
 use Rattle.least_plays.specs.Known.{Knows}
-use Rattle.least_plays.proofs.room.tests.plays_to_8_pips.Given as goal
+use Rattle.unit_tests.proofs.least.plays_to_8_pips.Given as goal
 
 -- what is known so far
 abbrev pub invariant-loop-rank : goal.invariant-loop-rank

@@ -1,5 +1,5 @@
 use Rattle.std.proofs.Common.{◌≤◌}
-use Rattle.plain_model.proofs.plays.tests.different.Given as goal
+use Rattle.unit_tests.proofs.plain.different.Given as goal
 
 -- no more than the positions passed
 abbrev pub invariant-loop-place : goal.invariant-loop-place
