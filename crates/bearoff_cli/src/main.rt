@@ -43,6 +43,3 @@ fn words_of(rt: &(impl env::Env + AllocGlobal)) -> Result<Vec<String>, Fault> {
     }
     Ok(words)
 }
-
-#[cfg(test)]
-mod tests;

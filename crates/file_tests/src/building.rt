@@ -88,20 +88,6 @@ fn bytes_of_compact_0_and_1(rt: HostRuntime) -> Result<(), Fail> {
 }
 
 #[test]
-fn sizes(rt: HostRuntime) {
-    for (bound, size) in [(0, 458), (1, 884), (8, 27296)] {
-        let mut bytes = Vec::new(rt.alloc());
-        assert_eq!(rt; build(rt.alloc(), bound, &mut bytes), Ok(()));
-        assert_eq!(rt; bytes.len(), size, "of {bound} pips");
-    }
-    for (bound, size) in [(0, 90), (1, 164), (2, 344), (3, 614), (8, 7696)] {
-        let mut bytes = Vec::new(rt.alloc());
-        assert_eq!(rt; build_compact(rt.alloc(), bound, &mut bytes), Ok(()));
-        assert_eq!(rt; bytes.len(), size, "compact of {bound} pips");
-    }
-}
-
-#[test]
 fn over_the_greatest_bound(rt: HostRuntime) {
     let mut bytes = Vec::new(rt.alloc());
     for bound in [59, 255] {
@@ -159,25 +145,6 @@ fn rooms_that_are_lent(rt: HostRuntime) -> Result<(), Fail> {
         assert!(rt; grown.as_slice().starts_with(bytes.as_slice()));
     }
     Ok(())
-}
-
-// Two bytes behind the first eight state the version.
-#[test]
-fn version_by_bound(rt: HostRuntime) {
-    for (bound, version) in [(0, 1), (44, 1), (45, 2), (58, 2)] {
-        let mut writer = RefuseAt::new(rt.alloc(), usize::MAX, 2, Refusal::Fails);
-        assert_eq!(rt;
-            build(rt.alloc(), bound, &mut writer),
-            Err(BuildFault::Write)
-        );
-        assert_eq!(rt; writer.written.get(9), Some(&version), "of {bound} pips");
-        let mut writer = RefuseAt::new(rt.alloc(), usize::MAX, 2, Refusal::Fails);
-        assert_eq!(rt;
-            build_compact(rt.alloc(), bound, &mut writer),
-            Err(BuildFault::Write)
-        );
-        assert_eq!(rt; writer.written.get(9), Some(&2), "compact of {bound} pips");
-    }
 }
 
 /// The recorded mean of a rank, in a database with this header.

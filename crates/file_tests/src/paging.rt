@@ -3,10 +3,9 @@
 ghost use Rattle.std.specs.Prelude.{ℕ};
 
 use crate::given::{accepted, assert_replies, compact_database, database, pages, put};
-use certificate::{CheckFault, QueryFault, check};
+use certificate::{CheckFault, check};
 use db_reader::trial::FailOnce;
 use db_reader::{FileSource, Paged, PagedFault, SliceSource, Source, SourceFault, Whole};
-use home_board::Position;
 use std::process::Abort;
 use std::rt::Files;
 use std::test::Fail;
@@ -126,20 +125,14 @@ fn assert_source(
 ) -> Result<(), Fail> {
     let mut source = FileSource::new(fs::open(rt, path)?);
     assert_eq!(rt; source.length()?, file.len() as u64);
-    let (header, records) = file.split_at(file.len().min(32));
-    let mut front = [0; 32];
-    source.read_at(0, &mut front)?;
-    assert!(rt; front.as_slice() == header);
-    let mut place = 32;
-    for record in records.chunks_exact(426) {
-        let mut read = [0; 426];
+    let mut place: u64 = 0;
+    for byte in file {
+        let mut read = [0];
         source.read_at(place, &mut read)?;
-        assert!(rt; read.as_slice() == record);
-        place = place.saturating_add(426);
+        assert_eq!(rt; read[0], *byte);
+        place = place.saturating_add(1);
     }
-    assert_eq!(rt; place, file.len() as u64);
-    let mut beyond = [0];
-    assert!(rt; source.read_at(place, &mut beyond).is_err());
+    assert!(rt; source.read_at(place, &mut [0]).is_err());
     accepted(pages(rt.alloc(), source, 3)?)?;
     Ok(())
 }
@@ -155,42 +148,6 @@ fn a_file_is_read_byte_for_byte(rt: HostRuntime) -> Result<(), Fail> {
     for file in [tied, database(rt.alloc(), 8)?] {
         fs::write(&rt, path, file.as_slice())?;
         assert_source(&rt, path, file.as_slice())?;
-    }
-    fs::remove_file(&rt, path)?;
-    Ok(())
-}
-
-#[test]
-fn a_file_that_changed_is_no_number(rt: HostRuntime) -> Result<(), Fail> {
-    let folder = env::temp_dir(&rt)?;
-    let folder = folder.as_str();
-    let path = format!(in rt.alloc(); "{folder}/garombyi-test-changed.db")?;
-    let path = path.as_str();
-    let file = database(rt.alloc(), 3)?;
-    for shrinks in [false, true] {
-        fs::write(&rt, path, file.as_slice())?;
-        let source = FileSource::new(fs::open(&rt, path)?);
-        let mut checked = accepted(pages(rt.alloc(), source, 1)?)?;
-        if shrinks {
-            fs::write(&rt, path, b"")?;
-        } else {
-            let mut changed = file.clone()?;
-            for byte in changed.iter_mut().skip(32) {
-                *byte = 0xff;
-            }
-            fs::write(&rt, path, changed.as_slice())?;
-        }
-        let mut is_told = false;
-        for counts in [[1, 0, 0, 0, 0, 0], [0, 1, 0, 0, 0, 0]] {
-            match checked.mean(&Position::new(counts)?) {
-                Ok(mean) => assert!(rt; mean.numerator() == 1 && mean.denominator() == 1),
-                Err(fault) => {
-                    assert!(rt; fault == QueryFault::Read);
-                    is_told = true;
-                }
-            }
-        }
-        assert!(rt; is_told);
     }
     fs::remove_file(&rt, path)?;
     Ok(())

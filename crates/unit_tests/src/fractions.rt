@@ -99,11 +99,12 @@ fn pulls_of_means(rt: HostRuntime) -> Result<(), Fail> {
 fn differences(rt: HostRuntime) -> Result<(), Fail> {
     assert_eq!(rt; WHOLE, 17324272922341479351919144385642496);
     assert_eq!(rt; Scaled::new(MOST + 1), None);
-    let least = Scaled::new(43).ok_or("over 22 rolls")?;
-    let other = Scaled::new(47).ok_or("over 22 rolls")?;
-    assert_eq!(rt; other.minus(least), Scaled::new(4));
-    assert_eq!(rt; least.minus(least), Some(Scaled::ZERO));
-    assert_eq!(rt; least.minus(other), None);
+    for (greater, less, expected) in [(47, 43, Some(4)), (43, 43, Some(0)), (43, 47, None)] {
+        let greater = Scaled::new(greater).ok_or("over 22 rolls")?;
+        let less = Scaled::new(less).ok_or("over 22 rolls")?;
+        let difference = greater.minus(less);
+        assert_eq!(rt; difference.map(|it| it.numerator()), expected);
+    }
     Ok(())
 }
 

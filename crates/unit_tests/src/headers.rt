@@ -166,24 +166,39 @@ fn lengths_of_files(rt: HostRuntime) -> Result<(), Fail> {
     Ok(())
 }
 
+/// The shares that a view of these bytes tells for so many pips.
+fn shares_of(bytes: &[u8], pips: u8) -> Result<[u128; 25], Fail> {
+    let header = Header::new(2, 58).ok_or("no header")?;
+    let seen = RecordView::of(bytes, &header, pips).ok_or("no record")?;
+    let mut shares = [0; 25];
+    for (k, share) in (0..).zip(&mut shares) {
+        *share = seen.spread(k);
+    }
+    Ok(shares)
+}
+
 #[test]
 fn shares_that_are_not_stored(rt: HostRuntime) -> Result<(), Fail> {
-    let header = Header::new(2, 58).ok_or("no header")?;
-    let whole = Spread::finished();
-    assert!(rt; header.holds(0, &whole));
-    assert!(rt; !header.holds(1, &whole));
-    assert!(rt; Header::new(1, 44).ok_or("no header")?.holds(1, &whole));
     let mut bytes = [0xff; 90];
+    bytes[58..].copy_from_slice(&[0; 32]);
     bytes[73] = 5;
     bytes[89] = 7;
-    let seen = RecordView::of(&bytes, &header, 2).ok_or("no record")?;
-    assert_eq!(rt; seen.spread(0), 0);
-    assert_eq!(rt; seen.spread(1) & 0xff, 5);
-    assert_eq!(rt; seen.spread(2) & 0xff, 7);
-    assert_eq!(rt; seen.spread(3), 0);
-    let end = RecordView::of(&bytes[..58], &header, 0).ok_or("no record")?;
-    assert_eq!(rt; end.spread(0), WHOLE);
-    assert_eq!(rt; end.spread(1), 0);
-    assert_eq!(rt; end.spread(23), 0);
+    let mut expected = [0; 25];
+    expected[1] = 5;
+    expected[2] = 7;
+    assert_eq!(rt; shares_of(&bytes, 2)?, expected);
+    let mut whole = [0; 25];
+    whole[0] = WHOLE;
+    assert_eq!(rt; shares_of(&bytes[..58], 0)?, whole);
+    Ok(())
+}
+
+#[test]
+fn spreads_that_a_record_holds(rt: HostRuntime) -> Result<(), Fail> {
+    let whole = Spread::finished();
+    for (version, pips, holds) in [(2, 0, true), (2, 1, false), (1, 1, true)] {
+        let header = Header::new(version, 44).ok_or("no header")?;
+        assert_eq!(rt; header.holds(pips, &whole), holds);
+    }
     Ok(())
 }

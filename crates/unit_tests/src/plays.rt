@@ -16,12 +16,10 @@ fn indexes_and_weights(rt: HostRuntime) -> Result<(), Fail> {
     ];
     for (text, index, weight) in rows {
         let roll = parse_roll(text).ok_or("no roll")?;
-        assert_eq!(rt; roll.index(), index);
-        assert_eq!(rt; roll.weight(), weight);
+        assert_eq!(rt; (roll.index(), roll.weight()), (index, weight));
         assert_eq!(rt; Roll::from_index(index), Some(roll));
     }
-    assert_eq!(rt; parse_roll(b"70"), None);
-    assert_eq!(rt; Roll::from_index(21), None);
+    assert_eq!(rt; (parse_roll(b"70"), Roll::from_index(21)), (None, None));
     Ok(())
 }
 

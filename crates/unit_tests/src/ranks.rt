@@ -57,12 +57,13 @@ fn ranks_of_positions(rt: HostRuntime) -> Result<(), Fail> {
     let ranks = Ranks::new();
     for (counts, rank) in RANKS {
         let position = Position::new(counts)?;
-        assert_eq!(rt; ranks.rank(&position), rank);
+        assert_eq!(rt;
+            (ranks.rank(&position), rank_by_counting(&position)),
+            (rank, u32::from(rank))
+        );
         assert_eq!(rt; ranks.unrank(rank), Some(position), "rank {rank}");
-        assert_eq!(rt; rank_by_counting(&position), u32::from(rank));
     }
-    assert_eq!(rt; ranks.unrank(54264), None);
-    assert_eq!(rt; ranks.unrank(65535), None);
+    assert_eq!(rt; (ranks.unrank(54264), ranks.unrank(65535)), (None, None));
     Ok(())
 }
 

@@ -25,13 +25,14 @@ fn a_record_read_again(rt: HostRuntime) -> Result<(), Fail> {
     let mut bytes = Vec::new(rt.alloc());
     assert!(rt; write_record(&header, 0, mean, &plays, &Spread::finished(), &mut bytes).is_ok());
     let seen = RecordView::of(bytes.as_slice(), &header, 0).ok_or("no record")?;
-    assert_eq!(rt; seen.mean(), 12345678901234567890);
     for (index, play) in [(0, 0), (1, 258), (19, 0), (20, 54263)] {
         let roll = Roll::from_index(index).ok_or("no roll")?;
         assert_eq!(rt; seen.play(roll), play);
     }
-    assert_eq!(rt; seen.spread(0), WHOLE);
-    assert_eq!(rt; seen.spread(22), 0);
+    assert_eq!(rt;
+        (seen.mean(), seen.spread(0), seen.spread(22)),
+        (12345678901234567890, WHOLE, 0)
+    );
     Ok(())
 }
 
