@@ -1,0 +1,40 @@
+-- Why the program ends, by what a call was refused for (this project's profile).
+use Rattle.certificate.specs.declared.check_fault.CheckFault.{CheckFault}
+use Rattle.certificate.specs.declared.check_fault.CheckFault.TheVariants.{Header, Play, NotLeast, Mean, Spread, Read as TableRead}
+use Rattle.certificate.specs.declared.upgrade_fault.UpgradeFault.{UpgradeFault}
+use Rattle.certificate.specs.declared.upgrade_fault.UpgradeFault.TheVariants.{NotOld as IsNotOld, Read as OldRead, Write as NewWrite}
+use Rattle.retrograde.specs.declared.build_fault.BuildFault.{BuildFault}
+use Rattle.retrograde.specs.declared.build_fault.BuildFault.TheVariants.{OverBound as IsOverBound, Memory as NoMemory, Write as FileWrite}
+use Rattle.epc_query.specs.declared.run_fault.RunFault.{RunFault}
+use Rattle.epc_query.specs.declared.run_fault.RunFault.TheVariants.{Read as InputRead, Write as OutputWrite, Table, Memory as NoMemoryLeft, Turns as NoTurns}
+use Rattle.exit_status.specs.declared.fault.Fault.{Fault}
+use Rattle.exit_status.specs.declared.fault.Fault.TheVariants.{File, Read, Write, Memory, Turns, OverBound, Refused, NotOld}
+
+-- a database is refused for what it holds; where it could not be read, the file failed
+abbrev pub of_check : CheckFault → Fault
+of_check (Header fault) = Refused (Header fault)
+of_check (Play rank roll) = Refused (Play rank roll)
+of_check (NotLeast rank roll) = Refused (NotLeast rank roll)
+of_check (Mean rank) = Refused (Mean rank)
+of_check (Spread rank k) = Refused (Spread rank k)
+of_check TableRead = File
+
+-- the refusals of the builder
+abbrev pub of_build : BuildFault → Fault
+of_build IsOverBound = OverBound
+of_build NoMemory = Memory
+of_build FileWrite = Write
+
+-- the refusals of an upgrade
+abbrev pub of_upgrade : UpgradeFault → Fault
+of_upgrade IsNotOld = NotOld
+of_upgrade OldRead = File
+of_upgrade NewWrite = Write
+
+-- the refusals of `run`: standard input and output, and the file of the table
+abbrev pub of_run : RunFault → Fault
+of_run InputRead = Read
+of_run OutputWrite = Write
+of_run Table = File
+of_run NoMemoryLeft = Memory
+of_run NoTurns = Turns

@@ -1,0 +1,21 @@
+-- The line of each fault of the program (this project's profile).
+use Rattle.std.specs.Prelude.{ℕ, List, ◌++◌, codes}
+use Rattle.certificate.specs.CheckFaults.{line_of}
+use Rattle.exit_status.specs.declared.fault.Fault.{Fault}
+use Rattle.exit_status.specs.declared.fault.Fault.TheVariants.{Open, File, Read, Write, Memory, Turns, OverBound, Refused, NotOld}
+
+-- the word of a fault; that of a refused database is followed by the fault of the database
+abbrev pub word_of : Fault → List ℕ
+word_of Open = codes "open"
+word_of File = codes "file"
+word_of Read = codes "read"
+word_of Write = codes "write"
+word_of Memory = codes "memory"
+word_of Turns = codes "turns"
+word_of OverBound = codes "over-bound"
+word_of (Refused fault) = codes "refused " ++ line_of fault
+word_of NotOld = codes "not-old"
+
+-- what is written to standard error
+abbrev pub error_line : Fault → List ℕ
+error_line fault = codes "bearoff: " ++ word_of fault ++ codes "\n"
