@@ -1,4 +1,14 @@
 //! The whole program, over the files of a system, a reader and two writers.
+ghost use Rattle.std.specs.Prelude.{◌≡◌, ℕ, ◌<◌, List, length, Some, Ok, IfOk, IfErr, OnOk};
+ghost use Rattle.race_model.specs.RightFiles.{IsRight};
+ghost use Rattle.db_reader.specs.Telling.{WhereTold};
+ghost use Rattle.db_layout.specs.Writes.{AppendsPart};
+ghost use Rattle.exit_status.specs.Lines.{error_line};
+ghost use Rattle.exit_status.specs.Statuses.{status_of};
+ghost use Rattle.exit_status.specs.declared.fault.Fault.{Fault};
+ghost use Rattle.command_line.specs.declared.words.Request.TheVariants.{Default};
+ghost use Rattle.bearoff_cli.specs.InputAnswers.{AreAnswered, AreAnsweredOver};
+
 use crate::files::{build_file, flush, read_file, upgrade_file};
 use arrayvec::ArrayString;
 use certificate::{CheckFault, Checked, check};
@@ -26,12 +36,12 @@ const DEFAULT_BOUND: u8 = 8;
 const TURNS: u64 = 1 << 40;
 
 /// The whole program: does what the words (those after the program's own name) ask for, and gives
-/// the exit status. 0: done; 1: a file, the input, an output or memory failed; 2: the words are
+/// the exit status. With no words it answers each line of the input over the database of 8 pips,
+/// which it builds. 0: done; 1: a file, the input, an output or memory failed; 2: the words are
 /// wrong, or the bound is over the greatest one; 3: the database was refused, or is to be upgraded
 /// and is no old one. At 1 and 3, and for a bound over the greatest one, one line is written to
-/// `errors`; for words that are wrong it is the text of `clap`. Where the database was refused
-/// nothing was written to `output`. (The words, the statuses and the lines are this project's
-/// profile.)
+/// `errors`; for words that are wrong it is the text of `clap`. At 3 nothing was written to
+/// `output`. (The words, the statuses and the lines are this project's profile.)
 pub fn act<R: Files, S: AsStr, I: Read, O: Write, E: Write>(
     rt: &R,
     alloc: Global,
@@ -39,7 +49,15 @@ pub fn act<R: Files, S: AsStr, I: Read, O: Write, E: Write>(
     input: &mut I,
     output: &mut O,
     errors: &mut E,
-) -> u8 {
+) -> u8
+    ensures silent { result ≡ 0 → E.contents errors.new ≡ E.contents errors.old }
+    ensures told { 0 < result → ¬ (result ≡ 2) → (fault : Fault) × ((result ≡ status_of fault)
+        × AppendsPart (E.contents errors.old) (E.contents errors.new) (error_line fault)) }
+    ensures refused { result ≡ 3 → O.contents output.new ≡ O.contents output.old }
+    ensures answers { length words.now ≡ 0 → result ≡ 0 → WhereTold (I.remaining input.old)
+        (λ given. AreAnsweredOver 8 given (I.remaining input.new)
+        (O.contents output.old) (O.contents output.new)) }
+{
     let done = match read_words(alloc, words) {
         Ok(request) => fulfil(rt, alloc, request, input, output),
         Err(error) if error.kind() == ErrorKind::OutOfMemory => Err(Fault::Memory),
@@ -59,7 +77,9 @@ pub fn act<R: Files, S: AsStr, I: Read, O: Write, E: Write>(
 }
 
 /// Writes a help text or the version.
-fn write_help<O: Write>(error: &Error, output: &mut O) -> Result<(), Fault> {
+fn write_help<O: Write>(error: &Error, output: &mut O) -> Result<(), Fault>
+    ensures { IfErr result (λ fault. status_of fault ≡ 1) }
+{
     match write!(output, "{error}") {
         Ok(()) => Ok(()),
         Err(_) => Err(Fault::Write),
@@ -73,7 +93,13 @@ fn fulfil<R: Files, I: Read, O: Write>(
     request: Request<'_>,
     input: &mut I,
     output: &mut O,
-) -> Result<(), Fault> {
+) -> Result<(), Fault>
+    ensures refused { IfErr result (λ fault. status_of fault ≡ 3
+        → O.contents output.new ≡ O.contents output.old) }
+    ensures answers { request.entry ≡ Default → WhereTold (I.remaining input.old)
+        (λ given. IfOk result (λ _. AreAnsweredOver 8 given (I.remaining input.new)
+        (O.contents output.old) (O.contents output.new))) }
+{
     match request {
         Request::Default => answer_default(alloc, input, output),
         Request::Build { pips, path } => write_database(rt, alloc, pips, path, output),
@@ -94,7 +120,13 @@ fn answer_default<I: Read, O: Write>(
     alloc: Global,
     input: &mut I,
     output: &mut O,
-) -> Result<(), Fault> {
+) -> Result<(), Fault>
+    ensures refused { IfErr result (λ fault. status_of fault ≡ 3
+        → O.contents output.new ≡ O.contents output.old) }
+    ensures answers { WhereTold (I.remaining input.old)
+        (λ given. IfOk result (λ _. AreAnsweredOver 8 given (I.remaining input.new)
+        (O.contents output.old) (O.contents output.new))) }
+{
     let mut bytes = Vec::new(alloc);
     build(alloc, DEFAULT_BOUND, &mut bytes)?;
     answer_lines(alloc, Whole::new(bytes.as_slice()), input, output)
@@ -107,7 +139,10 @@ fn answer_file<R: Files, I: Read, O: Write>(
     path: &str,
     input: &mut I,
     output: &mut O,
-) -> Result<(), Fault> {
+) -> Result<(), Fault>
+    ensures { IfErr result (λ fault. status_of fault ≡ 3
+        → O.contents output.new ≡ O.contents output.old) }
+{
     let bytes = read_file(rt, alloc, path)?;
     answer_lines(alloc, Whole::new(bytes.as_slice()), input, output)
 }
@@ -121,7 +156,10 @@ fn answer_pages<R: Files, I: Read, O: Write>(
     records: u16,
     input: &mut I,
     output: &mut O,
-) -> Result<(), Fault> {
+) -> Result<(), Fault>
+    ensures { IfErr result (λ fault. status_of fault ≡ 3
+        → O.contents output.new ≡ O.contents output.old) }
+{
     let Ok(file) = fs::open(rt, path) else {
         return Err(Fault::Open);
     };
@@ -140,7 +178,13 @@ fn answer_lines<T: Table + Drop, I: Read, O: Write>(
     table: T,
     input: &mut I,
     output: &mut O,
-) -> Result<(), Fault> {
+) -> Result<(), Fault>
+    ensures refused { IfErr result (λ fault. status_of fault ≡ 3
+        → O.contents output.new ≡ O.contents output.old) }
+    ensures answers { WhereTold (T.tells table) (λ file. WhereTold (I.remaining input.old)
+        (λ given. IfOk result (λ _. AreAnswered file given (I.remaining input.new)
+        (O.contents output.old) (O.contents output.new)))) }
+{
     reply(alloc, check(table), input, output)
 }
 
@@ -152,15 +196,29 @@ fn reply<T: Table + Drop, I: Read, O: Write>(
     mut told: Result<Checked<T>, (T, CheckFault)>,
     input: &mut I,
     output: &mut O,
-) -> Result<(), Fault> {
-    run(alloc, accepted(&mut told)?, input, output, TURNS)?;
-    Ok(())
+) -> Result<(), Fault>
+    ensures refused { IfErr result (λ fault. status_of fault ≡ 3
+        → O.contents output.new ≡ O.contents output.old) }
+    ensures answers { (file : List ℕ) → OnOk told (IsRight file)
+        → IfOk told (λ checked. T.tells checked ≡ Some file) → WhereTold (I.remaining input.old)
+        (λ given. IfOk result (λ _. AreAnswered file given (I.remaining input.new)
+        (O.contents output.old) (O.contents output.new))) }
+{
+    match &mut told {
+        Ok(checked) => {
+            run(alloc, checked, input, output, TURNS)?;
+            Ok(())
+        }
+        Err((_, fault)) => Err(Fault::from(*fault)),
+    }
 }
 
 /// The database that a check has accepted, lent since a move would copy it.
 fn accepted<T: Table>(
     told: &mut Result<Checked<T>, (T, CheckFault)>,
-) -> Result<&mut Checked<T>, Fault> {
+) -> Result<&mut Checked<T>, Fault>
+    ensures { IfOk result (λ checked. told.old ≡ Ok checked.now) }
+{
     match told {
         Ok(checked) => Ok(checked),
         Err((_, fault)) => Err(Fault::from(*fault)),
@@ -175,7 +233,10 @@ fn write_database<R: Files, O: Write>(
     pips: u8,
     path: &str,
     output: &mut O,
-) -> Result<(), Fault> {
+) -> Result<(), Fault>
+    ensures { IfErr result (λ fault. status_of fault ≡ 3
+        → O.contents output.new ≡ O.contents output.old) }
+{
     if pips > MAX_BOUND {
         return Err(Fault::OverBound);
     }
@@ -190,7 +251,10 @@ fn check_database<R: Files, O: Write>(
     alloc: Global,
     path: &str,
     output: &mut O,
-) -> Result<(), Fault> {
+) -> Result<(), Fault>
+    ensures { IfErr result (λ fault. status_of fault ≡ 3
+        → O.contents output.new ≡ O.contents output.old) }
+{
     let bytes = read_file(rt, alloc, path)?;
     let mut told = check(Whole::new(bytes.as_slice()));
     let checked = accepted(&mut told)?;
@@ -204,7 +268,10 @@ fn audit_database<R: Files, O: Write>(
     alloc: Global,
     path: &str,
     output: &mut O,
-) -> Result<(), Fault> {
+) -> Result<(), Fault>
+    ensures { IfErr result (λ fault. status_of fault ≡ 3
+        → O.contents output.new ≡ O.contents output.old) }
+{
     let bytes = read_file(rt, alloc, path)?;
     write_levels(check(Whole::new(bytes.as_slice())), output)
 }
@@ -215,7 +282,10 @@ fn audit_database<R: Files, O: Write>(
 fn write_levels<T: Table + Drop, O: Write>(
     mut told: Result<Checked<T>, (T, CheckFault)>,
     output: &mut O,
-) -> Result<(), Fault> {
+) -> Result<(), Fault>
+    ensures { IfErr result (λ fault. status_of fault ≡ 3
+        → O.contents output.new ≡ O.contents output.old) }
+{
     let checked = accepted(&mut told)?;
     for pips in 0..=checked.bound() {
         let Ok(level) = audit_level(checked, pips) else {
@@ -237,7 +307,10 @@ fn upgrade_database<R: Files, O: Write>(
     old: &str,
     new: &str,
     output: &mut O,
-) -> Result<(), Fault> {
+) -> Result<(), Fault>
+    ensures { IfErr result (λ fault. status_of fault ≡ 3
+        → O.contents output.new ≡ O.contents output.old) }
+{
     let bytes = read_file(rt, alloc, old)?;
     let mut told = check(Whole::new(bytes.as_slice()));
     let checked = accepted(&mut told)?;
@@ -256,12 +329,9 @@ enum Done {
 }
 
 /// Writes what was done, with the pip bound and the number of positions.
-fn write_count<O: Write>(
-    done: Done,
-    pips: u8,
-    positions: u16,
-    output: &mut O,
-) -> Result<(), Fault> {
+fn write_count<O: Write>(done: Done, pips: u8, positions: u16, output: &mut O) -> Result<(), Fault>
+    ensures { IfErr result (λ fault. status_of fault ≡ 1) }
+{
     let mut line: ArrayString<64> = ArrayString::new();
     match done {
         Done::Built => line.push_str("built pips "),

@@ -1,4 +1,7 @@
 //! Files, read and written by blocks.
+ghost use Rattle.std.specs.Prelude.{◌≡◌, IfErr};
+ghost use Rattle.exit_status.specs.Statuses.{status_of};
+
 use certificate::Checked;
 use db_reader::Table;
 use exit_status::Fault;
@@ -79,7 +82,9 @@ fn create_file<R: Files>(rt: &R, alloc: Global, path: &str) -> Result<BufWriter<
 }
 
 /// Hands on what a writer may still hold.
-pub fn flush<O: Write>(output: &mut O) -> Result<(), Fault> {
+pub fn flush<O: Write>(output: &mut O) -> Result<(), Fault>
+    ensures { IfErr result (λ fault. status_of fault ≡ 1) }
+{
     match output.flush() {
         Ok(()) => Ok(()),
         Err(_) => Err(Fault::Write),

@@ -1,4 +1,7 @@
 //! The words of the command line, and its help.
+ghost use Rattle.std.specs.Prelude.{◌≡◌, length, Ok};
+ghost use Rattle.command_line.specs.declared.words.Request.TheVariants.{Default};
+
 use clap::error::ErrorKind;
 use clap::{Arg, Command, Error, value_parser};
 use std::alloc::{AllocError, Global};
@@ -65,11 +68,16 @@ const UPGRADE_STATUSES: &str =
     "Exit status: 0 NEW was written; 1 a file, the output or memory failed (a prefix of NEW may
 stand there, which no check accepts); 2 the words are wrong; 3 OLD was refused, or is new already.";
 
-/// What the words after the program's own name ask for. An error of `clap`'s is a mistake in the
-/// words, a help text that they ask for, or want of memory.
+/// What the words after the program's own name ask for, where there is none `Default`. An error of
+/// `clap`'s is a mistake in the words, a help text that they ask for, or want of memory.
 // so that its room is not on the stack while the request is fulfilled
 #[inline(never)]
-pub fn read_words<'a, S: AsStr>(alloc: Global, words: &'a [S]) -> Result<Request<'a>, Error> {
+pub fn read_words<'a, S: AsStr>(alloc: Global, words: &'a [S]) -> Result<Request<'a>, Error>
+    ensures { length words.now ≡ 0 → result ≡ Ok Default }
+{
+    if words.is_empty() {
+        return Ok(Request::Default);
+    }
     let matches = command(alloc)?.try_get_matches_from(words)?;
     let Some((name, chosen)) = matches.subcommand() else {
         return Ok(Request::Default);

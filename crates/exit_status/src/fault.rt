@@ -1,7 +1,11 @@
 //! Why the program ends with another status than 0, and the one line that it then writes to
 //! standard error.
-ghost use Rattle.std.specs.Prelude.{◌≡◌};
+ghost use Rattle.std.specs.Prelude.{◌≡◌, ◌≤◌, length};
+ghost use Rattle.db_layout.specs.Writes.{AppendsPart};
+ghost use Rattle.exit_status.specs.Causes.{of_check, of_build, of_upgrade, of_run};
+ghost use Rattle.exit_status.specs.Lines.{word_of, error_line};
 ghost use Rattle.exit_status.specs.Statuses.{status_of};
+ghost use Rattle.exit_status.specs.declared.fault.Fault.TheVariants.{Memory};
 
 use arrayvec::ArrayString;
 use certificate::{CheckFault, UpgradeFault, fault_line};
@@ -67,18 +71,24 @@ impl Fault {
 }
 
 impl From<AllocError> for Fault {
+    ghost from_gives = { λ _ fault. fault ≡ Memory };
+
     fn from(_error: AllocError) -> Self {
         Fault::Memory
     }
 }
 
 impl<T: Drop> From<AllocFailed<T>> for Fault {
+    ghost from_gives = { λ _ fault. fault ≡ Memory };
+
     fn from(_error: AllocFailed<T>) -> Self {
         Fault::Memory
     }
 }
 
 impl From<BuildFault> for Fault {
+    ghost from_gives = { λ cause fault. fault ≡ of_build cause };
+
     fn from(fault: BuildFault) -> Self {
         match fault {
             BuildFault::OverBound => Fault::OverBound,
@@ -89,6 +99,8 @@ impl From<BuildFault> for Fault {
 }
 
 impl From<CheckFault> for Fault {
+    ghost from_gives = { λ cause fault. fault ≡ of_check cause };
+
     fn from(fault: CheckFault) -> Self {
         match fault {
             CheckFault::Read => Fault::File,
@@ -98,6 +110,8 @@ impl From<CheckFault> for Fault {
 }
 
 impl From<UpgradeFault> for Fault {
+    ghost from_gives = { λ cause fault. fault ≡ of_upgrade cause };
+
     fn from(fault: UpgradeFault) -> Self {
         match fault {
             UpgradeFault::NotOld => Fault::NotOld,
@@ -108,6 +122,8 @@ impl From<UpgradeFault> for Fault {
 }
 
 impl From<RunFault> for Fault {
+    ghost from_gives = { λ cause fault. fault ≡ of_run cause };
+
     fn from(fault: RunFault) -> Self {
         match fault {
             RunFault::Read => Fault::Read,
@@ -119,24 +135,52 @@ impl From<RunFault> for Fault {
     }
 }
 
-/// Writes the line of a fault. Where that fails the line may be lost.
-pub fn write_fault<E: Write>(fault: &Fault, errors: &mut E) {
-    let mut line: ArrayString<96> = ArrayString::new();
+/// Writes the line of a fault: `bearoff: `, its word, and a line feed. Where a write fails, a prefix
+/// of the line was written.
+pub fn write_fault<E: Write>(fault: &Fault, errors: &mut E)
+    ensures { AppendsPart (E.contents errors.old) (E.contents errors.new) (error_line fault.now) }
+{
+    let _ = write_bytes(line(fault).as_str().as_bytes(), errors);
+}
+
+/// The line of a fault.
+fn line(fault: &Fault) -> ArrayString<96>
+    ensures { result.bytes ≡ error_line fault.now }
+{
+    let mut line = ArrayString::new();
     line.push_str("bearoff: ");
+    line.push_str(word(fault).as_str());
+    line.push_str("\n");
+    line
+}
+
+/// The word of a fault.
+fn word(fault: &Fault) -> ArrayString<80>
+    ensures { result.bytes ≡ word_of fault.now }
+{
     match fault {
-        Fault::Open => line.push_str("open"),
-        Fault::File => line.push_str("file"),
-        Fault::Read => line.push_str("read"),
-        Fault::Write => line.push_str("write"),
-        Fault::Memory => line.push_str("memory"),
-        Fault::Turns => line.push_str("turns"),
-        Fault::OverBound => line.push_str("over-bound"),
-        Fault::NotOld => line.push_str("not-old"),
+        Fault::Open => text("open"),
+        Fault::File => text("file"),
+        Fault::Read => text("read"),
+        Fault::Write => text("write"),
+        Fault::Memory => text("memory"),
+        Fault::Turns => text("turns"),
+        Fault::OverBound => text("over-bound"),
+        Fault::NotOld => text("not-old"),
         Fault::Refused(refused) => {
-            line.push_str("refused ");
-            line.push_str(fault_line(refused).as_str());
+            let mut word = text("refused ");
+            word.push_str(fault_line(refused).as_str());
+            word
         }
     }
-    line.push_str("\n");
-    let _ = write_bytes(line.as_str().as_bytes(), errors);
+}
+
+/// A text.
+fn text(text: &str) -> ArrayString<80>
+    requires { length text.now ≤ 16 }
+    ensures { result.bytes ≡ text.now }
+{
+    let mut word = ArrayString::new();
+    word.push_str(text);
+    word
 }

@@ -1,0 +1,22 @@
+use Rattle.std.proofs.Common.{ℕ, List, ◌++◌, Option, Some, Result, Ok, Err, IfOk, ap, ◌∙◌}
+use Rattle.race_model.specs.BuiltFile.{IsBuilt}
+use Rattle.retrograde.specs.UsualVersion.{usual_version}
+use Rattle.bearoff_cli.specs.InputAnswers.{AreAnswered, AreAnsweredOver}
+use Rattle.bearoff_cli.proofs.act.answer_default.Goals as goal
+
+-- answers over the built database
+over : {A E : Type 0} (bound : ℕ) (file given : List ℕ) (left old new : Option (List ℕ))
+    (r : Result A E) → IsBuilt (usual_version bound) bound file
+    → IfOk r (λ _. AreAnswered file given left old new)
+    → IfOk r (λ _. AreAnsweredOver bound given left old new)
+over bound file given left old new (Ok x) built is =
+    record { file = file; built = built; answered = is }
+over bound file given left old new (Err e) built is = tt
+
+pub returns-clause-answers : goal.returns-clause-answers
+returns-clause-answers g c given read =
+    let built = c.in_ok-build.ensures.built in
+    let bytes = c.as_slice.ensures.value ∙ built.2
+    ∙ ap (λ bytes. bytes ++ built.0) c.new-bytes.ensures.items in
+    over 8 built.0 given _ _ _ c.answer_lines.result built.1
+    (c.answer_lines.ensures.answers built.0 (c.new.ensures.tells ∙ ap Some bytes) given read)
