@@ -58,63 +58,51 @@ fn report(rt: &impl Print, place: &str, told: Result<u64, Wrong>) -> io::Result<
     }
 }
 
+/// The queries, each with its name.
+const QUERIES: [(&str, Query); 8] = [
+    ("scaled", Query::Scaled),
+    ("mean", Query::Mean),
+    ("epc", Query::Epc),
+    ("spread", Query::Spread),
+    ("play", Query::Play),
+    ("loss", Query::Loss),
+    ("moves", Query::Moves),
+    ("audit_level", Query::Level),
+];
+
 /// The reads of a source, over pages of one, two and seven records.
 fn report_sources(rt: &impl Print, alloc: Global, file: &[u8]) -> io::Result<()> {
     for records in [1, 2, 7] {
         println!(rt; "pages of {records} records")?;
         report(rt, "check", fail_check(alloc, file, records))?;
-        report(
-            rt,
-            "scaled",
-            fail_query(alloc, file, records, Query::Scaled),
-        )?;
-        report(rt, "mean", fail_query(alloc, file, records, Query::Mean))?;
-        report(rt, "epc", fail_query(alloc, file, records, Query::Epc))?;
-        report(
-            rt,
-            "spread",
-            fail_query(alloc, file, records, Query::Spread),
-        )?;
-        report(rt, "play", fail_query(alloc, file, records, Query::Play))?;
-        report(rt, "loss", fail_query(alloc, file, records, Query::Loss))?;
-        report(rt, "moves", fail_query(alloc, file, records, Query::Moves))?;
-        report(
-            rt,
-            "audit_level",
-            fail_query(alloc, file, records, Query::Level),
-        )?;
+        for (name, query) in QUERIES {
+            report(rt, name, fail_query(alloc, file, records, query))?;
+        }
         report(rt, "run", fail_run(alloc, file, records))?;
     }
     Ok(())
 }
+
+/// What is written, each with the name of the call.
+const TEXTS: [(&str, Text); 8] = [
+    ("write_header", Text::Header),
+    ("write_record", Text::Record),
+    ("write_reply", Text::Replies),
+    ("write_level", Text::Level),
+    ("build", Text::Build),
+    ("build_compact", Text::BuildCompact),
+    ("upgrade", Text::Upgrade),
+    ("run", Text::Run),
+];
 
 /// The writes of each text, by writers that take one byte a call, 100, and all that they are
 /// given.
 fn report_writers(rt: &impl Print, alloc: Global, file: &[u8]) -> io::Result<()> {
     for takes in [1, 100, 1_000_000] {
         println!(rt; "writers of at most {takes} bytes a call")?;
-        report(
-            rt,
-            "write_header",
-            fail_writes(alloc, file, Text::Header, takes),
-        )?;
-        report(
-            rt,
-            "write_record",
-            fail_writes(alloc, file, Text::Record, takes),
-        )?;
-        report(
-            rt,
-            "write_reply",
-            fail_writes(alloc, file, Text::Replies, takes),
-        )?;
-        report(
-            rt,
-            "write_level",
-            fail_writes(alloc, file, Text::Level, takes),
-        )?;
-        report(rt, "build", fail_writes(alloc, file, Text::Build, takes))?;
-        report(rt, "run", fail_writes(alloc, file, Text::Run, takes))?;
+        for (name, text) in TEXTS {
+            report(rt, name, fail_writes(alloc, file, text, takes))?;
+        }
     }
     println!(rt; "a list of 300 moves to a writer of at most 100 bytes a call")?;
     report(
@@ -123,12 +111,10 @@ fn report_writers(rt: &impl Print, alloc: Global, file: &[u8]) -> io::Result<()>
         fail_writes(alloc, file, Text::Moves, 100),
     )?;
     println!(rt; "writers whose flush fails")?;
-    report(rt, "write_header", fail_flush(alloc, file, Text::Header))?;
-    report(rt, "write_record", fail_flush(alloc, file, Text::Record))?;
-    report(rt, "write_reply", fail_flush(alloc, file, Text::Replies))?;
-    report(rt, "write_level", fail_flush(alloc, file, Text::Level))?;
-    report(rt, "build", fail_flush(alloc, file, Text::Build))?;
-    report(rt, "run", fail_flush(alloc, file, Text::Run))
+    for (name, text) in TEXTS {
+        report(rt, name, fail_flush(alloc, file, text))?;
+    }
+    Ok(())
 }
 
 /// The reads of an input that comes in parts of one byte, of two, and so on.

@@ -8,7 +8,7 @@ use db_reader::{Table, Whole};
 use epc_query::{Choice, Reply, answer_line, audit_level, run, write_level, write_reply};
 use fixed_fraction::{Scaled, Spread, WHOLE, mean};
 use home_board::Position;
-use retrograde::build;
+use retrograde::{build, build_compact};
 use std::alloc::Global;
 
 /// What is written.
@@ -31,6 +31,12 @@ pub enum Text {
 
     /// The database of 3 pips.
     Build,
+
+    /// The same as a file of version 2.
+    BuildCompact,
+
+    /// The database that was checked, as a file of version 2.
+    Upgrade,
 
     /// The replies to an input.
     Run,
@@ -126,6 +132,8 @@ fn write_text<T: Table>(
             Err(_) => false,
         },
         Text::Build => build(alloc, 3, writer).is_ok(),
+        Text::BuildCompact => build_compact(alloc, 3, writer).is_ok(),
+        Text::Upgrade => checked.upgrade(writer).is_ok(),
         Text::Run => {
             let mut reader = INPUT.as_bytes();
             run(alloc, checked, &mut reader, writer, 1 << 40).is_ok()

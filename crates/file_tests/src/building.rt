@@ -1,7 +1,7 @@
 //! What the builder writes: the bytes and the means are those of an independent count with exact
-//! numbers.
+//! numbers. Writers that stop are those of `failing_calls`.
 use crate::given::{WHOLE_BYTES, compact_database, database};
-use db_layout::trial::{Refusal, RefuseAt};
+use db_layout::trial::RefuseAt;
 use db_layout::{COMPACT_VERSION, Header, Places, RecordView, VERSION};
 use fixed_fraction::{Scaled, Spread, WHOLE};
 use home_board::Position;
@@ -100,23 +100,6 @@ fn over_the_greatest_bound(rt: HostRuntime) {
             Err(BuildFault::OverBound)
         );
         assert_eq!(rt; bytes.len(), 0);
-    }
-}
-
-#[test]
-fn refused_writes(rt: HostRuntime) {
-    for (writes, full, compact) in [(0, 0, 0), (1, 32, 32), (2, 458, 90)] {
-        for refusal in [Refusal::Fails, Refusal::TakesNothing] {
-            let mut writer = RefuseAt::new(rt.alloc(), usize::MAX, writes + 1, refusal);
-            assert_eq!(rt; build(rt.alloc(), 1, &mut writer), Err(BuildFault::Write));
-            assert_eq!(rt; writer.written.len(), full, "after {writes} writes");
-            let mut writer = RefuseAt::new(rt.alloc(), usize::MAX, writes + 1, refusal);
-            assert_eq!(rt;
-                build_compact(rt.alloc(), 1, &mut writer),
-                Err(BuildFault::Write)
-            );
-            assert_eq!(rt; writer.written.len(), compact, "after {writes} writes");
-        }
     }
 }
 

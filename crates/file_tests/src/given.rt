@@ -1,11 +1,10 @@
 //! What several of the tests are given: databases in memory, tables that are accepted, lines with
-//! their replies, and streams that fail.
+//! their replies.
 use certificate::{Checked, check};
 use db_reader::{Paged, Source, Table};
 use epc_query::{RunFault, run};
 use retrograde::{build, build_compact};
 use std::alloc::Global;
-use std::io::{self, Write};
 use std::process::Abort;
 use std::test::Fail;
 
@@ -81,19 +80,5 @@ pub fn assert_replies<T: Table>(rt: &(impl Abort + AllocGlobal), checked: &mut C
 pub fn put(file: &mut [u8], place: usize, bytes: &[u8]) {
     for (byte, new) in file.iter_mut().skip(place).zip(bytes) {
         *byte = *new;
-    }
-}
-
-/// A writer that fails.
-#[derive(Drop)]
-pub struct Broken;
-
-impl Write for Broken {
-    fn write(&mut self, _buf: &[u8]) -> io::Result<usize> {
-        Err(io::Error::from(io::ErrorKind::Other))
-    }
-
-    fn flush(&mut self) -> io::Result<()> {
-        Err(io::Error::from(io::ErrorKind::Other))
     }
 }

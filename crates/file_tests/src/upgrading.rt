@@ -1,33 +1,9 @@
-//! Old files that are written again as new ones.
-use crate::given::{Broken, accepted, assert_replies, compact_database, database, pages};
+//! Old files that are written again as new ones. Writers that stop are those of `failing_calls`.
+use crate::given::{accepted, assert_replies, compact_database, database, pages};
 use certificate::{CheckFault, UpgradeFault, check};
 use db_reader::trial::FailOnce;
 use db_reader::{SliceSource, Whole};
 use std::test::Fail;
-
-// The file of version 2 of 3 pips has 614 bytes, in a header and seven records.
-#[test]
-fn each_write_that_stops(rt: HostRuntime) -> Result<(), Fail> {
-    let file = database(rt.alloc(), 3)?;
-    let whole = compact_database(rt.alloc(), 3)?;
-    assert_eq!(rt; whole.len(), 614);
-    let mut checked = accepted(Whole::new(file.as_slice()))?;
-    for left in 0..614 {
-        let mut room = [0; 614];
-        let (mut writer, _) = room.split_at_mut(left);
-        assert!(rt; checked.upgrade(&mut writer) == Err(UpgradeFault::Write));
-        assert!(rt; writer.is_empty());
-        assert!(rt;
-            whole.as_slice().starts_with(&room[..left]),
-            "after {left} bytes"
-        );
-    }
-    assert!(rt; checked.upgrade(&mut Broken) == Err(UpgradeFault::Write));
-    let mut written = Vec::new(rt.alloc());
-    assert!(rt; checked.upgrade(&mut written) == Ok(()));
-    assert!(rt; written.as_slice() == whole.as_slice());
-    Ok(())
-}
 
 #[test]
 fn each_read_that_fails_once(rt: HostRuntime) -> Result<(), Fail> {
@@ -61,7 +37,6 @@ fn a_new_file_is_not_written_again(rt: HostRuntime) -> Result<(), Fail> {
     let mut checked = accepted(Whole::new(file.as_slice()))?;
     let mut written = Vec::new(rt.alloc());
     assert!(rt; checked.upgrade(&mut written) == Err(UpgradeFault::NotOld));
-    assert!(rt; checked.upgrade(&mut Broken) == Err(UpgradeFault::NotOld));
     assert_eq!(rt; written.len(), 0);
     Ok(())
 }
