@@ -135,8 +135,8 @@ impl From<RunFault> for Fault {
     }
 }
 
-/// Writes the line of a fault: `bearoff: `, its word, and a line feed. Where a write fails, a prefix
-/// of the line was written.
+/// Writes the line of a fault: `bearoff: `, its word, and a line feed. Where a write fails,
+/// a prefix of the line was written.
 pub fn write_fault<E: Write>(fault: &Fault, errors: &mut E)
     ensures { AppendsPart (E.contents errors.old) (E.contents errors.new) (error_line fault.now) }
 {
