@@ -1,6 +1,7 @@
 -- The status of each fault of a file.
 use Rattle.std.specs.Prelude.{ℕ}
-use Rattle.db_layout.specs.declared.header.HeaderFault.TheVariants.{TooShort, BadMagic, BadVersion, BadBound, BadCount, BadRecordBytes, BadReserved, BadLength}
+use Rattle.db_layout.specs.declared.header.HeaderFault.TheVariants.{TooShort, BadMagic, BadVersion, BadBound, BadCount}
+use Rattle.db_layout.specs.declared.header.HeaderFault.TheVariants.{BadRecordBytes, BadReserved, BadLength}
 use Rattle.certificate.specs.declared.check_fault.CheckFault.{CheckFault}
 use Rattle.certificate.specs.declared.check_fault.CheckFault.TheVariants.{Header, Play, NotLeast, Mean, Spread, Read}
 

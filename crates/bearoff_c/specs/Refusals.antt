@@ -1,8 +1,10 @@
 -- Why a call gives no answer, and the status of that.
-use Rattle.std.specs.Prelude.{ℕ, ◌==◌, nat_lt, nat_le, ◌&&◌, Bool, true, false, if◌then◌else◌, Option, Some, None, Result, Ok, Err}
+use Rattle.std.specs.Prelude.{ℕ, ◌==◌, nat_lt, nat_le, ◌&&◌, Bool, true, false, if◌then◌else◌}
+use Rattle.std.specs.Prelude.{Option, Some, None, Result, Ok, Err}
 use Rattle.race_model.specs.Positions.{Board, checkers, pips}
 use Rattle.bearoff_c.specs.declared.refusal.Refusal.{Refusal}
-use Rattle.bearoff_c.specs.declared.refusal.Refusal.TheVariants.{NotOpen, BadRoll, TooMany, OverBound, Finished, NotLegal, Changed}
+use Rattle.bearoff_c.specs.declared.refusal.Refusal.TheVariants.{NotOpen, BadRoll, TooMany, OverBound, Finished}
+use Rattle.bearoff_c.specs.declared.refusal.Refusal.TheVariants.{NotLegal, Changed}
 
 -- the status: 0 where nothing was refused
 abbrev pub status_of : Option Refusal → ℕ

@@ -3,7 +3,8 @@ ghost use Rattle.std.specs.Prelude.{◌≡◌, ℕ, ◌≤◌, ◌↔◌, List, 
 ghost use Rattle.arrayvec.specs.ArrayString.{array_string_len};
 ghost use Rattle.race_model.specs.Positions.{pips};
 ghost use Rattle.race_model.specs.Files.{bound_of, spread as spread_of};
-ghost use Rattle.race_model.specs.Queries.{subject, AsksOfFinished, HasResult, IsQuery, HasTooMany, IsRefused, IsAccepted};
+ghost use Rattle.race_model.specs.Queries.{subject, AsksOfFinished, HasResult, IsQuery, HasTooMany};
+ghost use Rattle.race_model.specs.Queries.{IsRefused, IsAccepted};
 ghost use Rattle.epc_query.specs.Readings.{asked};
 ghost use Rattle.epc_query.specs.declared.reply.Reply.{Reply};
 ghost use Rattle.epc_query.specs.Texts.{why, IsTextOf};

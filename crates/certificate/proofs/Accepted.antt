@@ -5,7 +5,8 @@ use Rattle.std.proofs.lemmas.List.Sums.{sum-map}
 use Rattle.race_model.specs.Positions.{Board, IsPosition, pips}
 use Rattle.race_model.specs.Dice.{Throw, roll_index}
 use Rattle.race_model.specs.Ranks.{rank, count_to}
-use Rattle.race_model.specs.Files.{bound_of, record_at, mean_of, play_of, share_of, mean, mean_at, play, play_at, spread, spread_at}
+use Rattle.race_model.specs.Files.{bound_of, record_at, mean_of, play_of, share_of, mean, mean_at}
+use Rattle.race_model.specs.Files.{play, play_at, spread, spread_at}
 use Rattle.race_model.specs.LocalEquations.{whole, recorded, IsPlayed, IsLocal, IsLocalAt}
 use Rattle.race_model.specs.RightFiles.{IsRightAt}
 use Rattle.race_model.proofs.RightFiles.RightFacts.{shares_add_up}

@@ -5,7 +5,8 @@ use Rattle.race_model.specs.Positions.{Board, IsPosition}
 use Rattle.race_model.specs.Ranks.{rank, at_rank, count_to}
 use Rattle.race_model.specs.Files.{IsFile, bound_of}
 use Rattle.race_model.specs.LocalEquations.{IsLocalAt, IsLocal}
-use Rattle.race_model.specs.FirstFault.{Test, play_test, least_test, mean_test, spread_test, rank_of, Holds, Asks, IsFirstFault}
+use Rattle.race_model.specs.FirstFault.{Test, play_test, least_test, mean_test, spread_test}
+use Rattle.race_model.specs.FirstFault.{rank_of, Holds, Asks, IsFirstFault}
 use Rattle.race_model.specs.RightFiles.{IsRight}
 use Rattle.race_model.proofs.Dice.Throws.{roll_of_index}
 use Rattle.race_model.proofs.Ranks.RankOrder.{rank_bound, at_rank-rank, at_rank_position}
@@ -17,7 +18,9 @@ use Rattle.db_layout.specs.HeaderFaults.{test_of}
 use Rattle.certificate.specs.RecordFaults.{IsFirstInRecord, IsFirstFaultAt, RecordCauses}
 use Rattle.certificate.specs.CheckFaults.{IsFirst, CheckCauses, of_record_at}
 use Rattle.certificate.specs.declared.check_fault.CheckFault.{CheckFault}
-use Rattle.certificate.specs.declared.check_fault.CheckFault.TheVariants.{Header, Play as PlayAt, NotLeast as NotLeastAt, Mean as MeanAt, Spread as SpreadAt, Read as ReadAt}
+use Rattle.certificate.specs.declared.check_fault.CheckFault.TheVariants.{Header, Play as PlayAt}
+use Rattle.certificate.specs.declared.check_fault.CheckFault.TheVariants.{NotLeast as NotLeastAt, Mean as MeanAt}
+use Rattle.certificate.specs.declared.check_fault.CheckFault.TheVariants.{Spread as SpreadAt, Read as ReadAt}
 use Rattle.certificate.specs.declared.record_check.RecordFault.{RecordFault}
 use Rattle.certificate.specs.declared.record_check.RecordFault.TheVariants.{Play, NotLeast, Mean, Spread, Read}
 

@@ -6,7 +6,8 @@ use Rattle.race_model.specs.Dice.{roll_at, roll_index}
 use Rattle.race_model.specs.Ranks.{rank, at_rank, count_to}
 use Rattle.race_model.specs.Files.{bound_of, record_at, mean_of, share_of, mean}
 use Rattle.race_model.specs.LocalEquations.{whole, IsPlayed, IsBest, HasMean, HasShare, HasLeastMean, IsLocalAt}
-use Rattle.race_model.specs.FirstFault.{Test, play_test, least_test, mean_test, spread_test, rank_of, place_of, Holds, Asks}
+use Rattle.race_model.specs.FirstFault.{Test, play_test, least_test, mean_test, spread_test}
+use Rattle.race_model.specs.FirstFault.{rank_of, place_of, Holds, Asks}
 use Rattle.race_model.proofs.Dice.Throws.{index_of_roll}
 use Rattle.race_model.proofs.Ranks.RankOrder.{rank_bound, rank_apart, at_rank_position}
 use Rattle.race_model.proofs.Ranks.PositionTotals.{rank-at_rank, count_to-most}

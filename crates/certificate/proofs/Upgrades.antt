@@ -1,5 +1,6 @@
 -- The upgrade of an accepted file: its records hold what those of the file hold.
-use Rattle.std.proofs.Common.{◌≡◌, ⊎_elim, ℕ, zero, suc, ◌*◌, ◌^◌, ◌<◌, ◌≤◌, List, Option, length, get_or, sum, refl, sym, ap, subst, ◌∙◌, arith, le_trans, cond, leb}
+use Rattle.std.proofs.Common.{◌≡◌, ⊎_elim, ℕ, zero, suc, ◌*◌, ◌^◌, ◌<◌, ◌≤◌, List, Option, length}
+use Rattle.std.proofs.Common.{get_or, sum, refl, sym, ap, subst, ◌∙◌, arith, le_trans, cond, leb}
 use Rattle.std.specs.Prelude.{slice_index}
 use Rattle.std.specs.List.{range_with_len}
 use Rattle.std.proofs.lemmas.List.{length-map, get_or_past}
@@ -30,7 +31,8 @@ use Rattle.db_layout.specs.WholeFiles.{file_of}
 use Rattle.db_layout.specs.Writes.{AppendsPart}
 use Rattle.std.specs.Io.KnownBytes.{Appends}
 use Rattle.db_layout.proofs.Bytes.{record_reads, mean_fits, shares_fit, small_record}
-use Rattle.db_layout.proofs.WholeFiles.{file-version, file-bound, file-bytes, whole-mean, whole-play, whole-share, whole-is_file}
+use Rattle.db_layout.proofs.WholeFiles.{file-version, file-bound, file-bytes, whole-mean}
+use Rattle.db_layout.proofs.WholeFiles.{whole-play, whole-share, whole-is_file}
 use Rattle.certificate.specs.RecordNumbers.{shares_of}
 use Rattle.certificate.specs.Upgrades.{plays_of, compact_record, WritesUpgrade, WritesPart, IsRefusedBy, IsLater}
 use Rattle.certificate.specs.declared.upgrade_fault.UpgradeFault.{UpgradeFault}

@@ -8,7 +8,9 @@ use Rattle.db_layout.specs.HeaderFaults.{test_of}
 use Rattle.certificate.specs.declared.check_fault.CheckFault.{CheckFault}
 use Rattle.certificate.specs.declared.check_fault.CheckFault.TheVariants.{Header, Play, NotLeast, Mean, Spread, Read}
 use Rattle.certificate.specs.declared.record_check.RecordFault.{RecordFault}
-use Rattle.certificate.specs.declared.record_check.RecordFault.TheVariants.{Play as PlayOf, NotLeast as NotLeastOf, Mean as MeanOf, Spread as SpreadOf, Read as ReadOf}
+use Rattle.certificate.specs.declared.record_check.RecordFault.TheVariants.{Play as PlayOf, NotLeast as NotLeastOf}
+use Rattle.certificate.specs.declared.record_check.RecordFault.TheVariants.{Mean as MeanOf, Spread as SpreadOf}
+use Rattle.certificate.specs.declared.record_check.RecordFault.TheVariants.{Read as ReadOf}
 
 -- the fault is the first of the file; nothing is said of it where a read failed
 abbrev pub IsFirst : List ℕ → CheckFault → Type 0

@@ -1,6 +1,7 @@
 -- What a fault of a record means.
 use Rattle.std.specs.Prelude.{◌≡◌, ℕ, ◌<◌, List, Result, Ok, Err}
-use Rattle.race_model.specs.FirstFault.{Test, play_test, least_test, mean_test, spread_test, rank_of, place_of, Holds, Asks}
+use Rattle.race_model.specs.FirstFault.{Test, play_test, least_test, mean_test, spread_test}
+use Rattle.race_model.specs.FirstFault.{rank_of, place_of, Holds, Asks}
 use Rattle.certificate.specs.PlayFaults.{PlayCauses}
 use Rattle.certificate.specs.declared.plays.PlayFault.{PlayFault}
 use Rattle.certificate.specs.declared.plays.PlayFault.TheVariants.{NotLegal, NotLeast as NotLeastPlay, Read as ReadPlay}

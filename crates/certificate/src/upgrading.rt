@@ -10,7 +10,8 @@ ghost use Rattle.db_layout.specs.Writes.{AppendsPart};
 ghost use Rattle.db_reader.specs.Telling.{WhereTold};
 ghost use Rattle.db_reader.specs.Reads.{HasRecord};
 ghost use Rattle.certificate.specs.RecordNumbers.{shares_of};
-ghost use Rattle.certificate.specs.Upgrades.{plays_of, compact_record, WritesUpgrade, IsRefusedBy, IsLater, UpgradeCounted};
+ghost use Rattle.certificate.specs.Upgrades.{plays_of, compact_record, WritesUpgrade, IsRefusedBy};
+ghost use Rattle.certificate.specs.Upgrades.{IsLater, UpgradeCounted};
 
 use crate::numbers::{mean_in, spread_in};
 use crate::upgrade_fault::UpgradeFault;

@@ -1,7 +1,10 @@
 -- The bytes of numbers, and what one reads in the bytes of a record.
-use Rattle.std.proofs.Common.{◌≡◌, ℕ, zero, suc, ◌+◌, ◌-◌, ◌*◌, ◌/◌, ◌%◌, ◌^◌, ◌<◌, ◌≤◌, List, [], ◌∷◌, ◌++◌, length, sum, take, drop, get_or, refl, sym, ap, ap₂, subst, ◌∙◌, arith, append_assoc, ⊎_elim, Bool, false, cond, leb}
+use Rattle.std.proofs.Common.{◌≡◌, ℕ, zero, suc, ◌+◌, ◌-◌, ◌*◌, ◌/◌, ◌%◌, ◌^◌, ◌<◌, ◌≤◌, List, []}
+use Rattle.std.proofs.Common.{◌∷◌, ◌++◌, length, sum, take, drop, get_or, refl, sym, ap, ap₂, subst}
+use Rattle.std.proofs.Common.{◌∙◌, arith, append_assoc, ⊎_elim, Bool, false, cond, leb}
 use Rattle.std.proofs.lemmas.Grind.{flat_map-append}
-use Rattle.std.proofs.lemmas.List.{length-append, length-take, length-drop, get_or-take, get_or-drop, get_or_past, append-nil, take_more}
+use Rattle.std.proofs.lemmas.List.{length-append, length-take, length-drop, get_or-take}
+use Rattle.std.proofs.lemmas.List.{get_or-drop, get_or_past, append-nil, take_more}
 use Rattle.std.proofs.Math.Nat.{div-add-mod, div-div-eq-div-mul, pow-suc}
 use Rattle.std.proofs.Math.Bool.{and-eq-true_iff}
 use Rattle.std.proofs.Math.Dec.{ltb}
@@ -9,11 +12,13 @@ use Rattle.std.proofs.lemmas.Bool.{ltb-true, leb-true, cases_lt}
 use Rattle.std.specs.List.{list_all}
 use Rattle.std.proofs.Math.Seq.{take-append_seam, drop-append-add}
 use Rattle.std.specs.Prelude.{flat_map, replicate, codes, true}
-use Rattle.std.specs.Int.{w16, w32, w128, byte_at, byte_worth, bytes_high_first, sum_through, to_be_bytes, from_be_bytes}
+use Rattle.std.specs.Int.{w16, w32, w128, byte_at, byte_worth, bytes_high_first, sum_through}
+use Rattle.std.specs.Int.{to_be_bytes, from_be_bytes}
 use Rattle.std.proofs.lemmas.Nat.{from_be_bytes-to_be_bytes_2}
 use Rattle.race_model.specs.Ranks.{count_to}
 use Rattle.race_model.specs.Horizon.{most_rolls}
-use Rattle.race_model.specs.Versions.{Version, full, compact, version_number, stated_length, first_share, share_count, record_length}
+use Rattle.race_model.specs.Versions.{Version, full, compact, version_number, stated_length}
+use Rattle.race_model.specs.Versions.{first_share, share_count, record_length}
 use Rattle.race_model.specs.Files.{IsBytes, header, mean_of, play_of, share_of}
 use Rattle.race_model.specs.ToldShares.{told_share}
 use Rattle.race_model.proofs.RightFiles.ToldRecords.{told_mean, told_play, told_shares}

@@ -1,5 +1,6 @@
 -- Where the records of one pip count stand: behind those of fewer pips, all of one length.
-use Rattle.std.proofs.Common.{◌≡◌, ℕ, ◌+◌, ◌-◌, ◌*◌, ◌<◌, ◌≤◌, List, length, slice_index, ap, subst, sym, ◌∙◌, arith, add-one}
+use Rattle.std.proofs.Common.{◌≡◌, ℕ, ◌+◌, ◌-◌, ◌*◌, ◌<◌, ◌≤◌, List, length, slice_index, ap, subst}
+use Rattle.std.proofs.Common.{sym, ◌∙◌, arith, add-one}
 use Rattle.race_model.specs.Positions.{pips}
 use Rattle.race_model.specs.Ranks.{rank, at_rank, first_of, count_to}
 use Rattle.race_model.specs.Versions.{Version, record_length}

@@ -1,7 +1,9 @@
 -- Which question about a header a fault answers with no.
-use Rattle.race_model.specs.Headers.{HeaderTest, long_enough, magic, version, bound, count, record_bytes, reserved, exact_length}
+use Rattle.race_model.specs.Headers.{HeaderTest, long_enough, magic, version, bound, count}
+use Rattle.race_model.specs.Headers.{record_bytes, reserved, exact_length}
 use Rattle.db_layout.specs.declared.header.HeaderFault.{HeaderFault}
-use Rattle.db_layout.specs.declared.header.HeaderFault.TheVariants.{TooShort, BadMagic, BadVersion, BadBound, BadCount, BadRecordBytes, BadReserved, BadLength}
+use Rattle.db_layout.specs.declared.header.HeaderFault.TheVariants.{TooShort, BadMagic, BadVersion, BadBound, BadCount}
+use Rattle.db_layout.specs.declared.header.HeaderFault.TheVariants.{BadRecordBytes, BadReserved, BadLength}
 
 abbrev pub test_of : HeaderFault → HeaderTest
 test_of TooShort = long_enough

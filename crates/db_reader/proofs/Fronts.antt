@@ -1,5 +1,7 @@
 -- The first 32 bytes of a file, or all where there are fewer.
-use Rattle.std.proofs.Common.{◌≡◌, ⊎_elim, ℕ, zero, suc, ◌-◌, ◌<◌, min, List, ◌++◌, take, length, length-take, length-append, replicate, get_or, subst, sym, ap, ap₂, ◌∙◌, arith}
+use Rattle.std.proofs.Common.{◌≡◌, ⊎_elim, ℕ, zero, suc, ◌-◌, ◌<◌, min, List, ◌++◌, take, length}
+use Rattle.std.proofs.Common.{length-take, length-append, replicate, get_or, subst, sym, ap, ap₂}
+use Rattle.std.proofs.Common.{◌∙◌, arith}
 use Rattle.std.proofs.lemmas.Bool.{cases_lt}
 use Rattle.std.proofs.lemmas.List.{take_all, length-replicate}
 use Rattle.std.proofs.Math.Seq.{take-append_seam}

@@ -1,5 +1,6 @@
 -- The records of told bytes that are kept, when one is looked up and when one is put among them.
-use Rattle.std.proofs.Common.{◌≡◌, ⊎_elim, ℕ, List, Contains, Option, Some, None, Result, Ok, Err, OnOk, OnErr, refl, sym, ap, subst, ◌∙◌, eqb}
+use Rattle.std.proofs.Common.{◌≡◌, ⊎_elim, ℕ, List, Contains, Option, Some, None, Result, Ok, Err}
+use Rattle.std.proofs.Common.{OnOk, OnErr, refl, sym, ap, subst, ◌∙◌, eqb}
 use Rattle.std.specs.Option.{IsSomeAnd}
 use Rattle.std.specs.Result.{is_err}
 use Rattle.std.specs.Prelude.{false}

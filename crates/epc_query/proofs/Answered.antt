@@ -1,5 +1,6 @@
 -- The text of what a line is answered with is the reply to the line.
-use Rattle.std.proofs.Common.{◌≡◌, ℕ, ◌<◌, ◌≤◌, List, [], ◌∷◌, ◌++◌, length, get_or, map, codes, Contains, refl, ap, sym, subst, ◌∙◌, arith}
+use Rattle.std.proofs.Common.{◌≡◌, ℕ, ◌<◌, ◌≤◌, List, [], ◌∷◌, ◌++◌, length, get_or, map, codes}
+use Rattle.std.proofs.Common.{Contains, refl, ap, sym, subst, ◌∙◌, arith}
 use Rattle.std.specs.Prelude.{decimal, slice_index, slice_index_or, flat_map}
 use Rattle.std.specs.List.{concat}
 use Rattle.std.proofs.lemmas.List.{length-map, get_or-map}
@@ -9,8 +10,10 @@ use Rattle.race_model.specs.Dice.{Throw}
 use Rattle.race_model.specs.Plays.{Legal}
 use Rattle.race_model.specs.Files.{bound_of, spread}
 use Rattle.race_model.specs.Losses.{loss}
-use Rattle.race_model.specs.Queries.{mean_query, dist_query, play_query, loss_query, moves_query, rank_query, IsAccepted}
-use Rattle.race_model.specs.Replies.{IsSharePart, IsDistReply, IsPlayReply, IsChoicePart, IsMovesReply, IsReply, answered, refused, fraction_text}
+use Rattle.race_model.specs.Queries.{mean_query, dist_query, play_query, loss_query, moves_query}
+use Rattle.race_model.specs.Queries.{rank_query, IsAccepted}
+use Rattle.race_model.specs.Replies.{IsSharePart, IsDistReply, IsPlayReply, IsChoicePart}
+use Rattle.race_model.specs.Replies.{IsMovesReply, IsReply, answered, refused, fraction_text}
 use Rattle.epc_query.specs.declared.reply.Choice.{Choice}
 use Rattle.epc_query.specs.declared.reply.Reply.{Reply}
 use Rattle.epc_query.specs.declared.reply.Reply.TheVariants.{Mean, Dist, Play, Loss, Moves, Rank, Refused}

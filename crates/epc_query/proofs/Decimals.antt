@@ -1,5 +1,7 @@
 -- Numbers in decimal, written in two parts.
-use Rattle.std.proofs.Common.{◌≡◌, ◌⊎◌, inl, inr, ℕ, zero, suc, ◌+◌, ◌*◌, ◌/◌, ◌%◌, ◌^◌, ◌<◌, ◌≤◌, [], ◌∷◌, ◌++◌, length, drop, ap, sym, ◌∙◌, arith, append_assoc, length-append}
+use Rattle.std.proofs.Common.{◌≡◌, ◌⊎◌, inl, inr, ℕ, zero, suc, ◌+◌, ◌*◌, ◌/◌, ◌%◌, ◌^◌, ◌<◌, ◌≤◌}
+use Rattle.std.proofs.Common.{[], ◌∷◌, ◌++◌, length, drop, ap, sym, ◌∙◌, arith, append_assoc}
+use Rattle.std.proofs.Common.{length-append}
 use Rattle.std.specs.Prelude.{decimal}
 use Rattle.std.proofs.lemmas.Bool.{cases_lt}
 use Rattle.std.proofs.lemmas.Fmt.{decimal_step_wide, decimal_digit}

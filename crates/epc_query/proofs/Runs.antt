@@ -1,11 +1,17 @@
 -- The replies to the lines of an input, line by line.
-use Rattle.std.proofs.Common.{◌≡◌, ◌≢◌, ◌⊎◌, inl, inr, ℕ, zero, suc, ◌+◌, ◌-◌, ◌<◌, ◌≤◌, Bool, true, false, cond, eqb, List, [], ◌∷◌, ◌++◌, length, get_or, take, drop, map, Option, Some, None, refl, ap, sym, subst, ◌∙◌, arith, append_assoc, length-append}
+use Rattle.std.proofs.Common.{◌≡◌, ◌≢◌, ◌⊎◌, inl, inr, ℕ, zero, suc, ◌+◌, ◌-◌, ◌<◌, ◌≤◌, Bool, true}
+use Rattle.std.proofs.Common.{false, cond, eqb, List, [], ◌∷◌, ◌++◌, length, get_or, take, drop}
+use Rattle.std.proofs.Common.{map, Option, Some, None, refl, ap, sym, subst, ◌∙◌, arith}
+use Rattle.std.proofs.Common.{append_assoc, length-append}
 use Rattle.std.specs.Io.KnownBytes.{Appends, Keeps, Consumes, IsAtEnd}
-use Rattle.std.proofs.lemmas.List.{append-nil, take-append-le, take_all, length-take, map-append, get_or_append_left, get_or_push, length_push, take_more, take-append-drop, get_or-drop, length-drop}
+use Rattle.std.proofs.lemmas.List.{append-nil, take-append-le, take_all, length-take, map-append}
+use Rattle.std.proofs.lemmas.List.{get_or_append_left, get_or_push, length_push, take_more}
+use Rattle.std.proofs.lemmas.List.{take-append-drop, get_or-drop, length-drop}
 use Rattle.std.proofs.Math.Seq.{take-append-add, take-add}
 use Rattle.std.proofs.lemmas.Bool.{cases_lt}
 use Rattle.race_model.specs.Files.{bound_of}
-use Rattle.race_model.specs.Queries.{Query, IsQuery, IsRefused, no_query, of_too_many, of_over_bound, of_finished, of_no_result}
+use Rattle.race_model.specs.Queries.{Query, IsQuery, IsRefused, no_query, of_too_many}
+use Rattle.race_model.specs.Queries.{of_over_bound, of_finished, of_no_result}
 use Rattle.race_model.specs.Replies.{IsReply, answered, refused}
 use Rattle.std.proofs.lemmas.List.Elements.{All-head, All-tail}
 use Rattle.race_model.specs.InputLines.{pieces, rest_of, without_return, whole_lines, last_line, lines_of, HasNoFeed}
@@ -13,7 +19,8 @@ use Rattle.db_layout.specs.Writes.{AppendsPart}
 use Rattle.db_layout.proofs.Known.{appends_none, appends_kept, appends_twice}
 use Rattle.epc_query.specs.declared.run_fault.RunFault.{RunFault}
 use Rattle.epc_query.specs.declared.run_fault.RunFault.TheVariants.{Read, Write, Table, Memory, Turns}
-use Rattle.epc_query.specs.Runs.{AreReplies, HasReplies, HasPart, IsMovesLine, IsStoppedAt, IsRunStopped, IsFirstFeed, IsAnswered}
+use Rattle.epc_query.specs.Runs.{AreReplies, HasReplies, HasPart, IsMovesLine, IsStoppedAt}
+use Rattle.epc_query.specs.Runs.{IsRunStopped, IsFirstFeed, IsAnswered}
 use Rattle.epc_query.proofs.Held.{appends_same, part_after, part_all}
 
 -- no replies

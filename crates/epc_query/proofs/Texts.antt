@@ -1,5 +1,7 @@
 -- The texts of positions, plays and shares.
-use Rattle.std.proofs.Common.{◌≡◌, ℕ, ◌+◌, ◌<◌, List, [], ◌∷◌, ◌++◌, length, get_or, take, drop, map, codes, refl, ap, sym, subst, ◌∙◌, arith, append_assoc, below_more, length-append}
+use Rattle.std.proofs.Common.{◌≡◌, ℕ, ◌+◌, ◌<◌, List, [], ◌∷◌, ◌++◌, length, get_or, take, drop}
+use Rattle.std.proofs.Common.{map, codes, refl, ap, sym, subst, ◌∙◌, arith, append_assoc}
+use Rattle.std.proofs.Common.{below_more, length-append}
 use Rattle.std.specs.Prelude.{flat_map, slice_index_or}
 use Rattle.std.specs.List.{concat, join_with_byte}
 use Rattle.std.proofs.lemmas.List.{append-nil, get_or_append_left, get_or_push, take_more, take-append-drop}

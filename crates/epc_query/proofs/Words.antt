@@ -1,6 +1,9 @@
 -- A text that is cut at its first space, and what the words of a line tell of the query that it
 -- asks.
-use Rattle.std.proofs.Common.{◌≡◌, ◌≢◌, ◌↔◌, ⊎_elim, inl, inr, ℕ, ◌+◌, ◌==◌, ltb, eqb, Bool, true, false, cond, Option, Some, None, Result, Ok, Err, List, [], ◌∷◌, ◌++◌, length, get_or, take, drop, codes, MatchOption, IsSome, IfSome, refl, ap, sym, subst, ◌∙◌, arith, append_assoc, eqb-true}
+use Rattle.std.proofs.Common.{◌≡◌, ◌≢◌, ◌↔◌, ⊎_elim, inl, inr, ℕ, ◌+◌, ◌==◌, ltb, eqb, Bool, true}
+use Rattle.std.proofs.Common.{false, cond, Option, Some, None, Result, Ok, Err, List, [], ◌∷◌, ◌++◌}
+use Rattle.std.proofs.Common.{length, get_or, take, drop, codes, MatchOption, IsSome, IfSome, refl}
+use Rattle.std.proofs.Common.{ap, sym, subst, ◌∙◌, arith, append_assoc, eqb-true}
 use Rattle.std.proofs.lemmas.Bool.{ltb-true, ltb-false}
 use Rattle.std.specs.List.{position, position_or_len, before_first, after_first, join_with_byte}
 use Rattle.std.proofs.lemmas.List.Splits.{join_with_byte-slice_split, slice_split_first, slice_split_none}
@@ -10,15 +13,20 @@ use Rattle.race_model.specs.PositionText.{IsPositionText}
 use Rattle.race_model.specs.Dice.{Die, number, Throw}
 use Rattle.legal_plays.specs.Faces.{roll_of}
 use Rattle.legal_plays.specs.Texts.{roll_text}
-use Rattle.race_model.specs.Queries.{Query as Asked, mean_query, dist_query, play_query, loss_query, moves_query, rank_query, IsQuery, HasWords, HasTooMany, IsRollText, words}
+use Rattle.race_model.specs.Queries.{Query as Asked, mean_query, dist_query, play_query, loss_query}
+use Rattle.race_model.specs.Queries.{moves_query, rank_query, IsQuery, HasWords, HasTooMany}
+use Rattle.race_model.specs.Queries.{IsRollText, words}
 use Rattle.home_board.specs.declared.position.Position.{Position}
 use Rattle.legal_plays.specs.declared.roll.Roll.{Roll}
 use Rattle.epc_query.specs.declared.query.Kind.{Kind}
-use Rattle.epc_query.specs.declared.query.Kind.TheVariants.{Mean as MeanKind, Dist as DistKind, Play as PlayKind, Loss as LossKind, Moves as MovesKind, Rank as RankKind}
+use Rattle.epc_query.specs.declared.query.Kind.TheVariants.{Mean as MeanKind, Dist as DistKind}
+use Rattle.epc_query.specs.declared.query.Kind.TheVariants.{Play as PlayKind, Loss as LossKind}
+use Rattle.epc_query.specs.declared.query.Kind.TheVariants.{Moves as MovesKind, Rank as RankKind}
 use Rattle.epc_query.specs.declared.query.Query.{Query}
 use Rattle.epc_query.specs.declared.query.LineFault.{LineFault}
 use Rattle.epc_query.specs.declared.query.LineFault.TheVariants.{BadLine, TooMany}
-use Rattle.epc_query.specs.Readings.{kind_text, IsPositionReading, IsThrowReading, IsResultText, IsResultReading, IsRestFault, IsRestReading, IsReading, both}
+use Rattle.epc_query.specs.Readings.{kind_text, IsPositionReading, IsThrowReading, IsResultText}
+use Rattle.epc_query.specs.Readings.{IsResultReading, IsRestFault, IsRestReading, IsReading, both}
 
 -- the byte is a space
 abbrev is_space : ℕ → Bool

@@ -9,7 +9,8 @@ use Rattle.race_model.specs.LocalEquations.{whole, recorded}
 use Rattle.race_model.specs.Fractions.{IsFraction, IsMean, IsEffectivePips}
 use Rattle.race_model.specs.FirstPlays.{IsFirstPlay}
 use Rattle.race_model.specs.Losses.{loss, IsMoveList}
-use Rattle.race_model.specs.Queries.{mean_query, dist_query, play_query, loss_query, moves_query, rank_query, IsRefused, IsAccepted}
+use Rattle.race_model.specs.Queries.{mean_query, dist_query, play_query, loss_query, moves_query}
+use Rattle.race_model.specs.Queries.{rank_query, IsRefused, IsAccepted}
 use Rattle.legal_plays.specs.MoveLists.{moves_of}
 use Rattle.epc_query.specs.declared.reply.Choice.{Choice}
 use Rattle.epc_query.specs.declared.reply.Reply.{Reply}

@@ -1,14 +1,17 @@
 -- When a query is refused, by a database of a bound. Source: this project's profile.
 use Rattle.std.specs.Prelude.{◌≡◌, ℕ, ◌<◌, ◌≤◌, List, Result, Ok, Err}
 use Rattle.race_model.specs.Positions.{pips}
-use Rattle.race_model.specs.Queries.{Query, mean_query, dist_query, play_query, loss_query, moves_query, rank_query, subject, AsksOfFinished, HasResult, IsRefused, IsAccepted}
+use Rattle.race_model.specs.Queries.{Query, mean_query, dist_query, play_query, loss_query}
+use Rattle.race_model.specs.Queries.{moves_query, rank_query, subject, AsksOfFinished, HasResult}
+use Rattle.race_model.specs.Queries.{IsRefused, IsAccepted}
 use Rattle.certificate.specs.declared.query_fault.QueryFault.{QueryFault}
 use Rattle.certificate.specs.declared.query_fault.QueryFault.TheVariants.{OverBound, Finished, NotLegal, Memory, Read}
 use Rattle.epc_query.specs.declared.answer.Stop.{Stop}
 use Rattle.epc_query.specs.declared.answer.Stop.TheVariants.{Memory as NoMemory, Read as NoRead}
 use Rattle.epc_query.specs.declared.reply.Reply.{Reply}
 use Rattle.epc_query.specs.declared.reply.Reply.TheVariants.{Mean, Dist, Play, Loss, Moves, Rank, Refused}
-use Rattle.epc_query.specs.declared.reply.Refusal.TheVariants.{OverBound as IsOverBound, Finished as IsFinishedOne, NotLegal as IsNotLegal}
+use Rattle.epc_query.specs.declared.reply.Refusal.TheVariants.{OverBound as IsOverBound, Finished as IsFinishedOne}
+use Rattle.epc_query.specs.declared.reply.Refusal.TheVariants.{NotLegal as IsNotLegal}
 use Rattle.epc_query.specs.Texts.{why}
 
 -- a database of this bound answers the query

@@ -3,11 +3,15 @@ use Rattle.std.specs.Prelude.{◌≡◌, ◌≢◌, ℕ, ◌<◌, ◌⊎◌, Lis
 use Rattle.race_model.specs.Positions.{Board, checkers}
 use Rattle.race_model.specs.PositionText.{IsPositionText}
 use Rattle.race_model.specs.Dice.{Throw}
-use Rattle.race_model.specs.Queries.{Query as Asked, mean_query, dist_query, play_query, loss_query, moves_query, rank_query, IsQuery, HasTooMany, IsRollText, words}
+use Rattle.race_model.specs.Queries.{Query as Asked, mean_query, dist_query, play_query, loss_query}
+use Rattle.race_model.specs.Queries.{moves_query, rank_query, IsQuery, HasTooMany, IsRollText}
+use Rattle.race_model.specs.Queries.{words}
 use Rattle.home_board.specs.declared.position.Position.{Position}
 use Rattle.legal_plays.specs.declared.roll.Roll.{Roll}
 use Rattle.epc_query.specs.declared.query.Kind.{Kind}
-use Rattle.epc_query.specs.declared.query.Kind.TheVariants.{Mean as MeanKind, Dist as DistKind, Play as PlayKind, Loss as LossKind, Moves as MovesKind, Rank as RankKind}
+use Rattle.epc_query.specs.declared.query.Kind.TheVariants.{Mean as MeanKind, Dist as DistKind}
+use Rattle.epc_query.specs.declared.query.Kind.TheVariants.{Play as PlayKind, Loss as LossKind}
+use Rattle.epc_query.specs.declared.query.Kind.TheVariants.{Moves as MovesKind, Rank as RankKind}
 use Rattle.epc_query.specs.declared.query.Query.{Query}
 use Rattle.epc_query.specs.declared.query.Query.TheVariants.{Mean, Dist, Play, Loss, Moves, Rank}
 use Rattle.epc_query.specs.declared.query.LineFault.{LineFault}

@@ -2,7 +2,8 @@
 ghost use Rattle.std.specs.Prelude.{◌≡◌, ◌≢◌, ℕ, ◌<◌, List, [], ◌∷◌, ◌++◌, ◌==◌, length, position, IfSome, MatchOption};
 ghost use Rattle.race_model.specs.Dice.{Throw};
 ghost use Rattle.race_model.specs.Queries.{IsRollText, words};
-ghost use Rattle.epc_query.specs.Readings.{kind_text, IsPositionReading, IsThrowReading, IsResultReading, IsRestReading, IsReading, both};
+ghost use Rattle.epc_query.specs.Readings.{kind_text, IsPositionReading, IsThrowReading};
+ghost use Rattle.epc_query.specs.Readings.{IsResultReading, IsRestReading, IsReading, both};
 
 use home_board::{Position, PositionFault, parse_position};
 use legal_plays::{Roll, parse_roll};

@@ -1,5 +1,6 @@
 //! The answers to a whole input.
-ghost use Rattle.std.specs.Prelude.{◌≡◌, ℕ, ◌+◌, ◌^◌, ◌<◌, ◌≤◌, List, ◌++◌, length, Option, MatchResult, IfOk, IfErr, OnErr};
+ghost use Rattle.std.specs.Prelude.{◌≡◌, ℕ, ◌+◌, ◌^◌, ◌<◌, ◌≤◌, List, ◌++◌, length, Option};
+ghost use Rattle.std.specs.Prelude.{MatchResult, IfOk, IfErr, OnErr};
 ghost use Rattle.std.specs.Io.KnownBytes.{Keeps, IsAtEnd};
 ghost use Rattle.race_model.specs.InputLines.{whole_lines, lines_of};
 ghost use Rattle.db_reader.specs.Telling.{WhereTold};

@@ -1,5 +1,6 @@
 //! The texts of replies and levels.
-ghost use Rattle.std.specs.Prelude.{◌≡◌, ℕ, ◌+◌, ◌^◌, ◌≤◌, ◌<◌, List, ◌++◌, drop, flat_map, decimal, codes, slice_index};
+ghost use Rattle.std.specs.Prelude.{◌≡◌, ℕ, ◌+◌, ◌^◌, ◌≤◌, ◌<◌, List, ◌++◌, drop, flat_map};
+ghost use Rattle.std.specs.Prelude.{decimal, codes, slice_index};
 ghost use Rattle.arrayvec.specs.ArrayString.{array_string_len};
 ghost use Rattle.race_model.specs.FirstPlays.{move_text};
 ghost use Rattle.race_model.specs.Replies.{fraction_text, thousandths_text, refusal_text, IsSharePart, IsDistReply};

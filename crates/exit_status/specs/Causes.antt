@@ -1,14 +1,19 @@
 -- Why the program ends, by what a call was refused for (this project's profile).
 use Rattle.certificate.specs.declared.check_fault.CheckFault.{CheckFault}
-use Rattle.certificate.specs.declared.check_fault.CheckFault.TheVariants.{Header, Play, NotLeast, Mean, Spread, Read as TableRead}
+use Rattle.certificate.specs.declared.check_fault.CheckFault.TheVariants.{Header, Play, NotLeast, Mean, Spread}
+use Rattle.certificate.specs.declared.check_fault.CheckFault.TheVariants.{Read as TableRead}
 use Rattle.certificate.specs.declared.upgrade_fault.UpgradeFault.{UpgradeFault}
-use Rattle.certificate.specs.declared.upgrade_fault.UpgradeFault.TheVariants.{NotOld as IsNotOld, Read as OldRead, Write as NewWrite}
+use Rattle.certificate.specs.declared.upgrade_fault.UpgradeFault.TheVariants.{NotOld as IsNotOld, Read as OldRead}
+use Rattle.certificate.specs.declared.upgrade_fault.UpgradeFault.TheVariants.{Write as NewWrite}
 use Rattle.retrograde.specs.declared.build_fault.BuildFault.{BuildFault}
-use Rattle.retrograde.specs.declared.build_fault.BuildFault.TheVariants.{OverBound as IsOverBound, Memory as NoMemory, Write as FileWrite}
+use Rattle.retrograde.specs.declared.build_fault.BuildFault.TheVariants.{OverBound as IsOverBound, Memory as NoMemory}
+use Rattle.retrograde.specs.declared.build_fault.BuildFault.TheVariants.{Write as FileWrite}
 use Rattle.epc_query.specs.declared.run_fault.RunFault.{RunFault}
-use Rattle.epc_query.specs.declared.run_fault.RunFault.TheVariants.{Read as InputRead, Write as OutputWrite, Table, Memory as NoMemoryLeft, Turns as NoTurns}
+use Rattle.epc_query.specs.declared.run_fault.RunFault.TheVariants.{Read as InputRead, Write as OutputWrite, Table}
+use Rattle.epc_query.specs.declared.run_fault.RunFault.TheVariants.{Memory as NoMemoryLeft, Turns as NoTurns}
 use Rattle.exit_status.specs.declared.fault.Fault.{Fault}
-use Rattle.exit_status.specs.declared.fault.Fault.TheVariants.{File, Read, Write, Memory, Turns, OverBound, Refused, NotOld}
+use Rattle.exit_status.specs.declared.fault.Fault.TheVariants.{File, Read, Write, Memory, Turns, OverBound, Refused}
+use Rattle.exit_status.specs.declared.fault.Fault.TheVariants.{NotOld}
 
 -- a database is refused for what it holds; where it could not be read, the file failed
 abbrev pub of_check : CheckFault → Fault

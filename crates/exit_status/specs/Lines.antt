@@ -2,7 +2,8 @@
 use Rattle.std.specs.Prelude.{ℕ, List, ◌++◌, codes}
 use Rattle.certificate.specs.CheckFaults.{line_of}
 use Rattle.exit_status.specs.declared.fault.Fault.{Fault}
-use Rattle.exit_status.specs.declared.fault.Fault.TheVariants.{Open, File, Read, Write, Memory, Turns, OverBound, Refused, NotOld}
+use Rattle.exit_status.specs.declared.fault.Fault.TheVariants.{Open, File, Read, Write, Memory, Turns, OverBound}
+use Rattle.exit_status.specs.declared.fault.Fault.TheVariants.{Refused, NotOld}
 
 -- the word of a fault; that of a refused database is followed by the fault of the database
 abbrev pub word_of : Fault → List ℕ

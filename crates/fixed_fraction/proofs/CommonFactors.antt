@@ -1,11 +1,16 @@
 -- Common factors: quotients by an inverse modulo 2 ^ 128, and what is left without twos and
 -- threes.
 use Prim.Native.Nat.{◌∣◌}
-use Rattle.std.proofs.Common.{◌≡◌, ℕ, zero, suc, ◌+◌, ◌-◌, ◌*◌, ◌/◌, ◌%◌, ◌^◌, ◌<◌, ◌≤◌, ap, sym, ◌∙◌, subst, refl, arith, mul_assoc, min, ◌⊎◌, inl, inr}
+use Rattle.std.proofs.Common.{◌≡◌, ℕ, zero, suc, ◌+◌, ◌-◌, ◌*◌, ◌/◌, ◌%◌, ◌^◌, ◌<◌, ◌≤◌, ap, sym}
+use Rattle.std.proofs.Common.{◌∙◌, subst, refl, arith, mul_assoc, min, ◌⊎◌, inl, inr}
 use Rattle.std.specs.Int.{IsGcd, bit_at, trailing_zeros, w128}
 use Rattle.std.proofs.lemmas.Nat.Bits.{bit_at-zero, bit_at-trailing_zeros}
 use Rattle.std.proofs.lemmas.Nat.{mul-mod, mul-mod_second, mod-pow-add, le-div}
-use Rattle.std.proofs.Math.Nat.{mod-eq_of_lt, mul-div-le, mul-le-mul_left, mul-div_cancel', dvd-mul_left_of_dvd, mod-one, eq-or-lt_of_le, dvd_of_mod-eq-zero, mod-eq-zero_of_dvd, dvd-mul_right, dvd-mul_left, dvd_trans, one-dvd, mul-mod_right, mod-lt, emod_pos_of_not-dvd, eq_of_mul-eq-mul_left, pow-succ', pow-zero, one-mul}
+use Rattle.std.proofs.Math.Nat.{mod-eq_of_lt, mul-div-le, mul-le-mul_left, mul-div_cancel'}
+use Rattle.std.proofs.Math.Nat.{dvd-mul_left_of_dvd, mod-one, eq-or-lt_of_le, dvd_of_mod-eq-zero}
+use Rattle.std.proofs.Math.Nat.{mod-eq-zero_of_dvd, dvd-mul_right, dvd-mul_left, dvd_trans, one-dvd}
+use Rattle.std.proofs.Math.Nat.{mul-mod_right, mod-lt, emod_pos_of_not-dvd, eq_of_mul-eq-mul_left}
+use Rattle.std.proofs.Math.Nat.{pow-succ', pow-zero, one-mul}
 use Rattle.race_model.specs.LocalEquations.{whole}
 use Rattle.fixed_fraction.specs.Ratios.{IsDivided, AreApart}
 

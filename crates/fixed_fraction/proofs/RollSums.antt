@@ -1,12 +1,14 @@
 -- Sums over the rolls, added up in the order of their indices.
-use Rattle.std.proofs.Common.{◌≡◌, ℕ, suc, ◌+◌, ◌*◌, ◌<◌, ◌≤◌, List, [], ◌∷◌, length, get_or, take, sum_by, sum, sym, ap, ◌∙◌, arith}
+use Rattle.std.proofs.Common.{◌≡◌, ℕ, suc, ◌+◌, ◌*◌, ◌<◌, ◌≤◌, List, [], ◌∷◌, length, get_or, take}
+use Rattle.std.proofs.Common.{sum_by, sum, sym, ap, ◌∙◌, arith}
 use Rattle.std.proofs.lemmas.List.{take_all}
 use Rattle.std.proofs.lemmas.List.Sums.{sum_by-cons, sum_by_more, sum_by-take-le}
 use Rattle.race_model.specs.Dice.{Throw, one, all_rolls, roll_at, weight}
 use Rattle.race_model.specs.LocalEquations.{whole, weighted}
 use Rattle.race_model.proofs.Dice.RollSums.{length-all_rolls, sum_by-weight}
 use Rattle.fixed_fraction.specs.Totals.{Totals, IsAdded, AreTotals}
-use Rattle.fixed_fraction.proofs.Shares.{sum_upto, sum_upto-same, sum_upto-zero, sum_upto-linear, sum-by_places, sum_upto-without_last}
+use Rattle.fixed_fraction.proofs.Shares.{sum_upto, sum_upto-same, sum_upto-zero, sum_upto-linear}
+use Rattle.fixed_fraction.proofs.Shares.{sum-by_places, sum_upto-without_last}
 
 -- the sum over one roll more
 pub roll-more : (g : Throw → ℕ) (i : ℕ) → i < 21

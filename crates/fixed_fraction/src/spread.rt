@@ -1,4 +1,6 @@
-ghost use Rattle.std.specs.Prelude.{◌≡◌, ℕ, suc, ◌+◌, ◌*◌, ◌%◌, ◌<◌, ◌≤◌, ◌↔◌, List, ◌∷◌, length, replicate, slice_index, IsTrue, IsSome, IfSome, All, sum, sum_by};
+ghost use Rattle.std.specs.Prelude.{◌≡◌, ℕ, suc, ◌+◌, ◌*◌, ◌%◌, ◌<◌, ◌≤◌, ◌↔◌, List, ◌∷◌, length};
+ghost use Rattle.std.specs.Prelude.{replicate, slice_index, IsTrue, IsSome, IfSome, All, sum};
+ghost use Rattle.std.specs.Prelude.{sum_by};
 ghost use Rattle.race_model.specs.LocalEquations.{whole};
 ghost use Rattle.fixed_fraction.specs.Shares.{weighted_share};
 

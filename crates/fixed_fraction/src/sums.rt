@@ -1,5 +1,6 @@
 //! Weighted sums over the 21 rolls.
-ghost use Rattle.std.specs.Prelude.{◌≡◌, ℕ, suc, ◌+◌, ◌*◌, ◌%◌, ◌<◌, ◌≤◌, ◌↔◌, List, replicate, slice_index, sum_by, take, IsSome, IfSome};
+ghost use Rattle.std.specs.Prelude.{◌≡◌, ℕ, suc, ◌+◌, ◌*◌, ◌%◌, ◌<◌, ◌≤◌, ◌↔◌, List, replicate};
+ghost use Rattle.std.specs.Prelude.{slice_index, sum_by, take, IsSome, IfSome};
 ghost use Rattle.race_model.specs.Dice.{Throw, all_rolls, roll_at, weight};
 ghost use Rattle.race_model.specs.LocalEquations.{whole, weighted};
 ghost use Rattle.fixed_fraction.specs.Totals.{Totals, IsAdded, AreTotals};

@@ -1,5 +1,6 @@
 -- What the search for some dice says of the roll.
-use Rattle.std.proofs.Common.{◌≡◌, ◌≢◌, List, [], ◌∷◌, ◌⊎◌, inl, inr, ◌↔◌, Option, Some, None, IsSome, IfSome, IfNone, refl, sym, ◌∙◌, ap, subst}
+use Rattle.std.proofs.Common.{◌≡◌, ◌≢◌, List, [], ◌∷◌, ◌⊎◌, inl, inr, ◌↔◌, Option, Some, None}
+use Rattle.std.proofs.Common.{IsSome, IfSome, IfNone, refl, sym, ◌∙◌, ap, subst}
 use Rattle.arrayvec.specs.ArrayVec.{ArrayVec}
 use Rattle.race_model.specs.Positions.{Board}
 use Rattle.race_model.specs.Dice.{Die, Throw, number}

@@ -1,5 +1,7 @@
 -- Positions before one, counted by their first counts.
-use Rattle.std.proofs.Common.{◌≡◌, ℕ, zero, suc, ◌+◌, ◌-◌, ◌*◌, ◌^◌, ◌<◌, ◌≤◌, cond, List, [], ◌∷◌, ◌++◌, length, take, take_all, refl, ap, sym, ◌∙◌, append_assoc, add-one, lit≤, arith}
+use Rattle.std.proofs.Common.{◌≡◌, ℕ, zero, suc, ◌+◌, ◌-◌, ◌*◌, ◌^◌, ◌<◌, ◌≤◌, cond, List, [], ◌∷◌}
+use Rattle.std.proofs.Common.{◌++◌, length, take, take_all, refl, ap, sym, ◌∙◌, append_assoc}
+use Rattle.std.proofs.Common.{add-one, lit≤, arith}
 use Rattle.std.specs.Prelude.{sum_by, slice_set}
 use Rattle.std.proofs.Math.Nat.{pow-suc, mul-le-mul_right}
 use Rattle.std.proofs.lemmas.List.{take_more_set, append-nil}

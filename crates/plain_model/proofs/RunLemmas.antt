@@ -1,5 +1,7 @@
 -- The list of all runs, point by point.
-use Rattle.std.proofs.Common.{◌≡◌, ℕ, zero, suc, ◌+◌, ◌-◌, ◌<◌, ◌≤◌, List, [], ◌∷◌, ◌++◌, length, take, take_all, drop, get_or, flat_map, cond, refl, ap, sym, ◌∙◌, append_assoc, add-one, eq-eqb, ne_eqb, arith}
+use Rattle.std.proofs.Common.{◌≡◌, ℕ, zero, suc, ◌+◌, ◌-◌, ◌<◌, ◌≤◌, List, [], ◌∷◌, ◌++◌, length}
+use Rattle.std.proofs.Common.{take, take_all, drop, get_or, flat_map, cond, refl, ap, sym, ◌∙◌}
+use Rattle.std.proofs.Common.{append_assoc, add-one, eq-eqb, ne_eqb, arith}
 use Rattle.std.proofs.lemmas.Grind.{flat_map-append}
 use Rattle.std.proofs.lemmas.List.{append-nil}
 use Rattle.std.specs.Prelude.{sum}

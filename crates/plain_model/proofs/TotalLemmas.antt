@@ -1,5 +1,6 @@
 -- The rolls over all sequences of two throws, by the places of the first throw.
-use Rattle.std.proofs.Common.{◌≡◌, ℕ, zero, suc, ◌+◌, ◌*◌, ◌<◌, ◌≤◌, Bool, true, false, cond, eqb, List, length, get_or, refl, ap, sym, ◌∙◌, add-one, lit≤, arith}
+use Rattle.std.proofs.Common.{◌≡◌, ℕ, zero, suc, ◌+◌, ◌*◌, ◌<◌, ◌≤◌, Bool, true, false, cond, eqb}
+use Rattle.std.proofs.Common.{List, length, get_or, refl, ap, sym, ◌∙◌, add-one, lit≤, arith}
 use Rattle.std.specs.Prelude.{◌==◌, if◌then◌else◌, sum_by}
 use Rattle.std.proofs.lemmas.List.{get_or_default}
 use Rattle.race_model.specs.Positions.{Board, checkers, finished}
@@ -7,7 +8,8 @@ use Rattle.race_model.specs.Dice.{Throw, throws}
 use Rattle.race_model.specs.Strategies.{Strategy, stop, turn, total_over, count_over}
 use Rattle.race_model.proofs.Numbers.Sums.{sum_by-equal, sum_by-constant}
 use Rattle.race_model.proofs.Dice.RollSums.{length-throws}
-use Rattle.race_model.proofs.Strategies.Histories.{over, over-none, over-stop, over-turn, total_over-over, count_over-over, one_at}
+use Rattle.race_model.proofs.Strategies.Histories.{over, over-none, over-stop, over-turn}
+use Rattle.race_model.proofs.Strategies.Histories.{total_over-over, count_over-over, one_at}
 use Rattle.plain_model.specs.TwoTurns.{place_of, begins_with, rolls_of_two}
 
 -- a number that goes by the rolls, added up over all

@@ -1,5 +1,6 @@
 //! The results of a throw, by trying each die at each point.
-ghost use Rattle.std.specs.Prelude.{◌≡◌, ◌<◌, ◌≤◌, ◌↔◌, List, [], ◌∷◌, ◌++◌, length, drop, sum, Contains, IfOk, OnOk, IfSome, IfNone};
+ghost use Rattle.std.specs.Prelude.{◌≡◌, ◌<◌, ◌≤◌, ◌↔◌, List, [], ◌∷◌, ◌++◌, length, drop, sum};
+ghost use Rattle.std.specs.Prelude.{Contains, IfOk, OnOk, IfSome, IfNone};
 ghost use Rattle.race_model.specs.Positions.{Board, IsPosition, count, fewer, more};
 ghost use Rattle.race_model.specs.Dice.{number};
 ghost use Rattle.race_model.specs.Plays.{Legal};

@@ -1,6 +1,7 @@
 -- Dice, throws and rolls. Source: the rules of backgammon;
 -- the index of a roll is this project's profile.
-use Rattle.std.specs.Prelude.{ℕ, ◌+◌, ◌-◌, ◌*◌, ◌/◌, ◌≤◌, min, max, ◌==◌, if◌then◌else◌, List, [], ◌∷◌, flat_map, map, slice_index_or}
+use Rattle.std.specs.Prelude.{ℕ, ◌+◌, ◌-◌, ◌*◌, ◌/◌, ◌≤◌, min, max, ◌==◌, if◌then◌else◌, List, []}
+use Rattle.std.specs.Prelude.{◌∷◌, flat_map, map, slice_index_or}
 
 -- a die
 pub data Die : Type 0 where

@@ -1,6 +1,7 @@
 -- The text of each fault. Source: this project's profile.
 use Rattle.std.specs.Prelude.{ℕ, List, ◌++◌, codes, decimal}
-use Rattle.race_model.specs.Headers.{HeaderTest, long_enough, magic, version, bound, count, record_bytes, reserved, exact_length}
+use Rattle.race_model.specs.Headers.{HeaderTest, long_enough, magic, version, bound, count}
+use Rattle.race_model.specs.Headers.{record_bytes, reserved, exact_length}
 use Rattle.race_model.specs.FirstFault.{Test, play_test, least_test, mean_test, spread_test}
 
 -- a question about the header that is answered no

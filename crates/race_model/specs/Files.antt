@@ -1,11 +1,13 @@
 -- The database file: a header, then a record for each rank. Source: this project's profile.
-use Rattle.std.specs.Prelude.{◌≡◌, ℕ, ◌+◌, ◌-◌, ◌*◌, ◌^◌, ◌<◌, ◌≤◌, ◌==◌, if◌then◌else◌, List, ◌++◌, length, take, drop, replicate, slice_index, sum_by, codes}
+use Rattle.std.specs.Prelude.{◌≡◌, ℕ, ◌+◌, ◌-◌, ◌*◌, ◌^◌, ◌<◌, ◌≤◌, ◌==◌, if◌then◌else◌, List, ◌++◌}
+use Rattle.std.specs.Prelude.{length, take, drop, replicate, slice_index, sum_by, codes}
 use Rattle.std.specs.Int.{w16, w32, w128, from_be_bytes, to_be_bytes}
 use Rattle.race_model.specs.Positions.{Board, pips}
 use Rattle.race_model.specs.Dice.{Throw, roll_index}
 use Rattle.race_model.specs.Ranks.{rank, at_rank, count_to, numbers_from}
 use Rattle.race_model.specs.Horizon.{most_rolls}
-use Rattle.race_model.specs.Versions.{Version, full, compact, version_number, version_by, greatest_bound, stated_length, record_length}
+use Rattle.race_model.specs.Versions.{Version, full, compact, version_number, version_by}
+use Rattle.race_model.specs.Versions.{greatest_bound, stated_length, record_length}
 
 -- the header of the file of a version and a bound: magic, version,
 -- bound, count of records, bytes of a record, reserved

@@ -2,7 +2,8 @@
 -- dropped; what stands after
 -- the last line feed is a last line, from which nothing is dropped. Source: this project's
 -- profile.
-use Rattle.std.specs.Prelude.{◌≡◌, ◌≢◌, ℕ, ◌-◌, ◌==◌, if◌then◌else◌, List, [], ◌∷◌, ◌++◌, length, take, map, flat_map, slice_index, All}
+use Rattle.std.specs.Prelude.{◌≡◌, ◌≢◌, ℕ, ◌-◌, ◌==◌, if◌then◌else◌, List, [], ◌∷◌, ◌++◌, length}
+use Rattle.std.specs.Prelude.{take, map, flat_map, slice_index, All}
 
 -- a byte before the first of some pieces
 abbrev pub before_first_piece : ℕ → List (List ℕ) → List (List ℕ)

@@ -1,6 +1,7 @@
 -- Positions of one player's checkers on the six points of the home board.
 -- Source: the bearing-off rules of backgammon.
-use Rattle.std.specs.Prelude.{◌≡◌, ℕ, zero, suc, ◌+◌, ◌-◌, ◌*◌, ◌<◌, ◌≤◌, List, [], ◌∷◌, length, replicate, slice_index, slice_set, sum}
+use Rattle.std.specs.Prelude.{◌≡◌, ℕ, zero, suc, ◌+◌, ◌-◌, ◌*◌, ◌<◌, ◌≤◌, List, [], ◌∷◌, length}
+use Rattle.std.specs.Prelude.{replicate, slice_index, slice_set, sum}
 
 -- how many checkers stand on the points 1 to 6, in that order
 abbrev pub Board : Type 0

@@ -2,7 +2,8 @@
 -- a box of 16 ^ 6 lists, which no proof may ever compute: what is built on it is `unfoldable`, so
 -- that it is opened only where a proof asks for it. A plain program goes through them one after
 -- another.
-use Rattle.std.specs.Prelude.{ℕ, zero, suc, Bool, true, false, ◌&&◌, ◌||◌, ◌==◌, nat_lt, nat_le, List, [], ◌∷◌, flat_map, map, count_by, find, unwrap_or}
+use Rattle.std.specs.Prelude.{ℕ, zero, suc, Bool, true, false, ◌&&◌, ◌||◌, ◌==◌, nat_lt, nat_le}
+use Rattle.std.specs.Prelude.{List, [], ◌∷◌, flat_map, map, count_by, find, unwrap_or}
 use Rattle.race_model.specs.Positions.{Board, checkers, pips, finished}
 
 -- the first difference decides: the list that has the smaller number there comes first

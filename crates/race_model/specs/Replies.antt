@@ -1,5 +1,6 @@
 -- The reply to each line of input. Source: this project's profile.
-use Rattle.std.specs.Prelude.{◌≡◌, ℕ, ◌+◌, ◌/◌, ◌%◌, ◌<◌, List, [], ◌∷◌, ◌++◌, length, flat_map, slice_index_or, codes, decimal}
+use Rattle.std.specs.Prelude.{◌≡◌, ℕ, ◌+◌, ◌/◌, ◌%◌, ◌<◌, List, [], ◌∷◌, ◌++◌, length, flat_map}
+use Rattle.std.specs.Prelude.{slice_index_or, codes, decimal}
 use Rattle.std.specs.List.{concat}
 use Rattle.race_model.specs.Positions.{Board, finished}
 use Rattle.race_model.specs.PositionText.{IsPositionText}
@@ -10,7 +11,9 @@ use Rattle.race_model.specs.LocalEquations.{whole, recorded}
 use Rattle.race_model.specs.Fractions.{IsFraction, IsMean, IsEffectivePips, IsThousandths}
 use Rattle.race_model.specs.Losses.{loss, IsMoveList}
 use Rattle.race_model.specs.FirstPlays.{Move, IsFirstPlay, move_text}
-use Rattle.race_model.specs.Queries.{Query, mean_query, dist_query, play_query, loss_query, moves_query, rank_query, Refusal, bad_line, too_many, over_bound, at_end, not_legal, IsRefused, IsAccepted}
+use Rattle.race_model.specs.Queries.{Query, mean_query, dist_query, play_query, loss_query}
+use Rattle.race_model.specs.Queries.{moves_query, rank_query, Refusal, bad_line, too_many}
+use Rattle.race_model.specs.Queries.{over_bound, at_end, not_legal, IsRefused, IsAccepted}
 
 -- a fraction as text
 abbrev pub fraction_text : ℕ → ℕ → List ℕ

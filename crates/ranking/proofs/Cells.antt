@@ -1,5 +1,7 @@
 -- Lists that a loop fills from the front.
-use Rattle.std.proofs.Common.{◌≡◌, ◌≢◌, ℕ, zero, suc, ◌+◌, ◌<◌, List, length, slice_set, slice_index, replicate, refl, ◌∙◌, below_more, get_or-set_other, get_or-set_same, arith}
+use Rattle.std.proofs.Common.{◌≡◌, ◌≢◌, ℕ, zero, suc, ◌+◌, ◌<◌, List, length, slice_set}
+use Rattle.std.proofs.Common.{slice_index, replicate, refl, ◌∙◌, below_more, get_or-set_other}
+use Rattle.std.proofs.Common.{get_or-set_same, arith}
 use Rattle.std.proofs.lemmas.List.{length-set}
 
 -- the first i numbers are what f says, and the list is as long as it was

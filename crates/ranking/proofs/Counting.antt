@@ -1,5 +1,9 @@
 -- How the counts of a position are found again from the number of positions that come later.
-use Rattle.std.proofs.Common.{◌≡◌, ◌≢◌, ℕ, zero, suc, ◌+◌, ◌-◌, ◌*◌, ◌<◌, ◌≤◌, List, ◌∷◌, length, slice_index, slice_set, drop, replicate, get_or-set_same, get_or-set_other, if◌then◌else◌, nat_le, true, false, refl, sym, ◌∙◌, ap, subst, add-one, inl, inr, below_more, arith, le_antisymm, le_trans, le_of_eq}
+use Rattle.std.proofs.Common.{◌≡◌, ◌≢◌, ℕ, zero, suc, ◌+◌, ◌-◌, ◌*◌, ◌<◌, ◌≤◌, List, ◌∷◌, length}
+use Rattle.std.proofs.Common.{slice_index, slice_set, drop, replicate, get_or-set_same}
+use Rattle.std.proofs.Common.{get_or-set_other, if◌then◌else◌, nat_le, true, false, refl, sym, ◌∙◌}
+use Rattle.std.proofs.Common.{ap, subst, add-one, inl, inr, below_more, arith, le_antisymm}
+use Rattle.std.proofs.Common.{le_trans, le_of_eq}
 use Rattle.std.specs.Prelude.{◌⊎◌, sum}
 use Rattle.std.proofs.lemmas.Bool.{lt-ltb, leb-true, leb-false, cases_lt, cases_order}
 use Rattle.std.specs.List.Sorted.{IsPartitionPoint, IsNonDecreasingBy}

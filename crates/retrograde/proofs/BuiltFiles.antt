@@ -19,7 +19,8 @@ use Rattle.race_model.specs.BestPlays.{IsBestPlay}
 use Rattle.retrograde.specs.BuiltRecords.{shares_of, sum_of_means, sum_of_shares, IsMade}
 use Rattle.retrograde.specs.AllRecords.{AllRecords, mean_of_rank, plays_of_rank, shares_of_rank, bytes_of_rank}
 use Rattle.retrograde.specs.BuiltBytes.{built_file}
-use Rattle.db_layout.proofs.WholeFiles.{file-version, file-bound, file-bytes, whole-mean, whole-play, whole-share, whole-is_file}
+use Rattle.db_layout.proofs.WholeFiles.{file-version, file-bound, file-bytes, whole-mean}
+use Rattle.db_layout.proofs.WholeFiles.{whole-play, whole-share, whole-is_file}
 use Rattle.db_layout.specs.Records.{IsRecordOf}
 use Rattle.db_layout.proofs.Bytes.{small_record}
 use Rattle.retrograde.proofs.Next.{best-legal}

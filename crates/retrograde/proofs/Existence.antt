@@ -1,6 +1,8 @@
 -- The records of the positions to 58 pips exist, whether or not anybody has made them: for each
 -- roll one of the results is the best, and what is pulled from the records of lower rank is exact.
-use Rattle.std.proofs.Common.{◌≡◌, ◌⊎◌, inl, inr, ⊎_elim, ℕ, zero, suc, ◌+◌, ◌*◌, ◌/◌, ◌%◌, ◌^◌, ◌<◌, ◌≤◌, List, [], ◌∷◌, ◌++◌, length, get_or, map, replicate, refl, sym, ap, subst, ◌∙◌, arith}
+use Rattle.std.proofs.Common.{◌≡◌, ◌⊎◌, inl, inr, ⊎_elim, ℕ, zero, suc, ◌+◌, ◌*◌, ◌/◌, ◌%◌, ◌^◌}
+use Rattle.std.proofs.Common.{◌<◌, ◌≤◌, List, [], ◌∷◌, ◌++◌, length, get_or, map, replicate, refl}
+use Rattle.std.proofs.Common.{sym, ap, subst, ◌∙◌, arith}
 use Rattle.std.specs.Prelude.{slice_index, slice_index_or}
 use Rattle.std.specs.List.{range_with_len}
 use Rattle.std.proofs.Math.ListN.{get_or-append}
@@ -22,9 +24,11 @@ use Rattle.race_model.proofs.Strategies.Horizons.{within_22, most_rolls-most}
 use Rattle.race_model.proofs.Strategies.Spreads.{counts_add_up}
 use Rattle.db_layout.proofs.Bytes.{record_reads, mean_fits}
 use Rattle.race_model.specs.BestPlays.{IsBestPlay}
-use Rattle.retrograde.specs.BuiltRecords.{sum_of_means, sum_of_shares, IsMade, IsReached, IsReadBack, AreMade, HasRecords}
+use Rattle.retrograde.specs.BuiltRecords.{sum_of_means, sum_of_shares, IsMade, IsReached}
+use Rattle.retrograde.specs.BuiltRecords.{IsReadBack, AreMade, HasRecords}
 use Rattle.retrograde.specs.AllRecords.{AllRecords}
-use Rattle.retrograde.proofs.Next.{ReachedBelow, can-pull_mean, can-pull_shares, next-is_reached, made-at_end, made-before}
+use Rattle.retrograde.proofs.Next.{ReachedBelow, can-pull_mean, can-pull_shares, next-is_reached}
+use Rattle.retrograde.proofs.Next.{made-at_end, made-before}
 use Rattle.retrograde.proofs.Turns.{stop-reached}
 use Rattle.retrograde.proofs.Held.{held}
 use Rattle.retrograde.proofs.Grown.{one-more}

@@ -1,5 +1,6 @@
 -- Records that were made stay right while more are added.
-use Rattle.std.proofs.Common.{◌≡◌, ⊎_elim, ℕ, ◌+◌, ◌*◌, ◌<◌, ◌≤◌, List, [], ◌∷◌, ◌++◌, length, sym, ap, subst, ◌∙◌, arith, below_more, length-append}
+use Rattle.std.proofs.Common.{◌≡◌, ⊎_elim, ℕ, ◌+◌, ◌*◌, ◌<◌, ◌≤◌, List, [], ◌∷◌, ◌++◌, length, sym}
+use Rattle.std.proofs.Common.{ap, subst, ◌∙◌, arith, below_more, length-append}
 use Rattle.std.proofs.Math.ListN.{get_or-append}
 use Rattle.std.proofs.Math.Seq.{get_or-append_seam}
 use Rattle.std.specs.Prelude.{slice_index, slice_index_or}
@@ -14,7 +15,8 @@ use Rattle.race_model.proofs.Ranks.PositionTotals.{rank-at_rank}
 use Rattle.race_model.proofs.Numbers.Sums.{sum_by-equal}
 use Rattle.race_model.proofs.Dice.RollSums.{roll_index-range}
 use Rattle.race_model.specs.BestPlays.{IsBestPlay}
-use Rattle.retrograde.specs.BuiltRecords.{shares_of, sum_of_means, sum_of_shares, IsMade, IsReached, IsReadBack, AreMade}
+use Rattle.retrograde.specs.BuiltRecords.{shares_of, sum_of_means, sum_of_shares, IsMade, IsReached}
+use Rattle.retrograde.specs.BuiltRecords.{IsReadBack, AreMade}
 use Rattle.race_model.proofs.Ranks.BestPlays.{best-agree, legal_lower, play-at_end}
 use Rattle.retrograde.proofs.Best.{finished-stays}
 

@@ -1,6 +1,7 @@
 -- No share of a record is lost in a file of either version: those that a compact record leaves out
 -- are known, since the record is that of a strategy.
-use Rattle.std.proofs.Common.{◌≡◌, ⊎_elim, ℕ, zero, suc, ◌≤◌, Bool, true, false, cond, leb, List, refl, ap, sym, ◌∙◌, eq-eqb, ne_eqb, leb-false}
+use Rattle.std.proofs.Common.{◌≡◌, ⊎_elim, ℕ, zero, suc, ◌≤◌, Bool, true, false, cond, leb, List}
+use Rattle.std.proofs.Common.{refl, ap, sym, ◌∙◌, eq-eqb, ne_eqb, leb-false}
 use Rattle.std.specs.Prelude.{slice_index}
 use Rattle.race_model.specs.Positions.{Board, IsPosition, pips}
 use Rattle.race_model.specs.Versions.{Version, full, compact}

@@ -1,5 +1,6 @@
 -- A turn before strategies that are known by their means and shares.
-use Rattle.std.proofs.Common.{◌≡◌, ⊎_elim, ℕ, zero, suc, ◌+◌, ◌*◌, ◌%◌, ◌<◌, ◌≤◌, List, sum_by, sym, subst, ◌∙◌, arith, le_of_lt}
+use Rattle.std.proofs.Common.{◌≡◌, ⊎_elim, ℕ, zero, suc, ◌+◌, ◌*◌, ◌%◌, ◌<◌, ◌≤◌, List, sum_by, sym}
+use Rattle.std.proofs.Common.{subst, ◌∙◌, arith, le_of_lt}
 use Rattle.std.specs.Prelude.{slice_index}
 use Rattle.std.specs.List.{range_with_len}
 use Rattle.std.proofs.lemmas.List.Sums.{sum_by-cons}
@@ -16,7 +17,8 @@ use Rattle.race_model.proofs.Dice.RollSums.{sum_by-throws}
 use Rattle.race_model.proofs.Strategies.Histories.{fits_within, count_over-beyond}
 use Rattle.race_model.proofs.Strategies.Horizons.{ends_in_22, within_22}
 use Rattle.race_model.proofs.Strategies.Spreads.{counts_add_up, counts_weigh}
-use Rattle.race_model.proofs.Strategies.Totals.{total-turn, count_of-turn, count_of-turn_none, total-stop, count_of-stop, count_of-stop_more}
+use Rattle.race_model.proofs.Strategies.Totals.{total-turn, count_of-turn, count_of-turn_none}
+use Rattle.race_model.proofs.Strategies.Totals.{total-stop, count_of-stop, count_of-stop_more}
 use Rattle.retrograde.specs.BuiltRecords.{IsReached, shares_of, sum_of_means, sum_of_shares}
 
 -- what is legal for each roll is legal for each throw

@@ -1,5 +1,6 @@
 //! What a build keeps of the records that it has made, wherever they lie.
-ghost use Rattle.std.specs.Prelude.{◌≡◌, ℕ, ◌+◌, ◌-◌, ◌<◌, ◌≤◌, ◌↔◌, List, [], ◌∷◌, ◌++◌, length, slice_index, slice_index_or, IsSome, IfSome, OnOk, IfErr};
+ghost use Rattle.std.specs.Prelude.{◌≡◌, ℕ, ◌+◌, ◌-◌, ◌<◌, ◌≤◌, ◌↔◌, List, [], ◌∷◌, ◌++◌, length};
+ghost use Rattle.std.specs.Prelude.{slice_index, slice_index_or, IsSome, IfSome, OnOk, IfErr};
 ghost use Rattle.retrograde.specs.AllRecords.{AllRecords, shares_of_rank};
 ghost use Rattle.retrograde.specs.KeptRecords.{AreKept, IsRecordOfRank};
 ghost use Rattle.retrograde.specs.declared.build_fault.BuildFault.TheVariants.{Memory};

@@ -1,5 +1,6 @@
 -- The six dice: they are told apart by their numbers, which are at least 1.
-use Rattle.std.proofs.Common.{◌≡◌, ◌≢◌, ◌⊎◌, inl, inr, ⊎_elim, ℕ, zero, suc, ◌<◌, Bool, true, ◌&&◌, eqb, refl, sym, ap, ◌∙◌, arith, eqb-true}
+use Rattle.std.proofs.Common.{◌≡◌, ◌≢◌, ◌⊎◌, inl, inr, ⊎_elim, ℕ, zero, suc, ◌<◌, Bool, true, ◌&&◌}
+use Rattle.std.proofs.Common.{eqb, refl, sym, ap, ◌∙◌, arith, eqb-true}
 use Rattle.std.proofs.lemmas.Bool.Decides.{eqb_tells}
 use Rattle.race_model.specs.Dice.{Die, one, two, three, four, five, six, number, Throw}
 use Rattle.race_model.proofs.Numbers.Tests.{both_tests}

@@ -1,7 +1,9 @@
 -- Throws and rolls: a throw and its reverse do the same, and each throw or its reverse is a roll.
-use Rattle.std.proofs.Common.{◌≡◌, ◌⊎◌, ⊎_elim, ℕ, ◌+◌, ◌-◌, ◌*◌, ◌/◌, min, max, ◌<◌, ◌≤◌, List, [], ◌∷◌, refl, sym, subst, ap₂, below_more, below_none, arith, lit<, lit≤}
+use Rattle.std.proofs.Common.{◌≡◌, ◌⊎◌, ⊎_elim, ℕ, ◌+◌, ◌-◌, ◌*◌, ◌/◌, min, max, ◌<◌, ◌≤◌, List, []}
+use Rattle.std.proofs.Common.{◌∷◌, refl, sym, subst, ap₂, below_more, below_none, arith, lit<, lit≤}
 use Rattle.race_model.specs.Positions.{Board}
-use Rattle.race_model.specs.Dice.{Die, one, two, three, four, five, six, number, Throw, reversed, IsRoll, all_rolls, roll_at, roll_index}
+use Rattle.race_model.specs.Dice.{Die, one, two, three, four, five, six, number, Throw, reversed}
+use Rattle.race_model.specs.Dice.{IsRoll, all_rolls, roll_at, roll_index}
 use Rattle.race_model.specs.Plays.{Legal, in_order, in_reverse, double, Run}
 use Rattle.race_model.specs.Files.{play_at, mean, mean_at}
 use Rattle.race_model.specs.Ranks.{rank, at_rank}

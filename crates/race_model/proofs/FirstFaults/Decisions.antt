@@ -1,12 +1,14 @@
 -- Each question about a file has an answer, so a file is locally right or has a first fault.
-use Rattle.std.proofs.Common.{◌≡◌, ◌⊎◌, inl, inr, ⊎_elim, ℕ, zero, suc, ◌+◌, ◌-◌, ◌*◌, ◌/◌, ◌%◌, ◌<◌, ◌≤◌, List, [], ◌∷◌, refl, sym, subst, ◌∙◌, arith}
+use Rattle.std.proofs.Common.{◌≡◌, ◌⊎◌, inl, inr, ⊎_elim, ℕ, zero, suc, ◌+◌, ◌-◌, ◌*◌, ◌/◌, ◌%◌}
+use Rattle.std.proofs.Common.{◌<◌, ◌≤◌, List, [], ◌∷◌, refl, sym, subst, ◌∙◌, arith}
 use Rattle.race_model.specs.Positions.{Board, IsFinished}
 use Rattle.race_model.specs.Dice.{Throw, roll_at}
 use Rattle.race_model.specs.Plays.{Legal}
 use Rattle.race_model.specs.Ranks.{rank, at_rank, count_to}
 use Rattle.race_model.specs.Files.{IsFile, bound_of, mean, mean_at, play, spread, spread_at}
 use Rattle.race_model.specs.LocalEquations.{whole, recorded, weighted, IsPlayed, IsBest, HasMean, HasShare, IsLocal}
-use Rattle.race_model.specs.FirstFault.{Test, play_test, least_test, mean_test, spread_test, rank_of, place_of, IsEarlier, Holds, Asks, IsFirstFault}
+use Rattle.race_model.specs.FirstFault.{Test, play_test, least_test, mean_test, spread_test}
+use Rattle.race_model.specs.FirstFault.{rank_of, place_of, IsEarlier, Holds, Asks, IsFirstFault}
 use Rattle.race_model.specs.Enumerations.{all_results}
 use Rattle.race_model.proofs.Plays.Results.{finished_or_not}
 use Rattle.race_model.proofs.Plays.Enumerated.{IsIn, results_listed, listed_results}

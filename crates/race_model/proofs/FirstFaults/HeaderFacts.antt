@@ -1,5 +1,7 @@
 -- A file begins with a header exactly where all questions about its header are answered yes.
-use Rattle.std.proofs.Common.{◌≡◌, ◌⊎◌, ⊎_elim, ℕ, ◌+◌, ◌^◌, ◌<◌, ◌≤◌, List, ◌++◌, length, get_or, take, drop, replicate, codes, refl, ap, ap₂, sym, subst, ◌∙◌, arith, length-take, take-take}
+use Rattle.std.proofs.Common.{◌≡◌, ◌⊎◌, ⊎_elim, ℕ, ◌+◌, ◌^◌, ◌<◌, ◌≤◌, List, ◌++◌, length, get_or}
+use Rattle.std.proofs.Common.{take, drop, replicate, codes, refl, ap, ap₂, sym, subst, ◌∙◌, arith}
+use Rattle.std.proofs.Common.{length-take, take-take}
 use Rattle.std.specs.Int.{w16, w32, from_be_bytes, to_be_bytes}
 use Rattle.std.proofs.Math.Seq.{take-add}
 use Rattle.std.proofs.lemmas.List.{drop-take, get_or-take, get_or-drop, get_or_past}
@@ -7,7 +9,9 @@ use Rattle.std.proofs.lemmas.Nat.{be_bytes_2, be_bytes_4, from_be_bytes-to_be_by
 use Rattle.race_model.specs.Ranks.{count_to}
 use Rattle.race_model.specs.Versions.{Version, full, compact, version_number, version_by, greatest_bound, stated_length}
 use Rattle.race_model.specs.Files.{header, bytes_at, version_of, bound_of, record_place, IsFile}
-use Rattle.race_model.specs.Headers.{HeaderTest, long_enough, magic, version, bound, count, record_bytes, reserved, exact_length, IsHeader, IsFirstHeaderFault}
+use Rattle.race_model.specs.Headers.{HeaderTest, long_enough, magic, version, bound, count}
+use Rattle.race_model.specs.Headers.{record_bytes, reserved, exact_length, IsHeader}
+use Rattle.race_model.specs.Headers.{IsFirstHeaderFault}
 use Rattle.race_model.proofs.Ranks.PositionTotals.{count_to-most}
 use Rattle.race_model.proofs.RightFiles.Places.{header_before, length-bytes_at}
 

@@ -5,7 +5,8 @@ use Rattle.race_model.specs.Dice.{roll_at}
 use Rattle.race_model.specs.Ranks.{rank, at_rank, count_to}
 use Rattle.race_model.specs.Files.{IsFile, bound_of}
 use Rattle.race_model.specs.LocalEquations.{IsPlayed, IsBest, IsLocal, IsLocalAt}
-use Rattle.race_model.specs.FirstFault.{Test, play_test, least_test, mean_test, spread_test, rank_of, place_of, Holds, Asks, IsFirstFault}
+use Rattle.race_model.specs.FirstFault.{Test, play_test, least_test, mean_test, spread_test}
+use Rattle.race_model.specs.FirstFault.{rank_of, place_of, Holds, Asks, IsFirstFault}
 use Rattle.race_model.proofs.Dice.Throws.{roll_of_index, by_index}
 use Rattle.race_model.proofs.Ranks.RankOrder.{at_rank_position, rank_bound, at_rank-rank}
 use Rattle.race_model.proofs.Ranks.PositionTotals.{rank-at_rank, count_to-most}

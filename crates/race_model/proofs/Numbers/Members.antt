@@ -1,5 +1,6 @@
 -- The members of a list, and a list that is filled in order.
-use Rattle.std.proofs.Common.{◌≡◌, ◌≢◌, ℕ, ◌+◌, ◌<◌, List, length, get_or, set, All, Any, Contains, subst, arith, get_or-set_other, get_or-set_same, below_more}
+use Rattle.std.proofs.Common.{◌≡◌, ◌≢◌, ℕ, ◌+◌, ◌<◌, List, length, get_or, set, All, Any, Contains}
+use Rattle.std.proofs.Common.{subst, arith, get_or-set_other, get_or-set_same, below_more}
 use Rattle.std.proofs.lemmas.List.{get_or_default}
 
 -- what holds of each member holds of all

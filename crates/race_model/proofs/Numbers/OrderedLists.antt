@@ -1,5 +1,6 @@
 -- Two lists in one strict order that have the same members are one list.
-use Rattle.std.proofs.Common.{◌≡◌, ◌⊎◌, inl, inr, ⊎_elim, ◌↔◌, ℕ, zero, suc, ◌<◌, List, [], ◌∷◌, length, get_or, Contains, refl, ap₂, sym, subst, ◌∙◌, arith}
+use Rattle.std.proofs.Common.{◌≡◌, ◌⊎◌, inl, inr, ⊎_elim, ◌↔◌, ℕ, zero, suc, ◌<◌, List, [], ◌∷◌}
+use Rattle.std.proofs.Common.{length, get_or, Contains, refl, ap₂, sym, subst, ◌∙◌, arith}
 
 -- an element of a list doesn't go by what stands past its end
 same_default : {X : Type 0} (xs : List X) (k : ℕ) (d e : X) → k < length xs →

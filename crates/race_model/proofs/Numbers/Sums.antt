@@ -1,5 +1,6 @@
 -- Sums over lists, and lists of numbers by their sums.
-use Rattle.std.proofs.Common.{zero, suc, ◌≡◌, ℕ, ◌+◌, ◌*◌, ◌<◌, ◌≤◌, List, [], ◌∷◌, length, map, flat_map, sum_by, refl, ap, arith, sum, get_or, replicate}
+use Rattle.std.proofs.Common.{zero, suc, ◌≡◌, ℕ, ◌+◌, ◌*◌, ◌<◌, ◌≤◌, List, [], ◌∷◌, length, map}
+use Rattle.std.proofs.Common.{flat_map, sum_by, refl, ap, arith, sum, get_or, replicate}
 use Rattle.std.specs.List.{range_with_len}
 use Rattle.std.proofs.lemmas.List.Sums.{sum_by-cons, sum_by-append}
 

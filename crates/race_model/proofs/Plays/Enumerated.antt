@@ -1,11 +1,15 @@
 -- The members of the list of results are the results.
-use Rattle.std.proofs.Common.{◌≡◌, ◌≢◌, ◌⊎◌, inl, inr, ⊎_elim, ℕ, zero, suc, ◌+◌, ◌-◌, ◌<◌, ◌≤◌, Bool, true, false, cond, eqb, ltb, List, [], ◌∷◌, ◌++◌, length, get_or, Contains, drop, sum, flat_map, refl, ap, sym, subst, ◌∙◌, arith, eq-eqb, ne_eqb, eqb-true, ltb-true, ltb-false, lt-ltb, le-ltb}
+use Rattle.std.proofs.Common.{◌≡◌, ◌≢◌, ◌⊎◌, inl, inr, ⊎_elim, ℕ, zero, suc, ◌+◌, ◌-◌, ◌<◌, ◌≤◌}
+use Rattle.std.proofs.Common.{Bool, true, false, cond, eqb, ltb, List, [], ◌∷◌, ◌++◌, length}
+use Rattle.std.proofs.Common.{get_or, Contains, drop, sum, flat_map, refl, ap, sym, subst, ◌∙◌}
+use Rattle.std.proofs.Common.{arith, eq-eqb, ne_eqb, eqb-true, ltb-true, ltb-false, lt-ltb, le-ltb}
 use Rattle.std.specs.List.{range_with_len}
 use Rattle.std.proofs.lemmas.Bool.{eqb-false}
 use Rattle.std.proofs.lemmas.List.{get_or-drop}
 use Rattle.race_model.specs.Positions.{Board, count, checkers, fewer, more}
 use Rattle.race_model.specs.Dice.{Die, number, Throw}
-use Rattle.race_model.specs.Plays.{StepFrom, bear_off, move_down, from_highest, Step, Run, Legal, in_order, in_reverse, double}
+use Rattle.race_model.specs.Plays.{StepFrom, bear_off, move_down, from_highest, Step, Run, Legal}
+use Rattle.race_model.specs.Plays.{in_order, in_reverse, double}
 use Rattle.race_model.specs.Enumerations.{step_from, all_steps, all_runs, all_results}
 use Rattle.race_model.proofs.Numbers.Sums.{sum-zeros}
 use Rattle.race_model.proofs.Plays.Steps.{occupied_place}

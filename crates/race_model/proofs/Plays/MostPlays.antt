@@ -1,17 +1,21 @@
 -- The rule of the most dice gives the legal plays: while a checker is left each die can be used,
 -- so only a board that is empty leaves dice unused, and there the other order of the dice, or the
 -- greater die alone, leads too.
-use Rattle.std.proofs.Common.{◌≡◌, ◌≢◌, ◌⊎◌, inl, inr, ⊎_elim, ℕ, zero, suc, ◌+◌, ◌-◌, ◌<◌, ◌≤◌, List, [], ◌∷◌, ◌++◌, length, get_or, replicate, refl, ap, sym, subst, ◌∙◌, arith, le_of_eq}
+use Rattle.std.proofs.Common.{◌≡◌, ◌≢◌, ◌⊎◌, inl, inr, ⊎_elim, ℕ, zero, suc, ◌+◌, ◌-◌, ◌<◌, ◌≤◌}
+use Rattle.std.proofs.Common.{List, [], ◌∷◌, ◌++◌, length, get_or, replicate, refl, ap, sym, subst}
+use Rattle.std.proofs.Common.{◌∙◌, arith, le_of_eq}
 use Rattle.std.proofs.lemmas.List.{get_or-set_same, get_or-set_other, length-replicate}
 use Rattle.race_model.specs.Positions.{Board, IsFinished, IsHighest, count, fewer, more}
 use Rattle.race_model.specs.Dice.{Die, number, Throw}
 use Rattle.race_model.specs.Plays.{Step, bear_off, move_down, from_highest, Run, Legal, in_order, in_reverse, double}
-use Rattle.race_model.specs.MostDice.{Uses, IsOffered, no_die, first_alone, second_alone, both_in_order, both_in_reverse, of_double, MostDice}
+use Rattle.race_model.specs.MostDice.{Uses, IsOffered, no_die, first_alone, second_alone}
+use Rattle.race_model.specs.MostDice.{both_in_order, both_in_reverse, of_double, MostDice}
 use Rattle.race_model.proofs.Numbers.Sums.{zeros_of_sum}
 use Rattle.race_model.proofs.Plays.Steps.{playable, occupied_place, one_fewer, one_more, one_moved}
 use Rattle.race_model.proofs.Dice.Faces.{number_positive, same_die}
 use Rattle.race_model.proofs.Plays.Results.{finished_or_not, run_stays, legal_stays}
-use Rattle.race_model.proofs.Plays.Needs.{steps_from-off, steps_from, needs, needs-fewer, needs-step, needs-none, finished_of_needs, under}
+use Rattle.race_model.proofs.Plays.Needs.{steps_from-off, steps_from, needs, needs-fewer}
+use Rattle.race_model.proofs.Plays.Needs.{needs-step, needs-none, finished_of_needs, under}
 
 -- from the finished position there is no step
 no_step : (x : Board) (d : Die) (y : Board) → IsFinished x → Step x d y → ⊥

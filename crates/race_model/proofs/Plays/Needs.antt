@@ -1,7 +1,8 @@
 -- How many steps by one die a position needs: for each checker its point over the die, rounded up.
 -- Each step by that die lowers this by exactly one, so no play of one die to the empty board is
 -- longer than another.
-use Rattle.std.proofs.Common.{◌≡◌, ◌⊎◌, ⊎_elim, ℕ, zero, suc, ◌+◌, ◌-◌, ◌*◌, ◌/◌, ◌<◌, ◌≤◌, List, [], ◌∷◌, length, get_or, set, sum, replicate, refl, sym, subst, arith}
+use Rattle.std.proofs.Common.{◌≡◌, ◌⊎◌, ⊎_elim, ℕ, zero, suc, ◌+◌, ◌-◌, ◌*◌, ◌/◌, ◌<◌, ◌≤◌, List}
+use Rattle.std.proofs.Common.{[], ◌∷◌, length, get_or, set, sum, replicate, refl, sym, subst, arith}
 use Rattle.race_model.specs.Positions.{Board, IsFinished, count, checkers, fewer, more}
 use Rattle.race_model.specs.Dice.{Die, one, two, three, four, five, six, number}
 use Rattle.race_model.specs.Plays.{Step, bear_off, move_down, from_highest}

@@ -1,6 +1,8 @@
 -- What a throw may lead to: a position with no more pips,
 -- and with fewer where there was a checker left.
-use Rattle.std.proofs.Common.{◌≡◌, ◌⊎◌, inl, inr, ⊎_elim, ℕ, ◌<◌, ◌≤◌, List, [], ◌∷◌, replicate, refl, ap, sym, subst, ◌∙◌, arith, le_refl, le_trans, le_of_lt, lt_of_le_of_lt}
+use Rattle.std.proofs.Common.{◌≡◌, ◌⊎◌, inl, inr, ⊎_elim, ℕ, ◌<◌, ◌≤◌, List, [], ◌∷◌, replicate}
+use Rattle.std.proofs.Common.{refl, ap, sym, subst, ◌∙◌, arith, le_refl, le_trans, le_of_lt}
+use Rattle.std.proofs.Common.{lt_of_le_of_lt}
 use Rattle.race_model.specs.Positions.{Board, IsPosition, IsFinished, checkers, pips, finished}
 use Rattle.race_model.specs.Dice.{Die, Throw}
 use Rattle.race_model.specs.Plays.{Step, Run, Legal, in_order, in_reverse, double}

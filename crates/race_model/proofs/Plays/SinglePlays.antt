@@ -1,5 +1,7 @@
 -- One checker: a throw takes it down by what the throw is worth, or off the board.
-use Rattle.std.proofs.Common.{◌≡◌, ◌≢◌, ◌⊎◌, inl, inr, ⊎_elim, ℕ, zero, suc, ◌+◌, ◌-◌, ◌*◌, ◌<◌, ◌≤◌, Bool, true, false, cond, leb, List, [], ◌∷◌, get_or, refl, ap, sym, subst, ◌∙◌, arith, eq-eqb, ne_eqb, leb-true, leb-false, lit≤}
+use Rattle.std.proofs.Common.{◌≡◌, ◌≢◌, ◌⊎◌, inl, inr, ⊎_elim, ℕ, zero, suc, ◌+◌, ◌-◌, ◌*◌, ◌<◌}
+use Rattle.std.proofs.Common.{◌≤◌, Bool, true, false, cond, leb, List, [], ◌∷◌, get_or, refl, ap}
+use Rattle.std.proofs.Common.{sym, subst, ◌∙◌, arith, eq-eqb, ne_eqb, leb-true, leb-false, lit≤}
 use Rattle.std.proofs.lemmas.List.{get_or-set_same, get_or-set_other}
 use Rattle.race_model.specs.Positions.{Board, IsFinished, IsHighest, count, fewer, more, finished}
 use Rattle.race_model.specs.Dice.{Die, one, two, three, four, five, six, number, Throw}

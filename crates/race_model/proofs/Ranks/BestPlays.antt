@@ -6,7 +6,9 @@ use Rattle.race_model.specs.Dice.{Die, Throw}
 use Rattle.race_model.specs.Plays.{Run, Legal}
 use Rattle.race_model.specs.Ranks.{rank}
 use Rattle.race_model.specs.BestPlays.{IsBestOf, IsBestPlay}
-use Rattle.race_model.proofs.Plays.Results.{finished_or_not, only_finished, run_to_position, run_fewer_pips, run_finished, run_stays, legal_position, legal_fewer_pips, legal_finished, legal_stays}
+use Rattle.race_model.proofs.Plays.Results.{finished_or_not, only_finished, run_to_position}
+use Rattle.race_model.proofs.Plays.Results.{run_fewer_pips, run_finished, run_stays, legal_position}
+use Rattle.race_model.proofs.Plays.Results.{legal_fewer_pips, legal_finished, legal_stays}
 use Rattle.race_model.proofs.Ranks.RankOrder.{rank-fewer}
 use Rattle.race_model.proofs.Ranks.PositionTotals.{rank-finished}
 

@@ -1,12 +1,17 @@
 -- How many positions there are, in all and to a pip count, by sums that are cheap to compute.
-use Rattle.std.proofs.Common.{◌≡◌, ℕ, zero, suc, ◌+◌, ◌-◌, ◌*◌, ◌<◌, ◌≤◌, ◌⊎◌, ⊎_elim, Bool, true, false, cond, not, ◌&&◌, List, refl, sym, ◌∙◌, ap, subst, inl, inr, arith}
+use Rattle.std.proofs.Common.{◌≡◌, ℕ, zero, suc, ◌+◌, ◌-◌, ◌*◌, ◌<◌, ◌≤◌, ◌⊎◌, ⊎_elim, Bool, true}
+use Rattle.std.proofs.Common.{false, cond, not, ◌&&◌, List, refl, sym, ◌∙◌, ap, subst, inl, inr}
+use Rattle.std.proofs.Common.{arith}
 use Rattle.std.specs.Prelude.{nat_lt, nat_le, ◌==◌}
 use Rattle.std.proofs.lemmas.Bool.{le-leb, leb-true, ltb-true, ltb-false, and_parts, cases_lt}
 use Rattle.race_model.specs.Positions.{Board, IsPosition, pips, finished}
 use Rattle.race_model.specs.Ranks.{count_positions, rank, first_of, count_to, position_count, at_rank}
 use Rattle.race_model.proofs.Ranks.BoxCounts.{within, within-nil, within-zero, within-suc, within-add, within-none_on}
 use Rattle.race_model.proofs.Ranks.RankCounts.{ways, ways-nil, ways-zero, ways-low, ways-more}
-use Rattle.race_model.proofs.Ranks.RankOrder.{count_to-step, first_of-suc, first_of-zero, count_to-rises, first_of-rises, rank-later, rank_within, rank_bound, pips-range, at_rank_search, at_rank_position, at_rank-rank, rank_reached}
+use Rattle.race_model.proofs.Ranks.RankOrder.{count_to-step, first_of-suc, first_of-zero}
+use Rattle.race_model.proofs.Ranks.RankOrder.{count_to-rises, first_of-rises, rank-later}
+use Rattle.race_model.proofs.Ranks.RankOrder.{rank_within, rank_bound, pips-range, at_rank_search}
+use Rattle.race_model.proofs.Ranks.RankOrder.{at_rank_position, at_rank-rank, rank_reached}
 
 -- the sum of a function at 0 to k
 abbrev sum_to : (ℕ → ℕ) → ℕ → ℕ

@@ -1,13 +1,21 @@
 -- What ranks are: they tell positions apart, rise with pips, and leave none out.
-use Rattle.std.proofs.Common.{◌≡◌, ℕ, zero, suc, ◌+◌, ◌-◌, ◌*◌, ◌<◌, ◌≤◌, ◌⊎◌, ◌↔◌, Bool, cond, ◌&&◌, ◌||◌, not, List, [], ◌∷◌, length, refl, sym, ◌∙◌, ap, subst, zero-add, inl, inr, mul-le-mul_right, arith}
+use Rattle.std.proofs.Common.{◌≡◌, ℕ, zero, suc, ◌+◌, ◌-◌, ◌*◌, ◌<◌, ◌≤◌, ◌⊎◌, ◌↔◌, Bool, cond}
+use Rattle.std.proofs.Common.{◌&&◌, ◌||◌, not, List, [], ◌∷◌, length, refl, sym, ◌∙◌, ap, subst}
+use Rattle.std.proofs.Common.{zero-add, inl, inr, mul-le-mul_right, arith}
 use Rattle.std.specs.Prelude.{nat_lt, nat_le, ◌==◌, sum, count_by, find, None, unwrap_or}
-use Rattle.std.proofs.lemmas.Bool.{eqb-true, eq-eqb, ne_eqb, leb-true, le-leb, lt-leb, ltb-true, lt-ltb, le-ltb, and_parts, not-false, cases_lt, cases_order, cases_eq}
+use Rattle.std.proofs.lemmas.Bool.{eqb-true, eq-eqb, ne_eqb, leb-true, le-leb, lt-leb, ltb-true}
+use Rattle.std.proofs.lemmas.Bool.{lt-ltb, le-ltb, and_parts, not-false, cases_lt, cases_order}
+use Rattle.std.proofs.lemmas.Bool.{cases_eq}
 use Rattle.race_model.specs.Positions.{Board, IsPosition, pips_from, pips, checkers, finished}
 use Rattle.race_model.specs.Ranks.{comes_first, is_before, boards, count_positions, rank, first_of, count_to, at_rank}
 use Rattle.race_model.proofs.Numbers.Sums.{sum-cons}
-use Rattle.race_model.proofs.Ranks.BoxCounts.{within, one_more, within-same, within-add, within-none_on, within-some, IsFound, found_or_none, boards_have_length}
+use Rattle.race_model.proofs.Ranks.BoxCounts.{within, one_more, within-same, within-add}
+use Rattle.race_model.proofs.Ranks.BoxCounts.{within-none_on, within-some, IsFound, found_or_none}
+use Rattle.race_model.proofs.Ranks.BoxCounts.{boards_have_length}
 use Rattle.race_model.proofs.Numbers.Tests.{same_bool}
-use Rattle.race_model.proofs.Ranks.RankCounts.{ways, ways-nil, ways-zero, ways-low, ways-more, earlier, earlier-nil, earlier-empty, earlier-more, later, split_all, is_earlier}
+use Rattle.race_model.proofs.Ranks.RankCounts.{ways, ways-nil, ways-zero, ways-low, ways-more}
+use Rattle.race_model.proofs.Ranks.RankCounts.{earlier, earlier-nil, earlier-empty, earlier-more}
+use Rattle.race_model.proofs.Ranks.RankCounts.{later, split_all, is_earlier}
 
 -- a rank: the positions of fewer pips, and those of as many that are before
 pub rank-split : (x : Board) → rank x ≡ first_of (pips x) + earlier 6 1 15 x

@@ -1,5 +1,6 @@
 -- Two right files that hold the same numbers give the same reply to each line.
-use Rattle.std.proofs.Common.{◌≡◌, ◌⊎◌, inl, ℕ, ◌-◌, ◌<◌, ◌≤◌, List, [], length, slice_index_or, ap, ap₂, sym, subst, subst₂, ◌∙◌, arith, le_trans}
+use Rattle.std.proofs.Common.{◌≡◌, ◌⊎◌, inl, ℕ, ◌-◌, ◌<◌, ◌≤◌, List, [], length, slice_index_or, ap}
+use Rattle.std.proofs.Common.{ap₂, sym, subst, subst₂, ◌∙◌, arith, le_trans}
 use Rattle.std.proofs.lemmas.List.Elements.{Contains-get_or}
 use Rattle.race_model.specs.Positions.{Board, IsPosition, checkers, pips, finished}
 use Rattle.race_model.specs.Dice.{Throw}
@@ -9,8 +10,11 @@ use Rattle.race_model.specs.Files.{bound_of, mean, mean_at, play}
 use Rattle.race_model.specs.LocalEquations.{recorded, IsPlayed}
 use Rattle.race_model.specs.RightFiles.{IsRight}
 use Rattle.race_model.specs.Losses.{loss, IsListedBefore, IsMoveList}
-use Rattle.race_model.specs.Queries.{Query, mean_query, dist_query, play_query, loss_query, moves_query, rank_query, IsQuery, HasTooMany, HasResult, subject, IsRefused, IsAccepted}
-use Rattle.race_model.specs.Replies.{IsShareText, IsMeanReply, IsSharePart, IsPlayReply, IsChoicePart, IsAnswer, IsReply, answered, refused}
+use Rattle.race_model.specs.Queries.{Query, mean_query, dist_query, play_query, loss_query}
+use Rattle.race_model.specs.Queries.{moves_query, rank_query, IsQuery, HasTooMany, HasResult}
+use Rattle.race_model.specs.Queries.{subject, IsRefused, IsAccepted}
+use Rattle.race_model.specs.Replies.{IsShareText, IsMeanReply, IsSharePart, IsPlayReply}
+use Rattle.race_model.specs.Replies.{IsChoicePart, IsAnswer, IsReply, answered, refused}
 use Rattle.race_model.specs.SameNumbers.{HasSameNumbers}
 use Rattle.race_model.proofs.Plays.Results.{legal_position, legal_pips}
 

@@ -1,5 +1,8 @@
 -- Lines of input: the words of a line tell what it asks, and no line that asks something is long.
-use Rattle.std.proofs.Common.{◌≡◌, ⊎_elim, ℕ, ◌+◌, ◌*◌, ◌≤◌, Bool, true, false, not, ◌&&◌, eqb, leb, Some, List, [], ◌∷◌, ◌++◌, length, get_or, map, codes, All, refl, ap, ap₂, sym, subst, ◌∙◌, arith, append_assoc, length-append, leb-true, ne_eqb, cond, ◌⊎◌, inl, ◌<◌, inr}
+use Rattle.std.proofs.Common.{◌≡◌, ⊎_elim, ℕ, ◌+◌, ◌*◌, ◌≤◌, Bool, true, false, not, ◌&&◌, eqb, leb}
+use Rattle.std.proofs.Common.{Some, List, [], ◌∷◌, ◌++◌, length, get_or, map, codes, All, refl, ap}
+use Rattle.std.proofs.Common.{ap₂, sym, subst, ◌∙◌, arith, append_assoc, length-append, leb-true}
+use Rattle.std.proofs.Common.{ne_eqb, cond, ◌⊎◌, inl, ◌<◌, inr}
 use Rattle.std.specs.List.{slice_split, join_with_byte}
 use Rattle.std.proofs.lemmas.List.Elements.{All-append, All-cons, All-nil}
 use Rattle.std.proofs.lemmas.List.Splits.{join_with_byte-slice_split, slice_split_at, slice_split_none}
@@ -8,7 +11,9 @@ use Rattle.race_model.specs.Dice.{Die, one, number, Throw, reversed, IsRoll}
 use Rattle.race_model.proofs.Dice.Faces.{same_number}
 use Rattle.race_model.proofs.Numbers.Tests.{both_tests, tested}
 use Rattle.race_model.specs.PositionText.{is_digit, is_leading_digit, count_value, IsPositionText}
-use Rattle.race_model.specs.Queries.{Query, subject, mean_query, dist_query, play_query, loss_query, moves_query, rank_query, dice_text, IsRollText, IsQuery, words, HasWords}
+use Rattle.race_model.specs.Queries.{Query, subject, mean_query, dist_query, play_query, loss_query}
+use Rattle.race_model.specs.Queries.{moves_query, rank_query, dice_text, IsRollText, IsQuery, words}
+use Rattle.race_model.specs.Queries.{HasWords}
 
 -- the byte is no space
 abbrev IsNoSpace : ℕ → Type 0

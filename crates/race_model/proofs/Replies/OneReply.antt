@@ -1,5 +1,7 @@
 -- A line has one reply.
-use Rattle.std.proofs.Common.{◌≡◌, ◌⊎◌, ⊎_elim, ℕ, suc, ◌*◌, ◌<◌, ◌≤◌, List, [], ◌∷◌, ◌++◌, length, get_or, flat_map, slice_index_or, codes, decimal, refl, ap, ap₂, sym, subst, ◌∙◌, arith}
+use Rattle.std.proofs.Common.{◌≡◌, ◌⊎◌, ⊎_elim, ℕ, suc, ◌*◌, ◌<◌, ◌≤◌, List, [], ◌∷◌, ◌++◌, length}
+use Rattle.std.proofs.Common.{get_or, flat_map, slice_index_or, codes, decimal, refl, ap, ap₂, sym}
+use Rattle.std.proofs.Common.{subst, ◌∙◌, arith}
 use Rattle.std.specs.List.{concat}
 use Rattle.race_model.specs.Positions.{Board, finished, pips}
 use Rattle.race_model.specs.Dice.{Throw}
@@ -9,8 +11,14 @@ use Rattle.race_model.specs.LocalEquations.{whole}
 use Rattle.race_model.specs.Fractions.{IsThousandths}
 use Rattle.race_model.specs.Losses.{loss, IsListedBefore}
 use Rattle.race_model.specs.FirstPlays.{move_text}
-use Rattle.race_model.specs.Queries.{Query, mean_query, dist_query, play_query, loss_query, moves_query, rank_query, Refusal, HasTooMany, AsksOfFinished, HasResult, subject, IsRefused, no_query, of_too_many, of_over_bound, of_finished, of_no_result, IsAccepted}
-use Rattle.race_model.specs.Replies.{fraction_text, thousandths_text, IsShareText, IsMeanReply, IsSharePart, IsDistReply, IsPlayReply, IsChoicePart, IsMovesReply, IsAnswer, refusal_text, IsReply, answered, refused}
+use Rattle.race_model.specs.Queries.{Query, mean_query, dist_query, play_query, loss_query}
+use Rattle.race_model.specs.Queries.{moves_query, rank_query, Refusal, HasTooMany, AsksOfFinished}
+use Rattle.race_model.specs.Queries.{HasResult, subject, IsRefused, no_query, of_too_many}
+use Rattle.race_model.specs.Queries.{of_over_bound, of_finished, of_no_result, IsAccepted}
+use Rattle.race_model.specs.Replies.{fraction_text, thousandths_text, IsShareText, IsMeanReply}
+use Rattle.race_model.specs.Replies.{IsSharePart, IsDistReply, IsPlayReply, IsChoicePart}
+use Rattle.race_model.specs.Replies.{IsMovesReply, IsAnswer, refusal_text, IsReply, answered}
+use Rattle.race_model.specs.Replies.{refused}
 use Rattle.race_model.proofs.Numbers.LowestTerms.{one_fraction, one_number_of_thousandths}
 use Rattle.race_model.proofs.Replies.Lines.{one_query}
 use Rattle.race_model.proofs.Plays.PlayOrder.{one_first_play}

@@ -1,6 +1,7 @@
 -- Two built files of one bound agree on every number: the means are the least, of the
 -- plays to them the lowest rank is recorded, and the shares follow from the plays.
-use Rattle.std.proofs.Common.{◌≡◌, ⊎_elim, ℕ, zero, suc, ◌≤◌, List, ap, sym, subst, ◌∙◌, arith, le_trans, le_antisymm, le_of_eq, le_of_lt}
+use Rattle.std.proofs.Common.{◌≡◌, ⊎_elim, ℕ, zero, suc, ◌≤◌, List, ap, sym, subst, ◌∙◌, arith}
+use Rattle.std.proofs.Common.{le_trans, le_antisymm, le_of_eq, le_of_lt}
 use Rattle.race_model.specs.Positions.{Board, IsPosition, IsFinished, pips}
 use Rattle.race_model.specs.Dice.{Throw, throws, reversed, IsRoll}
 use Rattle.race_model.specs.Plays.{Legal}

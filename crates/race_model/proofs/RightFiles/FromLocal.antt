@@ -1,6 +1,7 @@
 -- A file whose records meet the local equations is right: no strategy has a total under the
 -- recorded mean, and the strategy that plays what is recorded has it, and the recorded shares.
-use Rattle.std.proofs.Common.{◌≡◌, ⊎_elim, ℕ, zero, suc, ◌≤◌, List, sum_by, cond, eq-eqb, ne_eqb, refl, ap, sym, subst, ◌∙◌, arith, le_trans, le_of_lt}
+use Rattle.std.proofs.Common.{◌≡◌, ⊎_elim, ℕ, zero, suc, ◌≤◌, List, sum_by, cond, eq-eqb, ne_eqb}
+use Rattle.std.proofs.Common.{refl, ap, sym, subst, ◌∙◌, arith, le_trans, le_of_lt}
 use Rattle.race_model.specs.Positions.{Board, IsPosition, IsFinished, checkers, pips}
 use Rattle.race_model.specs.Dice.{Throw, throws}
 use Rattle.race_model.specs.Plays.{Legal}
@@ -14,7 +15,8 @@ use Rattle.race_model.proofs.Numbers.Sums.{sum_by-equal, sum_by-at_most}
 use Rattle.race_model.proofs.Dice.RollSums.{sum_by-throws}
 use Rattle.race_model.proofs.Plays.Results.{legal_position, legal_pips, finished_or_not}
 use Rattle.race_model.proofs.Strategies.Histories.{fits_within, within_up}
-use Rattle.race_model.proofs.Strategies.Totals.{total-turn, count_of-turn, count_of-turn_none, total-stop, count_of-stop, count_of-stop_more}
+use Rattle.race_model.proofs.Strategies.Totals.{total-turn, count_of-turn, count_of-turn_none}
+use Rattle.race_model.proofs.Strategies.Totals.{total-stop, count_of-stop, count_of-stop_more}
 
 -- the strategy that plays what is recorded stops where the board is empty
 pub follow-finished : (f : List ℕ) (n : ℕ) (x : Board) → IsFinished x → follow f n x ≡ stop

@@ -1,6 +1,8 @@
 -- A right file meets the local equations: its strategy is the same with one turn
 -- more, and the strategy that plays otherwise at one throw has no lower total.
-use Rattle.std.proofs.Common.{ap₂, eq-eqb, ◌≡◌, ⊎_elim, ℕ, zero, suc, ◌+◌, ◌*◌, ◌≤◌, List, sum_by, Bool, true, false, ◌&&◌, cond, refl, ap, sym, subst, ◌∙◌, arith, le_trans, le_of_lt, le_of_eq}
+use Rattle.std.proofs.Common.{ap₂, eq-eqb, ◌≡◌, ⊎_elim, ℕ, zero, suc, ◌+◌, ◌*◌, ◌≤◌, List, sum_by}
+use Rattle.std.proofs.Common.{Bool, true, false, ◌&&◌, cond, refl, ap, sym, subst, ◌∙◌, arith}
+use Rattle.std.proofs.Common.{le_trans, le_of_lt, le_of_eq}
 use Rattle.race_model.specs.Positions.{Board, IsPosition, IsFinished, pips}
 use Rattle.race_model.specs.Dice.{Die, one, two, three, four, five, six, number, Throw, throws}
 use Rattle.race_model.specs.Plays.{Legal}
@@ -13,7 +15,8 @@ use Rattle.race_model.proofs.Numbers.Sums.{sum_by-equal}
 use Rattle.race_model.proofs.Plays.Results.{legal_position, legal_pips, legal_finished, finished_or_not}
 use Rattle.race_model.proofs.Strategies.Histories.{fits_within}
 use Rattle.race_model.proofs.Dice.Faces.{is_throw, same_throw}
-use Rattle.race_model.proofs.Strategies.Totals.{total-turn, count_of-turn, count_of-turn_none, total-stop, count_of-stop, count_of-stop_more}
+use Rattle.race_model.proofs.Strategies.Totals.{total-turn, count_of-turn, count_of-turn_none}
+use Rattle.race_model.proofs.Strategies.Totals.{total-stop, count_of-stop, count_of-stop_more}
 use Rattle.race_model.proofs.RightFiles.FromLocal.{follow-finished, follow-unfinished, means_by_rolls, shares_by_rolls}
 
 -- the plays of a strategy, but for one throw

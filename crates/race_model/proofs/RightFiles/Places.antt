@@ -1,5 +1,7 @@
 -- Where the records of a file stand: each behind the one before it.
-use Rattle.std.proofs.Common.{◌≡◌, ℕ, zero, suc, ◌+◌, ◌-◌, ◌*◌, ◌<◌, ◌≤◌, List, length, drop, sum_by, refl, ap, sym, ◌∙◌, arith, le_trans, le_of_eq, length-take, length-drop}
+use Rattle.std.proofs.Common.{◌≡◌, ℕ, zero, suc, ◌+◌, ◌-◌, ◌*◌, ◌<◌, ◌≤◌, List, length, drop}
+use Rattle.std.proofs.Common.{sum_by, refl, ap, sym, ◌∙◌, arith, le_trans, le_of_eq, length-take}
+use Rattle.std.proofs.Common.{length-drop}
 use Rattle.std.proofs.lemmas.List.Sums.{sum_by-cons}
 use Rattle.race_model.specs.Positions.{pips}
 use Rattle.race_model.specs.Ranks.{at_rank, count_to, numbers_from}

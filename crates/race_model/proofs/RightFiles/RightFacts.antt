@@ -1,7 +1,9 @@
 -- What follows of a right file: its means are those of every other, its shares add up and none is
 -- lost where those beyond the horizon are left out, and a loss is nothing just where a least
 -- strategy begins so.
-use Rattle.std.proofs.Common.{◌≡◌, ⊎_elim, ℕ, ◌+◌, ◌-◌, ◌<◌, ◌≤◌, List, sum_by, Bool, true, false, cond, refl, ap, sym, subst, ◌∙◌, arith, le_trans, le_antisymm, le_of_eq}
+use Rattle.std.proofs.Common.{◌≡◌, ⊎_elim, ℕ, ◌+◌, ◌-◌, ◌<◌, ◌≤◌, List, sum_by, Bool, true, false}
+use Rattle.std.proofs.Common.{cond, refl, ap, sym, subst, ◌∙◌, arith, le_trans, le_antisymm}
+use Rattle.std.proofs.Common.{le_of_eq}
 use Rattle.std.specs.List.{range_with_len}
 use Rattle.race_model.specs.Positions.{Board, IsPosition, IsFinished, pips}
 use Rattle.race_model.specs.Dice.{Throw, throws}
@@ -18,7 +20,9 @@ use Rattle.race_model.proofs.Strategies.Histories.{fits_within}
 use Rattle.race_model.proofs.Strategies.Horizons.{within_22, count_of-beyond}
 use Rattle.race_model.proofs.Strategies.Spreads.{counts_add_up}
 use Rattle.race_model.proofs.Strategies.Totals.{total-turn}
-use Rattle.race_model.proofs.RightFiles.FromRight.{plan, plan_fits, plan_total, mean_before, best_before, one_changed, otherwise_at, otherwise_legal, otherwise_at-here}
+use Rattle.race_model.proofs.RightFiles.FromRight.{plan, plan_fits, plan_total, mean_before}
+use Rattle.race_model.proofs.RightFiles.FromRight.{best_before, one_changed, otherwise_at}
+use Rattle.race_model.proofs.RightFiles.FromRight.{otherwise_legal, otherwise_at-here}
 use Rattle.race_model.proofs.Dice.Faces.{is_throw, same_throw}
 use Rattle.race_model.proofs.RightFiles.Right.{bound_of-most, short}
 

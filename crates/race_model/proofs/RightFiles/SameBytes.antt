@@ -1,5 +1,7 @@
 -- Two files that hold the same numbers, and whose bytes are under 256, are byte for byte one.
-use Rattle.std.proofs.Common.{◌≡◌, ◌⊎◌, ⊎_elim, ℕ, zero, suc, ◌+◌, ◌-◌, ◌*◌, ◌/◌, ◌%◌, ◌<◌, ◌≤◌, List, length, get_or, drop, ap, ap₂, sym, subst, ◌∙◌, arith, le_trans, ext_get_or}
+use Rattle.std.proofs.Common.{◌≡◌, ◌⊎◌, ⊎_elim, ℕ, zero, suc, ◌+◌, ◌-◌, ◌*◌, ◌/◌, ◌%◌, ◌<◌, ◌≤◌}
+use Rattle.std.proofs.Common.{List, length, get_or, drop, ap, ap₂, sym, subst, ◌∙◌, arith, le_trans}
+use Rattle.std.proofs.Common.{ext_get_or}
 use Rattle.std.specs.Int.{w16, w128, from_be_bytes}
 use Rattle.std.proofs.lemmas.List.{get_or-take, get_or-drop}
 use Rattle.race_model.specs.Positions.{IsPosition, pips}
@@ -7,7 +9,9 @@ use Rattle.race_model.specs.Dice.{roll_at}
 use Rattle.race_model.specs.Ranks.{rank, at_rank, count_to}
 use Rattle.race_model.specs.Horizon.{most_rolls}
 use Rattle.race_model.specs.Versions.{Version, full, compact, first_share, share_count, record_length}
-use Rattle.race_model.specs.Files.{bytes_at, version_of, bound_of, header, IsFile, record_place, stored_at, record_at, mean_of, play_of, share_of, mean_at, play_at, spread_at}
+use Rattle.race_model.specs.Files.{bytes_at, version_of, bound_of, header, IsFile, record_place}
+use Rattle.race_model.specs.Files.{stored_at, record_at, mean_of, play_of, share_of, mean_at}
+use Rattle.race_model.specs.Files.{play_at, spread_at}
 use Rattle.race_model.specs.SameNumbers.{HasSameNumbers}
 use Rattle.race_model.proofs.Dice.Throws.{roll_of_index}
 use Rattle.race_model.proofs.FirstFaults.Questions.{within_bound}

@@ -1,5 +1,6 @@
 -- A file that holds the numbers of a right file is right, and so is the upgrade of one.
-use Rattle.std.proofs.Common.{◌≡◌, ℕ, zero, suc, ◌+◌, ◌*◌, ◌≤◌, List, refl, sym, ap, subst, subst₂, ◌∙◌, arith, le_trans}
+use Rattle.std.proofs.Common.{◌≡◌, ℕ, zero, suc, ◌+◌, ◌*◌, ◌≤◌, List, refl, sym, ap, subst, subst₂}
+use Rattle.std.proofs.Common.{◌∙◌, arith, le_trans}
 use Rattle.race_model.specs.Positions.{Board, IsPosition, pips}
 use Rattle.race_model.specs.Dice.{Throw, all_rolls, weight}
 use Rattle.race_model.specs.Plays.{Legal}

@@ -1,8 +1,11 @@
 -- What the stored bytes of a record tell: the mean and the plays stand where they do in a full
 -- record, and so do the stored shares, one place on in a compact record; the others are known.
-use Rattle.std.proofs.Common.{◌≡◌, ℕ, zero, suc, ◌+◌, ◌-◌, ◌*◌, ◌^◌, ◌<◌, ◌≤◌, ◌==◌, Bool, true, false, cond, leb, List, ◌++◌, length, take, drop, refl, ap, sym, ◌∙◌, arith, length-take, length-drop, take-take, leb-true, leb-false}
+use Rattle.std.proofs.Common.{◌≡◌, ℕ, zero, suc, ◌+◌, ◌-◌, ◌*◌, ◌^◌, ◌<◌, ◌≤◌, ◌==◌, Bool, true}
+use Rattle.std.proofs.Common.{false, cond, leb, List, ◌++◌, length, take, drop, refl, ap, sym, ◌∙◌}
+use Rattle.std.proofs.Common.{arith, length-take, length-drop, take-take, leb-true, leb-false}
 use Rattle.std.specs.Int.{w16, w128, from_be_bytes, to_be_bytes}
-use Rattle.std.proofs.lemmas.List.{length-append, length-replicate, drop-append-le, take-append-le, drop-drop, drop-take, drop-replicate, take-replicate}
+use Rattle.std.proofs.lemmas.List.{length-append, length-replicate, drop-append-le, take-append-le}
+use Rattle.std.proofs.lemmas.List.{drop-drop, drop-take, drop-replicate, take-replicate}
 use Rattle.std.proofs.Math.Seq.{drop-append-add}
 use Rattle.race_model.specs.Horizon.{most_rolls}
 use Rattle.race_model.specs.Versions.{Version, full, compact, first_share, share_count, record_length}

@@ -1,5 +1,6 @@
 -- A record of either version tells all shares of a position that is recorded right.
-use Rattle.std.proofs.Common.{◌≡◌, ⊎_elim, ℕ, zero, suc, ◌≤◌, Bool, true, false, cond, leb, List, refl, ap, sym, ◌∙◌, arith, eq-eqb, ne_eqb, leb-false}
+use Rattle.std.proofs.Common.{◌≡◌, ⊎_elim, ℕ, zero, suc, ◌≤◌, Bool, true, false, cond, leb, List}
+use Rattle.std.proofs.Common.{refl, ap, sym, ◌∙◌, arith, eq-eqb, ne_eqb, leb-false}
 use Rattle.race_model.specs.Positions.{Board, IsPosition, IsFinished, checkers, pips}
 use Rattle.race_model.specs.Versions.{Version, full, compact}
 use Rattle.race_model.specs.Files.{spread}

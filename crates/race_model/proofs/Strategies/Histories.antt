@@ -1,14 +1,18 @@
 -- The rolls of a strategy over all sequences of m throws, for every m: what a turn adds, and what
 -- a throw more does to a game that is over by then. Both are told for the sum of any number that
 -- goes by the rolls.
-use Rattle.std.proofs.Common.{◌≡◌, ◌≢◌, ℕ, zero, suc, ◌+◌, ◌*◌, ◌^◌, ◌<◌, ◌≤◌, List, [], ◌∷◌, length, map, sum_by, cond, eqb, ne_eqb, ◌⊎◌, ⊎_elim, refl, ap, sym, subst, ◌∙◌, arith}
+use Rattle.std.proofs.Common.{◌≡◌, ◌≢◌, ℕ, zero, suc, ◌+◌, ◌*◌, ◌^◌, ◌<◌, ◌≤◌, List, [], ◌∷◌}
+use Rattle.std.proofs.Common.{length, map, sum_by, cond, eqb, ne_eqb, ◌⊎◌, ⊎_elim, refl, ap, sym}
+use Rattle.std.proofs.Common.{subst, ◌∙◌, arith}
 use Rattle.std.proofs.Math.Nat.{pow-suc}
 use Rattle.std.proofs.Math.Dec.{eqb-suc-suc, eqb-suc-zero}
 use mathlib.Core.Path.{fun_ext}
 use Rattle.race_model.specs.Positions.{Board}
 use Rattle.race_model.specs.Dice.{Throw, throws}
-use Rattle.race_model.specs.Strategies.{Strategy, stop, turn, Fits, rolls, sequences, total_over, count_over, IsWithin, EndsIn}
-use Rattle.race_model.proofs.Numbers.Sums.{sum_by-map, sum_by-flat_map, sum_by-equal, sum_by-plus, sum_by-times, sum_by-constant, sum_by-zero}
+use Rattle.race_model.specs.Strategies.{Strategy, stop, turn, Fits, rolls, sequences, total_over}
+use Rattle.race_model.specs.Strategies.{count_over, IsWithin, EndsIn}
+use Rattle.race_model.proofs.Numbers.Sums.{sum_by-map, sum_by-flat_map, sum_by-equal, sum_by-plus}
+use Rattle.race_model.proofs.Numbers.Sums.{sum_by-times, sum_by-constant, sum_by-zero}
 use Rattle.race_model.proofs.Dice.RollSums.{length-throws}
 
 -- the sum, over all sequences of m throws, of a number that goes by the rolls of a strategy

@@ -1,7 +1,8 @@
 -- How long a game can take: a turn after which a checker remains takes at least 6 from the weight
 -- of a position, 2 * pips + checkers, and 1 more where a checker stands above point 1, that is
 -- where pips exceed checkers.
-use Rattle.std.proofs.Common.{◌≡◌, ◌≢◌, ◌⊎◌, inl, inr, ⊎_elim, ℕ, zero, suc, ◌+◌, ◌*◌, ◌<◌, ◌≤◌, List, [], ◌∷◌, get_or, sum, refl, ap, sym, subst, ◌∙◌, arith}
+use Rattle.std.proofs.Common.{◌≡◌, ◌≢◌, ◌⊎◌, inl, inr, ⊎_elim, ℕ, zero, suc, ◌+◌, ◌*◌, ◌<◌, ◌≤◌}
+use Rattle.std.proofs.Common.{List, [], ◌∷◌, get_or, sum, refl, ap, sym, subst, ◌∙◌, arith}
 use Rattle.race_model.specs.Positions.{Board, IsPosition, IsFinished, IsHighest, checkers, pips, pips_from}
 use Rattle.race_model.specs.Dice.{Die, number, Throw}
 use Rattle.race_model.specs.Plays.{Step, Run, Legal, in_order, in_reverse, double}

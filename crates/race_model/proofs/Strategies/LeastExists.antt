@@ -1,6 +1,7 @@
 -- Each position of at most 58 pips has a least total, whether or not a file records it: for each
 -- throw one of the results has the least total of all, and the plan that plays there is the least.
-use Rattle.std.proofs.Common.{◌≡◌, ◌⊎◌, inl, inr, ⊎_elim, ℕ, zero, suc, ◌≤◌, List, [], ◌∷◌, refl, sym, subst, arith, le_trans, le_of_eq, zero-le}
+use Rattle.std.proofs.Common.{◌≡◌, ◌⊎◌, inl, inr, ⊎_elim, ℕ, zero, suc, ◌≤◌, List, [], ◌∷◌, refl}
+use Rattle.std.proofs.Common.{sym, subst, arith, le_trans, le_of_eq, zero-le}
 use Rattle.race_model.specs.Positions.{Board, IsPosition, IsFinished, pips}
 use Rattle.race_model.specs.Dice.{Throw, throws}
 use Rattle.race_model.specs.Plays.{Legal}

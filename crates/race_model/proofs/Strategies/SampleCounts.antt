@@ -5,7 +5,8 @@ use Rattle.std.proofs.Math.Nat.{pow-suc}
 use Rattle.race_model.specs.Dice.{Throw, throws}
 use Rattle.race_model.specs.Positions.{finished}
 use Rattle.race_model.specs.LocalEquations.{whole}
-use Rattle.race_model.specs.Strategies.{Strategy, stop, turn, sequences, total_over, count_over, total, count_of, IsWithin}
+use Rattle.race_model.specs.Strategies.{Strategy, stop, turn, sequences, total_over, count_over}
+use Rattle.race_model.specs.Strategies.{total, count_of, IsWithin}
 use Rattle.race_model.specs.Samples.{worth, from_six_point}
 use Rattle.race_model.proofs.Strategies.Histories.{total_over-more, count_over-more, within_more}
 

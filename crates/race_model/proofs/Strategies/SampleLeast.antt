@@ -1,7 +1,9 @@
 -- No strategy from one checker on point 6 has a smaller total than the sample: a throw takes at
 -- most what it is worth, so after each of the 9 throws that are worth less than 6 pips a roll is
 -- still needed.
-use Rattle.std.proofs.Common.{◌≡◌, ◌⊎◌, ⊎_elim, ℕ, ◌+◌, ◌*◌, ◌≤◌, Bool, true, false, cond, leb, List, [], ◌∷◌, sum_by, refl, ap, arith, eq-eqb, ne_eqb, leb-false, zero-le, lit≤}
+use Rattle.std.proofs.Common.{◌≡◌, ◌⊎◌, ⊎_elim, ℕ, ◌+◌, ◌*◌, ◌≤◌, Bool, true, false, cond, leb}
+use Rattle.std.proofs.Common.{List, [], ◌∷◌, sum_by, refl, ap, arith, eq-eqb, ne_eqb, leb-false}
+use Rattle.std.proofs.Common.{zero-le, lit≤}
 use Rattle.race_model.specs.Positions.{Board, IsPosition, IsFinished, IsHighest, count, pips}
 use Rattle.race_model.specs.Dice.{Die, number, Throw, throws}
 use Rattle.race_model.specs.Plays.{Step, Run, Legal, in_order, in_reverse, double}

@@ -7,7 +7,10 @@ use Rattle.race_model.specs.Dice.{Throw, throws}
 use Rattle.race_model.specs.LocalEquations.{whole}
 use Rattle.race_model.specs.Strategies.{Strategy, stop, turn, total_over, count_over, total, count_of, IsWithin}
 use Rattle.race_model.proofs.Numbers.Sums.{sum_by-equal, sum_by-times}
-use Rattle.race_model.proofs.Strategies.Histories.{over-stop, total_over-over, count_over-over, one_at, total_over-turn, count_over-turn, count_over-turn_none, total_over-more, count_over-more}
+use Rattle.race_model.proofs.Strategies.Histories.{over-stop, total_over-over, count_over-over}
+use Rattle.race_model.proofs.Strategies.Histories.{one_at, total_over-turn, count_over-turn}
+use Rattle.race_model.proofs.Strategies.Histories.{count_over-turn_none, total_over-more}
+use Rattle.race_model.proofs.Strategies.Histories.{count_over-more}
 
 -- a turn before strategies of at most m turns, over one throw more
 total_over-turn_times_36 : (m : ℕ) (to : Throw → Board) (next : Throw → Strategy) →

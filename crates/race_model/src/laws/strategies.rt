@@ -4,7 +4,8 @@ ghost use Rattle.race_model.specs.Dice.{Throw, throws};
 ghost use Rattle.race_model.specs.Horizon.{most_rolls};
 ghost use Rattle.race_model.specs.LocalEquations.{whole};
 ghost use Rattle.race_model.specs.Samples.{from_six_point};
-ghost use Rattle.race_model.specs.Strategies.{Strategy, turn, Fits, total_over, count_over, total, count_of, IsLeast, IsWithin, EndsIn};
+ghost use Rattle.race_model.specs.Strategies.{Strategy, turn, Fits, total_over, count_over, total};
+ghost use Rattle.race_model.specs.Strategies.{count_of, IsLeast, IsWithin, EndsIn};
 
 /// What a turn adds, for every m. Its rolls over all sequences of m + 1 throws are one for each of
 /// these 36 ^ (m + 1) sequences and those of its branches over all sequences of m throws; and it

@@ -1,7 +1,8 @@
 use Rattle.std.proofs.Common.{◌≡◌, Some, Err, refl, ap, sym, ◌∙◌, arith}
 use Rattle.bearoff_c.specs.Refusals.{status_of}
 use Rattle.bearoff_c.specs.declared.refusal.Refusal.{Refusal}
-use Rattle.bearoff_c.specs.declared.refusal.Refusal.TheVariants.{NotOpen, BadRoll, TooMany, OverBound, Finished, NotLegal, Changed}
+use Rattle.bearoff_c.specs.declared.refusal.Refusal.TheVariants.{NotOpen, BadRoll, TooMany, OverBound, Finished}
+use Rattle.bearoff_c.specs.declared.refusal.Refusal.TheVariants.{NotLegal, Changed}
 use Rattle.bearoff_c.proofs.listing.bearoff_loss.Goals as goal
 
 -- the status of a play that is not legal is that of no other refusal

@@ -1,5 +1,6 @@
 -- The tests of the record of one rank, from its plays to its shares.
-use Rattle.std.proofs.Common.{◌≡◌, ℕ, ◌+◌, ◌<◌, ◌≤◌, List, Some, true, false, slice_index, sym, ap, subst, ◌∙◌, arith, rules, tests}
+use Rattle.std.proofs.Common.{◌≡◌, ℕ, ◌+◌, ◌<◌, ◌≤◌, List, Some, true, false, slice_index, sym, ap}
+use Rattle.std.proofs.Common.{subst, ◌∙◌, arith, rules, tests}
 use Rattle.race_model.specs.Positions.{Board, pips}
 use Rattle.race_model.specs.Ranks.{rank, count_to, at_rank}
 use Rattle.race_model.specs.Dice.{roll_at}

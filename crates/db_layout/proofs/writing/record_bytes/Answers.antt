@@ -1,11 +1,14 @@
-use Rattle.std.proofs.Common.{◌≡◌, ◌+◌, ◌<◌, ◌≤◌, ◌++◌, length, get_or, take, drop, sym, ap, ◌∙◌, arith, append_assoc, le_trans}
+use Rattle.std.proofs.Common.{◌≡◌, ◌+◌, ◌<◌, ◌≤◌, ◌++◌, length, get_or, take, drop, sym, ap, ◌∙◌}
+use Rattle.std.proofs.Common.{arith, append_assoc, le_trans}
 use Rattle.std.proofs.lemmas.List.{append-nil, length-take, take_all}
 use Rattle.std.specs.Prelude.{flat_map}
 use Rattle.arrayvec.specs.ArrayVec.{array_vec_len}
 use Rattle.std.specs.Int.{w128, to_be_bytes}
 use Rattle.race_model.specs.Versions.{version_by, first_share, share_count}
 use Rattle.db_layout.specs.Records.{short_bytes, wide_bytes, stored_shares}
-use Rattle.db_layout.proofs.Bytes.{flat_map-take_more, record_is, short_is, wide_is, length-short_bytes, length-wide_bytes, length-stored, get_or-stored, stored_room}
+use Rattle.db_layout.proofs.Bytes.{flat_map-take_more, record_is, short_is, wide_is}
+use Rattle.db_layout.proofs.Bytes.{length-short_bytes, length-wide_bytes, length-stored}
+use Rattle.db_layout.proofs.Bytes.{get_or-stored, stored_room}
 use Rattle.race_model.proofs.Strategies.Horizons.{most_rolls-most}
 use Rattle.db_layout.proofs.Bounds.{bound-most}
 use Rattle.db_layout.proofs.writing.record_bytes.Goals as goal

@@ -1,7 +1,8 @@
 use Rattle.std.proofs.Common.{◌≡◌, ◌+◌, [], ◌∷◌, ◌++◌, length, take, drop, Err, ap, ◌∙◌, arith, rules}
 use Rattle.std.proofs.lemmas.List.{length-drop}
 use Rattle.race_model.specs.InputLines.{whole_lines}
-use Rattle.epc_query.proofs.Runs.{all_left, piece_joined, piece_rest, chunk_parts, stopped_before, rest_more, bytes_kept}
+use Rattle.epc_query.proofs.Runs.{all_left, piece_joined, piece_rest, chunk_parts, stopped_before}
+use Rattle.epc_query.proofs.Runs.{rest_more, bytes_kept}
 use Rattle.epc_query.proofs.lines.answer_chunk.Goals as goal
 
 pub returns-in_err-answer_piece-clause-answered : goal.returns-in_err-answer_piece-clause-answered

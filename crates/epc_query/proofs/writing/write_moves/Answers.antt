@@ -3,7 +3,8 @@ use Rattle.std.specs.Prelude.{flat_map}
 use Rattle.std.proofs.lemmas.List.{take_all}
 use Rattle.std.proofs.lemmas.Result.{on_ok_weaker, on_err_weaker}
 use Rattle.epc_query.specs.Texts.{choice_text}
-use Rattle.epc_query.proofs.Held.{takes_twice, takes_same, takes_part, takes_and_written, takes_and_part, part_same, part_longer, on_err_of}
+use Rattle.epc_query.proofs.Held.{takes_twice, takes_same, takes_part, takes_and_written}
+use Rattle.epc_query.proofs.Held.{takes_and_part, part_same, part_longer, on_err_of}
 use Rattle.epc_query.proofs.Texts.{texts_split, texts_more}
 use Rattle.epc_query.proofs.writing.write_moves.Goals as goal
 

@@ -1,6 +1,7 @@
 use Rattle.std.proofs.Common.{arith}
 use Rattle.race_model.specs.Dice.{weight}
-use Rattle.fixed_fraction.proofs.RollSums.{roll-more, weights-within, totals-next, totals-weight, totals-mean, totals-share}
+use Rattle.fixed_fraction.proofs.RollSums.{roll-more, weights-within, totals-next, totals-weight}
+use Rattle.fixed_fraction.proofs.RollSums.{totals-mean, totals-share}
 use Rattle.fixed_fraction.proofs.sums.law_sums.Goals as goal
 
 pub returns-clause-room : goal.returns-clause-room

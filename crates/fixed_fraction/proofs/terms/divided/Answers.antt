@@ -1,7 +1,8 @@
 use Rattle.std.proofs.Common.{◌^◌, arith}
 use Rattle.fixed_fraction.proofs.CommonFactors.{quotient_by_inverse, quotient_of_multiple}
 use Rattle.fixed_fraction.proofs.terms.divided.Goals as goal
-use Rattle.fixed_fraction.proofs.terms.divided.Goals.{else-numerator-most-via-then-numerator-most+else-denominator-most, else-numerator-most-via-else-numerator-most}
+use Rattle.fixed_fraction.proofs.terms.divided.Goals.{else-numerator-most-via-then-numerator-most+else-denominator-most}
+use Rattle.fixed_fraction.proofs.terms.divided.Goals.{else-numerator-most-via-else-numerator-most}
 
 pub returns-then-denominator-most-clause-some : goal.returns-then-denominator-most-clause-some
 returns-then-denominator-most-clause-some c = (

@@ -1,7 +1,9 @@
-use Rattle.std.proofs.Common.{◌≡◌, [], ◌∷◌, ◌++◌, get_or, take, length, sym, ap, ◌∙◌, refl, arith, add-one, length-append}
+use Rattle.std.proofs.Common.{◌≡◌, [], ◌∷◌, ◌++◌, get_or, take, length, sym, ap, ◌∙◌, refl, arith}
+use Rattle.std.proofs.Common.{add-one, length-append}
 use Rattle.std.specs.Prelude.{decimal}
 use Rattle.std.proofs.lemmas.List.{take_all}
-use Rattle.home_board.proofs.Written.{joined, joined_states, before_next, before_next-some, joined-before_none, joined-taken, next_fits}
+use Rattle.home_board.proofs.Written.{joined, joined_states, before_next, before_next-some}
+use Rattle.home_board.proofs.Written.{joined-before_none, joined-taken, next_fits}
 use Rattle.home_board.proofs.text.write_position.Goals as goal
 use Rattle.home_board.proofs.text.write_position.Goals.{then-written-gt0, else-written-gt0}
 

@@ -4,7 +4,8 @@ use Rattle.std.proofs.lemmas.Slice.Eq.{bytes_eq-Decides}
 use Rattle.race_model.specs.Positions.{IsFinished}
 use Rattle.legal_plays.proofs.PlayLemmas.{first_at_end, run_at_end, first_of_dice, none_below}
 use Rattle.legal_plays.proofs.plays.+search.Goals as goal
-use Rattle.legal_plays.proofs.plays.+search.Goals.{After-eq, then-is_empty-via-then-is_empty, then-is_empty-via-else-is_empty+then-is_finished}
+use Rattle.legal_plays.proofs.plays.+search.Goals.{After-eq, then-is_empty-via-then-is_empty}
+use Rattle.legal_plays.proofs.plays.+search.Goals.{then-is_empty-via-else-is_empty+then-is_finished}
 
 -- no die is left, or no checker
 at_end : (t : ℕ) (c : After-eq t) → (length c.args.dice.now ≡ 0) ⊎ IsFinished c.args.position.now

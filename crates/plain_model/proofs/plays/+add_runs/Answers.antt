@@ -3,9 +3,13 @@ use Rattle.std.proofs.lemmas.List.{append-nil}
 use Rattle.std.proofs.lemmas.Bool.{eqb-false}
 use Rattle.race_model.specs.Positions.{checkers}
 use Rattle.race_model.specs.Dice.{number}
-use Rattle.plain_model.proofs.RunLemmas.{all_runs-none, all_runs-finished, all_runs-on, from_points-none, one_more_point, from_points, from_one, from_nowhere}
+use Rattle.plain_model.proofs.RunLemmas.{all_runs-none, all_runs-finished, all_runs-on}
+use Rattle.plain_model.proofs.RunLemmas.{from_points-none, one_more_point, from_points, from_one}
+use Rattle.plain_model.proofs.RunLemmas.{from_nowhere}
 use Rattle.plain_model.proofs.plays.+add_runs.Goals as goal
-use Rattle.plain_model.proofs.plays.+add_runs.Goals.{then-is_empty-via-then-is_empty, then-is_empty-via-else-is_empty+then-is_finished, in-Some+in_ok-add_runs, in_default}
+use Rattle.plain_model.proofs.plays.+add_runs.Goals.{then-is_empty-via-then-is_empty}
+use Rattle.plain_model.proofs.plays.+add_runs.Goals.{then-is_empty-via-else-is_empty+then-is_finished}
+use Rattle.plain_model.proofs.plays.+add_runs.Goals.{in-Some+in_ok-add_runs, in_default}
 
 pub returns-then-is_empty : goal.returns-then-is_empty
 returns-then-is_empty t c =

@@ -2,7 +2,9 @@ use Rattle.std.proofs.Common.{arith, rules, ◌≡◌, ◌-◌, ◌*◌, ◌^◌
 use Rattle.std.specs.Prelude.{sum_by}
 use Rattle.race_model.specs.Ranks.{numbers_from}
 use Rattle.plain_model.specs.Counting.{positions_before}
-use Rattle.plain_model.proofs.CountLemmas.{positions_before-given, before_tried, before_untried, before_next, take-first_set, pow-step, pow-limit, bounded_next, bounded_all}
+use Rattle.plain_model.proofs.CountLemmas.{positions_before-given, before_tried, before_untried}
+use Rattle.plain_model.proofs.CountLemmas.{before_next, take-first_set, pow-step, pow-limit}
+use Rattle.plain_model.proofs.CountLemmas.{bounded_next, bounded_all}
 use Rattle.plain_model.proofs.ranks.+count_earlier.Goals as goal
 
 pub returns-then-left-eq0-clause-value : goal.returns-then-left-eq0-clause-value

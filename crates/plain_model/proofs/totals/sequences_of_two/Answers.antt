@@ -1,7 +1,8 @@
 use Rattle.std.proofs.Common.{arith, ◌≡◌, ◌+◌, ◌*◌, ◌<◌, length, ap, sym, ◌∙◌}
 use Rattle.race_model.proofs.Strategies.Histories.{one_at}
 use Rattle.plain_model.specs.TwoTurns.{rolls_of_two}
-use Rattle.plain_model.proofs.TotalLemmas.{added_to, added_to-zero, added_to-next, added_to-bound, added_to-count, one_at-most, counted_or_not}
+use Rattle.plain_model.proofs.TotalLemmas.{added_to, added_to-zero, added_to-next, added_to-bound}
+use Rattle.plain_model.proofs.TotalLemmas.{added_to-count, one_at-most, counted_or_not}
 use Rattle.plain_model.proofs.totals.sequences_of_two.Goals as goal
 
 pub loop-one-init : goal.loop-one-init

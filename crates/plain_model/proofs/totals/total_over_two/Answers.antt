@@ -1,5 +1,6 @@
 use Rattle.std.proofs.Common.{arith, ◌≡◌, ◌+◌, ◌*◌, ◌<◌, length, ap, sym, ◌∙◌}
-use Rattle.plain_model.proofs.TotalLemmas.{added_to, added_to-zero, added_to-next, added_to-bound, added_to-total, rolls_of_two-most}
+use Rattle.plain_model.proofs.TotalLemmas.{added_to, added_to-zero, added_to-next, added_to-bound}
+use Rattle.plain_model.proofs.TotalLemmas.{added_to-total, rolls_of_two-most}
 use Rattle.plain_model.proofs.totals.total_over_two.Goals as goal
 
 pub loop-first-init : goal.loop-first-init

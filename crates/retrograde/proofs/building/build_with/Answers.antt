@@ -11,7 +11,8 @@ use Rattle.retrograde.proofs.Existence.{all-records}
 use Rattle.db_layout.proofs.Known.{one-error}
 use Rattle.db_layout.proofs.Prefixes.{header-first}
 use Rattle.retrograde.proofs.Kept.{kept-none}
-use Rattle.retrograde.proofs.Prefixes.{nothing-written, header-written, ranks-written, level-part, level-written, all-written}
+use Rattle.retrograde.proofs.Prefixes.{nothing-written, header-written, ranks-written, level-part}
+use Rattle.retrograde.proofs.Prefixes.{level-written, all-written}
 use Rattle.retrograde.proofs.building.build_with.Goals as goal
 
 -- a level begins where the one below ends

@@ -1,7 +1,8 @@
 use Rattle.std.proofs.Common.{◌≡◌, ◌↔◌, Bool, true, false, ◌+◌, ◌*◌, ◌%◌, sym, ap, ◌∙◌, arith}
 use Rattle.race_model.specs.Positions.{IsFinished}
 use Rattle.race_model.specs.LocalEquations.{whole}
-use Rattle.retrograde.proofs.Unique.{record-at_end, plays-held, plays-recent, mean-exact, shares-exact, no-last, record-before}
+use Rattle.retrograde.proofs.Unique.{record-at_end, plays-held, plays-recent, mean-exact}
+use Rattle.retrograde.proofs.Unique.{shares-exact, no-last, record-before}
 use Rattle.retrograde.proofs.pulling.next_record.Goals as goal
 
 -- what a test that answers no is about doesn't hold

@@ -1,5 +1,6 @@
 -- One die more.
-use Rattle.std.proofs.Common.{◌≡◌, ℕ, ◌+◌, ◌-◌, ◌<◌, ◌∷◌, List, replicate, slice_index, length-set, sym, subst, ◌∙◌, arith}
+use Rattle.std.proofs.Common.{◌≡◌, ℕ, ◌+◌, ◌-◌, ◌<◌, ◌∷◌, List, replicate, slice_index, length-set}
+use Rattle.std.proofs.Common.{sym, subst, ◌∙◌, arith}
 use Rattle.race_model.specs.Positions.{Board}
 use Rattle.race_model.specs.Dice.{Die, number}
 use Rattle.race_model.proofs.Dice.Faces.{same_number, number_positive}

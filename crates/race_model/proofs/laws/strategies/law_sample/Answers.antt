@@ -1,5 +1,7 @@
 -- Two throws by computation, and the others by scale.
-use Rattle.race_model.proofs.Strategies.SampleCounts.{sample_total, sample_one, sample_two, sample_mean, sample_share_of_one, sample_share_of_two}
+use Rattle.race_model.proofs.Strategies.SampleCounts.{sample_total, sample_one, sample_two}
+use Rattle.race_model.proofs.Strategies.SampleCounts.{sample_mean, sample_share_of_one}
+use Rattle.race_model.proofs.Strategies.SampleCounts.{sample_share_of_two}
 use Rattle.race_model.proofs.Strategies.SampleLeast.{sample_least}
 use Rattle.race_model.proofs.Plays.SinglePlays.{sample_fits}
 use Rattle.race_model.proofs.laws.strategies.law_sample.Goals as goal
