@@ -70,7 +70,7 @@ pub fn act<R: Files, S: AsStr, I: Read, O: Write, E: Write>(
     match done {
         Ok(()) => 0,
         Err(fault) => {
-            write_fault(&fault, errors);
+            let _ = write_fault(&fault, errors);
             fault.status()
         }
     }

@@ -15,7 +15,7 @@ fn main(rt: HostRuntime) -> ExitCode {
     let words = match words_of(&rt) {
         Ok(words) => words,
         Err(fault) => {
-            write_fault(&fault, &mut rt.stderr());
+            let _ = write_fault(&fault, &mut rt.stderr());
             return ExitCode::from(fault.status());
         }
     };

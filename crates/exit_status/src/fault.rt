@@ -1,6 +1,7 @@
 //! Why the program ends with another status than 0, and the one line that it then writes to
 //! standard error.
-ghost use Rattle.std.specs.Prelude.{◌≡◌, ◌≤◌, length};
+ghost use Rattle.std.specs.Prelude.{◌≡◌, ◌≤◌, length, OnOk};
+ghost use Rattle.std.specs.Io.KnownBytes.{Appends};
 ghost use Rattle.db_layout.specs.Writes.{AppendsPart};
 ghost use Rattle.exit_status.specs.Causes.{of_check, of_build, of_upgrade, of_run};
 ghost use Rattle.exit_status.specs.Lines.{word_of, error_line};
@@ -9,7 +10,7 @@ ghost use Rattle.exit_status.specs.declared.fault.Fault.TheVariants.{Memory};
 
 use arrayvec::ArrayString;
 use certificate::{CheckFault, UpgradeFault, fault_line};
-use db_layout::write_bytes;
+use db_layout::{WriteFault, write_bytes};
 use epc_query::RunFault;
 use retrograde::BuildFault;
 use std::alloc::{AllocError, AllocFailed};
@@ -135,12 +136,15 @@ impl From<RunFault> for Fault {
     }
 }
 
-/// Writes the line of a fault: `bearoff: `, its word, and a line feed. Where a write fails,
-/// a prefix of the line was written.
-pub fn write_fault<E: Write>(fault: &Fault, errors: &mut E)
-    ensures { AppendsPart (E.contents errors.old) (E.contents errors.new) (error_line fault.now) }
+/// Writes the line of a fault: `bearoff: `, its word, and a line feed. Refused only where a `write`
+/// fails or takes no byte; then a prefix of the line was written.
+pub fn write_fault<E: Write>(fault: &Fault, errors: &mut E) -> Result<(), WriteFault>
+    ensures all { OnOk result
+        (Appends (E.contents errors.old) (E.contents errors.new) (error_line fault.now)) }
+    ensures part { AppendsPart (E.contents errors.old) (E.contents errors.new)
+        (error_line fault.now) }
 {
-    let _ = write_bytes(line(fault).as_str().as_bytes(), errors);
+    write_bytes(line(fault).as_str().as_bytes(), errors)
 }
 
 /// The line of a fault.
