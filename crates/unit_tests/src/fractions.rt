@@ -49,13 +49,17 @@ fn halves_and_large_numerators(rt: HostRuntime) -> Result<(), Fail> {
     Ok(())
 }
 
-#[test]
-fn shares(rt: HostRuntime) -> Result<(), Fail> {
+fn shares_to_three_rolls() -> [u128; 23] {
     let mut shares = [0; 23];
     shares[1] = WHOLE / 9;
     shares[2] = WHOLE / 108 * 91;
     shares[3] = WHOLE / 108 * 5;
-    let spread = Spread::new(shares).ok_or("not a whole")?;
+    shares
+}
+
+#[test]
+fn shares(rt: HostRuntime) -> Result<(), Fail> {
+    let spread = Spread::new(shares_to_three_rolls()).ok_or("not a whole")?;
     for (k, expected) in [
         (0, (0, 1)),
         (1, (1, 9)),
@@ -82,17 +86,34 @@ fn parts(aces: Scaled, others: Scaled) -> [(u8, Scaled); 21]
     parts
 }
 
+fn numerator(scaled: Option<Scaled>) -> Option<u128> {
+    Some(scaled?.numerator())
+}
+
+// the mean before a roll whose double aces lead to the one mean, and all other rolls to the other
+fn pull_of(aces: u128, others: u128) -> Result<Option<Scaled>, Fail> {
+    let aces = Scaled::new(aces).ok_or("over 22 rolls")?;
+    let others = Scaled::new(others).ok_or("over 22 rolls")?;
+    Ok(pull(&parts(aces, others)))
+}
+
 #[test]
 fn pulls_of_means(rt: HostRuntime) -> Result<(), Fail> {
-    let one = Scaled::new(1).ok_or("over 22 rolls")?;
-    let most = Scaled::new(MOST).ok_or("over 22 rolls")?;
-    let one_less = Scaled::new(21 * WHOLE).ok_or("over 22 rolls")?;
-    let zero = Scaled::ZERO;
-    assert_eq!(rt; pull(&parts(zero, zero)), Scaled::new(WHOLE));
-    assert_eq!(rt; pull(&parts(one_less, one_less)), Some(most));
-    assert_eq!(rt; pull(&parts(most, most)), None);
-    assert_eq!(rt; pull(&parts(one, zero)), None);
+    for (aces, others, expected) in [
+        (0, 0, Some(WHOLE)),
+        (21 * WHOLE, 21 * WHOLE, Some(MOST)),
+        (MOST, MOST, None),
+        (1, 0, None),
+    ] {
+        assert_eq!(rt; numerator(pull_of(aces, others)?), expected);
+    }
     Ok(())
+}
+
+fn difference(greater: u128, less: u128) -> Result<Option<Scaled>, Fail> {
+    let greater = Scaled::new(greater).ok_or("over 22 rolls")?;
+    let less = Scaled::new(less).ok_or("over 22 rolls")?;
+    Ok(greater.minus(less))
 }
 
 #[test]
@@ -100,10 +121,7 @@ fn differences(rt: HostRuntime) -> Result<(), Fail> {
     assert_eq!(rt; WHOLE, 17324272922341479351919144385642496);
     assert_eq!(rt; Scaled::new(MOST + 1), None);
     for (greater, less, expected) in [(47, 43, Some(4)), (43, 43, Some(0)), (43, 47, None)] {
-        let greater = Scaled::new(greater).ok_or("over 22 rolls")?;
-        let less = Scaled::new(less).ok_or("over 22 rolls")?;
-        let difference = greater.minus(less);
-        assert_eq!(rt; difference.map(|it| it.numerator()), expected);
+        assert_eq!(rt; numerator(difference(greater, less)?), expected);
     }
     Ok(())
 }
@@ -115,19 +133,26 @@ fn equal_parts(spread: Spread) -> [(u8, Spread); 21]
     WEIGHTS.map(|weight| (weight, spread))
 }
 
+fn pull_of_equal_parts(spread: Spread) -> Option<Spread> {
+    Spread::pull(&equal_parts(spread))
+}
+
+// the shares where the race always takes so many rolls
+fn certain(rolls: usize) -> [u128; 23] {
+    let mut shares = [0; 23];
+    shares[rolls.min(22)] = WHOLE;
+    shares
+}
+
 #[test]
 fn pulls_of_spreads(rt: HostRuntime) -> Result<(), Fail> {
-    let mut shares = [0; 23];
-    assert_eq!(rt; Spread::new(shares), None);
-    shares[1] = WHOLE;
+    assert_eq!(rt; Spread::new([0; 23]), None);
     assert_eq!(rt;
-        Spread::pull(&equal_parts(Spread::finished())),
-        Spread::new(shares)
+        pull_of_equal_parts(Spread::finished()),
+        Spread::new(certain(1))
     );
-    shares[1] = 0;
-    shares[22] = WHOLE;
-    let latest = Spread::new(shares).ok_or("not a whole")?;
-    assert_eq!(rt; Spread::pull(&equal_parts(latest)), None);
+    let latest = Spread::new(certain(22)).ok_or("not a whole")?;
+    assert_eq!(rt; pull_of_equal_parts(latest), None);
     assert_eq!(rt; (latest.at(22), latest.at(23)), (WHOLE, 0));
     Ok(())
 }

@@ -1,92 +1,106 @@
 //! Headers, places and the shares that a file leaves out.
 use db_layout::{Header, HeaderFault, Places, RecordView, parse_header};
 use fixed_fraction::{Spread, WHOLE};
-use std::test::Fail;
+use std::process::Abort;
 
-/// One byte of a header to be changed, and the fault that this makes.
-const DAMAGES: [(usize, u8, HeaderFault); 6] = [
-    (0, 0, HeaderFault::BadMagic),
-    (9, 3, HeaderFault::BadVersion),
-    (11, 45, HeaderFault::BadBound),
-    (15, 3, HeaderFault::BadCount),
-    (19, 0xab, HeaderFault::BadRecordBytes),
-    (31, 1, HeaderFault::BadReserved),
-];
+/// The header of version 1 and bound 1.
+const FULL: [u8; 32] =
+    *b"EPCTABLE\x00\x01\x00\x01\x00\x00\x00\x02\x00\x00\x01\xaa\0\0\0\0\0\0\0\0\0\0\0\0";
 
-/// The fault of the header of bound 1 with some of the
-/// damages, and of a file of so many bytes.
-fn fault_of(first: usize, last: usize, length: u64) -> Option<HeaderFault> {
-    let mut front =
-        *b"EPCTABLE\x00\x01\x00\x01\x00\x00\x00\x02\x00\x00\x01\xaa\0\0\0\0\0\0\0\0\0\0\0\0";
-    for (number, (place, byte, _)) in DAMAGES.into_iter().enumerate() {
-        if first <= number && number <= last {
-            front[place.min(31)] = byte;
-        }
-    }
-    parse_header(&front, length).err()
+/// The header of version 2 and bound 1.
+const COMPACT: [u8; 32] =
+    *b"EPCTABLE\x00\x02\x00\x01\x00\x00\x00\x02\x00\x00\x00\x00\0\0\0\0\0\0\0\0\0\0\0\0";
+
+/// The header with one byte changed.
+fn damaged(mut header: [u8; 32], place: usize, byte: u8) -> [u8; 32] {
+    header[place.min(31)] = byte;
+    header
 }
+
+/// The fault of a header, and of a file of so many bytes.
+fn fault_of(header: &[u8], length: u64) -> Option<HeaderFault> {
+    parse_header(header, length).err()
+}
+
+/// One byte of the full header to be changed, and the fault that this makes,
+/// from the fault that is looked for last to the first.
+const DAMAGES: [(usize, u8, HeaderFault); 6] = [
+    (31, 1, HeaderFault::BadReserved),
+    (19, 0xab, HeaderFault::BadRecordBytes),
+    (15, 3, HeaderFault::BadCount),
+    (11, 45, HeaderFault::BadBound),
+    (9, 3, HeaderFault::BadVersion),
+    (0, 0, HeaderFault::BadMagic),
+];
 
 #[test]
 fn each_fault_alone_and_with_every_later_one(rt: HostRuntime) {
-    for (number, (_, _, fault)) in DAMAGES.into_iter().enumerate() {
-        assert_eq!(rt; fault_of(number, number, 884), Some(fault));
-        assert_eq!(rt; fault_of(number, 5, 883), Some(fault));
+    let mut header = FULL;
+    for (place, byte, fault) in DAMAGES {
+        header = damaged(header, place, byte);
+        assert_eq!(rt; fault_of(&damaged(FULL, place, byte), 884), Some(fault));
+        assert_eq!(rt; fault_of(&header, 883), Some(fault));
     }
-    assert_eq!(rt; fault_of(6, 6, 884), None);
-    assert_eq!(rt; fault_of(6, 6, 883), Some(HeaderFault::BadLength));
-    assert_eq!(rt; fault_of(6, 6, 885), Some(HeaderFault::BadLength));
-    assert_eq!(rt; fault_of(6, 6, 31), Some(HeaderFault::TooShort));
-    assert_eq!(rt; fault_of(0, 5, 31), Some(HeaderFault::TooShort));
-    assert_eq!(rt;
-        parse_header(b"EPCTABLE", 884).err(),
-        Some(HeaderFault::TooShort)
-    );
-    assert_eq!(rt; parse_header(b"", 0).err(), Some(HeaderFault::TooShort));
+    assert_eq!(rt; fault_of(&header, 31), Some(HeaderFault::TooShort));
 }
+
+#[test]
+fn lengths_beside_headers(rt: HostRuntime) {
+    let rows: [(&[u8], u64, Option<HeaderFault>); 9] = [
+        (&FULL, 884, None),
+        (&FULL, 883, Some(HeaderFault::BadLength)),
+        (&FULL, 885, Some(HeaderFault::BadLength)),
+        (&FULL, 31, Some(HeaderFault::TooShort)),
+        (b"EPCTABLE", 884, Some(HeaderFault::TooShort)),
+        (b"", 0, Some(HeaderFault::TooShort)),
+        (&COMPACT, 164, None),
+        (&COMPACT, 163, Some(HeaderFault::BadLength)),
+        (&COMPACT, 884, Some(HeaderFault::BadLength)),
+    ];
+    for (header, length, fault) in rows {
+        assert_eq!(rt; fault_of(header, length), fault, "{length} bytes");
+    }
+}
+
+/// One byte of the compact header to be changed, and the fault that this makes.
+const COMPACT_DAMAGES: [(usize, u8, HeaderFault); 7] = [
+    (9, 0, HeaderFault::BadVersion),
+    (9, 3, HeaderFault::BadVersion),
+    (9, 1, HeaderFault::BadRecordBytes),
+    (11, 59, HeaderFault::BadBound),
+    (11, 58, HeaderFault::BadCount),
+    (18, 1, HeaderFault::BadRecordBytes),
+    (20, 1, HeaderFault::BadReserved),
+];
 
 #[test]
 fn version_2(rt: HostRuntime) {
-    let mut front =
-        *b"EPCTABLE\x00\x02\x00\x01\x00\x00\x00\x02\x00\x00\x00\x00\0\0\0\0\0\0\0\0\0\0\0\0";
-    assert_eq!(rt; parse_header(&front, 164).err(), None);
-    assert_eq!(rt;
-        parse_header(&front, 163).err(),
-        Some(HeaderFault::BadLength)
-    );
-    assert_eq!(rt;
-        parse_header(&front, 884).err(),
-        Some(HeaderFault::BadLength)
-    );
-    for (place, byte, fault) in [
-        (9, 0, HeaderFault::BadVersion),
-        (9, 3, HeaderFault::BadVersion),
-        (9, 1, HeaderFault::BadRecordBytes),
-        (11, 59, HeaderFault::BadBound),
-        (11, 58, HeaderFault::BadCount),
-        (18, 1, HeaderFault::BadRecordBytes),
-        (20, 1, HeaderFault::BadReserved),
-    ] {
-        let kept = front[place.min(31)];
-        front[place.min(31)] = byte;
-        assert_eq!(rt;
-            parse_header(&front, 164).err(),
-            Some(fault),
-            "{byte} at {place}"
-        );
-        front[place.min(31)] = kept;
+    for (place, byte, fault) in COMPACT_DAMAGES {
+        let header = damaged(COMPACT, place, byte);
+        assert_eq!(rt; fault_of(&header, 164), Some(fault), "{byte} at {place}");
     }
 }
 
+/// The number of records of a header and the bytes of each.
+fn sizes(version: u16, bound: u8) -> Option<(u16, u32)> {
+    let header = Header::new(version, bound)?;
+    Some((header.count, header.record_bytes))
+}
+
 #[test]
-fn headers_by_version(rt: HostRuntime) -> Result<(), Fail> {
-    for (version, bound) in [(0, 1), (1, 45), (1, 58), (2, 59), (2, 255), (3, 1)] {
-        assert_eq!(rt; Header::new(version, bound), None);
+fn headers_by_version(rt: HostRuntime) {
+    for (version, bound, expected) in [
+        (0, 1, None),
+        (1, 45, None),
+        (1, 58, None),
+        (2, 59, None),
+        (2, 255, None),
+        (3, 1, None),
+        (1, 44, Some((26314, 426))),
+        (2, 58, Some((46062, 0))),
+    ] {
+        assert_eq!(rt; sizes(version, bound), expected);
     }
-    for (version, bound, count, record_bytes) in [(1, 44, 26314, 426), (2, 58, 46062, 0)] {
-        let header = Header::new(version, bound).ok_or("no header")?;
-        assert_eq!(rt; (header.count, header.record_bytes), (count, record_bytes));
-    }
-    Ok(())
 }
 
 /// A version, a bound and a rank, and where the record of the rank lies: its offset and its length.
@@ -100,14 +114,21 @@ const PLACES: [(u16, u8, u16, (u64, u32)); 7] = [
     (2, 58, 46061, (15060434, 410)),
 ];
 
-#[test]
-fn places(rt: HostRuntime) -> Result<(), Fail> {
-    for (version, bound, rank, place) in PLACES {
-        let header = Header::new(version, bound).ok_or("no header")?;
-        assert!(rt; rank < header.count);
-        assert_eq!(rt; header.place(rank), place, "rank {rank}");
+/// Where the record of a rank below the count lies.
+fn place_of(version: u16, bound: u8, rank: u16) -> Option<(u64, u32)> {
+    let header = Header::new(version, bound)?;
+    if rank < header.count {
+        Some(header.place(rank))
+    } else {
+        None
     }
-    Ok(())
+}
+
+#[test]
+fn places(rt: HostRuntime) {
+    for (version, bound, rank, place) in PLACES {
+        assert_eq!(rt; place_of(version, bound, rank), Some(place), "rank {rank}");
+    }
 }
 
 /// A version, a bound, a number of bytes and a pip count, and whether these are a record.
@@ -120,15 +141,20 @@ const LENGTHS: [(u16, u8, usize, u8, bool); 6] = [
     (2, 58, 410, 59, false),
 ];
 
+/// Whether so many bytes are a record of so many pips.
+fn is_record(version: u16, bound: u8, length: usize, pips: u8) -> Option<bool> {
+    let header = Header::new(version, bound)?;
+    let bytes = [0; 426];
+    let view = RecordView::of(&bytes[..length.min(426)], &header, pips);
+    Some(view.is_some())
+}
+
 #[test]
-fn lengths_of_records(rt: HostRuntime) -> Result<(), Fail> {
-    for (version, bound, length, pips, is_record) in LENGTHS {
-        let header = Header::new(version, bound).ok_or("no header")?;
-        let bytes = [0; 426];
-        let view = RecordView::of(&bytes[..length.min(426)], &header, pips);
-        assert_eq!(rt; view.is_some(), is_record, "{length} bytes to {pips} pips");
+fn lengths_of_records(rt: HostRuntime) {
+    for (version, bound, length, pips, expected) in LENGTHS {
+        let found = is_record(version, bound, length, pips);
+        assert_eq!(rt; found, Some(expected), "{length} bytes to {pips} pips");
     }
-    Ok(())
 }
 
 // counted outside: the positions of each pip count by a program of loops, and the lengths of
@@ -149,56 +175,77 @@ const COMPACT_LENGTHS: [u64; 59] = [
     14186314, 14638134, 15060844,
 ];
 
-#[test]
-fn lengths_of_files(rt: HostRuntime) -> Result<(), Fail> {
-    let mut bound = 0;
-    for (version, lengths) in [
-        (1, FULL_LENGTHS.as_slice()),
-        (2, COMPACT_LENGTHS.as_slice()),
-    ] {
-        for length in lengths {
-            let header = Header::new(version, bound).ok_or("no header")?;
-            assert_eq!(rt; Places::of(header).end(), *length, "bound {bound}");
-            bound = bound.saturating_add(1);
-        }
-        bound = 0;
-    }
-    Ok(())
+/// The length of a file.
+fn length_of(version: u16, bound: u8) -> Option<u64> {
+    let header = Header::new(version, bound)?;
+    Some(Places::of(header).end())
 }
 
-/// The shares that a view of these bytes tells for so many pips.
-fn shares_of(bytes: &[u8], pips: u8) -> Result<[u128; 25], Fail> {
-    let header = Header::new(2, 58).ok_or("no header")?;
-    let seen = RecordView::of(bytes, &header, pips).ok_or("no record")?;
-    let mut shares = [0; 25];
-    for (k, share) in (0..).zip(&mut shares) {
-        *share = seen.spread(k);
+/// The lengths of the files of a version, from bound 0 on.
+fn assert_lengths(rt: &impl Abort, version: u16, lengths: &[u64]) {
+    let mut bound: u8 = 0;
+    for length in lengths {
+        assert_eq!(rt; length_of(version, bound), Some(*length), "bound {bound}");
+        bound = bound.saturating_add(1);
     }
-    Ok(shares)
 }
 
 #[test]
-fn shares_that_are_not_stored(rt: HostRuntime) -> Result<(), Fail> {
+fn lengths_of_files(rt: HostRuntime) {
+    assert_lengths(&rt, 1, &FULL_LENGTHS);
+    assert_lengths(&rt, 2, &COMPACT_LENGTHS);
+}
+
+/// The share of k rolls that a view of these bytes tells for so many pips.
+fn share_of(bytes: &[u8], pips: u8, k: u8) -> Option<u128> {
+    let header = Header::new(2, 58)?;
+    let seen = RecordView::of(bytes, &header, pips)?;
+    Some(seen.spread(k))
+}
+
+/// A record of 2 pips that stores the shares 5 and 7.
+fn record_of_two_shares() -> [u8; 90] {
     let mut bytes = [0xff; 90];
-    bytes[58..].copy_from_slice(&[0; 32]);
-    bytes[73] = 5;
-    bytes[89] = 7;
-    let mut expected = [0; 25];
-    expected[1] = 5;
-    expected[2] = 7;
-    assert_eq!(rt; shares_of(&bytes, 2)?, expected);
-    let mut whole = [0; 25];
-    whole[0] = WHOLE;
-    assert_eq!(rt; shares_of(&bytes[..58], 0)?, whole);
-    Ok(())
+    bytes[58..].copy_from_slice(
+        b"\0\0\0\0\0\0\0\0\0\0\0\0\0\0\0\x05\0\0\0\0\0\0\0\0\0\0\0\0\0\0\0\x07",
+    );
+    bytes
 }
 
 #[test]
-fn spreads_that_a_record_holds(rt: HostRuntime) -> Result<(), Fail> {
-    let whole = Spread::finished();
-    for (version, pips, holds) in [(2, 0, true), (2, 1, false), (1, 1, true)] {
-        let header = Header::new(version, 44).ok_or("no header")?;
-        assert_eq!(rt; header.holds(pips, &whole), holds);
+fn shares_that_are_stored(rt: HostRuntime) {
+    let bytes = record_of_two_shares();
+    for k in 0..25 {
+        let expected = match k {
+            1 => 5,
+            2 => 7,
+            _ => 0,
+        };
+        assert_eq!(rt; share_of(&bytes, 2, k), Some(expected), "at {k} rolls");
     }
-    Ok(())
+}
+
+#[test]
+fn shares_that_are_not_stored(rt: HostRuntime) {
+    for k in 0..25 {
+        let expected = if k == 0 { WHOLE } else { 0 };
+        assert_eq!(rt; share_of(&[0xff; 58], 0, k), Some(expected), "at {k} rolls");
+    }
+}
+
+/// Whether a record of so many pips holds the spread of a finished race.
+fn is_held(version: u16, pips: u8) -> Option<bool> {
+    let header = Header::new(version, 44)?;
+    if pips <= header.bound {
+        Some(header.holds(pips, &Spread::finished()))
+    } else {
+        None
+    }
+}
+
+#[test]
+fn spreads_that_a_record_holds(rt: HostRuntime) {
+    for (version, pips, holds) in [(2, 0, true), (2, 1, false), (1, 1, true)] {
+        assert_eq!(rt; is_held(version, pips), Some(holds));
+    }
 }
