@@ -1,1 +1,2 @@
 pub mod InputAnswers
+pub mod RefusedFiles

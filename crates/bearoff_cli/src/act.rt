@@ -8,6 +8,7 @@ ghost use Rattle.exit_status.specs.Statuses.{status_of};
 ghost use Rattle.exit_status.specs.declared.fault.Fault.{Fault};
 ghost use Rattle.command_line.specs.declared.words.Request.TheVariants.{Default};
 ghost use Rattle.bearoff_cli.specs.InputAnswers.{AreAnswered, AreAnsweredOver};
+ghost use Rattle.bearoff_cli.specs.RefusedFiles.{KeepsIfRefused};
 
 use crate::files::{build_file, flush, read_file, upgrade_file};
 use arrayvec::ArrayString;
@@ -94,8 +95,7 @@ fn fulfil<R: Files, I: Read, O: Write>(
     input: &mut I,
     output: &mut O,
 ) -> Result<(), Fault>
-    ensures refused { IfErr result (λ fault. status_of fault ≡ 3
-        → O.contents output.new ≡ O.contents output.old) }
+    ensures refused { KeepsIfRefused result (O.contents output.old) (O.contents output.new) }
     ensures answers { request.entry ≡ Default → WhereTold (I.remaining input.old)
         (λ given. IfOk result (λ _. AreAnsweredOver 8 given (I.remaining input.new)
         (O.contents output.old) (O.contents output.new))) }
@@ -121,8 +121,7 @@ fn answer_default<I: Read, O: Write>(
     input: &mut I,
     output: &mut O,
 ) -> Result<(), Fault>
-    ensures refused { IfErr result (λ fault. status_of fault ≡ 3
-        → O.contents output.new ≡ O.contents output.old) }
+    ensures refused { KeepsIfRefused result (O.contents output.old) (O.contents output.new) }
     ensures answers { WhereTold (I.remaining input.old)
         (λ given. IfOk result (λ _. AreAnsweredOver 8 given (I.remaining input.new)
         (O.contents output.old) (O.contents output.new))) }
@@ -140,8 +139,7 @@ fn answer_file<R: Files, I: Read, O: Write>(
     input: &mut I,
     output: &mut O,
 ) -> Result<(), Fault>
-    ensures { IfErr result (λ fault. status_of fault ≡ 3
-        → O.contents output.new ≡ O.contents output.old) }
+    ensures { KeepsIfRefused result (O.contents output.old) (O.contents output.new) }
 {
     let bytes = read_file(rt, alloc, path)?;
     answer_lines(alloc, Whole::new(bytes.as_slice()), input, output)
@@ -157,8 +155,7 @@ fn answer_pages<R: Files, I: Read, O: Write>(
     input: &mut I,
     output: &mut O,
 ) -> Result<(), Fault>
-    ensures { IfErr result (λ fault. status_of fault ≡ 3
-        → O.contents output.new ≡ O.contents output.old) }
+    ensures { KeepsIfRefused result (O.contents output.old) (O.contents output.new) }
 {
     let Ok(file) = fs::open(rt, path) else {
         return Err(Fault::Open);
@@ -179,8 +176,7 @@ fn answer_lines<T: Table + Drop, I: Read, O: Write>(
     input: &mut I,
     output: &mut O,
 ) -> Result<(), Fault>
-    ensures refused { IfErr result (λ fault. status_of fault ≡ 3
-        → O.contents output.new ≡ O.contents output.old) }
+    ensures refused { KeepsIfRefused result (O.contents output.old) (O.contents output.new) }
     ensures answers { WhereTold (T.tells table) (λ file. WhereTold (I.remaining input.old)
         (λ given. IfOk result (λ _. AreAnswered file given (I.remaining input.new)
         (O.contents output.old) (O.contents output.new)))) }
@@ -197,8 +193,7 @@ fn reply<T: Table + Drop, I: Read, O: Write>(
     input: &mut I,
     output: &mut O,
 ) -> Result<(), Fault>
-    ensures refused { IfErr result (λ fault. status_of fault ≡ 3
-        → O.contents output.new ≡ O.contents output.old) }
+    ensures refused { KeepsIfRefused result (O.contents output.old) (O.contents output.new) }
     ensures answers { (file : List ℕ) → OnOk told (IsRight file)
         → IfOk told (λ checked. T.tells checked ≡ Some file) → WhereTold (I.remaining input.old)
         (λ given. IfOk result (λ _. AreAnswered file given (I.remaining input.new)
@@ -234,8 +229,7 @@ fn write_database<R: Files, O: Write>(
     path: &str,
     output: &mut O,
 ) -> Result<(), Fault>
-    ensures { IfErr result (λ fault. status_of fault ≡ 3
-        → O.contents output.new ≡ O.contents output.old) }
+    ensures { KeepsIfRefused result (O.contents output.old) (O.contents output.new) }
 {
     if pips > MAX_BOUND {
         return Err(Fault::OverBound);
@@ -252,8 +246,7 @@ fn check_database<R: Files, O: Write>(
     path: &str,
     output: &mut O,
 ) -> Result<(), Fault>
-    ensures { IfErr result (λ fault. status_of fault ≡ 3
-        → O.contents output.new ≡ O.contents output.old) }
+    ensures { KeepsIfRefused result (O.contents output.old) (O.contents output.new) }
 {
     let bytes = read_file(rt, alloc, path)?;
     let mut told = check(Whole::new(bytes.as_slice()));
@@ -269,8 +262,7 @@ fn audit_database<R: Files, O: Write>(
     path: &str,
     output: &mut O,
 ) -> Result<(), Fault>
-    ensures { IfErr result (λ fault. status_of fault ≡ 3
-        → O.contents output.new ≡ O.contents output.old) }
+    ensures { KeepsIfRefused result (O.contents output.old) (O.contents output.new) }
 {
     let bytes = read_file(rt, alloc, path)?;
     write_levels(check(Whole::new(bytes.as_slice())), output)
@@ -283,8 +275,7 @@ fn write_levels<T: Table + Drop, O: Write>(
     mut told: Result<Checked<T>, (T, CheckFault)>,
     output: &mut O,
 ) -> Result<(), Fault>
-    ensures { IfErr result (λ fault. status_of fault ≡ 3
-        → O.contents output.new ≡ O.contents output.old) }
+    ensures { KeepsIfRefused result (O.contents output.old) (O.contents output.new) }
 {
     let checked = accepted(&mut told)?;
     for pips in 0..=checked.bound() {
@@ -308,8 +299,7 @@ fn upgrade_database<R: Files, O: Write>(
     new: &str,
     output: &mut O,
 ) -> Result<(), Fault>
-    ensures { IfErr result (λ fault. status_of fault ≡ 3
-        → O.contents output.new ≡ O.contents output.old) }
+    ensures { KeepsIfRefused result (O.contents output.old) (O.contents output.new) }
 {
     let bytes = read_file(rt, alloc, old)?;
     let mut told = check(Whole::new(bytes.as_slice()));

@@ -69,9 +69,10 @@ impl<S: Source, A: Allocator + Clone> Paged<S, A> {
         }
     }
 
-    /// The source.
+    /// The source, which tells the same bytes and has failed as often.
     pub fn into_source(self) -> S
-        ensures { ⟦<Paged<S, A> as Table>⟧.tells self ≡ S.tells result }
+        ensures tells { ⟦<Paged<S, A> as Table>⟧.tells self ≡ S.tells result }
+        ensures failures { ⟦<Paged<S, A> as Table>⟧.failures self ≡ S.failures result }
     {
         let Paged { source, .. } = self;
         source

@@ -1,5 +1,5 @@
 //! A source and a table for tests of what stands on a source or a table.
-ghost use Rattle.std.specs.Prelude.{◌≡◌, ℕ, ◌+◌, ◌<◌, None, true, false, if◌then◌else◌};
+ghost use Rattle.std.specs.Prelude.{◌≡◌, ℕ, ◌+◌, ◌<◌, ◌≤◌, None, true, false, if◌then◌else◌};
 
 use crate::record::Record;
 use crate::source::{Source, SourceFault};
@@ -53,6 +53,7 @@ impl<T: Table> FailOnce<T> {
     /// is 0.
     pub fn new(table: T, call: u64) -> Self
         ensures tells { ⟦<FailOnce<T> as Table>⟧.tells result ≡ T.tells table }
+        ensures failures { ⟦<FailOnce<T> as Table>⟧.failures result ≡ T.failures table }
         ensures accepted { ⟦<FailOnce<T> as Table>⟧.accepted result ≡ T.accepted table }
     {
         FailOnce {
@@ -62,9 +63,11 @@ impl<T: Table> FailOnce<T> {
         }
     }
 
-    /// The other table.
+    /// The other table, which tells the same bytes. The call that failed here isn't among its
+    /// failures.
     pub fn into_inner(self) -> T
-        ensures { ⟦<FailOnce<T> as Table>⟧.tells self ≡ T.tells result }
+        ensures tells { ⟦<FailOnce<T> as Table>⟧.tells self ≡ T.tells result }
+        ensures failures { T.failures result ≤ ⟦<FailOnce<T> as Table>⟧.failures self }
     {
         let FailOnce { table, .. } = self;
         table

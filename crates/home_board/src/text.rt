@@ -1,4 +1,4 @@
-ghost use Rattle.std.specs.Prelude.{◌≡◌, ℕ, ◌<◌, ◌≤◌, ◌↔◌, List, All, IfOk, IfSome, IsNone};
+ghost use Rattle.std.specs.Prelude.{◌≡◌, ℕ, ◌<◌, ◌↔◌, List, map, min, IfOk, IfSome, IsNone};
 ghost use Rattle.race_model.specs.Positions.{checkers};
 ghost use Rattle.race_model.specs.PositionText.{count_value, IsPositionText};
 
@@ -21,8 +21,7 @@ pub enum PositionFault {
 
 /// The number that one to three digits state, where the first of several is not 0.
 fn parse_count(text: &[u8]) -> Option<u16>
-    ensures value { result ≡ count_value text.now }
-    ensures range { IfSome result (λ count. count < 1000) }
+    ensures { result ≡ count_value text.now }
 {
     match text {
         [ones @ b'0'..=b'9'] => Some(u16::from(*ones - b'0')),
@@ -42,19 +41,26 @@ fn parse_count(text: &[u8]) -> Option<u16>
     }
 }
 
-/// The six counts that a text states.
-fn parse_counts(text: &[u8]) -> Option<[u16; 6]>
-    ensures read { IfSome result
-        (λ counts. IsPositionText text.now counts × All (λ count. count < 1000) counts) }
+/// A count as a byte: 255 where it is greater.
+fn capped(count: u16) -> u8
+    ensures { result ≡ min count 255 }
+{
+    count.min(255) as u8
+}
+
+/// The six counts that a text states, each of those over 255 as 255.
+fn parse_counts(text: &[u8]) -> Option<[u8; 6]>
+    ensures read { IfSome result (λ counts. (told : List ℕ) × IsPositionText text.now told
+        × (counts ≡ map (λ count. min count 255) told)) }
     ensures none { IsNone result → (counts : List ℕ) → ¬ IsPositionText text.now counts }
 {
-    let mut counts: ArrayVec<u16, 6> = ArrayVec::new();
+    let mut counts: ArrayVec<u8, 6> = ArrayVec::new();
     for part in text.split(|byte| *byte == b',') {
         let count = parse_count(part)?;
         if counts.is_full() {
             return None;
         }
-        counts.push(count);
+        counts.push(capped(count));
     }
     match counts.as_slice() {
         [ones, twos, threes, fours, fives, sixes] => {
@@ -74,20 +80,7 @@ pub fn parse_position(text: &[u8]) -> Result<Position, PositionFault>
     ensures too_many { (result ≡ Err PositionFault.TooMany)
         ↔ ((counts : List ℕ) × (IsPositionText text.now counts × (15 < checkers counts))) }
 {
-    let [ones, twos, threes, fours, fives, sixes] = parse_counts(text).ok_or(
-        PositionFault::BadText,
-    )?;
-    if ones + twos + threes + fours + fives + sixes > 15 {
-        return Err(PositionFault::TooMany);
-    }
-    let counts = [
-        ones as u8,
-        twos as u8,
-        threes as u8,
-        fours as u8,
-        fives as u8,
-        sixes as u8,
-    ];
+    let counts = parse_counts(text).ok_or(PositionFault::BadText)?;
     match Position::new(counts) {
         Ok(position) => Ok(position),
         Err(TooMany) => Err(PositionFault::TooMany),

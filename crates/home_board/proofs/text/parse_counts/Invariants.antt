@@ -1,13 +1,15 @@
-use Rattle.std.proofs.Common.{◌≡◌, ◌<◌, ◌==◌, All, Some, map, take, length}
+use Rattle.std.proofs.Common.{◌≡◌, ℕ, ◌==◌, List, Some, map, take, length}
 use Rattle.std.specs.List.{slice_split}
 use Rattle.race_model.specs.PositionText.{count_value}
+use Rattle.home_board.proofs.Counts.{capped}
 use Rattle.home_board.proofs.text.parse_counts.Given as goal
 
--- the parts so far state the counts so far
+-- the parts so far state some counts, and these are they, as bytes
 abbrev pub invariant-loop-part : goal.invariant-loop-part
 invariant-loop-part l = record {
+  told : List ℕ;
   states : map count_value (take (length l.yielded) (slice_split (λ c. c == 44) l.text))
-      ≡ map (λ c. Some c) l.counts.items;
-  as_many : length l.counts.items ≡ length l.yielded;
-  small : All (λ c. c < 1000) l.counts.items;
+      ≡ map (λ c. Some c) told;
+  as_many : length told ≡ length l.yielded;
+  kept : l.counts.items ≡ capped told;
 }
