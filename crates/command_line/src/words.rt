@@ -49,7 +49,7 @@ Lines (a position is six counts, that of the ace point first; a roll is two digi
   play 0,0,0,2,0,0 21     the best play of a roll
   loss 0,0,0,2,0,0 21 0,1,1,0,0,0     what a play to that position loses, in rolls
   moves 0,0,0,2,0,0 21    every play of a roll with its loss
-  rank 0,0,0,0,4,4        the place of a position in the database
+  rank 0,0,0,2,0,0        the place of a position in the database
 
 Exit status: 0 done; 1 a file, the input, the output or memory failed; 2 the words are wrong
 or N is over the greatest bound; 3 the database was refused, or is no old one to upgrade.";
@@ -61,12 +61,12 @@ const STATUSES: &str =
 2 the words are wrong; 3 the database was refused, and standard error says why.";
 
 const BUILD_STATUSES: &str =
-    "Exit status: 0 the file was written; 1 it could not be written (a prefix of it may stand there,
-which no check accepts), or memory failed; 2 the words are wrong or N is over the greatest bound.";
+    "Exit status: 0 the file was written; 1 it could not be written (a file that stood there stays),
+or memory failed; 2 the words are wrong or N is over the greatest bound.";
 
 const UPGRADE_STATUSES: &str =
-    "Exit status: 0 NEW was written; 1 a file, the output or memory failed (a prefix of NEW may
-stand there, which no check accepts); 2 the words are wrong; 3 OLD was refused, or is new already.";
+    "Exit status: 0 NEW was written; 1 a file, the output or memory failed (a file that stood at NEW
+stays); 2 the words are wrong; 3 OLD was refused, or is new already.";
 
 /// What the words after the program's own name ask for, where there is none `Default`. An error of
 /// `clap`'s is a mistake in the words, a help text that they ask for, or want of memory.
@@ -113,6 +113,7 @@ fn missing<'a>(alloc: Global, message: &str) -> Result<Request<'a>, Error> {
 /// The program's commands and their help.
 fn command<'a>(alloc: Global) -> Result<Command<'a>, AllocError> {
     Command::new(alloc, "bearoff")
+        .bin_name("bearoff")?
         .version("1.0.0")
         .no_binary_name(true)
         .about(ABOUT)
