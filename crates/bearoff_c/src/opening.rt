@@ -14,7 +14,7 @@ use crate::refusal::{OK, Refusal};
 use crate::text::put_text;
 use certificate::{CheckFault, Checked, check, fault_line};
 use db_layout::HeaderFault;
-use db_reader::{Table, Whole};
+use db_reader::Whole;
 use ranking::RankTable;
 
 /// Checks the bytes of a file and opens a database over them. The status is 0 exactly where they
@@ -55,7 +55,7 @@ pub extern "C" fn bearoff_open<'a>(
 
 /// The database over accepted bytes.
 fn opened<'a>(bytes: &'a [u8], checked: &Checked<Whole<'a>>) -> Database<'a>
-    requires { ⟦<Whole<'a> as Table>⟧.tells checked.now ≡ Some bytes.now }
+    requires { checked.now.told ≡ Some bytes.now }
     ensures opened { IsTrue result.is_open }
     ensures bytes { result.bytes.now ≡ bytes.now }
     ensures bound { result.bound ≡ bound_of bytes.now }

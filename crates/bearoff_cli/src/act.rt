@@ -195,7 +195,7 @@ fn reply<T: Table + Drop, I: Read, O: Write>(
 ) -> Result<(), Fault>
     ensures refused { KeepsIfRefused result (O.contents output.old) (O.contents output.new) }
     ensures answers { (file : List ℕ) → OnOk told (IsRight file)
-        → IfOk told (λ checked. T.tells checked ≡ Some file) → WhereTold (I.remaining input.old)
+        → IfOk told (λ checked. checked.told ≡ Some file) → WhereTold (I.remaining input.old)
         (λ given. IfOk result (λ _. AreAnswered file given (I.remaining input.new)
         (O.contents output.old) (O.contents output.new))) }
 {

@@ -9,3 +9,4 @@ pub mod NumberTests
 pub mod RecordTests
 pub mod FileTests
 pub mod Upgrades
+pub mod Databases

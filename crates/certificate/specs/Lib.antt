@@ -7,3 +7,4 @@ pub mod QueryFaults
 pub mod KeptMeans
 pub mod LowerRecords
 pub mod Upgrades
+pub mod Databases

@@ -12,7 +12,8 @@ ghost use Rattle.race_model.specs.FirstPlays.{IsFirstPlay};
 ghost use Rattle.legal_plays.specs.MoveLists.{moves_of};
 ghost use Rattle.db_layout.specs.Records.{IsVersion};
 ghost use Rattle.db_reader.specs.Telling.{WhereTold};
-ghost use Rattle.certificate.specs.Accepted.{bound_in, version_in};
+ghost use Rattle.certificate.specs.Accepted.{IsAccepted};
+ghost use Rattle.certificate.specs.Databases.{Stays};
 ghost use Rattle.certificate.specs.CheckFaults.{IsFirst, CheckCauses};
 ghost use Rattle.certificate.specs.QueryFaults.{RefusesNumbers, RefusesPlays, QueryCounted};
 ghost use Rattle.certificate.specs.Upgrades.{WritesUpgrade, IsRefusedBy, UpgradeCounted};
@@ -50,13 +51,20 @@ pub struct Checked<T: Table> {
     ranks: Ranks,
 }
 
-// Clauses see the table.
+// Clauses see its bytes, its bound and version, and how often a read has failed.
 impl<T: Table> Model for Checked<T> {
+    ghost use Rattle.race_model.specs.Versions.{version_by};
+    ghost use Rattle.certificate.specs.Databases.{Database};
     ghost use Rattle.certificate.specs.Accepted.{IsAccepted};
 
-    ghost Value = { T };
+    ghost Value = { Database };
 
-    ghost view = { λ checked. checked.table };
+    ghost view = { λ checked. record {
+      told = T.tells checked.table;
+      bound = checked.header.bound;
+      version = version_by checked.header.version;
+      failures = T.failures checked.table;
+    } };
 
     ghost invariant = { λ checked.
         IsAccepted (T.tells checked.table) (T.accepted checked.table) checked.header };
@@ -70,7 +78,7 @@ impl<T: Table> Model for Checked<T> {
 // so that its room is not part of its caller's
 #[inline(never)]
 pub fn check<T: Table>(mut table: T) -> Result<Checked<T>, (T, CheckFault)>
-    ensures told { IfOk result (λ checked. T.tells checked ≡ T.tells table) }
+    ensures told { IfOk result (λ checked. checked.told ≡ T.tells table) }
     ensures back { IfErr result (λ refused. T.tells refused.0 ≡ T.tells table) }
     ensures right { WhereTold (T.tells table) (λ file. OnOk result (IsRight file)) }
     ensures exactly { WhereTold (T.tells table) (λ file.
@@ -79,7 +87,7 @@ pub fn check<T: Table>(mut table: T) -> Result<Checked<T>, (T, CheckFault)>
     ensures first { WhereTold (T.tells table)
         (λ file. IfErr result (λ refused. IsFirst file refused.1)) }
     ensures ok_cause { WhereTold (T.tells table)
-        (λ _. IfOk result (λ checked. T.failures checked ≡ T.failures table)) }
+        (λ _. IfOk result (λ checked. checked.failures ≡ T.failures table)) }
     ensures err_cause { WhereTold (T.tells table) (λ _. IfErr result
         (λ refused. CheckCauses (T.failures table) (T.failures refused.0) refused.1)) }
 {
@@ -101,9 +109,9 @@ impl<T: Table> Checked<T> {
     /// The pip bound of the accepted header, 0 to 58. Where the table tells its bytes, they are a
     /// right database and it is their bound.
     pub fn bound(&self) -> u8
-        ensures bound { result ≡ bound_in (T.accepted self.now) }
-        ensures right { WhereTold (T.tells self.now)
-            (λ file. IsRight file × (bound_in (T.accepted self.now) ≡ bound_of file)) }
+        ensures bound { result ≡ self.now.bound }
+        ensures right { WhereTold self.now.told
+            (λ file. IsRight file × (self.now.bound ≡ bound_of file)) }
         ensures range { result ≤ 58 }
     {
         laws::law_right();
@@ -113,8 +121,8 @@ impl<T: Table> Checked<T> {
     /// The version of the accepted header, 1 or 2. Where the table tells its bytes, it is theirs.
     pub fn version(&self) -> u16
         ensures known { IsVersion result }
-        ensures accepted { result ≡ version_number (version_in (T.accepted self.now)) }
-        ensures version { WhereTold (T.tells self.now)
+        ensures accepted { result ≡ version_number (self.now.version) }
+        ensures version { WhereTold self.now.told
             (λ file. result ≡ version_number (version_of file)) }
     {
         self.header.version
@@ -122,42 +130,23 @@ impl<T: Table> Checked<T> {
 
     /// How many positions the database has: those of at most the bound.
     pub fn positions(&self) -> u16
-        ensures { result ≡ count_to (bound_in (T.accepted self.now)) }
+        ensures { result ≡ count_to (self.now.bound) }
     {
         self.header.count
     }
 
+    /// The ranks of all positions, by the table that the check counted.
+    pub fn ranks(&self) -> &Ranks {
+        &self.ranks
+    }
+
     /// The table again, with the same bytes.
     pub fn into_table(self) -> T
-        ensures { result ≡ self }
+        ensures tells { T.tells result ≡ self.told }
+        ensures failures { T.failures result ≡ self.failures }
     {
         let Checked { table, .. } = self;
         table
-    }
-
-    /// Makes the record of a position ready to be lent with this room.
-    fn load(&mut self, position: &Position, room: &mut Record) -> Result<u16, QueryFault>
-        ensures over_bound { (result ≡ Err QueryFault.OverBound) ↔
-            (bound_in (T.accepted self.old) < pips position.now) }
-        ensures position { IsPosition position.now }
-        ensures rank { IfOk result (λ rank. rank ≡ rank_of position.now) }
-        ensures ready { IfOk result (λ rank. T.ready self.new room.new rank) }
-        ensures local { WhereTold (T.tells self.old) (λ file. OnOk result
-            (IsLocal file × (pips position.now ≤ bound_of file))) }
-        ensures stays { T.tells self.new ≡ T.tells self.old }
-        ensures accepted { T.accepted self.new ≡ T.accepted self.old }
-        ensures fault { IfErr result RefusesNumbers }
-        ensures cause { WhereTold (T.tells self.old)
-            (λ _. QueryCounted (T.failures self.old) (T.failures self.new) result) }
-    {
-        if position.pips() > self.header.bound {
-            return Err(QueryFault::OverBound);
-        }
-        let rank = self.ranks.rank(position);
-        match self.table.load(rank, room) {
-            Ok(()) => Ok(rank),
-            Err(_) => Err(QueryFault::Read),
-        }
     }
 
     /// The least mean number of rolls of a position over all strategies, also those that look at
@@ -165,18 +154,21 @@ impl<T: Table> Checked<T> {
     /// position has more pips than the bound, or as `Read`.
     pub fn scaled(&mut self, position: &Position) -> Result<Scaled, QueryFault>
         ensures over_bound { (result ≡ Err QueryFault.OverBound) ↔
-            (bound_in (T.accepted self.old) < pips position.now) }
-        ensures least { WhereTold (T.tells self.old) (λ _. IfOk result (IsLeast position.now)) }
-        ensures recorded { WhereTold (T.tells self.old)
+            (self.old.bound < pips position.now) }
+        ensures least { WhereTold self.old.told (λ _. IfOk result (IsLeast position.now)) }
+        ensures recorded { WhereTold self.old.told
             (λ file. IfOk result (λ t. t ≡ mean_of file position.now)) }
-        ensures stays { T.tells self.new ≡ T.tells self.old }
-        ensures accepted { T.accepted self.new ≡ T.accepted self.old }
+        ensures stays { Stays self.old self.new (λ before now. QueryCounted before now result) }
         ensures fault { IfErr result RefusesNumbers }
-        ensures cause { WhereTold (T.tells self.old)
-            (λ _. QueryCounted (T.failures self.old) (T.failures self.new) result) }
     {
         let mut room = Record::new();
-        let rank = self.load(position, &mut room)?;
+        let rank = load(
+            &mut self.table,
+            self.header,
+            &self.ranks,
+            position,
+            &mut room,
+        )?;
         let Some(mean) = mean_in(&self.table.lend(rank, &room)) else {
             return Err(QueryFault::Read);
         };
@@ -187,16 +179,13 @@ impl<T: Table> Checked<T> {
     /// terms. Refused as `scaled` is.
     pub fn mean(&mut self, position: &Position) -> Result<Fraction, QueryFault>
         ensures over_bound { (result ≡ Err QueryFault.OverBound) ↔
-            (bound_in (T.accepted self.old) < pips position.now) }
-        ensures least { WhereTold (T.tells self.old) (λ file. IfOk result (λ fraction.
+            (self.old.bound < pips position.now) }
+        ensures least { WhereTold self.old.told (λ file. IfOk result (λ fraction.
             IsLeast position.now (mean_of file position.now)
             × IsMean (mean_of file position.now)
             fraction.numerator fraction.denominator)) }
-        ensures stays { T.tells self.new ≡ T.tells self.old }
-        ensures accepted { T.accepted self.new ≡ T.accepted self.old }
+        ensures stays { Stays self.old self.new (λ before now. QueryCounted before now result) }
         ensures fault { IfErr result RefusesNumbers }
-        ensures cause { WhereTold (T.tells self.old)
-            (λ _. QueryCounted (T.failures self.old) (T.failures self.new) result) }
     {
         let rolls = self.scaled(position)?;
         Ok(mean(rolls))
@@ -206,16 +195,13 @@ impl<T: Table> Checked<T> {
     /// terms (the GNU Backgammon manual). Refused as `scaled` is.
     pub fn epc(&mut self, position: &Position) -> Result<Fraction, QueryFault>
         ensures over_bound { (result ≡ Err QueryFault.OverBound) ↔
-            (bound_in (T.accepted self.old) < pips position.now) }
-        ensures pips { WhereTold (T.tells self.old) (λ file. IfOk result (λ fraction.
+            (self.old.bound < pips position.now) }
+        ensures pips { WhereTold self.old.told (λ file. IfOk result (λ fraction.
             IsLeast position.now (mean_of file position.now)
             × IsEffectivePips (mean_of file position.now)
             fraction.numerator fraction.denominator)) }
-        ensures stays { T.tells self.new ≡ T.tells self.old }
-        ensures accepted { T.accepted self.new ≡ T.accepted self.old }
+        ensures stays { Stays self.old self.new (λ before now. QueryCounted before now result) }
         ensures fault { IfErr result RefusesNumbers }
-        ensures cause { WhereTold (T.tells self.old)
-            (λ _. QueryCounted (T.failures self.old) (T.failures self.new) result) }
     {
         let rolls = self.scaled(position)?;
         Ok(epc(rolls))
@@ -225,20 +211,23 @@ impl<T: Table> Checked<T> {
     /// is.
     pub fn spread(&mut self, position: &Position) -> Result<Spread, QueryFault>
         ensures over_bound { (result ≡ Err QueryFault.OverBound) ↔
-            (bound_in (T.accepted self.old) < pips position.now) }
-        ensures shares { WhereTold (T.tells self.old) (λ file. IfOk result (λ spread.
+            (self.old.bound < pips position.now) }
+        ensures shares { WhereTold self.old.told (λ file. IfOk result (λ spread.
             (k : ℕ) → k ≤ 22 →
             slice_index spread k ≡ count_of (follow file 22 position.now) k)) }
-        ensures recorded { WhereTold (T.tells self.old) (λ file. IfOk result (λ spread.
+        ensures recorded { WhereTold self.old.told (λ file. IfOk result (λ spread.
             (k : ℕ) → k ≤ 22 → slice_index spread k ≡ share_of file position.now k)) }
-        ensures stays { T.tells self.new ≡ T.tells self.old }
-        ensures accepted { T.accepted self.new ≡ T.accepted self.old }
+        ensures stays { Stays self.old self.new (λ before now. QueryCounted before now result) }
         ensures fault { IfErr result RefusesNumbers }
-        ensures cause { WhereTold (T.tells self.old)
-            (λ _. QueryCounted (T.failures self.old) (T.failures self.new) result) }
     {
         let mut room = Record::new();
-        let rank = self.load(position, &mut room)?;
+        let rank = load(
+            &mut self.table,
+            self.header,
+            &self.ranks,
+            position,
+            &mut room,
+        )?;
         let Some(spread) = spread_in(&self.table.lend(rank, &room)) else {
             return Err(QueryFault::Read);
         };
@@ -250,25 +239,28 @@ impl<T: Table> Checked<T> {
     /// `Finished` exactly where no checker is left, or as `Read`.
     pub fn play(&mut self, position: &Position, roll: Roll) -> Result<(Play, Position), QueryFault>
         ensures over_bound { (result ≡ Err QueryFault.OverBound) ↔
-            (bound_in (T.accepted self.old) < pips position.now) }
+            (self.old.bound < pips position.now) }
         ensures finished { (result ≡ Err QueryFault.Finished) ↔
-            ((pips position.now ≤ bound_in (T.accepted self.old)) × IsFinished position.now) }
-        ensures recorded { WhereTold (T.tells self.old)
+            ((pips position.now ≤ self.old.bound) × IsFinished position.now) }
+        ensures recorded { WhereTold self.old.told
             (λ file. IfOk result (λ answer. answer.1 ≡ recorded file position.now roll)) }
         ensures first { IfOk result
             (λ answer. IsFirstPlay position.now roll answer.1 (moves_of answer.0.items)) }
         ensures legal { IfOk result (λ answer. Legal position.now roll answer.1) }
-        ensures stays { T.tells self.new ≡ T.tells self.old }
-        ensures accepted { T.accepted self.new ≡ T.accepted self.old }
+        ensures stays { Stays self.old self.new (λ before now. QueryCounted before now result) }
         ensures fault { IfErr result RefusesPlays }
-        ensures cause { WhereTold (T.tells self.old)
-            (λ _. QueryCounted (T.failures self.old) (T.failures self.new) result) }
     {
         if position.pips() <= self.header.bound && position.is_finished() {
             return Err(QueryFault::Finished);
         }
         let mut room = Record::new();
-        let rank = self.load(position, &mut room)?;
+        let rank = load(
+            &mut self.table,
+            self.header,
+            &self.ranks,
+            position,
+            &mut room,
+        )?;
         let recorded = self.table.lend(rank, &room).play(roll);
         if recorded >= self.header.count {
             return Err(QueryFault::Read);
@@ -288,23 +280,51 @@ impl<T: Table> Checked<T> {
     /// project's profile.)
     pub fn upgrade<W: Write>(&mut self, writer: &mut W) -> Result<(), UpgradeFault>
         ensures not_old { (result ≡ Err UpgradeFault.NotOld)
-            ↔ (version_in (T.accepted self.old) ≡ compact) }
-        ensures version { WhereTold (T.tells self.old)
-            (λ file. version_in (T.accepted self.old) ≡ version_of file) }
+            ↔ (self.old.version ≡ compact) }
+        ensures version { WhereTold self.old.told
+            (λ file. self.old.version ≡ version_of file) }
         ensures nothing { result ≡ Err UpgradeFault.NotOld →
             Keeps (W.contents writer.old) (W.contents writer.new) }
-        ensures upgraded { WhereTold (T.tells self.old) (λ file. OnOk result
+        ensures upgraded { WhereTold self.old.told (λ file. OnOk result
             (WritesUpgrade file (W.contents writer.old) (W.contents writer.new))) }
-        ensures refused { WhereTold (T.tells self.old) (λ file. IfErr result
+        ensures refused { WhereTold self.old.told (λ file. IfErr result
             (IsRefusedBy file (W.contents writer.old) (W.contents writer.new))) }
-        ensures stays { T.tells self.new ≡ T.tells self.old }
-        ensures accepted { T.accepted self.new ≡ T.accepted self.old }
-        ensures cause { WhereTold (T.tells self.old)
-            (λ _. UpgradeCounted (T.failures self.old) (T.failures self.new) result) }
+        ensures stays { Stays self.old self.new (λ before now. UpgradeCounted before now result) }
     {
         if self.header.version == COMPACT_VERSION {
             return Err(UpgradeFault::NotOld);
         }
         write_upgrade(&mut self.table, &self.ranks, &self.header, writer)
+    }
+}
+
+/// Makes the record of a position of an accepted table ready to be lent with this room.
+fn load<T: Table>(
+    table: &mut T,
+    header: Header,
+    ranks: &Ranks,
+    position: &Position,
+    room: &mut Record,
+) -> Result<u16, QueryFault>
+    requires { IsAccepted (T.tells table.old) (T.accepted table.old) header }
+    ensures over_bound { (result ≡ Err QueryFault.OverBound) ↔ (header.bound < pips position.now) }
+    ensures position { IsPosition position.now }
+    ensures rank { IfOk result (λ rank. rank ≡ rank_of position.now) }
+    ensures ready { IfOk result (λ rank. T.ready table.new room.new rank) }
+    ensures local { WhereTold (T.tells table.old) (λ file. OnOk result
+        (IsLocal file × (pips position.now ≤ bound_of file))) }
+    ensures stays { T.tells table.new ≡ T.tells table.old }
+    ensures accepted { T.accepted table.new ≡ T.accepted table.old }
+    ensures fault { IfErr result RefusesNumbers }
+    ensures cause { WhereTold (T.tells table.old)
+        (λ _. QueryCounted (T.failures table.old) (T.failures table.new) result) }
+{
+    if position.pips() > header.bound {
+        return Err(QueryFault::OverBound);
+    }
+    let rank = ranks.rank(position);
+    match table.load(rank, room) {
+        Ok(()) => Ok(rank),
+        Err(_) => Err(QueryFault::Read),
     }
 }

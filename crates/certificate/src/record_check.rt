@@ -77,8 +77,10 @@ fn add_numbers(sums: &mut RecordSums, roll: Roll, view: &RecordView<'_>) -> Resu
     ensures refused { OnErr result
         (¬ ((mean_of view.now ≤ 22 * whole) × (sum (shares_of view.now) ≡ whole))) }
 {
-    let mean = mean_in(view).ok_or(ReadFault)?;
-    if sums.add(roll.weight(), mean, view) {
+    // a copy, whose parts stay known while sums are written
+    let view = view.copied();
+    let mean = mean_in(&view).ok_or(ReadFault)?;
+    if sums.add(roll.weight(), mean, &view) {
         Ok(())
     } else {
         Err(ReadFault)

@@ -3,7 +3,7 @@ ghost use Rattle.std.specs.Prelude.{◌≡◌, ℕ, ◌+◌, ◌<◌, ◌≤◌}
 ghost use Rattle.race_model.specs.Positions.{pips};
 ghost use Rattle.race_model.specs.Ranks.{at_rank, first_of, count_to};
 ghost use Rattle.race_model.specs.Horizon.{most_rolls};
-ghost use Rattle.race_model.specs.Versions.{version_by, first_share, share_count, record_length};
+ghost use Rattle.race_model.specs.Versions.{version_by, full, first_share, share_count, record_length};
 ghost use Rattle.race_model.specs.Files.{record_place};
 ghost use Rattle.db_layout.specs.declared.header.Header.{Header as HeaderValue};
 ghost use Rattle.db_layout.specs.Records.{IsPlacesTable};
@@ -98,6 +98,17 @@ impl Places {
             length,
             pips,
         }
+    }
+
+    /// Where the record of a rank stands in a file of full records: no pip count is looked up.
+    pub fn find_full(&self, rank: u16) -> u64
+        requires rank { rank < self.now.count }
+        requires full { version_by self.now.version ≡ full }
+        ensures offset { result ≡ record_place (version_by self.now.version) rank }
+        ensures inside { result + 426
+            ≤ record_place (version_by self.now.version) self.now.count }
+    {
+        32 + 426 * u64::from(rank)
     }
 
     // The pip count of the position of a rank.

@@ -72,6 +72,17 @@ impl<'a> RecordView<'a> {
         }
     }
 
+    /// The same view: of a copy of its own a function keeps the parts while it writes elsewhere.
+    pub fn copied(&self) -> RecordView<'a>
+        ensures { result ≡ self.now }
+    {
+        RecordView {
+            bytes: self.bytes,
+            version: self.version,
+            pips: self.pips,
+        }
+    }
+
     /// The numerator over 36 ^ 22 of the mean number of
     /// rolls. Any number of 128 bits may stand there.
     pub fn mean(&self) -> u128

@@ -6,6 +6,7 @@ ghost use Rattle.race_model.specs.Versions.{Version, version_by};
 ghost use Rattle.race_model.specs.Files.{header as header_of};
 ghost use Rattle.db_layout.specs.Records.{record_of, IsHeld, IsRecordOf};
 ghost use Rattle.db_layout.specs.Writes.{AppendsPart};
+ghost use Rattle.std.specs.Int.{w128, to_be_bytes};
 
 use crate::header::{Header, MAGIC};
 use crate::places::{first_share, share_count};
@@ -110,14 +111,26 @@ fn record_bytes(
         ≡ record_of (version_by header.now.version) pips mean plays.now spread.now }
 {
     let mut bytes = ArrayVec::new();
-    add_bytes(&mut bytes, &mean.numerator().to_be_bytes());
+    add_bytes(&mut bytes, &be_bytes(mean.numerator()));
     for play in plays {
         add_bytes(&mut bytes, &play.to_be_bytes());
     }
     let first = first_share(header.version);
     for place in 0..share_count(header.version, pips) {
-        add_bytes(&mut bytes, &spread.at(first + place).to_be_bytes());
+        add_bytes(&mut bytes, &be_bytes(spread.at(first + place)));
     }
+    bytes
+}
+
+/// The 16 bytes of a number, high byte first, by two of 64 bits: a compiler turns those round at
+/// once, and one of 128 bits byte by byte.
+#[inline]
+fn be_bytes(number: u128) -> [u8; 16]
+    ensures { result ≡ to_be_bytes w128 number }
+{
+    let mut bytes = [0; 16];
+    bytes[..8].copy_from_slice(&((number >> 64) as u64).to_be_bytes());
+    bytes[8..].copy_from_slice(&((number % (1 << 64)) as u64).to_be_bytes());
     bytes
 }
 

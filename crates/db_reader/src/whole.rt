@@ -8,7 +8,7 @@ ghost use Rattle.db_reader.specs.Reads.{HasHeader, HasRecord};
 use crate::front::header_of;
 use crate::record::Record;
 use crate::table::{ReadFault, Table, TableFault};
-use db_layout::{HEADER_BYTES, Header, Places, RecordView};
+use db_layout::{COMPACT_VERSION, HEADER_BYTES, Header, Places, RECORD_BYTES, RecordView};
 
 /// The table over the bytes of a whole database, in memory that it borrows. It tells these bytes,
 /// lends each record from them and copies none, and never fails.
@@ -62,6 +62,12 @@ impl<'a> Table for Whole<'a> {
         let Some(places) = &self.places else {
             unreachable!();
         };
+        let version = places.header().version;
+        if version != COMPACT_VERSION {
+            let first = places.find_full(rank) as usize;
+            let bytes = &self.bytes[first..first + RECORD_BYTES];
+            return RecordView::of_version(bytes, version, 0).unwrap();
+        }
         let place = places.find(rank);
         let first = place.offset as usize;
         let bytes = &self.bytes[first..first + place.length as usize];

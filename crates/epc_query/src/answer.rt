@@ -5,7 +5,7 @@ ghost use Rattle.race_model.specs.Ranks.{rank as rank_of};
 ghost use Rattle.race_model.specs.Files.{bound_of};
 ghost use Rattle.race_model.specs.Queries.{IsAccepted};
 ghost use Rattle.db_reader.specs.Telling.{WhereTold};
-ghost use Rattle.certificate.specs.Accepted.{bound_in};
+ghost use Rattle.certificate.specs.Databases.{Stays};
 ghost use Rattle.certificate.specs.QueryFaults.{QueryCounted};
 ghost use Rattle.epc_query.specs.Readings.{asked};
 ghost use Rattle.epc_query.specs.Answers.{IsReplyTo};
@@ -47,17 +47,14 @@ fn refused(fault: QueryFault) -> Result<Reply, Stop>
 
 /// What a query is answered with.
 fn ask<T: Table>(alloc: Global, checked: &mut Checked<T>, query: Query) -> Result<Reply, QueryFault>
-    ensures answerable { OnOk result (IsAnswerable (bound_in (T.accepted checked.old))
+    ensures answerable { OnOk result (IsAnswerable (checked.old.bound)
         (asked query)) }
-    ensures told { WhereTold (T.tells checked.old) (λ file. IfOk result (λ reply. (line : List ℕ)
+    ensures told { WhereTold checked.old.told (λ file. IfOk result (λ reply. (line : List ℕ)
         → IsAccepted (bound_of file) line (asked query) → IsReplyTo file line reply)) }
     ensures heard { IfOk result (λ reply. (bound : ℕ) (line : List ℕ)
         → IsAccepted bound line (asked query) → IsHeard bound line reply) }
-    ensures fault { IfErr result (IsFaultOf (bound_in (T.accepted checked.old)) (asked query)) }
-    ensures stays { T.tells checked.new ≡ T.tells checked.old }
-    ensures accepted { T.accepted checked.new ≡ T.accepted checked.old }
-    ensures cause { WhereTold (T.tells checked.old)
-        (λ _. QueryCounted (T.failures checked.old) (T.failures checked.new) result) }
+    ensures fault { IfErr result (IsFaultOf (checked.old.bound) (asked query)) }
+    ensures stays { Stays checked.old checked.new (λ before now. QueryCounted before now result) }
 {
     match query {
         Query::Mean(position) => {
@@ -91,9 +88,9 @@ fn ask<T: Table>(alloc: Global, checked: &mut Checked<T>, query: Query) -> Resul
 #[inline(never)]
 fn rank<T: Table>(checked: &Checked<T>, position: &Position) -> Result<u16, QueryFault>
     ensures value { IfOk result (λ rank. rank ≡ rank_of position.now) }
-    ensures answerable { OnOk result (pips position.now ≤ bound_in (T.accepted checked.now)) }
+    ensures answerable { OnOk result (pips position.now ≤ checked.now.bound) }
     ensures fault { IfErr result (λ fault.
-        (fault ≡ QueryFault.OverBound) × (bound_in (T.accepted checked.now) < pips position.now)) }
+        (fault ≡ QueryFault.OverBound) × (checked.now.bound < pips position.now)) }
 {
     if position.pips() > checked.bound() {
         return Err(QueryFault::OverBound);
@@ -110,14 +107,11 @@ pub fn answer_line<T: Table>(
     checked: &mut Checked<T>,
     line: &[u8],
 ) -> Result<Reply, Stop>
-    ensures reply { WhereTold (T.tells checked.old)
+    ensures reply { WhereTold checked.old.told
         (λ file. IfOk result (IsReplyTo file line.now)) }
-    ensures heard { IfOk result (IsHeard (bound_in (T.accepted checked.old)) line.now) }
-    ensures stop { IfErr result (IsStopOf (bound_in (T.accepted checked.old)) line.now) }
-    ensures stays { T.tells checked.new ≡ T.tells checked.old }
-    ensures accepted { T.accepted checked.new ≡ T.accepted checked.old }
-    ensures cause { WhereTold (T.tells checked.old)
-        (λ _. StopCounted (T.failures checked.old) (T.failures checked.new) result) }
+    ensures heard { IfOk result (IsHeard (checked.old.bound) line.now) }
+    ensures stop { IfErr result (IsStopOf (checked.old.bound) line.now) }
+    ensures stays { Stays checked.old checked.new (λ before now. StopCounted before now result) }
 {
     let _bound = checked.bound();
     match read_query(line) {

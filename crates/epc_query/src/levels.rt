@@ -3,7 +3,7 @@ ghost use Rattle.std.specs.Prelude.{◌≡◌, ℕ, ◌*◌, ◌<◌, ◌≤◌,
 ghost use Rattle.race_model.specs.Ranks.{count_to};
 ghost use Rattle.race_model.specs.LocalEquations.{whole};
 ghost use Rattle.db_reader.specs.Telling.{WhereTold};
-ghost use Rattle.certificate.specs.Accepted.{bound_in};
+ghost use Rattle.certificate.specs.Databases.{Stays};
 ghost use Rattle.certificate.specs.QueryFaults.{QueryCounted};
 ghost use Rattle.epc_query.specs.LevelMeans.{AreMeansOf, HasLevel, IsLevelFault};
 
@@ -19,13 +19,10 @@ use ranking::Ranks;
 /// `OverBound` where the pip count is over the bound, and as `Read` where a record could not be
 /// read, or, read again, holds numbers that no accepted record can hold.
 pub fn audit_level<T: Table>(checked: &mut Checked<T>, pips: u8) -> Result<Level, QueryFault>
-    ensures within { OnOk result (pips ≤ bound_in (T.accepted checked.old)) }
-    ensures fault { IfErr result (IsLevelFault (bound_in (T.accepted checked.old)) pips) }
-    ensures level { WhereTold (T.tells checked.old) (λ file. IfOk result (HasLevel file pips)) }
-    ensures stays { T.tells checked.new ≡ T.tells checked.old }
-    ensures accepted { T.accepted checked.new ≡ T.accepted checked.old }
-    ensures cause { WhereTold (T.tells checked.old)
-        (λ _. QueryCounted (T.failures checked.old) (T.failures checked.new) result) }
+    ensures within { OnOk result (pips ≤ checked.old.bound) }
+    ensures fault { IfErr result (IsLevelFault (checked.old.bound) pips) }
+    ensures level { WhereTold checked.old.told (λ file. IfOk result (HasLevel file pips)) }
+    ensures stays { Stays checked.old checked.new (λ before now. QueryCounted before now result) }
 {
     laws::law_rank();
     laws::law_at_rank();
@@ -58,16 +55,13 @@ fn means_of<T: Table>(
     first: u16,
     end: u16,
 ) -> Result<Means, QueryFault>
-    requires { end ≤ count_to (bound_in (T.accepted checked.old)) }
+    requires { end ≤ count_to (checked.old.bound) }
     ensures fault { OnErr result (result ≡ Err QueryFault.Read) }
     ensures bounded { IfOk result (λ means. (means.least ≤ 22 * whole)
         × (means.greatest ≤ 22 * whole)) }
-    ensures means { WhereTold (T.tells checked.old)
+    ensures means { WhereTold checked.old.told
         (λ file. IfOk result (λ means. AreMeansOf file first end means.least means.greatest)) }
-    ensures stays { T.tells checked.new ≡ T.tells checked.old }
-    ensures accepted { T.accepted checked.new ≡ T.accepted checked.old }
-    ensures cause { WhereTold (T.tells checked.old)
-        (λ _. QueryCounted (T.failures checked.old) (T.failures checked.new) result) }
+    ensures stays { Stays checked.old checked.new (λ before now. QueryCounted before now result) }
 {
     laws::law_rank();
     laws::law_counts();

@@ -4,6 +4,7 @@ ghost use Rattle.std.specs.Prelude.{Option, Some, MatchOption, MatchResult, IfOk
 ghost use Rattle.std.specs.Io.KnownBytes.{Keeps};
 ghost use Rattle.race_model.specs.InputLines.{HasNoFeed, whole_lines, lines_of};
 ghost use Rattle.db_reader.specs.Telling.{WhereTold};
+ghost use Rattle.certificate.specs.Databases.{Stays};
 ghost use Rattle.epc_query.specs.Runs.{HasReplies, IsStoppedAt, IsFirstFeed, IsAnswered, RunCounted};
 
 use crate::answer::{Stop, answer_line};
@@ -26,13 +27,10 @@ fn answer<T: Table, W: Write>(
     text: &mut Text,
     writer: &mut W,
 ) -> Result<(), RunFault>
-    ensures answered { WhereTold (T.tells checked.old) (λ file. MatchResult result
+    ensures answered { WhereTold checked.old.told (λ file. MatchResult result
         (λ _. HasReplies file (line.now ∷ []) (W.contents writer.old) (W.contents writer.new))
         (IsStoppedAt file (line.now ∷ []) (W.contents writer.old) (W.contents writer.new))) }
-    ensures stays { T.tells checked.new ≡ T.tells checked.old }
-    ensures accepted { T.accepted checked.new ≡ T.accepted checked.old }
-    ensures cause { WhereTold (T.tells checked.old)
-        (λ _. RunCounted (T.failures checked.old) (T.failures checked.new) result) }
+    ensures stays { Stays checked.old checked.new (λ before now. RunCounted before now result) }
 {
     laws::law_lines();
     crate::laws::law_reply_text();
@@ -69,7 +67,7 @@ fn answer_piece<T: Table, W: Write>(
     writer: &mut W,
 ) -> Result<(), RunFault>
     requires { HasNoFeed piece.now }
-    ensures answered { WhereTold (T.tells checked.old)
+    ensures answered { WhereTold checked.old.told
         (λ file. (done : List ℕ) (start : Option (List ℕ))
         → IsAnswered file done start (W.contents writer.old) held.old → MatchResult result
         (λ _. IsAnswered file ((done ++ piece.now) ++ 10 ∷ []) start (W.contents writer.new)
@@ -77,10 +75,7 @@ fn answer_piece<T: Table, W: Write>(
         ≡ length (whole_lines done) + 1))
         (IsStoppedAt file (whole_lines ((done ++ piece.now) ++ 10 ∷ [])) start
         (W.contents writer.new))) }
-    ensures stays { T.tells checked.new ≡ T.tells checked.old }
-    ensures accepted { T.accepted checked.new ≡ T.accepted checked.old }
-    ensures cause { WhereTold (T.tells checked.old)
-        (λ _. RunCounted (T.failures checked.old) (T.failures checked.new) result) }
+    ensures stays { Stays checked.old checked.new (λ before now. RunCounted before now result) }
 {
     laws::law_lines();
     laws::law_input_lines();
@@ -105,17 +100,14 @@ pub(crate) fn answer_chunk<T: Table, W: Write>(
     writer: &mut W,
 ) -> Result<u64, RunFault>
     requires { length chunk.now < 2 ^ 32 }
-    ensures answered { WhereTold (T.tells checked.old)
+    ensures answered { WhereTold checked.old.told
         (λ file. (done : List ℕ) (start : Option (List ℕ))
         → IsAnswered file done start (W.contents writer.old) held.old → MatchResult result
         (λ n. IsAnswered file (done ++ chunk.now) start (W.contents writer.new) held.new
         × (length (whole_lines (done ++ chunk.now)) ≡ length (whole_lines done) + n))
         (IsStoppedAt file (whole_lines (done ++ chunk.now)) start (W.contents writer.new))) }
     ensures few { IfOk result (λ n. n ≤ length chunk.now) }
-    ensures stays { T.tells checked.new ≡ T.tells checked.old }
-    ensures accepted { T.accepted checked.new ≡ T.accepted checked.old }
-    ensures cause { WhereTold (T.tells checked.old)
-        (λ _. RunCounted (T.failures checked.old) (T.failures checked.new) result) }
+    ensures stays { Stays checked.old checked.new (λ before now. RunCounted before now result) }
 {
     laws::law_input_lines();
     let mut start = 0;
@@ -139,17 +131,14 @@ pub(crate) fn answer_last<T: Table, W: Write>(
     text: &mut Text,
     writer: &mut W,
 ) -> Result<u64, RunFault>
-    ensures answered { WhereTold (T.tells checked.old)
+    ensures answered { WhereTold checked.old.told
         (λ file. (done : List ℕ) (start : Option (List ℕ))
         → IsAnswered file done start (W.contents writer.old) held.now → MatchResult result
         (λ n. HasReplies file (lines_of done) start (W.contents writer.new)
         × (length (lines_of done) ≡ length (whole_lines done) + n))
         (IsStoppedAt file (lines_of done) start (W.contents writer.new))) }
     ensures few { IfOk result (λ n. n ≤ 1) }
-    ensures stays { T.tells checked.new ≡ T.tells checked.old }
-    ensures accepted { T.accepted checked.new ≡ T.accepted checked.old }
-    ensures cause { WhereTold (T.tells checked.old)
-        (λ _. RunCounted (T.failures checked.old) (T.failures checked.new) result) }
+    ensures stays { Stays checked.old checked.new (λ before now. RunCounted before now result) }
 {
     laws::law_lines();
     let line = held.rest();

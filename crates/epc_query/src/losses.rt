@@ -8,7 +8,7 @@ ghost use Rattle.race_model.specs.Fractions.{IsFraction};
 ghost use Rattle.race_model.specs.Losses.{loss, IsLoss};
 ghost use Rattle.race_model.specs.Queries.{loss_query};
 ghost use Rattle.db_reader.specs.Telling.{WhereTold};
-ghost use Rattle.certificate.specs.Accepted.{bound_in};
+ghost use Rattle.certificate.specs.Databases.{Stays};
 ghost use Rattle.certificate.specs.QueryFaults.{QueryCounted};
 ghost use Rattle.epc_query.specs.Faults.{IsAnswerable, IsFaultOf};
 
@@ -32,17 +32,14 @@ pub fn loss<T: Table>(
     to: &Position,
 ) -> Result<Fraction, QueryFault>
     ensures answerable { OnOk result
-        (IsAnswerable (bound_in (T.accepted checked.old)) (loss_query position.now roll to.now)) }
+        (IsAnswerable (checked.old.bound) (loss_query position.now roll to.now)) }
     ensures fault { IfErr result
-        (IsFaultOf (bound_in (T.accepted checked.old)) (loss_query position.now roll to.now)) }
-    ensures recorded { WhereTold (T.tells checked.old) (λ file. IfOk result (λ lost.
+        (IsFaultOf (checked.old.bound) (loss_query position.now roll to.now)) }
+    ensures recorded { WhereTold checked.old.told (λ file. IfOk result (λ lost.
         IsFraction (loss file position.now roll to.now) whole lost.numerator lost.denominator)) }
-    ensures lost { WhereTold (T.tells checked.old) (λ file. OnOk result
+    ensures lost { WhereTold checked.old.told (λ file. OnOk result
         (IsLoss position.now roll to.now (loss file position.now roll to.now))) }
-    ensures stays { T.tells checked.new ≡ T.tells checked.old }
-    ensures accepted { T.accepted checked.new ≡ T.accepted checked.old }
-    ensures cause { WhereTold (T.tells checked.old)
-        (λ _. QueryCounted (T.failures checked.old) (T.failures checked.new) result) }
+    ensures stays { Stays checked.old checked.new (λ before now. QueryCounted before now result) }
 {
     laws::law_loss();
     if position.pips() > checked.bound() {
@@ -65,17 +62,14 @@ fn lost<T: Table>(
     roll: Roll,
     to: &Position,
 ) -> Result<Fraction, QueryFault>
-    requires within { pips position.now ≤ bound_in (T.accepted checked.old) }
+    requires within { pips position.now ≤ checked.old.bound }
     requires position { IsPosition position.now }
     requires unfinished { ¬ IsFinished position.now }
     requires legal { Legal position.now roll to.now }
     ensures fault { OnErr result (result ≡ Err QueryFault.Read) }
-    ensures recorded { WhereTold (T.tells checked.old) (λ file. IfOk result (λ lost.
+    ensures recorded { WhereTold checked.old.told (λ file. IfOk result (λ lost.
         IsFraction (loss file position.now roll to.now) whole lost.numerator lost.denominator)) }
-    ensures stays { T.tells checked.new ≡ T.tells checked.old }
-    ensures accepted { T.accepted checked.new ≡ T.accepted checked.old }
-    ensures cause { WhereTold (T.tells checked.old)
-        (λ _. QueryCounted (T.failures checked.old) (T.failures checked.new) result) }
+    ensures stays { Stays checked.old checked.new (λ before now. QueryCounted before now result) }
 {
     laws::law_loss();
     laws::law_results();
@@ -95,16 +89,13 @@ pub(crate) fn least_mean<T: Table>(
     position: &Position,
     roll: Roll,
 ) -> Result<Scaled, QueryFault>
-    requires within { pips position.now ≤ bound_in (T.accepted checked.old) }
+    requires within { pips position.now ≤ checked.old.bound }
     requires position { IsPosition position.now }
     requires unfinished { ¬ IsFinished position.now }
     ensures fault { OnErr result (result ≡ Err QueryFault.Read) }
-    ensures recorded { WhereTold (T.tells checked.old)
+    ensures recorded { WhereTold checked.old.told
         (λ file. IfOk result (λ least. least ≡ mean_at file (play file position.now roll))) }
-    ensures stays { T.tells checked.new ≡ T.tells checked.old }
-    ensures accepted { T.accepted checked.new ≡ T.accepted checked.old }
-    ensures cause { WhereTold (T.tells checked.old)
-        (λ _. QueryCounted (T.failures checked.old) (T.failures checked.new) result) }
+    ensures stays { Stays checked.old checked.new (λ before now. QueryCounted before now result) }
 {
     laws::law_results();
     let _bound = checked.bound();
@@ -119,14 +110,11 @@ pub(crate) fn recorded_mean<T: Table>(
     checked: &mut Checked<T>,
     position: &Position,
 ) -> Result<Scaled, QueryFault>
-    requires { pips position.now ≤ bound_in (T.accepted checked.old) }
+    requires { pips position.now ≤ checked.old.bound }
     ensures fault { OnErr result (result ≡ Err QueryFault.Read) }
-    ensures recorded { WhereTold (T.tells checked.old)
+    ensures recorded { WhereTold checked.old.told
         (λ file. IfOk result (λ mean. mean ≡ mean_of file position.now)) }
-    ensures stays { T.tells checked.new ≡ T.tells checked.old }
-    ensures accepted { T.accepted checked.new ≡ T.accepted checked.old }
-    ensures cause { WhereTold (T.tells checked.old)
-        (λ _. QueryCounted (T.failures checked.old) (T.failures checked.new) result) }
+    ensures stays { Stays checked.old checked.new (λ before now. QueryCounted before now result) }
 {
     match checked.scaled(position) {
         Ok(mean) => Ok(mean),

@@ -10,7 +10,7 @@ ghost use Rattle.race_model.specs.LocalEquations.{whole};
 ghost use Rattle.race_model.specs.Fractions.{IsFraction};
 ghost use Rattle.race_model.specs.Queries.{moves_query};
 ghost use Rattle.db_reader.specs.Telling.{WhereTold};
-ghost use Rattle.certificate.specs.Accepted.{bound_in};
+ghost use Rattle.certificate.specs.Databases.{Stays};
 ghost use Rattle.certificate.specs.QueryFaults.{QueryCounted};
 ghost use Rattle.epc_query.specs.Answers.{AreChoices};
 ghost use Rattle.epc_query.specs.Costs.{IsByCost, IsCost, IsPriced, ArePriced};
@@ -44,15 +44,12 @@ pub fn moves<T: Table>(
     roll: Roll,
 ) -> Result<Vec<Choice>, QueryFault>
     ensures answerable { OnOk result
-        (IsAnswerable (bound_in (T.accepted checked.old)) (moves_query position.now roll)) }
+        (IsAnswerable (checked.old.bound) (moves_query position.now roll)) }
     ensures fault { IfErr result
-        (IsFaultOf (bound_in (T.accepted checked.old)) (moves_query position.now roll)) }
-    ensures choices { WhereTold (T.tells checked.old)
+        (IsFaultOf (checked.old.bound) (moves_query position.now roll)) }
+    ensures choices { WhereTold checked.old.told
         (λ file. IfOk result (λ choices. AreChoices file position.now roll choices.items)) }
-    ensures stays { T.tells checked.new ≡ T.tells checked.old }
-    ensures accepted { T.accepted checked.new ≡ T.accepted checked.old }
-    ensures cause { WhereTold (T.tells checked.old)
-        (λ _. QueryCounted (T.failures checked.old) (T.failures checked.new) result) }
+    ensures stays { Stays checked.old checked.new (λ before now. QueryCounted before now result) }
 {
     laws::law_loss();
     laws::law_results();
@@ -63,41 +60,39 @@ pub fn moves<T: Table>(
     if position.is_finished() {
         return Err(QueryFault::Finished);
     }
-    let ranks = Ranks::new();
     let found = results(position, roll);
     let Ok(choices) = Vec::with_capacity(alloc, found.len()) else {
         return Err(QueryFault::Memory);
     };
-    let costs = costs_of(checked, &ranks, found.as_slice())?;
-    Ok(priced(&ranks, choices, costs.as_slice()))
+    let mut costs = ArrayVec::new();
+    costs_of(checked, found.as_slice(), &mut costs)?;
+    Ok(priced(checked.ranks(), choices, costs.as_slice()))
 }
 
-/// The results in order: the smaller mean first, and of equal means the lower rank.
+/// Puts the results in order: the smaller mean first, and of equal means the lower rank.
 fn costs_of<T: Table>(
     checked: &mut Checked<T>,
-    ranks: &Ranks,
     found: &[Position],
-) -> Result<ArrayVec<Cost, 1296>, QueryFault>
+    costs: &mut ArrayVec<Cost, 1296>,
+) -> Result<(), QueryFault>
+    requires none { costs.old.items ≡ [] }
     requires few { length found.now ≤ 1296 }
-    requires within { All (λ y. pips y ≤ bound_in (T.accepted checked.old)) found.now }
+    requires within { All (λ y. pips y ≤ checked.old.bound) found.now }
     ensures fault { OnErr result (result ≡ Err QueryFault.Read) }
-    ensures ordered { IfOk result (λ costs. IsByCost costs.items) }
-    ensures bounded { IfOk result (λ costs. All IsCost costs.items) }
-    ensures len { IfOk result (λ costs. array_vec_len costs ≤ length found.now) }
-    ensures members { WhereTold (T.tells checked.old) (λ file. IfOk result (λ costs. (cost : ℕ × ℕ)
-        → Contains costs.items cost ↔ ((y : Board) × Contains found.now y
+    ensures ordered { OnOk result (IsByCost costs.new.items) }
+    ensures bounded { OnOk result (All IsCost costs.new.items) }
+    ensures len { OnOk result (array_vec_len costs.new ≤ length found.now) }
+    ensures members { WhereTold checked.old.told (λ file. OnOk result ((cost : ℕ × ℕ)
+        → Contains costs.new.items cost ↔ ((y : Board) × Contains found.now y
         × (cost ≡ (mean_of file y, rank y))))) }
-    ensures stays { T.tells checked.new ≡ T.tells checked.old }
-    ensures accepted { T.accepted checked.new ≡ T.accepted checked.old }
-    ensures cause { WhereTold (T.tells checked.old)
-        (λ _. QueryCounted (T.failures checked.old) (T.failures checked.new) result) }
+    ensures stays { Stays checked.old checked.new (λ before now. QueryCounted before now result) }
 {
-    let mut costs = ArrayVec::new();
     for to in found {
         let mean = recorded_mean(checked, to)?;
-        include_cost(&mut costs, (mean.numerator(), ranks.rank(to)));
+        let rank = checked.ranks().rank(to);
+        include_cost(costs, (mean.numerator(), rank));
     }
-    Ok(costs)
+    Ok(())
 }
 
 /// Adds a result to those in order, the smaller mean first and of equal means the lower rank,

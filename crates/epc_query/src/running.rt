@@ -4,6 +4,7 @@ ghost use Rattle.std.specs.Prelude.{MatchResult, IfOk, IfErr, OnErr};
 ghost use Rattle.std.specs.Io.KnownBytes.{Keeps, IsAtEnd};
 ghost use Rattle.race_model.specs.InputLines.{whole_lines, lines_of};
 ghost use Rattle.db_reader.specs.Telling.{WhereTold};
+ghost use Rattle.certificate.specs.Databases.{Stays};
 ghost use Rattle.epc_query.specs.Runs.{HasReplies, IsStoppedAt, IsAnswered, IsRunStopped, RunCounted};
 
 use crate::line_buffer::LineBuffer;
@@ -37,18 +38,15 @@ pub fn run<T: Table, R: Read, W: Write>(
     writer: &mut W,
     turns: u64,
 ) -> Result<u64, RunFault>
-    ensures done { WhereTold (T.tells checked.old) (λ file. WhereTold (R.remaining reader.old)
+    ensures done { WhereTold checked.old.told (λ file. WhereTold (R.remaining reader.old)
         (λ input. IfOk result
         (λ n. IsAtEnd (R.remaining reader.new) × (n ≡ length (lines_of input))
         × HasReplies file (lines_of input) (W.contents writer.old) (W.contents writer.new)))) }
-    ensures stopped { WhereTold (T.tells checked.old) (λ file. WhereTold (R.remaining reader.old)
+    ensures stopped { WhereTold checked.old.told (λ file. WhereTold (R.remaining reader.old)
         (λ input. IfErr result
         (IsRunStopped file input (R.remaining reader.new) (W.contents writer.old)
         (W.contents writer.new)))) }
-    ensures stays { T.tells checked.new ≡ T.tells checked.old }
-    ensures accepted { T.accepted checked.new ≡ T.accepted checked.old }
-    ensures cause { WhereTold (T.tells checked.old)
-        (λ _. RunCounted (T.failures checked.old) (T.failures checked.new) result) }
+    ensures stays { Stays checked.old checked.new (λ before now. RunCounted before now result) }
 {
     laws::law_input_lines();
     let mut held = LineBuffer::new();
@@ -85,17 +83,14 @@ fn answer_read<T: Table, W: Write>(
     writer: &mut W,
 ) -> Result<u64, RunFault>
     requires { length bytes.now < 2 ^ 32 }
-    ensures answered { WhereTold (T.tells checked.old)
+    ensures answered { WhereTold checked.old.told
         (λ file. (done : List ℕ) (start : Option (List ℕ))
         → IsAnswered file done start (W.contents writer.old) held.old → MatchResult result
         (λ n. IsAnswered file (done ++ bytes.now) start (W.contents writer.new) held.new
         × (length (whole_lines (done ++ bytes.now)) ≡ length (whole_lines done) + n))
         (IsStoppedAt file (whole_lines (done ++ bytes.now)) start (W.contents writer.new))) }
     ensures few { IfOk result (λ n. n ≤ length bytes.now) }
-    ensures stays { T.tells checked.new ≡ T.tells checked.old }
-    ensures accepted { T.accepted checked.new ≡ T.accepted checked.old }
-    ensures cause { WhereTold (T.tells checked.old)
-        (λ _. RunCounted (T.failures checked.old) (T.failures checked.new) result) }
+    ensures stays { Stays checked.old checked.new (λ before now. RunCounted before now result) }
 {
     let count = answer_chunk(alloc, checked, held, bytes, text, writer)?;
     flush(writer)?;
@@ -110,17 +105,14 @@ fn answer_end<T: Table, W: Write>(
     text: &mut Text,
     writer: &mut W,
 ) -> Result<u64, RunFault>
-    ensures answered { WhereTold (T.tells checked.old)
+    ensures answered { WhereTold checked.old.told
         (λ file. (done : List ℕ) (start : Option (List ℕ))
         → IsAnswered file done start (W.contents writer.old) held.now → MatchResult result
         (λ n. HasReplies file (lines_of done) start (W.contents writer.new)
         × (length (lines_of done) ≡ length (whole_lines done) + n))
         (IsStoppedAt file (lines_of done) start (W.contents writer.new))) }
     ensures few { IfOk result (λ n. n ≤ 1) }
-    ensures stays { T.tells checked.new ≡ T.tells checked.old }
-    ensures accepted { T.accepted checked.new ≡ T.accepted checked.old }
-    ensures cause { WhereTold (T.tells checked.old)
-        (λ _. RunCounted (T.failures checked.old) (T.failures checked.new) result) }
+    ensures stays { Stays checked.old checked.new (λ before now. RunCounted before now result) }
 {
     let count = answer_last(alloc, checked, held, text, writer)?;
     flush(writer)?;

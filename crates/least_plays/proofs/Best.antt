@@ -1,9 +1,13 @@
 -- The best of what dice lead to, from the best of what they lead to after a step.
-use Rattle.std.proofs.Common.{◌≡◌, inr, ⊎_elim, ◌↔◌, ℕ, zero, suc, ◌+◌, ◌<◌, ◌≤◌, List, ◌∷◌, length}
-use Rattle.std.proofs.Common.{replicate, refl, ap, subst, ◌∙◌, arith}
+use Rattle.std.proofs.Common.{◌≡◌, inr, ⊎_elim, ◌↔◌, ℕ, zero, suc, ◌+◌, ◌-◌, ◌<◌, ◌≤◌, List, [], ◌∷◌, length}
+use Rattle.std.proofs.Common.{replicate, refl, ap, sym, subst, ◌∙◌, arith, below_more}
+use Rattle.std.proofs.Common.{◌≢◌, set, get_or-set_other, get_or-set_same}
+use Rattle.std.proofs.lemmas.Bool.{eq-eqb, ne_eqb}
 use Rattle.std.specs.Prelude.{slice_index}
+use Rattle.race_model.proofs.Dice.Faces.{same_die, same_number, number_positive}
+use Rattle.race_model.proofs.Plays.Spent.{number_most}
 use Rattle.race_model.specs.Positions.{Board, IsFinished, pips}
-use Rattle.race_model.specs.Dice.{Die}
+use Rattle.race_model.specs.Dice.{Die, one, two, three, four, five, six, number}
 use Rattle.race_model.specs.Plays.{Step, Run}
 use Rattle.race_model.specs.Ranks.{rank}
 use Rattle.race_model.specs.BestPlays.{IsBestOf}
@@ -11,9 +15,9 @@ use Rattle.race_model.proofs.Plays.Steps.{to_position, fewer_pips}
 use Rattle.race_model.proofs.Plays.Spent.{step_takes}
 use Rattle.race_model.proofs.Ranks.RankOrder.{rank-fewer, rank_bound}
 use Rattle.race_model.proofs.Ranks.BestPlays.{run_lower}
-use Rattle.least_plays.specs.Choices.{IsNoWorse, IsLeastOf}
+use Rattle.least_plays.specs.Choices.{IsNoWorse, IsLeastOf, IsBetterOf}
 use Rattle.least_plays.specs.Steps.{AreSteps}
-use Rattle.least_plays.specs.Known.{number_in, IsBestAfter, IsNext}
+use Rattle.least_plays.specs.Known.{number_in, kept_in, dice_left, IsBestAfter, IsNext, IsStart}
 use Rattle.least_plays.specs.declared.room.LeastPlays.{LeastPlays}
 
 -- what is no worse than a rank is no worse than any rank that this is no worse than
@@ -28,6 +32,61 @@ no_worse_on mean r s t first second = record {
       let high = second.lowest here in
       omega arith;
 }
+
+-- the first is the best of one
+pub least_of_one : (mean offered : ℕ → ℕ) (r : ℕ) → r ≡ offered 0 → IsLeastOf mean offered 1 r
+least_of_one mean offered r is = record {
+  one = (0, omega arith, sym is);
+  best = λ i lt.
+      let none : i ≡ 0 = omega (arith, lt) in
+      rw (none, sym is) (record { least = omega arith; lowest = λ e. omega arith });
+}
+
+-- .. and the better of the best so far and of the next is the best of one more
+pub least_of_more : (mean offered : ℕ → ℕ) (n s r : ℕ) → IsLeastOf mean offered n s →
+    IsBetterOf mean s (offered n) r → IsLeastOf mean offered (n + 1) r
+least_of_more mean offered n s r before better = record {
+  one = ⊎_elim
+      (λ was. (before.one.0, omega (arith, before.one.1), before.one.2 ∙ sym was))
+      (λ now. (n, omega arith, sym now))
+      better.either;
+  best =
+      below_more (λ i. IsNoWorse mean r (offered i)) n
+      (λ i lt. no_worse_on mean r s (offered i) better.one (before.best i lt)) better.other;
+}
+
+-- what holds of the nine places
+nine : (P : ℕ → Type 0) → P 0 → P 1 → P 2 → P 3 → P 4 → P 5 → P 6 → P 7 → P 8 →
+    (j : ℕ) → j < 9 → P j
+nine P a b c d e f g h i =
+    below_more P 8 (below_more P 7 (below_more P 6 (below_more P 5 (below_more P 4
+    (below_more P 3 (below_more P 2 (below_more P 1 (below_more P 0
+    (λ j lt. absurd (omega (arith, lt))) a) b) c) d) e) f) g) h) i
+
+-- of equal dice three are left
+pub dice_left-same : (a b : Die) → number a ≡ number b → dice_left a b ≡ 3
+dice_left-same a b e = rw (eq-eqb (number a) (number b) e)
+
+-- of two different ones one is
+pub dice_left-apart : (a b : Die) → number a ≢ number b → dice_left a b ≡ 1
+dice_left-apart a b apart = rw (ne_eqb (number a) (number b) apart)
+
+-- the first six
+unfoldable pub six_of : List ℕ → List ℕ
+six_of xs =
+    slice_index xs 0 ∷ slice_index xs 1 ∷ slice_index xs 2 ∷ slice_index xs 3 ∷ slice_index xs 4
+    ∷ slice_index xs 5 ∷ []
+
+-- .. by the number of a die
+six_of-is : (xs : List ℕ) (e : Die) →
+    slice_index (six_of xs) (number e - 1) ≡ slice_index xs (number e - 1)
+unfolding six_of
+six_of-is xs one = refl
+six_of-is xs two = refl
+six_of-is xs three = refl
+six_of-is xs four = refl
+six_of-is xs five = refl
+six_of-is xs six = refl
 
 -- the best is no worse than anything that is reached
 pub no_worse_of_best : (mean : ℕ → ℕ) (Reached : Board → Type 0) (r : ℕ) (z : Board) →
@@ -113,3 +172,85 @@ module _ (mean : ℕ → ℕ) (count : ℕ) (plays : LeastPlays) (x : Board)
       (inr (next.unfinished, (z.0, (z.1, y.1)))) in
       let is = ap (λ q. number_in plays.rows q e n) z.2 in
       omega (arith, lower, y.2, next.held)
+
+  -- each of the numbers that are kept for what may follow a die is a rank whose mean is there
+  pub kept_held_each : (d : Die) (ranks : List ℕ) (i j : ℕ) → AreSteps x d ranks →
+      i < length ranks → j < 9 →
+      slice_index (kept_in plays.rows (slice_index ranks i) d) j < count
+  unfolding kept_in
+  kept_held_each d ranks i j steps inside =
+      let held : (e : Die) (n : ℕ) → n ≤ 3 →
+      number_in plays.rows (slice_index ranks i) e n < count =
+      λ e n few. kept_held d e n ranks i few steps inside in
+      let once : (e : Die) → number_in plays.rows (slice_index ranks i) e 1 < count =
+      λ e. held e 1 (omega arith) in
+      nine (λ j. slice_index (kept_in plays.rows (slice_index ranks i) d) j < count)
+      (once one) (once two) (once three) (once four) (once five) (once six)
+      (held d 0 (omega arith)) (held d 2 (omega arith)) (held d 3 (omega arith)) j
+
+  -- the best of each of them over the steps are the best ranks with the die first
+  pub start_of_least : (d : Die) (ranks best : List ℕ) (own : ℕ) → own ≡ number d - 1 →
+      AreSteps x d ranks →
+      ((j : ℕ) → j < 9 → IsLeastOf mean
+      (λ i. slice_index (kept_in plays.rows (slice_index ranks i) d) j) (length ranks)
+      (slice_index best j)) →
+      IsStart mean x d (record {
+        after = slice_index best 6 ∷ slice_index best own ∷ slice_index best 7 ∷ [];
+        plays = set (six_of best) own (slice_index best 8);
+      })
+  unfolding kept_in six_of
+  start_of_least d ranks best own is steps least = record { after = after; plays = plays_of } where
+    of_steps : (e : Die) (n r : ℕ) → n ≤ 3 →
+        IsLeastOf mean (λ i. number_in plays.rows (slice_index ranks i) e n) (length ranks) r →
+        IsBestAfter mean x (d ∷ replicate n e) r
+    of_steps e n r few =
+        best_of_steps mean x d (replicate n e) ranks (λ q. number_in plays.rows q e n) r
+        next.unfinished steps (λ z step. kept_best d e n z few step)
+
+    once : (e : Die) → IsBestAfter mean x (d ∷ replicate 1 e) (slice_index best (number e - 1))
+    once one = of_steps one 1 (slice_index best 0) (omega arith) (least 0 (omega arith))
+    once two = of_steps two 1 (slice_index best 1) (omega arith) (least 1 (omega arith))
+    once three = of_steps three 1 (slice_index best 2) (omega arith) (least 2 (omega arith))
+    once four = of_steps four 1 (slice_index best 3) (omega arith) (least 3 (omega arith))
+    once five = of_steps five 1 (slice_index best 4) (omega arith) (least 4 (omega arith))
+    once six = of_steps six 1 (slice_index best 5) (omega arith) (least 5 (omega arith))
+
+    after : (n : ℕ) → n < 3 → IsBestAfter mean x (d ∷ replicate n d)
+        (slice_index (slice_index best 6 ∷ slice_index best own ∷ slice_index best 7 ∷ []) n)
+    after =
+        let IsAfter : ℕ → Type 0 =
+        λ n. IsBestAfter mean x (d ∷ replicate n d)
+        (slice_index (slice_index best 6 ∷ slice_index best own ∷ slice_index best 7 ∷ []) n) in
+        below_more IsAfter 2 (below_more IsAfter 1 (below_more IsAfter 0
+        (λ j lt. absurd (omega (arith, lt)))
+        (of_steps d 0 (slice_index best 6) (omega arith) (least 6 (omega arith))))
+        (subst (λ i. IsBestAfter mean x (d ∷ replicate 1 d) (slice_index best i)) (sym is)
+        (once d)))
+        (of_steps d 2 (slice_index best 7) (omega arith) (least 7 (omega arith)))
+
+    plays_of : (e : Die) → IsBestAfter mean x (d ∷ replicate (dice_left d e) e)
+        (slice_index (set (six_of best) own (slice_index best 8)) (number e - 1))
+    plays_of e = ⊎_elim
+        (λ same.
+        let at : number e - 1 ≡ own = omega (arith, is, ap number same) in
+        let inside : own < length (six_of best) = omega (arith, is, number_positive d, number_most d) in
+        subst (λ n. IsBestAfter mean x (d ∷ replicate n e)
+        (slice_index (set (six_of best) own (slice_index best 8)) (number e - 1)))
+        (sym (dice_left-same d e (ap number same)))
+        (subst (λ r. IsBestAfter mean x (d ∷ replicate 3 e) r)
+        (sym (ap (slice_index (set (six_of best) own (slice_index best 8))) at
+        ∙ get_or-set_same (six_of best) own (slice_index best 8) 0 inside))
+        (subst (λ e. IsBestAfter mean x (d ∷ replicate 3 e) (slice_index best 8)) same
+        (of_steps d 3 (slice_index best 8) (omega arith) (least 8 (omega arith))))))
+        (λ apart.
+        let differ : number d ≢ number e = λ e. apart (same_number _ _ e) in
+        let away : number e - 1 ≢ own =
+        λ i. differ (omega (arith, i, is, number_positive d, number_positive e)) in
+        subst (λ n. IsBestAfter mean x (d ∷ replicate n e)
+        (slice_index (set (six_of best) own (slice_index best 8)) (number e - 1)))
+        (sym (dice_left-apart d e differ))
+        (subst (λ r. IsBestAfter mean x (d ∷ replicate 1 e) r)
+        (sym (get_or-set_other (six_of best) own (number e - 1) (slice_index best 8) 0 away
+        ∙ six_of-is best e))
+        (once e)))
+        (same_die d e)

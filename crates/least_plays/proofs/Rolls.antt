@@ -2,7 +2,6 @@
 use Rattle.std.proofs.Common.{◌≡◌, ◌≢◌, ◌⊎◌, inl, inr, ⊎_elim, ◌↔◌, ℕ, ◌-◌, ◌<◌, [], ◌∷◌, replicate}
 use Rattle.std.proofs.Common.{sym, ap, subst, ◌∙◌, arith}
 use Rattle.std.specs.Prelude.{slice_index, slice_index_or}
-use Rattle.std.proofs.lemmas.Bool.{eq-eqb, ne_eqb}
 use Rattle.race_model.specs.Positions.{Board}
 use Rattle.race_model.specs.Dice.{Die, Throw, number}
 use Rattle.race_model.specs.Plays.{Run, Legal}
@@ -16,14 +15,7 @@ use Rattle.least_plays.specs.Known.{dice_left, IsBestAfter, AreStarts}
 use Rattle.least_plays.specs.declared.starts.Start.{Start}
 use Rattle.least_plays.specs.declared.starts.Starts.{Starts}
 use Rattle.least_plays.proofs.Best.{no_worse_on, no_worse_of_best, best_of_no_worse, best_same}
-
--- of equal dice three are left
-dice_left-same : (a b : Die) → number a ≡ number b → dice_left a b ≡ 3
-dice_left-same a b e = rw (eq-eqb (number a) (number b) e)
-
--- of two different ones one is
-dice_left-apart : (a b : Die) → number a ≢ number b → dice_left a b ≡ 1
-dice_left-apart a b apart = rw (ne_eqb (number a) (number b) apart)
+use Rattle.least_plays.proofs.Best.{dice_left-same, dice_left-apart}
 
 -- the starts of a position
 module _ (mean : ℕ → ℕ) (count : ℕ) (starts : Starts) (are : AreStarts mean count starts)

@@ -2,7 +2,7 @@
 use Rattle.std.specs.Prelude.{ℕ, zero, suc, ◌+◌, ◌-◌, ◌%◌, ◌<◌, ◌≤◌, ◌==◌, if◌then◌else◌, List, []}
 use Rattle.std.specs.Prelude.{◌∷◌, replicate, slice_index, slice_index_or}
 use Rattle.race_model.specs.Positions.{Board, IsPosition, IsFinished, pips}
-use Rattle.race_model.specs.Dice.{Die, number}
+use Rattle.race_model.specs.Dice.{Die, one, two, three, four, five, six, number}
 use Rattle.race_model.specs.Plays.{Run}
 use Rattle.race_model.specs.Ranks.{rank, count_to}
 use Rattle.race_model.specs.BestPlays.{IsBestOf}
@@ -43,6 +43,19 @@ pub record IsNext (mean : ℕ → ℕ) (count : ℕ) (plays : LeastPlays) (x : B
 -- how often the other die of a roll is played after the first
 abbrev pub dice_left : Die → Die → ℕ
 dice_left a b = if number a == number b then 3 else 1
+
+-- what is kept of a rank, for what may follow a die: each die once, by its number, and the same die
+-- no time, twice and three times
+unfoldable pub kept_in : List Row → ℕ → Die → List ℕ
+kept_in rows r d =
+    once one ∷ once two ∷ once three ∷ once four ∷ once five ∷ once six ∷ again 0 ∷ again 2
+    ∷ again 3 ∷ []
+  where
+    once : Die → ℕ
+    once e = number_in rows r e 1
+
+    again : ℕ → ℕ
+    again n = number_in rows r d n
 
 -- the best ranks from x with a die first
 pub record IsStart (mean : ℕ → ℕ) (x : Board) (d : Die) (start : Start) : Type 0 where

@@ -1,44 +1,41 @@
-ghost use Rattle.std.specs.Prelude.{◌≡◌, ◌<◌, ◌⊎◌};
-ghost use Rattle.least_plays.specs.Choices.{IsNoWorse};
+ghost use Rattle.std.specs.Prelude.{◌≡◌, ℕ, ◌<◌, length, slice_index};
+ghost use Rattle.least_plays.specs.Choices.{IsBetterOf};
 
 use crate::Means;
 
-/// The best rank so far, with its mean.
-#[derive(Clone, Copy)]
-pub struct Choice {
-    pub rank: u16,
-    pub mean: u128,
+/// Of two ranks the one of smaller mean and, of equal means, the lower one.
+pub fn better<M: Means>(one: u16, other: u16, means: &M) -> u16
+    requires one { one < M.count means.now }
+    requires other { other < M.count means.now }
+    ensures { IsBetterOf (M.mean means.now) one other result }
+{
+    if one == other {
+        return one;
+    }
+    let here = means.mean(one);
+    let there = means.mean(other);
+    if here < there {
+        return one;
+    }
+    if there < here || other < one {
+        other
+    } else {
+        one
+    }
 }
 
-impl Choice {
-    /// This rank, and no other yet.
-    pub fn of<M: Means>(rank: u16, means: &M) -> Self
-        requires { rank < M.count means.now }
-        ensures rank { result.rank ≡ rank }
-        ensures mean { result.mean ≡ M.mean means.now rank }
-    {
-        Choice {
-            rank,
-            mean: means.mean(rank),
-        }
+/// The better of each two of nine ranks and nine others.
+pub fn better_of_each<M: Means>(ones: &[u16; 9], others: &[u16; 9], means: &M) -> [u16; 9]
+    requires ones { (j : ℕ) → j < 9 → slice_index ones.now j < M.count means.now }
+    requires others { (j : ℕ) → j < 9 → slice_index others.now j < M.count means.now }
+    ensures better { (j : ℕ) → j < 9 →
+        IsBetterOf (M.mean means.now) (slice_index ones.now j) (slice_index others.now j)
+        (slice_index result j) }
+    ensures len { length result ≡ 9 }
+{
+    let mut best = [0; 9];
+    for place in 0..9 {
+        best[place] = better(ones[place], others[place], means);
     }
-
-    /// Takes another rank where its mean is smaller, or the same and the rank lower.
-    pub fn offer<M: Means>(&mut self, rank: u16, means: &M)
-        requires held { rank < M.count means.now }
-        requires mean { self.old.mean ≡ M.mean means.now self.old.rank }
-        ensures mean { self.new.mean ≡ M.mean means.now self.new.rank }
-        ensures one { (self.new.rank ≡ self.old.rank) ⊎ (self.new.rank ≡ rank) }
-        ensures before { IsNoWorse (M.mean means.now) self.new.rank self.old.rank }
-        ensures now { IsNoWorse (M.mean means.now) self.new.rank rank }
-    {
-        if rank == self.rank {
-            return;
-        }
-        let mean = means.mean(rank);
-        if mean < self.mean || (mean == self.mean && rank < self.rank) {
-            self.rank = rank;
-            self.mean = mean;
-        }
-    }
+    best
 }

@@ -1,16 +1,16 @@
-ghost use Rattle.std.specs.Prelude.{◌≡◌, ℕ, suc, ◌+◌, ◌-◌, ◌<◌, ◌≤◌, ◌∷◌, [], length, replicate};
+ghost use Rattle.std.specs.Prelude.{◌≡◌, ℕ, ◌+◌, ◌<◌, ◌≤◌, [], length};
 ghost use Rattle.std.specs.Prelude.{slice_index, slice_index_or};
 ghost use Rattle.race_model.specs.Positions.{IsPosition, IsFinished, pips};
-ghost use Rattle.race_model.specs.Dice.{Die as Face, number, roll_at};
+ghost use Rattle.race_model.specs.Dice.{roll_at};
 ghost use Rattle.race_model.specs.Ranks.{rank as rank_of};
 ghost use Rattle.race_model.specs.BestPlays.{IsBestPlay};
 ghost use Rattle.least_plays.specs.Choices.{IsLeastOf};
-ghost use Rattle.least_plays.specs.Known.{number_in, dice_left, IsBestAfter, Knows, IsNext, AreStarts};
+ghost use Rattle.least_plays.specs.Known.{kept_in, Knows, IsNext, IsStart, AreStarts};
 ghost use Rattle.least_plays.specs.Steps.{AreSteps};
 ghost use Rattle.least_plays.specs.declared.starts.Start.{Start as StartValue};
 
 use crate::Means;
-use crate::choice::Choice;
+use crate::choice::better_of_each;
 use crate::starts::{Start, Starts};
 use crate::steps::Steps;
 use home_board::Position;
@@ -84,10 +84,7 @@ impl LeastPlays {
         for index in 0..6 {
             let die = Die::new(index + 1).unwrap();
             let steps = Steps::of(ranks, position, die);
-            dice[usize::from(index)] = Start {
-                after: self.after(&steps, means),
-                plays: self.plays(&steps, means),
-            };
+            dice[usize::from(index)] = self.start(&steps, means);
         }
         Starts {
             position: *position,
@@ -95,87 +92,58 @@ impl LeastPlays {
         }
     }
 
-    /// The best ranks after the die is played once, twice and three times.
-    fn after<M: Means>(&self, steps: &Steps, means: &M) -> [u16; 3]
+    /// The best ranks with the die of these steps first.
+    fn start<M: Means>(&self, steps: &Steps, means: &M) -> Start
         requires next { IsNext (M.mean means.now) (M.count means.now) self.now steps.now.position }
         requires steps { AreSteps steps.now.position steps.now.die steps.now.ranks.items }
-        ensures best { (n : ℕ) → n < 3 →
-            IsBestAfter (M.mean means.now) steps.now.position
-            (steps.now.die ∷ replicate n steps.now.die) (slice_index result n) }
-        ensures len { length result ≡ 3 }
+        ensures { IsStart (M.mean means.now) steps.now.position steps.now.die result }
     {
-        let mut after = [0; 3];
-        for times in 0..3 {
-            after[usize::from(times)] = self.best_after(steps, steps.die, times, means);
+        let best = self.best_of(steps.ranks.as_slice(), steps.die, means);
+        let own = usize::from(steps.die.number()) - 1;
+        let mut plays = [best[0], best[1], best[2], best[3], best[4], best[5]];
+        plays[own] = best[8];
+        Start {
+            after: [best[6], best[own], best[7]],
+            plays,
         }
-        after
     }
 
-    /// The best ranks after a roll whose one die is played first, by the number of the other.
-    fn plays<M: Means>(&self, steps: &Steps, means: &M) -> [u16; 6]
-        requires next { IsNext (M.mean means.now) (M.count means.now) self.now steps.now.position }
-        requires steps { AreSteps steps.now.position steps.now.die steps.now.ranks.items }
-        ensures best { (e : Face) →
-            IsBestAfter (M.mean means.now) steps.now.position
-            (steps.now.die ∷ replicate (dice_left steps.now.die e) e)
-            (slice_index result (number e - 1)) }
-        ensures len { length result ≡ 6 }
-    {
-        let mut plays = [0; 6];
-        for index in 0..6 {
-            let other = Die::new(index + 1).unwrap();
-            let left = dice_left(steps.die, other);
-            plays[usize::from(index)] = self.best_after(steps, other, left, means);
-        }
-        plays
-    }
-
-    /// The best rank after a step, and then a die so many times.
-    fn best_after<M: Means>(&self, steps: &Steps, die: Die, times: u8, means: &M) -> u16
-        requires few { times ≤ 3 }
-        requires next { IsNext (M.mean means.now) (M.count means.now) self.now steps.now.position }
-        requires steps { AreSteps steps.now.position steps.now.die steps.now.ranks.items }
-        ensures { IsBestAfter (M.mean means.now) steps.now.position
-            (steps.now.die ∷ replicate times die) result }
-    {
-        self.best_of(steps.ranks.as_slice(), die, times, means)
-    }
-
-    /// The best of what is kept of some ranks for a die so many times.
-    fn best_of<M: Means>(&self, ranks: &[u16], die: Die, times: u8, means: &M) -> u16
-        requires few { times ≤ 3 }
+    /// The best of what is kept of some ranks for what may follow a die.
+    fn best_of<M: Means>(&self, ranks: &[u16], die: Die, means: &M) -> [u16; 9]
         requires some { 0 < length ranks.now }
-        requires held { (i : ℕ) → i < length ranks.now →
-            number_in self.now.rows (slice_index ranks.now i) die times < M.count means.now }
-        ensures { IsLeastOf (M.mean means.now)
-            (λ i. number_in self.now.rows (slice_index ranks.now i) die times) (length ranks.now)
-            result }
+        requires held { (i j : ℕ) → i < length ranks.now → j < 9 →
+            slice_index (kept_in self.now.rows (slice_index ranks.now i) die) j
+            < M.count means.now }
+        ensures best { (j : ℕ) → j < 9 → IsLeastOf (M.mean means.now)
+            (λ i. slice_index (kept_in self.now.rows (slice_index ranks.now i) die) j)
+            (length ranks.now) (slice_index result j) }
+        ensures len { length result ≡ 9 }
     {
-        let mut best = Choice::of(self.number(ranks[0], die, times), means);
-        for rank in ranks {
-            best.offer(self.number(*rank, die, times), means);
+        let mut best = self.kept(ranks[0], die);
+        for place in 1..ranks.len() {
+            best = better_of_each(&best, &self.kept(ranks[place], die), means);
         }
-        best.rank
+        best
     }
 
-    /// What is kept of a rank for a die so many times; the rank itself for no time.
-    fn number(&self, rank: u16, die: Die, times: u8) -> u16
-        requires { times ≤ 3 }
-        ensures { result ≡ number_in self.now.rows rank die times }
+    /// What is kept of a rank for what may follow a die.
+    fn kept(&self, rank: u16, die: Die) -> [u16; 9]
+        ensures { result ≡ kept_in self.now.rows rank die }
     {
-        if times == 0 {
-            return rank;
-        }
-        let row = &self.rows[usize::from(rank) % ROWS];
-        row.after[usize::from(die.number()) - 1][usize::from(times) - 1]
+        let after = &self.rows[usize::from(rank) % ROWS].after;
+        let own = &after[usize::from(die.number()) - 1];
+        [
+            after[0][0],
+            after[1][0],
+            after[2][0],
+            after[3][0],
+            after[4][0],
+            after[5][0],
+            rank,
+            own[1],
+            own[2],
+        ]
     }
-}
-
-/// How often the other die of a roll is played after the first: three times in a double.
-fn dice_left(first: Die, other: Die) -> u8
-    ensures { result ≡ dice_left first other }
-{
-    if first == other { 3 } else { 1 }
 }
 
 /// What is kept of a position.

@@ -5,7 +5,7 @@ ghost use Rattle.legal_plays.specs.Faces.{roll_of};
 ghost use Rattle.least_plays.specs.Known.{AreStarts};
 
 use crate::Means;
-use crate::choice::Choice;
+use crate::choice::better;
 use home_board::Position;
 use legal_plays::{Die, Roll};
 
@@ -44,9 +44,7 @@ impl Starts {
         if high == low {
             return first;
         }
-        let mut best = Choice::of(first, means);
-        best.offer(self.dice[low].plays[high], means);
-        best.rank
+        better(first, self.dice[low].plays[high], means)
     }
 
     /// The best plays of the 21 rolls.

@@ -1,6 +1,7 @@
 -- What was written of the built file, part by part.
-use Rattle.std.proofs.Common.{◌≡◌, ℕ, ◌+◌, ◌-◌, ◌≤◌, List, [], Option, subst, arith}
+use Rattle.std.proofs.Common.{◌≡◌, ℕ, ◌+◌, ◌-◌, ◌≤◌, List, [], Option, Result, Ok, Err, sym, subst, arith}
 use Rattle.std.specs.Io.KnownBytes.{Appends}
+use Rattle.std.specs.Result.{IsErrAnd}
 use Rattle.race_model.specs.Ranks.{count_to}
 use Rattle.race_model.specs.Versions.{Version, greatest_bound}
 use Rattle.race_model.specs.Files.{header}
@@ -9,8 +10,17 @@ use Rattle.db_layout.specs.WholeFiles.{records_from}
 use Rattle.db_layout.specs.Writes.{AppendsPart}
 use Rattle.db_layout.proofs.Prefixes.{nothing-part, header-part, ranks-part, more-part, more-written}
 use Rattle.retrograde.specs.AllRecords.{AllRecords, bytes_of_rank}
-use Rattle.retrograde.specs.BuiltBytes.{built_to, built_file, WritesBuilt, WritesPart}
+use Rattle.retrograde.specs.BuiltBytes.{built_to, built_file, WritesBuilt, WritesPart, IsRefusedBy, Builds}
+use Rattle.retrograde.specs.declared.build_fault.BuildFault.{BuildFault}
 use Rattle.retrograde.proofs.BuiltFiles.{is-built}
+
+-- a build that a fault ends has written what that fault says
+pub refused_build : {T : Type 0} (version : Version) (bound : ℕ) (old new : Option (List ℕ))
+    (done : Result T BuildFault) (fault : BuildFault) → IsErrAnd done (λ is. is ≡ fault) →
+    IsRefusedBy version bound old new fault → Builds version bound old new done
+refused_build version bound old new (Ok x) fault is refused = absurd is
+refused_build version bound old new (Err is) fault same refused =
+    subst (IsRefusedBy version bound old new) (sym same) refused
 
 -- the built file of a version and a bound
 module _ (version : Version) (full : AllRecords) (bound : ℕ)

@@ -1,5 +1,5 @@
 -- The built file of a version and a bound, and what a build says. Source: this project's profile.
-use Rattle.std.specs.Prelude.{ℕ, ◌<◌, ◌≤◌, List, Option}
+use Rattle.std.specs.Prelude.{ℕ, ◌<◌, ◌≤◌, List, Option, Result, Ok, Err}
 use Rattle.std.specs.Io.KnownBytes.{Appends, Keeps}
 use Rattle.race_model.specs.BuiltFile.{IsBuilt}
 use Rattle.race_model.specs.Ranks.{count_to}
@@ -33,3 +33,9 @@ abbrev pub IsRefusedBy : Version → ℕ → Option (List ℕ) → Option (List 
 IsRefusedBy version bound old new OverBound = (58 < bound) × (Keeps old new)
 IsRefusedBy version bound old new Memory = (bound ≤ 58) × WritesPart version bound old new
 IsRefusedBy version bound old new Write = (bound ≤ 58) × WritesPart version bound old new
+
+-- what a build of the version and the bound has written at its end, where it answers so
+abbrev pub Builds : {T : Type 0} → Version → ℕ → Option (List ℕ) → Option (List ℕ)
+    → Result T BuildFault → Type 0
+Builds version bound old new (Ok done) = WritesBuilt version bound old new
+Builds version bound old new (Err fault) = IsRefusedBy version bound old new fault

@@ -10,7 +10,7 @@ ghost use Rattle.db_layout.specs.Writes.{AppendsPart};
 ghost use Rattle.least_plays.specs.Known.{Knows};
 ghost use Rattle.retrograde.specs.AllRecords.{AllRecords, mean_of_rank, bytes_of_rank};
 ghost use Rattle.retrograde.specs.KeptRecords.{AreKept};
-ghost use Rattle.retrograde.specs.BuiltBytes.{WritesBuilt, IsRefusedBy};
+ghost use Rattle.retrograde.specs.BuiltBytes.{Builds};
 ghost use Rattle.retrograde.specs.UsualVersion.{usual_version};
 ghost use Rattle.retrograde.specs.declared.build_fault.BuildFault.TheVariants.{Memory};
 
@@ -40,11 +40,8 @@ const MOST_PIPS_OF_A_ROLL: u8 = 24;
 /// of the GNU Backgammon manual; the exact numbers, the file and the tie rule are this project's
 /// profile.)
 pub fn build<W: Write>(alloc: Global, bound: u8, writer: &mut W) -> Result<(), BuildFault>
-    ensures built { OnOk result
-        (WritesBuilt (usual_version bound) bound (W.contents writer.old) (W.contents writer.new)) }
-    ensures refused { IfErr result
-        (IsRefusedBy (usual_version bound) bound (W.contents writer.old)
-        (W.contents writer.new)) }
+    ensures built { Builds (usual_version bound) bound (W.contents writer.old)
+        (W.contents writer.new) result }
 {
     let Some(header) = Header::new(usual_version(bound), bound) else {
         return Err(BuildFault::OverBound);
@@ -56,10 +53,7 @@ pub fn build<W: Write>(alloc: Global, bound: u8, writer: &mut W) -> Result<(), B
 /// out the shares that are known without being stored. It tells the same means, plays and shares
 /// as the file that `build` writes, and the faults are those of `build`.
 pub fn build_compact<W: Write>(alloc: Global, bound: u8, writer: &mut W) -> Result<(), BuildFault>
-    ensures built { OnOk result
-        (WritesBuilt compact bound (W.contents writer.old) (W.contents writer.new)) }
-    ensures refused { IfErr result
-        (IsRefusedBy compact bound (W.contents writer.old) (W.contents writer.new)) }
+    ensures built { Builds compact bound (W.contents writer.old) (W.contents writer.new) result }
 {
     let Some(header) = Header::new(COMPACT_VERSION, bound) else {
         return Err(BuildFault::OverBound);
@@ -84,12 +78,8 @@ fn usual_version(bound: u8) -> u16
 // so that its room is on the stack while it builds, and not while its caller goes on
 #[inline(never)]
 fn build_version<W: Write>(alloc: Global, header: Header, writer: &mut W) -> Result<(), BuildFault>
-    ensures built { OnOk result
-        (WritesBuilt (version_by header.version) header.bound (W.contents writer.old)
-        (W.contents writer.new)) }
-    ensures refused { IfErr result
-        (IsRefusedBy (version_by header.version) header.bound (W.contents writer.old)
-        (W.contents writer.new)) }
+    ensures built { Builds (version_by header.version) header.bound (W.contents writer.old)
+        (W.contents writer.new) result }
 {
     let mut records = Records::new(alloc);
     build_with(&mut records, header, writer)
@@ -100,11 +90,8 @@ fn build_version<W: Write>(alloc: Global, header: Header, writer: &mut W) -> Res
 // so that its room is on the stack while it builds, and not while its caller goes on
 #[inline(never)]
 pub fn build_in_place<W: Write>(bound: u8, writer: &mut W) -> Result<(), BuildFault>
-    ensures built { OnOk result
-        (WritesBuilt (usual_version bound) bound (W.contents writer.old) (W.contents writer.new)) }
-    ensures refused { IfErr result
-        (IsRefusedBy (usual_version bound) bound (W.contents writer.old)
-        (W.contents writer.new)) }
+    ensures built { Builds (usual_version bound) bound (W.contents writer.old)
+        (W.contents writer.new) result }
 {
     match Header::new(usual_version(bound), bound) {
         Some(header) => build_lent(header, writer),
@@ -114,12 +101,8 @@ pub fn build_in_place<W: Write>(bound: u8, writer: &mut W) -> Result<(), BuildFa
 
 /// Writes the database of the version and the bound of a header, with rooms on the stack.
 fn build_lent<W: Write>(header: Header, writer: &mut W) -> Result<(), BuildFault>
-    ensures built { OnOk result
-        (WritesBuilt (version_by header.version) header.bound (W.contents writer.old)
-        (W.contents writer.new)) }
-    ensures refused { IfErr result
-        (IsRefusedBy (version_by header.version) header.bound (W.contents writer.old)
-        (W.contents writer.new)) }
+    ensures built { Builds (version_by header.version) header.bound (W.contents writer.old)
+        (W.contents writer.new) result }
 {
     let mut means = [Scaled::ZERO; POSITIONS];
     let mut spreads = [Spread::finished(); POSITIONS];
@@ -138,12 +121,8 @@ pub fn build_in_rooms<W: Write>(
     plays: &mut [[u16; 21]],
     writer: &mut W,
 ) -> Result<(), BuildFault>
-    ensures built { OnOk result
-        (WritesBuilt (version_by header.version) header.bound (W.contents writer.old)
-        (W.contents writer.new)) }
-    ensures refused { IfErr result
-        (IsRefusedBy (version_by header.version) header.bound (W.contents writer.old)
-        (W.contents writer.new)) }
+    ensures built { Builds (version_by header.version) header.bound (W.contents writer.old)
+        (W.contents writer.new) result }
 {
     let mut records = LentRecords {
         means,
@@ -165,12 +144,8 @@ fn build_with<K: Keeper, W: Write>(
     requires means { K.means records.old ≡ [] }
     requires spreads { K.spreads records.old ≡ [] }
     requires plays { K.plays records.old ≡ [] }
-    ensures built { OnOk result
-        (WritesBuilt (version_by header.version) header.bound (W.contents writer.old)
-        (W.contents writer.new)) }
-    ensures refused { IfErr result
-        (IsRefusedBy (version_by header.version) header.bound (W.contents writer.old)
-        (W.contents writer.new)) }
+    ensures built { Builds (version_by header.version) header.bound (W.contents writer.old)
+        (W.contents writer.new) result }
 {
     let ranks = Ranks::new();
     let mut least = LeastPlays::new();

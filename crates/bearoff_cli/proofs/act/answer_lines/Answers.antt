@@ -1,4 +1,5 @@
 use Rattle.std.proofs.Common.{◌≡◌, Result, Ok, Err, IfOk, ◌∙◌}
+use Rattle.certificate.specs.Databases.{Database}
 use Rattle.bearoff_cli.proofs.act.answer_lines.Goals as goal
 
 -- what is said of what is accepted, where two things are equal
@@ -10,4 +11,4 @@ equal-ok f a b (Err e) p q = tt
 pub returns-clause-answers : goal.returns-clause-answers
 returns-clause-answers g c file told given read =
     c.reply.ensures.answers file (c.check.ensures.right file told)
-    (equal-ok g.T.Table.tells _ _ c.check.result c.check.ensures.told told) given read
+    (equal-ok (λ (d : Database). d.told) _ _ c.check.result c.check.ensures.told told) given read

@@ -16,8 +16,8 @@ use Rattle.db_layout.proofs.writing.record_bytes.Goals as goal
 pub loop-play-init : goal.loop-play-init
 loop-play-init c =
     let wide =
-    wide_is c.args.mean c.to_be_bytes.result
-    (rw (← c.numerator.ensures.value) c.to_be_bytes.ensures) in
+    wide_is c.args.mean c.be_bytes.result
+    (rw (← c.numerator.ensures.value) c.be_bytes.ensures) in
     let items : c.add_bytes.new.bytes.items ≡ wide_bytes c.args.mean =
     c.add_bytes.ensures.items ∙ rw c.new-bytes.ensures wide in
     record {
@@ -29,7 +29,7 @@ pub loop-play-preserved : goal.loop-play-preserved
 loop-play-preserved c =
     let play = get_or c.args.plays.now c.loop-play.play-index 0 in
     let short =
-    short_is play c.to_be_bytes-in-loop-play.result c.to_be_bytes-in-loop-play.ensures in
+    short_is play c.to_be_bytes.result c.to_be_bytes.ensures in
     record {
       len =
           omega (
@@ -63,8 +63,8 @@ loop-place-preserved c =
     let fits : first_share version + share_count version c.args.pips ≤ length shares =
     omega (arith, room, c.at.ensures.len) in
     let wide =
-    wide_is (get_or stored c.loop-place.place 0) c.to_be_bytes-in-loop-place.result
-    (c.to_be_bytes-in-loop-place.ensures
+    wide_is (get_or stored c.loop-place.place 0) c.be_bytes-in-loop-place.result
+    (c.be_bytes-in-loop-place.ensures
     ∙ ap (to_be_bytes w128) (c.at.ensures.value
     ∙ ap (λ n. get_or shares (n + c.loop-place.place) 0) c.first_share-first.ensures
     ∙ sym (get_or-stored (first_share version) (share_count version c.args.pips) shares fits
@@ -98,14 +98,14 @@ add_bytes-requires-in-loop-place c =
     let room =
     stored_room (version_by c.args.header.now.version) c.args.pips
     (most_rolls-most c.args.pips (le_trans c.requires.low (bound-most c.args.header.now))) in
-    let fits : array_vec_len c.loop-place.bytes + length c.to_be_bytes-in-loop-place.result ≤ 426 =
+    let fits : array_vec_len c.loop-place.bytes + length c.be_bytes-in-loop-place.result ≤ 426 =
     omega (
       arith,
       room,
       c.loop-place.invariant.len,
       c.loop-place-test.true,
       c.share_count-place-end.ensures,
-      ap length c.to_be_bytes-in-loop-place.ensures,
+      ap length c.be_bytes-in-loop-place.ensures,
     ) in
     (omega arith, fits)
 

@@ -2,6 +2,7 @@ use Rattle.std.proofs.Common.{◌≡◌, ap, ◌∙◌, lit≤, refl, inl, inr, 
 use Rattle.std.proofs.lemmas.Bool.{cases_lt}
 use Rattle.race_model.specs.Files.{mean_at}
 use Rattle.race_model.specs.LocalEquations.{whole}
+use Rattle.certificate.proofs.Databases.{stays_first, stays_then}
 use Rattle.epc_query.proofs.PipCounts.{no_means, more_means}
 use Rattle.epc_query.proofs.levels.means_of.Goals as goal
 
@@ -12,9 +13,7 @@ loop-rank-init g c = record {
   low = lit≤ tt;
   high = lit≤ tt;
   fresh = λ _. (refl, refl);
-  stays = refl;
-  accepted = refl;
-  count = λ file t. refl;
+  stays = stays_first _;
 }
 
 pub loop-rank-preserved : goal.loop-rank-preserved
@@ -23,7 +22,7 @@ loop-rank-preserved g c =
     record {
       means = λ file t.
           let ranked = rw c.unwrap-position.ensures at c.unrank.ensures.ranked in
-          let here = told.recorded file (c.loop-rank.invariant.stays ∙ t) in
+          let here = told.recorded file (c.loop-rank.invariant.stays.told ∙ t) in
           rw (c.min.ensures, c.max.ensures)
           (more_means file c.args.first c.loop-rank.rank _ _ c.numerator-mean.result
           c.loop-rank.auto.rank
@@ -39,10 +38,7 @@ loop-rank-preserved g c =
         c.numerator-mean.ensures.range,
       );
       fresh = λ e. absurd (omega arith);
-      stays = c.recorded_mean.ensures.stays ∙ c.loop-rank.invariant.stays;
-      accepted = c.recorded_mean.ensures.accepted ∙ c.loop-rank.invariant.accepted;
-      count = λ file t. told.cause file (c.loop-rank.invariant.stays ∙ t)
-          ∙ c.loop-rank.invariant.count file t;
+      stays = stays_then c.loop-rank.invariant.stays told.stays;
     }
 
 pub returns-clause-means : goal.returns-clause-means

@@ -1,19 +1,17 @@
 use Rattle.std.proofs.Common.{◌≡◌, ◌*◌, ◌≤◌}
 use Rattle.race_model.specs.LocalEquations.{whole}
 use Rattle.db_reader.specs.Telling.{WhereTold}
+use Rattle.certificate.specs.Databases.{Stays}
 use Rattle.epc_query.specs.LevelMeans.{AreMeansOf}
 use Rattle.epc_query.proofs.levels.means_of.Given as goal
 
 -- the means of the ranks so far
 abbrev pub invariant-loop-rank : goal.invariant-loop-rank
 invariant-loop-rank g l = record {
-  means : WhereTold (g.T.Table.tells l.initial.checked)
+  means : WhereTold l.initial.checked.told
       (λ file. AreMeansOf file l.fn.first l.rank l.means.least l.means.greatest);
   low : l.means.least ≤ 22 * whole;
   high : l.means.greatest ≤ 22 * whole;
   fresh : l.fn.first ≡ l.rank → (l.means.least ≡ 22 * whole) × (l.means.greatest ≡ 0);
-  stays : g.T.Table.tells l.checked ≡ g.T.Table.tells l.initial.checked;
-  accepted : g.T.Table.accepted l.checked ≡ g.T.Table.accepted l.initial.checked;
-  count : WhereTold (g.T.Table.tells l.initial.checked)
-      (λ _. g.T.Table.failures l.checked ≡ g.T.Table.failures l.initial.checked);
+  stays : Stays l.initial.checked l.checked (λ before now. now ≡ before);
 }

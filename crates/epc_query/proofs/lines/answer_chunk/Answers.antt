@@ -1,6 +1,7 @@
 use Rattle.std.proofs.Common.{◌≡◌, ◌+◌, [], ◌∷◌, ◌++◌, length, take, drop, Err, ap, ◌∙◌, arith, rules}
 use Rattle.std.proofs.lemmas.List.{length-drop}
 use Rattle.race_model.specs.InputLines.{whole_lines}
+use Rattle.certificate.proofs.Databases.{stays_then}
 use Rattle.epc_query.proofs.Runs.{all_left, piece_joined, piece_rest, chunk_parts, stopped_before}
 use Rattle.epc_query.proofs.Runs.{rest_more, bytes_kept}
 use Rattle.epc_query.proofs.lines.answer_chunk.Goals as goal
@@ -16,7 +17,7 @@ returns-in_err-answer_piece-clause-answered g c = λ file t done start is.
     let left = all_left chunk i in
     let first = rw left at c.in-Some.ensures in
     let stopped = rw left at ((c.in_err-answer_piece.ensures {u = tt}).answered file
-    (c.loop-length.invariant.stays ∙ t) (done ++ take i chunk) start before.0) in
+    (c.loop-length.invariant.stays.told ∙ t) (done ++ take i chunk) start before.0) in
     let so_far = ((done ++ take i chunk) ++ take place (drop i chunk)) ++ 10 ∷ [] in
     let cut = c.law_input_lines.ensures.more so_far (drop (i + place + 1) chunk) in
     rw same (stopped_before file so_far (drop (i + place + 1) chunk) (done ++ chunk) cut.0 start _
@@ -34,17 +35,14 @@ loop-length-preserved g c =
       within = omega (arith, first.within, length-drop i chunk, c.loop-length.invariant.within);
       taken = λ file t done start is.
           let before = c.loop-length.invariant.taken file t done start is in
-          let now = rw left at (told.answered file (c.loop-length.invariant.stays ∙ t)
+          let now = rw left at (told.answered file (c.loop-length.invariant.stays.told ∙ t)
           (done ++ take i chunk) start before.0) in
           let next = piece_joined done chunk i place first in (
             rw (← next) now.0,
             omega (arith, ap (λ input. length (whole_lines input)) next, now.1, before.1),
           );
       few = omega (arith, c.loop-length.invariant.few);
-      stays = c.answer_piece.ensures.stays ∙ c.loop-length.invariant.stays;
-      accepted = c.answer_piece.ensures.accepted ∙ c.loop-length.invariant.accepted;
-      count = λ file t. told.cause file (c.loop-length.invariant.stays ∙ t)
-          ∙ c.loop-length.invariant.count file t;
+      stays = stays_then c.loop-length.invariant.stays told.stays;
     }
 
 pub returns-clause-answered : goal.returns-clause-answered

@@ -1,6 +1,7 @@
 use Rattle.std.proofs.Common.{◌≡◌, ◌+◌, ◌-◌, ◌≤◌, ℕ, List, ◌++◌, take, length, Option}
 use Rattle.race_model.specs.InputLines.{whole_lines}
 use Rattle.db_reader.specs.Telling.{WhereTold}
+use Rattle.certificate.specs.Databases.{Stays}
 use Rattle.epc_query.specs.Runs.{IsAnswered}
 use Rattle.epc_query.proofs.lines.answer_chunk.Given as goal
 
@@ -8,7 +9,7 @@ use Rattle.epc_query.proofs.lines.answer_chunk.Given as goal
 abbrev pub invariant-loop-length : goal.invariant-loop-length
 invariant-loop-length g l = record {
   within : l.start ≤ length l.chunk;
-  taken : WhereTold (g.T.Table.tells l.initial.checked)
+  taken : WhereTold l.initial.checked.told
       (λ file. (done : List ℕ) (start : Option (List ℕ))
       → IsAnswered file done start (g.W.Write.contents l.initial.writer) l.initial.held
       → IsAnswered file (done ++ take l.start l.chunk) start
@@ -16,10 +17,7 @@ invariant-loop-length g l = record {
       × (length (whole_lines (done ++ take l.start l.chunk)) ≡ length
       (whole_lines done) + l.count));
   few : l.count ≤ l.start;
-  stays : g.T.Table.tells l.checked ≡ g.T.Table.tells l.initial.checked;
-  accepted : g.T.Table.accepted l.checked ≡ g.T.Table.accepted l.initial.checked;
-  count : WhereTold (g.T.Table.tells l.initial.checked)
-      (λ _. g.T.Table.failures l.checked ≡ g.T.Table.failures l.initial.checked);
+  stays : Stays l.initial.checked l.checked (λ before now. now ≡ before);
 }
 
 -- what is left of the chunk falls

@@ -8,7 +8,7 @@ use Rattle.epc_query.proofs.losses.least_mean.Goals as goal
 pub recorded_mean-requires : goal.recorded_mean-requires
 recorded_mean-requires g c =
     let fewer = c.law_results.ensures.pips _ _ _ (c.in-Ok.ensures {u = tt}).legal in
-    rw c.play.ensures.accepted (omega (arith, fewer, c.requires.within))
+    rw c.play.ensures.stays.bound (omega (arith, fewer, c.requires.within))
 
 pub returns-in-Ok-clause-recorded : goal.returns-in-Ok-clause-recorded
 returns-in-Ok-clause-recorded g c = λ file t.
@@ -22,4 +22,4 @@ returns-in-Ok-clause-recorded g c = λ file t.
     IfOk-weaker c.recorded_mean.result _ _
     (λ m h. h ∙ ap (mean file) told
     ∙ mean_after file c.args.position.now c.args.roll right.0 c.requires.position within)
-    (c.recorded_mean.ensures.recorded file (c.play.ensures.stays ∙ t))
+    (c.recorded_mean.ensures.recorded file (c.play.ensures.stays.told ∙ t))

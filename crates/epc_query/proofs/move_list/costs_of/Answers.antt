@@ -2,6 +2,7 @@ use Rattle.std.proofs.Common.{◌≡◌, ◌↔◌, List, Contains, take, subst,
 use Rattle.race_model.specs.Positions.{Board}
 use Rattle.race_model.specs.Ranks.{rank}
 use Rattle.race_model.specs.Files.{mean}
+use Rattle.certificate.proofs.Databases.{stays_then}
 use Rattle.epc_query.proofs.CostOrder.{one_more_cost, still_costs}
 use Rattle.epc_query.proofs.move_list.costs_of.Goals as goal
 
@@ -12,18 +13,15 @@ loop-to-preserved g c =
     record {
       ordered = c.include_cost.ensures.ordered;
       bounded = still_costs c.loop-to.costs.items _ _ c.loop-to.invariant.bounded
-          (c.numerator.ensures.range, c.rank.ensures.range) c.include_cost.ensures.members;
+          (c.numerator.ensures.range, c.rank-rank.ensures.range) c.include_cost.ensures.members;
       few = omega (arith, c.include_cost.ensures.len, c.loop-to.invariant.few);
       members = λ file t cost.
           one_more_cost file c.args.found.now i c.to-item.result cost _ _ _ _ c.loop-to-test.true
           c.to-item.is
-          (c.numerator.ensures.value ∙ told.recorded file (c.loop-to.invariant.stays
-          ∙ t)) c.rank.ensures.value
+          (c.numerator.ensures.value ∙ told.recorded file (c.loop-to.invariant.stays.told
+          ∙ t)) c.rank-rank.ensures.value
           (c.include_cost.ensures.members cost) (c.loop-to.invariant.members file t cost);
-      stays = c.recorded_mean.ensures.stays ∙ c.loop-to.invariant.stays;
-      accepted = c.recorded_mean.ensures.accepted ∙ c.loop-to.invariant.accepted;
-      count = λ file t. told.cause file (c.loop-to.invariant.stays ∙ t)
-          ∙ c.loop-to.invariant.count file t;
+      stays = stays_then c.loop-to.invariant.stays told.stays;
     }
 
 pub returns-clause-members : goal.returns-clause-members

@@ -3,6 +3,7 @@ use Rattle.race_model.specs.Positions.{Board}
 use Rattle.race_model.specs.Ranks.{rank}
 use Rattle.race_model.specs.Files.{mean}
 use Rattle.db_reader.specs.Telling.{WhereTold}
+use Rattle.certificate.specs.Databases.{Stays}
 use Rattle.epc_query.specs.Costs.{IsByCost, IsCost}
 use Rattle.epc_query.proofs.move_list.costs_of.Given as goal
 
@@ -12,11 +13,8 @@ invariant-loop-to g l = record {
   ordered : IsByCost l.costs.items;
   bounded : All IsCost l.costs.items;
   few : length l.costs.items ≤ l.to-index;
-  members : WhereTold (g.T.Table.tells l.initial.checked) (λ file. (cost : ℕ × ℕ)
+  members : WhereTold l.initial.checked.told (λ file. (cost : ℕ × ℕ)
       → Contains l.costs.items cost ↔ ((y : Board) × Contains (take l.to-index l.found) y
       × (cost ≡ (mean file y, rank y))));
-  stays : g.T.Table.tells l.checked ≡ g.T.Table.tells l.initial.checked;
-  accepted : g.T.Table.accepted l.checked ≡ g.T.Table.accepted l.initial.checked;
-  count : WhereTold (g.T.Table.tells l.initial.checked)
-      (λ _. g.T.Table.failures l.checked ≡ g.T.Table.failures l.initial.checked);
+  stays : Stays l.initial.checked l.checked (λ before now. now ≡ before);
 }

@@ -37,13 +37,13 @@ returns-clause-choices g c = λ file t.
       right.1,
     ) in
     let at = right.0.at_each x position within in
-    let costs = c.in_ok-costs.ensures {u = tt} in
+    let costs = c.in_ok-costs_of.ensures {u = tt} in
     let same : c.as_slice.result.now ≡ c.results-found.result.items = c.as_slice.ensures.value in
     let legal = λ (y : Board). subst (λ (ys : List Board). Contains ys y ↔ Legal x v y) (sym same)
     (c.results-found.ensures.members y) in
     let told = costs.members file t in
     let priced = rw c.as_slice-2.ensures.value at c.priced.ensures in
-    choices_are file x v c.in_ok-costs.costs.items c.priced.result.items costs.ordered
+    choices_are file x v c.costs_of.new.costs.items c.priced.result.items costs.ordered
     (λ cost. (
       λ held. let w = (told cost).0 held in (w.0, (legal w.0).0 w.1, w.2),
       λ w. (told cost).1 (w.0, (legal w.0).1 w.1, w.2),

@@ -1,6 +1,7 @@
 use Rattle.std.proofs.Common.{◌≡◌, ◌++◌, length, take, Err, ap, ◌∙◌, arith, rules}
 use Rattle.std.proofs.lemmas.List.{length-take}
 use Rattle.race_model.specs.InputLines.{lines_of}
+use Rattle.certificate.proofs.Databases.{stays_then}
 use Rattle.epc_query.proofs.Runs.{read_none, read_more, read_all, read_front, stopped_in, run_stopped}
 use Rattle.epc_query.proofs.running.run.Goals as goal
 
@@ -17,7 +18,7 @@ returns-in_err-count-clause-stopped g c = λ file t input u.
     let so_far = c.loop-turn.invariant.taken file t input u in
     let fault = c.in_err-count.field-0.0 in
     let same : c.from_residual.result ≡ Err fault = search rules in
-    let stopped = (c.in_err-count.ensures {u = tt}).answered file (c.loop-turn.invariant.stays
+    let stopped = (c.in_err-count.ensures {u = tt}).answered file (c.loop-turn.invariant.stays.told
     ∙ t) so_far.0 _ so_far.2 in
     let told = (c.in-Ok.ensures {u = tt}).bytes in
     let end = told.1 c.if-taken-eq0.true (omega (arith, c.read.auto.buf)) in
@@ -28,7 +29,7 @@ returns-in_err-count-clause-stopped g c = λ file t input u.
 pub returns-then-taken-eq0-clause-done : goal.returns-then-taken-eq0-clause-done
 returns-then-taken-eq0-clause-done g c = λ file t input u.
     let so_far = c.loop-turn.invariant.taken file t input u in
-    let has = (c.in_ok-count.ensures {u = tt}).answered file (c.loop-turn.invariant.stays
+    let has = (c.in_ok-count.ensures {u = tt}).answered file (c.loop-turn.invariant.stays.told
     ∙ t) so_far.0 _ so_far.2 in
     let told = (c.in-Ok.ensures {u = tt}).bytes in
     let end = told.1 c.if-taken-eq0.true (omega (arith, c.read.auto.buf)) in
@@ -41,7 +42,7 @@ returns-in_err-count-2-clause-stopped g c = λ file t input u.
     let so_far = c.loop-turn.invariant.taken file t input u in
     let fault = c.in_err-count-2.field-0.0 in
     let same : c.from_residual-in_err-count-2.result ≡ Err fault = search rules in
-    let stopped = (c.in_err-count-2.ensures {u = tt}).answered file (c.loop-turn.invariant.stays
+    let stopped = (c.in_err-count-2.ensures {u = tt}).answered file (c.loop-turn.invariant.stays.told
     ∙ t) so_far.0 _ so_far.2 in
     let told = (c.in-Ok.ensures {u = tt}).bytes in
     let consumed = read_more input _ _ so_far.0 _ so_far.1 told.0 in
@@ -60,7 +61,7 @@ loop-turn-preserved g c =
     record {
       taken = λ file t input u.
           let so_far = c.loop-turn.invariant.taken file t input u in
-          let has = told.answered file (c.loop-turn.invariant.stays ∙ t) so_far.0 _ so_far.2 in (
+          let has = told.answered file (c.loop-turn.invariant.stays.told ∙ t) so_far.0 _ so_far.2 in (
             so_far.0 ++ take c.in-Ok.taken c.read.new.buf,
             read_more input _ _ so_far.0 _ so_far.1 read.bytes.0,
             has.0,
@@ -75,10 +76,7 @@ loop-turn-preserved g c =
         c.loop-turn.invariant.long,
       );
       long = omega (arith, c.read.auto.buf, c.loop-turn.invariant.long);
-      stays = c.answer_read.ensures.stays ∙ c.loop-turn.invariant.stays;
-      accepted = c.answer_read.ensures.accepted ∙ c.loop-turn.invariant.accepted;
-      count = λ file t. told.cause file (c.loop-turn.invariant.stays ∙ t)
-          ∙ c.loop-turn.invariant.count file t;
+      stays = stays_then c.loop-turn.invariant.stays told.stays;
     }
 
 pub returns-clause-stopped : goal.returns-clause-stopped

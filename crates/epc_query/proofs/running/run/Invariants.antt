@@ -2,13 +2,14 @@ use Rattle.std.proofs.Common.{◌≡◌, ◌*◌, ◌≤◌, ℕ, List, length, 
 use Rattle.std.specs.Io.KnownBytes.{Consumes}
 use Rattle.race_model.specs.InputLines.{whole_lines}
 use Rattle.db_reader.specs.Telling.{WhereTold}
+use Rattle.certificate.specs.Databases.{Stays}
 use Rattle.epc_query.specs.Runs.{IsAnswered}
 use Rattle.epc_query.proofs.running.run.Given as goal
 
 -- what was read so far was answered
 abbrev pub invariant-loop-turn : goal.invariant-loop-turn
 invariant-loop-turn g l = record {
-  taken : WhereTold (g.T.Table.tells l.initial.checked)
+  taken : WhereTold l.initial.checked.told
       (λ file. WhereTold (g.R.Read.remaining l.initial.reader) (λ input. (done : List ℕ)
       × Consumes (Some input) (g.R.Read.remaining l.reader) done
       × IsAnswered file done (g.W.Write.contents l.initial.writer)
@@ -16,8 +17,5 @@ invariant-loop-turn g l = record {
       × (length (whole_lines done) ≡ l.count)));
   few : l.count ≤ 4096 * l._turn;
   long : length l.chunk ≡ 4096;
-  stays : g.T.Table.tells l.checked ≡ g.T.Table.tells l.initial.checked;
-  accepted : g.T.Table.accepted l.checked ≡ g.T.Table.accepted l.initial.checked;
-  count : WhereTold (g.T.Table.tells l.initial.checked)
-      (λ _. g.T.Table.failures l.checked ≡ g.T.Table.failures l.initial.checked);
+  stays : Stays l.initial.checked l.checked (λ before now. now ≡ before);
 }

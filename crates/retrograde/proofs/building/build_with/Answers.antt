@@ -8,10 +8,9 @@ use Rattle.retrograde.specs.AllRecords.{mean_of_rank, bytes_of_rank}
 use Rattle.retrograde.specs.BuiltBytes.{IsRefusedBy}
 use Rattle.retrograde.specs.declared.build_fault.BuildFault.TheVariants.{Memory, Write}
 use Rattle.retrograde.proofs.Existence.{all-records}
-use Rattle.db_layout.proofs.Known.{one-error}
 use Rattle.db_layout.proofs.Prefixes.{header-first}
 use Rattle.retrograde.proofs.Kept.{kept-none}
-use Rattle.retrograde.proofs.Prefixes.{nothing-written, header-written, ranks-written, level-part}
+use Rattle.retrograde.proofs.Prefixes.{refused_build, nothing-written, header-written, ranks-written, level-part}
 use Rattle.retrograde.proofs.Prefixes.{level-written, all-written}
 use Rattle.retrograde.proofs.building.build_with.Goals as goal
 
@@ -42,8 +41,8 @@ add_level-requires g c =
       ),
     )
 
-pub returns-in_err-add_level-clause-refused : goal.returns-in_err-add_level-clause-refused
-returns-in_err-add_level-clause-refused g c =
+pub returns-in_err-add_level : goal.returns-in_err-add_level
+returns-in_err-add_level g c =
     let version = version_by c.args.header.version in
     let bound = c.args.header.bound in
     let writer = g.W.Write.contents c.args.writer.now in
@@ -52,27 +51,30 @@ returns-in_err-add_level-clause-refused g c =
       nothing-written version all-records bound c.args.header.bounded writer writer
           (Appends-nil writer),
     ) in
-    one-error c.from_residual.result c.in_err-add_level.field-0.0
-    (IsRefusedBy version bound writer writer)
-    c.from_residual.ensures.1
-    (subst (IsRefusedBy version bound writer writer) (sym c.in_err-add_level.ensures.memory)
-    refused)
+    record {
+      built = refused_build version bound writer writer c.from_residual.result c.in_err-add_level.field-0.0
+          c.from_residual.ensures.1
+          (subst (IsRefusedBy version bound writer writer) (sym c.in_err-add_level.ensures.memory)
+          refused);
+    }
 
-pub returns-in_err-write_header-clause-refused : goal.returns-in_err-write_header-clause-refused
-returns-in_err-write_header-clause-refused g c =
+pub returns-in_err-write_header : goal.returns-in_err-write_header
+returns-in_err-write_header g c =
     let version = version_by c.args.header.version in
     let bound = c.args.header.bound in
     let old = g.W.Write.contents c.args.writer.now in
     let new = g.W.Write.contents c.write_header.new.writer in
-    one-error c.from_residual-in_err-write_header.result Write (IsRefusedBy version bound old new)
-    c.from_residual-in_err-write_header.ensures.1 (
-      bound-most c.args.header,
-      header-written version all-records bound c.args.header.bounded old new
-          c.in_err-write_header.ensures.part,
-    )
+    record {
+      built = refused_build version bound old new c.from_residual-in_err-write_header.result Write
+          c.from_residual-in_err-write_header.ensures.1 (
+            bound-most c.args.header,
+            header-written version all-records bound c.args.header.bounded old new
+                c.in_err-write_header.ensures.part,
+          );
+    }
 
-pub returns-in_err-write_level-clause-refused : goal.returns-in_err-write_level-clause-refused
-returns-in_err-write_level-clause-refused g c =
+pub returns-in_err-write_level : goal.returns-in_err-write_level
+returns-in_err-write_level g c =
     let version = version_by c.args.header.version in
     let bound = c.args.header.bound in
     let old = g.W.Write.contents c.args.writer.now in
@@ -80,16 +82,18 @@ returns-in_err-write_level-clause-refused g c =
     let new = g.W.Write.contents c.write_level.new.writer in
     let records = c.add_level.new.records in
     let level = c.in_ok-add_level.ensures in
-    one-error c.from_residual-in_err-write_level.result Write (IsRefusedBy version bound old new)
-    c.from_residual-in_err-write_level.ensures.1 (
-      bound-most c.args.header,
-      level-part version all-records bound c.args.header.bounded old mid new 0 0
-          (length (g.K.Keeper.means records)) (length (g.K.Keeper.plays records)) (omega arith)
-          (omega (arith, level.level, first_of-zero)) level.made
-          (header-first version bound (bytes_of_rank version all-records) old mid
-          c.in_ok-write_header.ensures.all)
-          c.in_err-write_level.ensures.part,
-    )
+    record {
+      built = refused_build version bound old new c.from_residual-in_err-write_level.result Write
+          c.from_residual-in_err-write_level.ensures.1 (
+            bound-most c.args.header,
+            level-part version all-records bound c.args.header.bounded old mid new 0 0
+                (length (g.K.Keeper.means records)) (length (g.K.Keeper.plays records)) (omega arith)
+                (omega (arith, level.level, first_of-zero)) level.made
+                (header-first version bound (bytes_of_rank version all-records) old mid
+                c.in_ok-write_header.ensures.all)
+                c.in_err-write_level.ensures.part,
+          );
+    }
 
 pub loop-below-init : goal.loop-below-init
 loop-below-init g c =
@@ -134,8 +138,8 @@ add_level-requires-in-loop-below g c =
       ),
     )
 
-pub returns-in_err-add_level-2-clause-refused : goal.returns-in_err-add_level-2-clause-refused
-returns-in_err-add_level-2-clause-refused g c =
+pub returns-in_err-add_level-2 : goal.returns-in_err-add_level-2
+returns-in_err-add_level-2 g c =
     let version = version_by c.args.header.version in
     let bound = c.args.header.bound in
     let old = g.W.Write.contents c.args.writer.now in
@@ -151,13 +155,14 @@ returns-in_err-add_level-2-clause-refused g c =
           (length (g.K.Keeper.means c.loop-below.records)) few
           is.written,
     ) in
-    one-error c.from_residual-in_err-add_level-2.result c.in_err-add_level-2.field-0.0
-    (IsRefusedBy version bound old new)
-    c.from_residual-in_err-add_level-2.ensures.1
-    (subst (IsRefusedBy version bound old new) (sym c.in_err-add_level-2.ensures.memory) refused)
+    record {
+      built = refused_build version bound old new c.from_residual-in_err-add_level-2.result c.in_err-add_level-2.field-0.0
+          c.from_residual-in_err-add_level-2.ensures.1
+          (subst (IsRefusedBy version bound old new) (sym c.in_err-add_level-2.ensures.memory) refused);
+    }
 
-pub returns-in_err-write_level-2-clause-refused : goal.returns-in_err-write_level-2-clause-refused
-returns-in_err-write_level-2-clause-refused g c =
+pub returns-in_err-write_level-2 : goal.returns-in_err-write_level-2
+returns-in_err-write_level-2 g c =
     let version = version_by c.args.header.version in
     let bound = c.args.header.bound in
     let old = g.W.Write.contents c.args.writer.now in
@@ -166,15 +171,17 @@ returns-in_err-write_level-2-clause-refused g c =
     let is = c.loop-below.invariant in
     let records = c.add_level-in-loop-below.new.records in
     let level = c.in_ok-add_level-2.ensures in
-    one-error c.from_residual-in_err-write_level-2.result Write (IsRefusedBy version bound old new)
-    c.from_residual-in_err-write_level-2.ensures.1 (
-      bound-most c.args.header,
-      level-part version all-records bound c.args.header.bounded old mid new
-          (c.loop-below.below + 1) (length (g.K.Keeper.means c.loop-below.records))
-          (length (g.K.Keeper.means records)) (length (g.K.Keeper.plays records)) (omega arith)
-          (omega (arith, level.level, is.made)) level.made is.written
-          c.in_err-write_level-2.ensures.part,
-    )
+    record {
+      built = refused_build version bound old new c.from_residual-in_err-write_level-2.result Write
+          c.from_residual-in_err-write_level-2.ensures.1 (
+            bound-most c.args.header,
+            level-part version all-records bound c.args.header.bounded old mid new
+                (c.loop-below.below + 1) (length (g.K.Keeper.means c.loop-below.records))
+                (length (g.K.Keeper.means records)) (length (g.K.Keeper.plays records)) (omega arith)
+                (omega (arith, level.level, is.made)) level.made is.written
+                c.in_err-write_level-2.ensures.part,
+          );
+    }
 
 pub loop-below-preserved : goal.loop-below-preserved
 loop-below-preserved g c =
@@ -199,8 +206,8 @@ loop-below-preserved g c =
           c.in_ok-write_level-2.ensures.all;
     }
 
-pub returns-clause-built : goal.returns-clause-built
-returns-clause-built g c =
+pub returns : goal.returns
+returns g c =
     let version = version_by c.args.header.version in
     let bound = c.args.header.bound in
     let old = g.W.Write.contents c.args.writer.now in
@@ -208,6 +215,8 @@ returns-clause-built g c =
     let is = c.loop-below.invariant in
     let low = c.args.header.bounded in
     let last : c.loop-below.below ≡ bound = omega arith in
-    all-written version all-records bound low old new
-    (length (g.K.Keeper.means c.loop-below.records))
-    (is.made ∙ (first_of-one c.loop-below.below ∙ ap count_to last)) is.written
+    record {
+      built = all-written version all-records bound low old new
+          (length (g.K.Keeper.means c.loop-below.records))
+          (is.made ∙ (first_of-one c.loop-below.below ∙ ap count_to last)) is.written;
+    }

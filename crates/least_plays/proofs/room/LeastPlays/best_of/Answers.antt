@@ -1,42 +1,58 @@
 -- One rank more.
-use Rattle.std.proofs.Common.{⊎_elim, ℕ, slice_index, sym, ap, ◌∙◌, arith, below_more}
-use Rattle.least_plays.specs.Choices.{IsNoWorse}
-use Rattle.least_plays.specs.Known.{number_in}
-use Rattle.least_plays.proofs.Best.{no_worse_on}
+use Rattle.std.proofs.Common.{◌≡◌, slice_index, length, ap, subst, arith}
+use Rattle.least_plays.specs.Choices.{IsLeastOf, IsBetterOf}
+use Rattle.least_plays.specs.Known.{kept_in}
+use Rattle.least_plays.proofs.Best.{least_of_one, least_of_more}
 use Rattle.least_plays.proofs.room.LeastPlays.best_of.Goals as goal
 
-pub loop-rank-init : goal.loop-rank-init
-loop-rank-init g c = record {
-  mean =
-      c.of-best.ensures.mean
-      ∙ ap (g.M.Means.mean c.args.means.now) (sym c.of-best.ensures.rank);
-  one = (0, c.requires.some, sym c.number.ensures ∙ sym c.of-best.ensures.rank);
-  best = λ i lt. absurd (omega arith);
+pub loop-place-init : goal.loop-place-init
+unfolding kept_in
+loop-place-init g c = record {
+  len = ap length c.kept-best.ensures;
+  some = omega arith;
+  best = λ j lt.
+      least_of_one (g.M.Means.mean c.args.means.now)
+      (λ i. slice_index (kept_in c.args.self.now.rows (slice_index c.args.ranks.now i) c.args.die)
+      j)
+      (slice_index c.kept-best.result j) (ap (λ xs. slice_index xs j) c.kept-best.ensures);
 }
 
-pub loop-rank-preserved : goal.loop-rank-preserved
-loop-rank-preserved g c =
+pub better_of_each-best-requires-clause-ones : goal.better_of_each-best-requires-clause-ones
+better_of_each-best-requires-clause-ones g c = λ j lt.
+    let i = (c.loop-place.invariant.best j lt).one in
+    let held = c.requires.held i.0 j (omega (arith, i.1, c.loop-place-test.true)) lt in
+    omega (arith, held, i.2)
+
+pub better_of_each-best-requires-clause-others : goal.better_of_each-best-requires-clause-others
+better_of_each-best-requires-clause-others g c = λ j lt.
+    let held = c.requires.held c.loop-place.place j c.loop-place-test.true lt in
+    omega (arith, held, ap (λ xs. slice_index xs j) c.kept.ensures)
+
+pub loop-place-preserved : goal.loop-place-preserved
+loop-place-preserved g c =
     let mean = g.M.Means.mean c.args.means.now in
-    let offered : ℕ → ℕ =
-    λ i. number_in c.args.self.now.rows (slice_index c.args.ranks.now i) c.args.die c.args.times in
-    let before = c.loop-rank.invariant in
-    let is = c.number-in-loop-rank.ensures in
     record {
-      mean = c.offer.ensures.mean;
-      one = ⊎_elim
-          (λ was. (before.one.0, before.one.1, before.one.2 ∙ sym was))
-          (λ now. (c.loop-rank.rank-index, c.loop-rank-test.true, sym is ∙ sym now))
-          c.offer.ensures.one;
-      best =
-          below_more (λ i. IsNoWorse mean c.offer.new.self.rank (offered i)) c.loop-rank.rank-index
-          (λ i lt.
-          no_worse_on mean c.offer.new.self.rank c.loop-rank.best.rank (offered i)
-          c.offer.ensures.before (before.best i lt))
-          (rw (sym is) c.offer.ensures.now);
+      len = c.better_of_each-best.ensures.len;
+      some = omega arith;
+      best = λ j lt.
+          least_of_more mean
+          (λ i.
+          slice_index (kept_in c.args.self.now.rows (slice_index c.args.ranks.now i) c.args.die) j)
+          c.loop-place.place (slice_index c.loop-place.best j)
+          (slice_index c.better_of_each-best.result j) (c.loop-place.invariant.best j lt)
+          (subst
+          (λ s. IsBetterOf mean (slice_index c.loop-place.best j) s
+          (slice_index c.better_of_each-best.result j))
+          (ap (λ xs. slice_index xs j) c.kept.ensures)
+          (c.better_of_each-best.ensures.better j lt));
     }
 
-pub returns : goal.returns
-returns g c = record {
-  one = c.loop-rank.invariant.one;
-  best = λ i lt. c.loop-rank.invariant.best i (omega arith);
-}
+pub returns-clause-best : goal.returns-clause-best
+returns-clause-best g c = λ j lt.
+    let all : c.loop-place.place ≡ length c.args.ranks.now =
+    omega (arith, c.loop-place.auto.place-end, c.loop-place.invariant.some, c.requires.some, c.loop-place-test.false) in
+    subst
+    (λ n. IsLeastOf (g.M.Means.mean c.args.means.now)
+    (λ i. slice_index (kept_in c.args.self.now.rows (slice_index c.args.ranks.now i) c.args.die) j)
+    n (slice_index c.loop-place.best j))
+    all (c.loop-place.invariant.best j lt)

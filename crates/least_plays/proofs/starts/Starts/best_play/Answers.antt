@@ -1,5 +1,5 @@
 -- The places of the two dice, and the better of their two orders.
-use Rattle.std.proofs.Common.{◌-◌, inl, inr, ⊎_elim, ap, sym, ◌∙◌, [], arith}
+use Rattle.std.proofs.Common.{◌-◌, ap, [], arith}
 use Rattle.race_model.specs.Dice.{number}
 use Rattle.least_plays.specs.declared.starts.Start.{Start}
 use Rattle.least_plays.proofs.Rolls.{play_held, double_best, apart_best}
@@ -19,9 +19,9 @@ returns-then-high-low g c =
     (omega (arith, c.from-high.ensures, c.number.ensures.value))
     (omega (arith, c.from-low.ensures, c.number-2.ensures.value)) c.if-high-low.true
 
-pub of-best-requires : goal.of-best-requires
+pub better-requires-clause-one : goal.better-requires-clause-one
 unfolding none
-of-best-requires g c =
+better-requires-clause-one g c =
     let high = ap number c.high.ensures.value in
     let low = ap number c.low.ensures.value in
     play_held (g.M.Means.mean c.args.means.now) (g.M.Means.count c.args.means.now)
@@ -30,9 +30,9 @@ of-best-requires g c =
     (omega (arith, c.from-high.ensures, c.number.ensures.value))
     (omega (arith, c.from-low.ensures, c.number-2.ensures.value))
 
-pub offer-requires-clause-held : goal.offer-requires-clause-held
+pub better-requires-clause-other : goal.better-requires-clause-other
 unfolding none
-offer-requires-clause-held g c =
+better-requires-clause-other g c =
     let high = ap number c.high.ensures.value in
     let low = ap number c.low.ensures.value in
     play_held (g.M.Means.mean c.args.means.now) (g.M.Means.count c.args.means.now)
@@ -48,8 +48,7 @@ returns g c =
     let low = ap number c.low.ensures.value in
     apart_best (g.M.Means.mean c.args.means.now) (g.M.Means.count c.args.means.now)
     c.args.self.now c.requires none c.args.roll (c.from-high.result - 1) (c.from-low.result - 1)
-    c.offer.new.self.rank
+    c.better.result
     (omega (arith, c.from-high.ensures, c.number.ensures.value))
     (omega (arith, c.from-low.ensures, c.number-2.ensures.value)) c.if-high-low.false
-    (⊎_elim (λ was. inl (was ∙ c.of-best.ensures.rank)) (λ is. inr is) c.offer.ensures.one)
-    (rw (sym c.of-best.ensures.rank) c.offer.ensures.before) c.offer.ensures.now
+    c.better.ensures.either c.better.ensures.one c.better.ensures.other

@@ -1,0 +1,37 @@
+-- The numbers of a row by their places, whichever die it is.
+use Rattle.std.proofs.Common.{◌≡◌, ℕ, ◌-◌, ◌%◌, [], List, ◌∷◌, slice_index, slice_index_or, ap, refl, ◌∙◌, arith}
+use Rattle.race_model.specs.Dice.{Die, one, two, three, four, five, six, number}
+use Rattle.least_plays.specs.Known.{row_in, number_in, kept_in}
+use Rattle.least_plays.specs.declared.room.Row.{Row}
+use Rattle.least_plays.proofs.room.LeastPlays.kept.Goals as goal
+
+-- a number of a row
+at : Row → ℕ → ℕ → ℕ
+at row i n = slice_index (slice_index_or row.after i []) n
+
+-- what the code makes of a row
+made : List Row → ℕ → ℕ → ℕ → List ℕ
+made rows place r own =
+    let row = slice_index_or rows (place % 11452) (record { after = [] }) in
+    at row 0 0 ∷ at row 1 0 ∷ at row 2 0 ∷ at row 3 0 ∷ at row 4 0 ∷ at row 5 0 ∷ r
+    ∷ at row own 1 ∷ at row own 2 ∷ []
+
+-- it is what is kept
+made-is : (rows : List Row) (r : ℕ) (d : Die) → made rows r r (number d - 1) ≡ kept_in rows r d
+unfolding number_in row_in kept_in made at
+made-is rows r one = refl
+made-is rows r two = refl
+made-is rows r three = refl
+made-is rows r four = refl
+made-is rows r five = refl
+made-is rows r six = refl
+
+pub returns : goal.returns
+unfolding made at
+returns c =
+    let own : c.from-2.result - 1 ≡ number c.args.die - 1 =
+    omega (arith, c.from-2.ensures, c.number.ensures.value) in
+    ap (λ place. made c.args.self.now.rows place c.args.rank (c.from-2.result - 1))
+    c.from.ensures
+    ∙ ap (made c.args.self.now.rows c.args.rank c.args.rank) own
+    ∙ made-is c.args.self.now.rows c.args.rank c.args.die
