@@ -1,17 +1,20 @@
 /* A tool for tests, preloaded before the C library: it counts the calls of one kind that a program makes, and
  * refuses one of them, or all from one on. REFUSED_CALL names the kind and the number, as `growth:3` or `growth:3+`;
  * the number 0 refuses none. At the end of the program the number of calls is written into the file REFUSED_COUNT.
- * The kinds: growth (of memory), open, seek; input, output and errors (reads and writes of the standard streams),
- * load and store (those of other files); idle-store and idle-output, which take nothing where they are refused;
- * slow-input, slow-output, slow-load and slow-store, which move one byte; and interrupted-open, interrupted-input,
- * interrupted-output, interrupted-load and interrupted-store, which a signal interrupts before anything is done. */
+ * The kinds: growth (of memory), open (no file can be opened any more) and closed-open (that file or folder may not be),
+ * seek, link (what a link says), tell (about a file), mode (of a file), sync (of a file or a folder) and unable-sync
+ * (the file system can't), rename; input, output and errors (reads and writes of the standard streams), load and store
+ * (those of other files); idle-store and idle-output, which take nothing where they are refused; slow-input,
+ * slow-output, slow-load and slow-store, which move one byte; and interrupted-open, interrupted-mode, interrupted-sync,
+ * interrupted-input, interrupted-output, interrupted-load and interrupted-store, which a signal interrupts before
+ * anything is done. */
 /* No header is included, so that the kit's own clang compiles it: the declarations and numbers are those of Linux on
  * x86-64. */
 typedef __SIZE_TYPE__ size_t;
 typedef long ssize_t, off_t;
-enum { READ = 0, WRITE = 1, OPEN = 2, CLOSE = 3, LSEEK = 8 };
+enum { READ = 0, WRITE = 1, OPEN = 2, CLOSE = 3, LSEEK = 8, FSYNC = 74, RENAME = 82, READLINK = 89, FCHMOD = 91, STATX = 332 };
 enum { MAKE_ANEW = 01 | 0100 | 01000 };
-enum { INTERRUPTED = 4, NO_INPUT_OUTPUT = 5, NO_MEMORY = 12, NO_LEAVE = 13 };
+enum { INTERRUPTED = 4, NO_INPUT_OUTPUT = 5, NO_MEMORY = 12, NO_LEAVE = 13, NO_SENSE = 22, NO_NUMBER = 24 };
 
 extern long syscall(long number, ...);
 extern int *__errno_location(void);
@@ -65,7 +68,8 @@ void *realloc(void *old, size_t size) {
 }
 
 int open(const char *path, int flags, unsigned mode) {
-    if (is_refused("open")) return *__errno_location() = NO_LEAVE, -1;
+    if (is_refused("open")) return *__errno_location() = NO_NUMBER, -1;
+    if (is_refused("closed-open")) return *__errno_location() = NO_LEAVE, -1;
     if (is_refused("interrupted-open")) return *__errno_location() = INTERRUPTED, -1;
     return syscall(OPEN, path, (long)flags, (long)mode);
 }
@@ -73,6 +77,34 @@ int open(const char *path, int flags, unsigned mode) {
 off_t lseek(int file, off_t offset, int whence) {
     if (is_refused("seek")) return *__errno_location() = NO_INPUT_OUTPUT, -1;
     return syscall(LSEEK, (long)file, offset, (long)whence);
+}
+
+ssize_t readlink(const char *path, char *into, size_t count) {
+    if (is_refused("link")) return *__errno_location() = NO_INPUT_OUTPUT, -1;
+    return syscall(READLINK, path, into, count);
+}
+
+int statx(int folder, const char *path, int flags, unsigned mask, void *into) {
+    if (is_refused("tell")) return *__errno_location() = NO_INPUT_OUTPUT, -1;
+    return syscall(STATX, (long)folder, path, (long)flags, (long)mask, into);
+}
+
+int fchmod(int file, unsigned mode) {
+    if (is_refused("mode")) return *__errno_location() = NO_LEAVE, -1;
+    if (is_refused("interrupted-mode")) return *__errno_location() = INTERRUPTED, -1;
+    return syscall(FCHMOD, (long)file, (long)mode);
+}
+
+int fsync(int file) {
+    if (is_refused("sync")) return *__errno_location() = NO_INPUT_OUTPUT, -1;
+    if (is_refused("unable-sync")) return *__errno_location() = NO_SENSE, -1;
+    if (is_refused("interrupted-sync")) return *__errno_location() = INTERRUPTED, -1;
+    return syscall(FSYNC, (long)file);
+}
+
+int rename(const char *from, const char *to) {
+    if (is_refused("rename")) return *__errno_location() = NO_INPUT_OUTPUT, -1;
+    return syscall(RENAME, from, to);
 }
 
 ssize_t read(int file, void *into, size_t count) {

@@ -10,7 +10,9 @@ ghost use Rattle.command_line.specs.declared.words.Request.TheVariants.{Default}
 ghost use Rattle.bearoff_cli.specs.InputAnswers.{AreAnswered, AreAnsweredOver};
 ghost use Rattle.bearoff_cli.specs.RefusedFiles.{KeepsIfRefused};
 
-use crate::files::{build_file, flush, read_file, upgrade_file};
+use crate::files::{
+    affordable, build_file, flush, probe_stack, read_file, stack_room, upgrade_file,
+};
 use arrayvec::ArrayString;
 use certificate::{CheckFault, Checked, check};
 use clap::Error;
@@ -126,6 +128,7 @@ fn answer_default<I: Read, O: Write>(
         (λ given. IfOk result (λ _. AreAnsweredOver 8 given (I.remaining input.new)
         (O.contents output.old) (O.contents output.new))) }
 {
+    probe_stack(alloc)?;
     let mut bytes = Vec::new(alloc);
     build(alloc, DEFAULT_BOUND, &mut bytes)?;
     answer_lines(alloc, Whole::new(bytes.as_slice()), input, output)
@@ -160,8 +163,12 @@ fn answer_pages<R: Files, I: Read, O: Write>(
     let Ok(file) = fs::open(rt, path) else {
         return Err(Fault::Open);
     };
-    match Paged::new(alloc, FileSource::new(file), records.max(1)) {
-        Ok(pages) => answer_lines(alloc, pages, input, output),
+    let room = stack_room(alloc)?;
+    match Paged::new(alloc, FileSource::new(file), affordable(alloc, records)) {
+        Ok(pages) => {
+            drop(room);
+            answer_lines(alloc, pages, input, output)
+        }
         Err(_) => Err(Fault::Memory),
     }
 }

@@ -1,18 +1,26 @@
 //! Files, read and written by blocks.
-ghost use Rattle.std.specs.Prelude.{◌≡◌, IfErr};
+ghost use Rattle.std.specs.Prelude.{◌≡◌, ◌≤◌, IfErr};
 ghost use Rattle.exit_status.specs.Statuses.{status_of};
 
+use crate::draft::begin;
 use certificate::Checked;
 use db_reader::Table;
 use exit_status::Fault;
 use retrograde::build;
 use std::alloc::Global;
 use std::fs;
-use std::io::{BufWriter, Read, Write};
+use std::io::{Read, Write};
 use std::rt::Files;
 
-/// How many bytes one read or one write moves.
+/// How many bytes one read moves.
 const BLOCK: usize = 65536;
+
+/// How many bytes of stack a check or a build needs at most, beside the 128 KB that the system gives
+/// a program at its start.
+const STACK: usize = 896 << 10;
+
+/// How many bytes a record that is kept takes at most, with its part of the tables of the cache.
+const KEPT_RECORD: usize = 640;
 
 /// How many bytes of a file are read at most: one more than a file that is read whole may have,
 /// so that a longer file keeps the fault of its header, which is its length if it has no other
@@ -21,10 +29,13 @@ const MOST_BYTES: usize = 20_000_001;
 
 /// The bytes of a file, at most 20,000,001 of them. `Open` where it can't be opened, `File` where
 /// a read fails, `Memory` where there is no room.
-pub fn read_file<R: Files>(rt: &R, alloc: Global, path: &str) -> Result<Vec<u8>, Fault> {
+pub fn read_file<R: Files>(rt: &R, alloc: Global, path: &str) -> Result<Vec<u8>, Fault>
+    ensures { IfErr result (λ fault. status_of fault ≡ 1) }
+{
     let Ok(mut file) = fs::open(rt, path) else {
         return Err(Fault::Open);
     };
+    let _room = stack_room(alloc)?;
     let mut bytes = Vec::new(alloc);
     let mut block = [0; BLOCK];
     for _ in 0..MOST_BYTES {
@@ -40,45 +51,86 @@ pub fn read_file<R: Files>(rt: &R, alloc: Global, path: &str) -> Result<Vec<u8>,
     Ok(bytes)
 }
 
+/// Room that is kept while memory grows, and let go before a check, so that its stack can grow
+/// then. Where it could not, the system would end the program with no word.
+pub fn stack_room(alloc: Global) -> Result<Vec<u8>, Fault>
+    ensures { IfErr result (λ fault. status_of fault ≡ 1) }
+{
+    Ok(Vec::with_capacity(alloc, STACK)?)
+}
+
+/// Whether the stack can grow as far as a check or a build needs: `Memory` where it can't.
+pub fn probe_stack(alloc: Global) -> Result<(), Fault>
+    ensures { IfErr result (λ fault. status_of fault ≡ 1) }
+{
+    drop(stack_room(alloc)?);
+    Ok(())
+}
+
+/// How many records there is room for, at most so many, and at least one. A cache that took all
+/// memory would leave the stack none to grow.
+pub fn affordable(alloc: Global, records: u16) -> u16
+    ensures some { 1 ≤ result }
+    ensures most { 1 ≤ records → result ≤ records }
+{
+    for halvings in 0..u16::BITS {
+        let count = records.min(u16::MAX >> halvings).max(1);
+        if has_room(alloc, usize::from(count) * KEPT_RECORD) {
+            return count;
+        }
+    }
+    1
+}
+
+/// Whether there is room for so many bytes.
+fn has_room(alloc: Global, bytes: usize) -> bool {
+    let room: Result<Vec<u8>, _> = Vec::with_capacity(alloc, bytes);
+    room.is_ok()
+}
+
 /// What one read gives; nothing at the end of the file.
-fn read_block<'a, F: Read>(file: &mut F, block: &'a mut [u8; BLOCK]) -> Result<&'a [u8], Fault> {
+fn read_block<'a, F: Read>(file: &mut F, block: &'a mut [u8; BLOCK]) -> Result<&'a [u8], Fault>
+    ensures { IfErr result (λ fault. status_of fault ≡ 1) }
+{
     match file.read(block) {
         Ok(count) => Ok(&block[..count]),
         Err(_) => Err(Fault::File),
     }
 }
 
-/// Writes the database of a pip bound into a file, which is made anew. `Open` where it can't be
-/// made, and `Write` where a write fails: then the file may hold a prefix of the database.
+/// Writes the database of a pip bound into a file, which takes the place of an old one once it is
+/// complete (`draft`). `Open` where it can't be made, and `Write` where a write fails: then the
+/// old file stays, or, where the bytes go straight into it, it may hold a prefix of the database.
 pub fn build_file<R: Files>(rt: &R, alloc: Global, pips: u8, path: &str) -> Result<(), Fault> {
-    let mut writer = create_file(rt, alloc, path)?;
-    build(alloc, pips, &mut writer)?;
-    flush(&mut writer)
+    let mut draft = begin(rt, alloc, path)?;
+    let written = build_into(alloc, pips, &mut draft.writer);
+    draft.finish(rt, written)
 }
 
-/// Writes a checked database of version 1 into a file, which is made anew, as one of version 2.
-/// `Open` where it can't be made, and `Write` where a write fails: then the file may hold a prefix
-/// of the new database.
+/// Writes the database of a pip bound, to its last byte.
+fn build_into<O: Write>(alloc: Global, pips: u8, output: &mut O) -> Result<(), Fault> {
+    probe_stack(alloc)?;
+    build(alloc, pips, output)?;
+    flush(output)
+}
+
+/// Writes a checked database of version 1 into a file as one of version 2, with the faults of
+/// `build_file`.
 pub fn upgrade_file<R: Files, T: Table>(
     rt: &R,
     alloc: Global,
     checked: &mut Checked<T>,
     path: &str,
 ) -> Result<(), Fault> {
-    let mut writer = create_file(rt, alloc, path)?;
-    checked.upgrade(&mut writer)?;
-    flush(&mut writer)
+    let mut draft = begin(rt, alloc, path)?;
+    let written = upgrade_into(checked, &mut draft.writer);
+    draft.finish(rt, written)
 }
 
-/// A file that is made anew, to be written by blocks.
-fn create_file<R: Files>(rt: &R, alloc: Global, path: &str) -> Result<BufWriter<R::File>, Fault> {
-    let Ok(file) = fs::create(rt, path) else {
-        return Err(Fault::Open);
-    };
-    match BufWriter::with_capacity(alloc, BLOCK, file) {
-        Ok(writer) => Ok(writer),
-        Err(_) => Err(Fault::Memory),
-    }
+/// Writes a checked database of version 1 as one of version 2, to its last byte.
+fn upgrade_into<T: Table, O: Write>(checked: &mut Checked<T>, output: &mut O) -> Result<(), Fault> {
+    checked.upgrade(output)?;
+    flush(output)
 }
 
 /// Hands on what a writer may still hold.

@@ -9,6 +9,7 @@ use std::process::ExitCode;
 use std::{env, io};
 
 pub mod act;
+pub mod draft;
 pub mod files;
 
 fn main(rt: HostRuntime) -> ExitCode {
