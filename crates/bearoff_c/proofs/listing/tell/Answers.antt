@@ -43,7 +43,7 @@ loop-index-preserved c =
             c.of-in-loop-index.ensures.numerator,
             c.of-in-loop-index.ensures.denominator,
           ) (subst (λ n. IsMean n c.mean.result.numerator c.mean.result.denominator) same
-              c.mean.ensures.value) in
+          c.mean.ensures.value) in
           subst (λ (ones : List Choice). All (HasCost cost) ones)
           (sym (take_more_set room i one low))
           (All-push (HasCost cost) (take i room) one (c.loop-index.invariant.costs cost are) priced);

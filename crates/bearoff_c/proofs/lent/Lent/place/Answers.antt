@@ -1,13 +1,12 @@
-use Rattle.std.proofs.Common.{◌≡◌, ℕ, suc, ◌+◌, ◌-◌, ◌*◌, ◌<◌, sym, ap, ap₂, ◌∙◌, w64, arith, le_trans, le_of_eq}
+use Rattle.std.proofs.Common.{◌≡◌, ℕ, suc, ◌+◌, ◌-◌, ◌*◌, ◌<◌, sym, ap, ap₂, ◌∙◌, w64, arith}
 use Rattle.std.proofs.Math.Facts.{Fits-of_lt}
 use Rattle.race_model.specs.Positions.{pips}
 use Rattle.race_model.specs.Ranks.{rank, first_of, count_to}
 use Rattle.race_model.specs.Versions.{version_by, record_length}
-use Rattle.race_model.specs.Files.{version_of, bound_of, record_place}
+use Rattle.race_model.specs.Files.{record_place}
 use Rattle.race_model.proofs.Ranks.RankOrder.{rank_within, rank_bound, at_rank-rank, count_to-rises}
 use Rattle.race_model.proofs.Ranks.PositionTotals.{count_to-most}
-use Rattle.race_model.proofs.RightFiles.Right.{bound_of-most}
-use Rattle.race_model.proofs.RightFiles.Places.{header_before, record_place-rises, record_place-most}
+use Rattle.race_model.proofs.RightFiles.Places.{record_place-rises, record_place-most}
 use Rattle.db_layout.proofs.RecordPlaces.{first_of-next, place_of_rank}
 use Rattle.bearoff_c.proofs.lent.Lent.place.Goals as goal
 
