@@ -82,10 +82,12 @@ static void take(uint32_t status, uint32_t allowed, size_t size, size_t told) {
 static void ask_line(const char *word, bearoff_position at, const char *more, size_t room) {
     char line[128];
     const uint8_t *on = at.points;
-    int length = snprintf(line, sizeof line, "%s %d,%d,%d,%d,%d,%d%s", word, on[0], on[1], on[2], on[3], on[4], on[5], more);
+    int length = snprintf(line, sizeof line, "%s %d,%d,%d,%d,%d,%d%s", word, on[0], on[1], on[2], on[3], on[4], on[5],
+                          more);
     /* the length that is told stands in front of the text */
     size_t *needed = (size_t *)lend(sizeof *needed + room);
-    uint32_t status = bearoff_answer_line(&database, (const uint8_t *)line, (size_t)length, (uint8_t *)(needed + 1), room, needed);
+    uint32_t status = bearoff_answer_line(&database, (const uint8_t *)line, (size_t)length, (uint8_t *)(needed + 1), room,
+                                          needed);
     take(status, ANSWERED | CHANGED | SHORT, sizeof *needed + room, sizeof *needed);
 }
 
@@ -106,7 +108,8 @@ static void ask(bearoff_position at, uint8_t one, uint8_t other, size_t room) {
     take(bearoff_wastage(&database, &at, (wastage *)lend(16)), ANSWERED | CHANGED, 16, 0);
     take(bearoff_within(&database, &at, one, (uint64_t *)lend(8)), ANSWERED | CHANGED, 8, 0);
     take(bearoff_within(&database, &at, 22, (uint64_t *)lend(8)), ANSWERED | CHANGED, 8, 0);
-    take(bearoff_play(&database, &at, one, other, (bearoff_recorded_play *)lend(15)), ANSWERED | FINISHED | CHANGED, 15, 0);
+    take(bearoff_play(&database, &at, one, other, (bearoff_recorded_play *)lend(15)),
+         ANSWERED | FINISHED | CHANGED, 15, 0);
     take(bearoff_loss(&database, &at, one, other, &to, (bearoff_fraction *)lend(32)),
          ANSWERED | FINISHED | NOT_LEGAL | CHANGED, 32, 0);
     /* the count stands in front of the results */
@@ -167,22 +170,26 @@ static void add_positions(bearoff_position at, int point, int left, int pips) {
     }
 }
 
+/* the place of a byte of a record */
+static size_t some_place(size_t length) { return HEADER + next_number() % (length - HEADER); }
+
 /* gives records numbers that look random, or that lie close to the right ones */
 static void change_records(uint8_t *bytes, size_t length) {
     size_t count = 1 + next_number() % 4, size;
     switch (next_number() % 4) {
     case 0: /* some single bytes */
-        for (size_t i = 0; i < count; i++) bytes[HEADER + next_number() % (length - HEADER)] = (uint8_t)next_number();
+        for (size_t i = 0; i < count; i++) bytes[some_place(length)] = (uint8_t)next_number();
         break;
     case 1: /* single bits, so that a rank or a mean stays near */
-        for (size_t i = 0; i < count; i++) bytes[HEADER + next_number() % (length - HEADER)] ^= (uint8_t)(1 << next_number() % 8);
+        for (size_t i = 0; i < count; i++) bytes[some_place(length)] ^= (uint8_t)(1 << next_number() % 8);
         break;
     case 2: /* a run of one byte */
         size = 1 + next_number() % 1000;
-        for (size_t i = HEADER + next_number() % (length - HEADER); i < length && size--; i++) bytes[i] = (uint8_t)(state >> 40);
+        for (size_t i = some_place(length); i < length && size--; i++) bytes[i] = (uint8_t)(state >> 40);
         break;
-    default: /* a sixteenth of all bytes */
-        for (size_t i = HEADER + next_number() % 16; i < length; i += 1 + next_number() % 31) bytes[i] = (uint8_t)next_number();
+    default: /* about a sixteenth of all bytes */
+        for (size_t i = HEADER + next_number() % 16; i < length; i += 1 + next_number() % 31)
+            bytes[i] = (uint8_t)next_number();
     }
 }
 
@@ -205,14 +212,16 @@ int main(int count, char **words) {
     for (size_t i = 0; i < sizeof ends / sizeof *ends; i++) sigaction(ends[i], &action, 0);
 
     for (int at_end = 0; at_end < 2; at_end++) {
-        uint8_t *block = (uint8_t *)mmap(0, size + 2 * page, PROT_NONE, MAP_PRIVATE | MAP_ANONYMOUS, -1, 0), *pages = block + page;
+        uint8_t *block = (uint8_t *)mmap(0, size + 2 * page, PROT_NONE, MAP_PRIVATE | MAP_ANONYMOUS, -1, 0);
+        uint8_t *pages = block + page;
         if (block == MAP_FAILED || mprotect(pages, size, PROT_READ | PROT_WRITE)) return 2;
         uint8_t *bytes = at_end ? pages + size - length : pages, line[BEAROFF_LINE], bound;
         size_t needed;
         memcpy(bytes, right, length);
         bearoff_database closed = BEAROFF_CLOSED;
         database = closed;
-        if (bearoff_open(&database, bytes, length, line, sizeof line, &needed) || bearoff_bound(&database, &bound)) return 2;
+        if (bearoff_open(&database, bytes, length, line, sizeof line, &needed) || bearoff_bound(&database, &bound))
+            return 2;
         opened = database;
         position_count = 0;
         bearoff_position none = {{0, 0, 0, 0, 0, 0}};

@@ -41,8 +41,8 @@ static uint32_t call_with(int bound, size_t old_length, size_t work_length, size
     uint32_t status = old_length
         ? bearoff_upgrade(built, old_length, work, work_length, room, room_length, filled)
         : bearoff_build((uint8_t)bound, work, work_length, room, room_length, filled);
-    expect(is_marked(work - GUARD, GUARD) && is_marked(work + work_length, GUARD), "beside the work room", bound, (long)status);
-    expect(is_marked(room - GUARD, GUARD) && is_marked(room + room_length, GUARD), "beside the room", bound, (long)status);
+    expect(is_marked(work - GUARD, GUARD) && is_marked(work + work_length, GUARD), "beside the work room", bound, status);
+    expect(is_marked(room - GUARD, GUARD) && is_marked(room + room_length, GUARD), "beside the room", bound, status);
     if (status != BEAROFF_OK) {
         expect(is_marked(room, room_length) && *filled == MARK, "left alone", bound, (long)status);
     }
@@ -60,7 +60,8 @@ static size_t try_rooms(int bound, size_t old_length, uint8_t *file) {
     memcpy(file, room, size);
     expect(call_with(bound, old_length, size, size, &filled) == BEAROFF_OK && filled == size && !memcmp(room, file, size),
            "exactly enough", bound, (long)size);
-    expect(call_with(bound, old_length, size - 1, size, &filled) == BEAROFF_SHORT, "a work room too small", bound, (long)size);
+    expect(call_with(bound, old_length, size - 1, size, &filled) == BEAROFF_SHORT, "a work room too small", bound,
+           (long)size);
     expect(call_with(bound, old_length, size, size - 1, &filled) == BEAROFF_SHORT, "a room too small", bound, (long)size);
     return size;
 }
