@@ -9,6 +9,8 @@
  * Who owns what. The library has no memory and no state of its own. The caller keeps the bytes
  * and the struct bearoff_database; neither may be changed, and the bytes may not go away, for as
  * long as the database is used. The struct may be copied or moved. There is nothing to close.
+ * Where the bytes are changed all the same no call reads outside them: where it reads is told by
+ * the struct alone. An answer may then be wrong, or be refused with BEAROFF_CHANGED.
  * Pointers are not NULL, also where a length is 0. A struct that is made by BEAROFF_CLOSED, or of
  * zeros, is a database that is not open, and each call says so.
  *
@@ -126,11 +128,12 @@ typedef struct bearoff_database {
     size_t length;
     uint8_t is_open;
     uint8_t bound;
+    uint16_t version;
     uint16_t ranks[6 * 16 * 91 + 92];
 } bearoff_database;
 
 /* bearoff_database database = BEAROFF_CLOSED; */
-#define BEAROFF_CLOSED {(const uint8_t *)"", 0, 0, 0, {0}}
+#define BEAROFF_CLOSED {(const uint8_t *)"", 0, 0, 0, 0, {0}}
 
 /* The most bytes that the line of a fault has. */
 #define BEAROFF_LINE 32
@@ -154,7 +157,8 @@ uint32_t bearoff_open(bearoff_database *database, const uint8_t *bytes, size_t l
 
 /*
  * The version of the database's file: 1, or 2 where the records leave out the shares that are
- * known. BEAROFF_OK or BEAROFF_NOT_OPEN.
+ * known. BEAROFF_OK or BEAROFF_NOT_OPEN. This and the next two read no byte, so a change of the
+ * bytes is nothing to them.
  */
 uint32_t bearoff_version(const bearoff_database *database, uint16_t *version);
 
@@ -168,7 +172,7 @@ uint32_t bearoff_positions(const bearoff_database *database, uint32_t *positions
  * The least mean number of rolls until all checkers are off, over all strategies, as a numerator
  * over 36^22 (at most 22 * 36^22). BEAROFF_OK, BEAROFF_NOT_OPEN, BEAROFF_TOO_MANY or
  * BEAROFF_OVER_BOUND, and BEAROFF_CHANGED, which comes only where the bytes were changed after
- * they were checked.
+ * they were checked: where the mean that now stands there is over 22 rolls.
  */
 uint32_t bearoff_mean(const bearoff_database *database, const bearoff_position *position,
                       bearoff_wide *mean);
@@ -179,7 +183,7 @@ uint32_t bearoff_epc(const bearoff_database *database, const bearoff_position *p
 
 /*
  * The chance of each number of rolls, where each play is the recorded one. The statuses of
- * bearoff_mean, without BEAROFF_CHANGED.
+ * bearoff_mean, without BEAROFF_CHANGED: where the bytes were changed it tells what stands there.
  */
 uint32_t bearoff_distribution(const bearoff_database *database, const bearoff_position *position,
                               bearoff_shares *shares);
@@ -187,7 +191,8 @@ uint32_t bearoff_distribution(const bearoff_database *database, const bearoff_po
 /*
  * The recorded play of a roll, whose two dice, 1 to 6 each, come in either order. No play has a
  * smaller mean; there may be others as good. The statuses of bearoff_mean, BEAROFF_BAD_ROLL and
- * BEAROFF_FINISHED.
+ * BEAROFF_FINISHED; BEAROFF_CHANGED only where the bytes were changed, and the roll leads to no
+ * position of the rank that now stands there.
  */
 uint32_t bearoff_play(const bearoff_database *database, const bearoff_position *position,
                       uint8_t one, uint8_t other, bearoff_recorded_play *play);
@@ -195,7 +200,9 @@ uint32_t bearoff_play(const bearoff_database *database, const bearoff_position *
 /*
  * What a play to the position `to` costs, in rolls: the least mean after it, less the least such
  * mean among all positions that the roll can lead to. It is 0 exactly where some best strategy
- * plays so. The statuses of bearoff_play, BEAROFF_TOO_MANY also for `to`, and BEAROFF_NOT_LEGAL.
+ * plays so. The statuses of bearoff_play, BEAROFF_TOO_MANY also for `to`, and BEAROFF_NOT_LEGAL;
+ * BEAROFF_CHANGED, only where the bytes were changed, also where a mean after a play is over 22
+ * rolls, or less than that after the recorded play.
  */
 uint32_t bearoff_loss(const bearoff_database *database, const bearoff_position *position,
                       uint8_t one, uint8_t other, const bearoff_position *to,
@@ -206,7 +213,8 @@ uint32_t bearoff_loss(const bearoff_database *database, const bearoff_position *
  * the smaller counts, the ace point's first), each with what it costs. `results` has room for
  * `room` of them; `*count` is how many there are, at most BEAROFF_RESULTS. The statuses of
  * bearoff_play, and BEAROFF_SHORT where they have no room: then `*count` says how many there are,
- * and no result is written.
+ * and no result is written. BEAROFF_CHANGED comes for the reasons that it has in bearoff_loss, for
+ * any of the results, and before BEAROFF_SHORT; then neither a result nor `*count` is written.
  */
 uint32_t bearoff_results(const bearoff_database *database, const bearoff_position *position,
                          uint8_t one, uint8_t other, bearoff_result *results, size_t room,
@@ -220,7 +228,9 @@ uint32_t bearoff_results(const bearoff_database *database, const bearoff_positio
  * `*needed` is how many bytes that is, at most BEAROFF_REPLY. A line that asks nothing, or is
  * refused, is answered too, by a text that begins with `error`. BEAROFF_OK or BEAROFF_NOT_OPEN;
  * BEAROFF_SHORT where `room` is less than `*needed`: then no text is written; and
- * BEAROFF_CHANGED, which comes only where the bytes were changed after they were checked.
+ * BEAROFF_CHANGED, which comes only where the bytes were changed after they were checked, where
+ * what stands there can't be written as a reply: for the reasons of the other calls, and for `dist`
+ * also where the chances don't add up. Lines that are refused, and `rank`, never have it.
  */
 uint32_t bearoff_answer_line(const bearoff_database *database, const uint8_t *line, size_t length,
                              uint8_t *text, size_t room, size_t *needed);

@@ -149,6 +149,7 @@ class _Database(ctypes.Structure):
         ("length", ctypes.c_size_t),
         ("is_open", ctypes.c_uint8),
         ("bound", ctypes.c_uint8),
+        ("version", ctypes.c_uint16),
         ("ranks", ctypes.c_uint16 * (6 * 16 * 91 + 92)),
     ]
 

@@ -1,8 +1,9 @@
 -- What a right file records of a position that it knows.
-use Rattle.std.proofs.Common.{◌≡◌, ℕ, ◌*◌, ◌≤◌, List, ap, le_trans, arith}
+use Rattle.std.proofs.Common.{◌≡◌, ℕ, ◌*◌, ◌≤◌, List, refl, ap, le_trans, arith}
 use Rattle.race_model.specs.Positions.{Board, IsPosition, pips}
 use Rattle.race_model.specs.Dice.{Throw}
 use Rattle.race_model.specs.Plays.{Legal}
+use Rattle.race_model.specs.Versions.{Version, full, compact, version_by, version_number}
 use Rattle.race_model.specs.Files.{mean, mean_at, play}
 use Rattle.race_model.specs.LocalEquations.{whole, recorded, IsPlayed, IsLocal}
 use Rattle.race_model.specs.Losses.{loss, IsLoss}
@@ -13,6 +14,11 @@ use Rattle.race_model.proofs.RightFiles.Right.{local_of_right}
 use Rattle.race_model.proofs.RightFiles.RightFacts.{recorded_least, loss_is_loss}
 use Rattle.certificate.proofs.Accepted.{accepted-mean}
 use Rattle.bearoff_c.specs.Databases.{IsOpened, IsKnown}
+
+-- the version of the number of a version
+pub version_by-number : (version : Version) → version_by (version_number version) ≡ version
+version_by-number full = refl
+version_by-number compact = refl
 
 -- an open database knows each position of at most its bound
 pub opened_knows : (f : List ℕ) (bound : ℕ) (x : Board) → IsOpened f bound → IsPosition x

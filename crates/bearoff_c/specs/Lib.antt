@@ -6,3 +6,4 @@ pub mod FileFaults
 pub mod PlayLists
 pub mod ResultLists
 pub mod RoundedPips
+pub mod Places

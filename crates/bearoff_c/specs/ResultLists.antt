@@ -14,10 +14,14 @@ use Rattle.bearoff_c.specs.Wides.{number_of}
 abbrev pub places : List Choice → List Board
 places choices = map (λ choice. choice.to.points) choices
 
+-- the loss of a result is what its position costs, over 36 ^ 22
+abbrev pub HasCost : (Board → ℕ) → Choice → Type 0
+HasCost cost choice = IsFraction (cost choice.to.points) whole
+    (number_of choice.loss.numerator) (number_of choice.loss.denominator)
+
 -- the loss of a result is that of its position
 abbrev pub HasLoss : List ℕ → Board → Throw → Choice → Type 0
-HasLoss f x v choice = IsFraction (loss f x v choice.to.points) whole
-    (number_of choice.loss.numerator) (number_of choice.loss.denominator)
+HasLoss f x v = HasCost (loss f x v)
 
 -- the results are every position that the throw leads to, once, by rising rank, with its loss
 pub record IsResultList (f : List ℕ) (x : Board) (v : Throw) (choices : List Choice) : Type 0 where

@@ -19,9 +19,9 @@ use epc_query::{LineFault, Query, Refusal as LineRefusal, Text, laws, put_refusa
 /// Answers a line of the query language, which is given without its line ending: `text` has in
 /// front what the program writes for that line, without the line feed, and the rest of it stays as
 /// it was; `needed` is how many bytes that is, at most 123,125. A line that asks nothing, or is
-/// refused, is answered too, by `error` and the refusal. Refused as `NotOpen`, when all stays as it
-/// was; and with the status 8 where the text has no room, when `needed` is told and `text` stays as
-/// it was.
+/// refused, is answered too, by `error` and the refusal. Refused as `NotOpen`, and as `Changed`
+/// only where the bytes were changed since they were checked, when all stays as it was; and with
+/// the status 8 where the text has no room, when `needed` is told and `text` stays as it was.
 #[unsafe(no_mangle)]
 pub extern "C" fn bearoff_answer_line(
     database: &Database<'_>,

@@ -11,7 +11,8 @@ use retrograde::{BuildFault, build_in_place};
 /// `work` is a room of at least as many bytes, which the build uses as it likes; both need
 /// 11,209,796 bytes for 44 pips and 15,060,844 for 58. It needs 20 MB of stack. Refused as
 /// `OverBound` where the bound is over 58, and with the status 8 where a room is too small; then
-/// `room` and `filled` stay as they were.
+/// `room` and `filled` stay as they were. (That a work room which is too small has the status 8,
+/// and one that isn't never has it, is tested: no clause says when a writer takes no more.)
 #[unsafe(no_mangle)]
 pub extern "C" fn bearoff_build(
     bound: u8,

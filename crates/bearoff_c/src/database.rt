@@ -1,15 +1,17 @@
-ghost use Rattle.std.specs.Prelude.{◌≡◌, ◌<◌, ◌≤◌, ◌+◌, ◌*◌, IsTrue, IfOk, OnOk, length};
-ghost use Rattle.race_model.specs.Positions.{IsPosition, pips};
-ghost use Rattle.race_model.specs.Ranks.{rank as rank_of, first_of, count_to};
-ghost use Rattle.race_model.specs.Versions.{version_by, version_number, record_length as length_of};
-ghost use Rattle.race_model.specs.Files.{IsFile, version_of, bound_of, record_place, record_at, mean as mean_of};
+ghost use Rattle.std.specs.Prelude.{◌≡◌, ◌≤◌, IsTrue, IfOk, OnOk, length};
+ghost use Rattle.race_model.specs.Positions.{pips};
+ghost use Rattle.race_model.specs.Ranks.{rank as rank_of, count_to};
+ghost use Rattle.race_model.specs.Versions.{version_number};
+ghost use Rattle.race_model.specs.Files.{IsFile, version_of, bound_of, record_at, mean as mean_of};
 ghost use Rattle.race_model.specs.Strategies.{IsLeast};
 ghost use Rattle.ranking.specs.Tables.{IsRankTable};
 ghost use Rattle.bearoff_c.specs.Databases.{IsOpened, IsKnown};
+ghost use Rattle.bearoff_c.specs.Places.{HasRoom};
 ghost use Rattle.bearoff_c.specs.Refusals.{position_refusal, refusal_in};
 
+use crate::lent::Lent;
 use crate::refusal::Refusal;
-use db_layout::{COMPACT_VERSION, Place, RecordView, VERSION, record_length};
+use db_layout::RecordView;
 use fixed_fraction::Scaled;
 use home_board::Position;
 use ranking::RankTable;
@@ -56,24 +58,20 @@ pub struct Database<'a> {
     /// The pip bound of the file, where it is open.
     pub bound: u8,
 
+    /// The version of the file, where it is open.
+    pub version: u16,
+
     /// The numbers by which ranks are found, where it is open.
     pub ranks: RankTable,
 
+    // what places are found by
     pub ghost ranked: { IsTrue is_open → IsRankTable ranks },
-    pub ghost filed: { IsTrue is_open → IsFile bytes.now × (bound ≡ bound_of bytes.now) },
-    pub ghost accepted: { ∥ (IsTrue is_open → IsOpened bytes.now bound) ∥₁ },
-}
+    pub ghost sized: { IsTrue is_open → HasRoom version bound (length bytes.now) },
 
-/// The version that the header of a file states.
-#[tactic(auto, unfolding(race_model::specs::Files::version_of))]
-fn stated_version(bytes: &[u8]) -> u16
-    requires { 10 ≤ length bytes.now }
-    ensures { version_by result ≡ version_of bytes.now }
-{
-    match bytes[8..10].try_into() {
-        Ok(number) => u16::from_be_bytes(number),
-        Err(_) => unreachable!(),
-    }
+    // what the bytes say, for as long as they are unchanged
+    pub ghost filed: { IsTrue is_open → IsFile bytes.now × (bound ≡ bound_of bytes.now) },
+    pub ghost stated: { IsTrue is_open → version ≡ version_number (version_of bytes.now) },
+    pub ghost accepted: { ∥ (IsTrue is_open → IsOpened bytes.now bound) ∥₁ },
 }
 
 impl<'a> Database<'a> {
@@ -108,70 +106,29 @@ impl<'a> Database<'a> {
         self.ranks.count_to(self.bound)
     }
 
-    /// The version of the file.
-    pub fn version(&self) -> u16
-        requires { IsTrue self.now.is_open }
-        ensures { result ≡ version_number (version_of self.now.bytes.now) }
-    {
-        if stated_version(self.bytes) == COMPACT_VERSION {
-            COMPACT_VERSION
-        } else {
-            VERSION
-        }
-    }
-
     /// The record of a position.
     pub fn record(&self, position: &Position) -> RecordView<'_>
         requires opened { IsTrue self.now.is_open }
         requires within { pips position.now ≤ self.now.bound }
         ensures { result ≡ record_at self.now.bytes.now (rank_of position.now) }
     {
-        let place = self.place(position);
-        let first = place.offset as usize;
-        let bytes = &self.bytes[first..first + place.length as usize];
-        RecordView::of_version(bytes, stated_version(self.bytes), place.pips).unwrap()
+        let _pips = position.pips();
+        self.lent().record(position)
     }
 
-    /// Where the record of a position stands.
-    fn place(&self, position: &Position) -> Place
-        requires opened { IsTrue self.now.is_open }
-        requires within { pips position.now ≤ self.now.bound }
-        ensures offset { result.offset
-            ≡ record_place (version_of self.now.bytes.now) (rank_of position.now) }
-        ensures length { result.length
-            ≡ length_of (version_of self.now.bytes.now) (pips position.now) }
-        ensures pips { result.pips ≡ pips position.now }
-        ensures low { result.pips ≤ 58 }
-        ensures inside { result.offset + result.length ≤ length self.now.bytes.now }
-        ensures header { 32 ≤ length self.now.bytes.now }
-        ensures position { IsPosition position.now }
+    /// The bytes of an open database, and by what a place in them is found.
+    fn lent(&self) -> Lent<'_>
+        requires { IsTrue self.now.is_open }
+        ensures bytes { result.bytes.now ≡ self.now.bytes.now }
+        ensures version { result.version ≡ self.now.version }
+        ensures bound { result.bound ≡ self.now.bound }
     {
-        let version = stated_version(self.bytes);
-        let pips = position.pips();
-        let earlier = u64::from(self.ranks.rank(position) - self.ranks.first_of(pips));
-        let length = record_length(version, pips);
-        Place {
-            offset: self.start_of(version, pips) + earlier * u64::from(length),
-            length,
-            pips,
+        Lent {
+            bytes: self.bytes,
+            version: self.version,
+            bound: self.bound,
+            ranks: &self.ranks,
         }
-    }
-
-    /// Where the records of the positions of a pip count begin, in a file of a version.
-    fn start_of(&self, version: u16, pips: u8) -> u64
-        requires opened { IsTrue self.now.is_open }
-        requires low { pips ≤ 58 }
-        ensures { result ≡ record_place (version_by version) (first_of pips) }
-    {
-        if version == VERSION {
-            return 32 + 426 * u64::from(self.ranks.first_of(pips));
-        }
-        let mut start = 32;
-        for level in 0..pips {
-            let count = self.ranks.first_of(level + 1) - self.ranks.first_of(level);
-            start += u64::from(count) * u64::from(record_length(version, level));
-        }
-        start
     }
 
     /// The least mean number of rolls of a position, as a numerator over 36 ^ 22. Refused as

@@ -19,8 +19,8 @@ pub struct Distribution {
 }
 
 /// How the number of rolls is spread where each play is the recorded one: the chance of exactly k
-/// rolls for each k from 0 to 22, as a numerator over 36 ^ 22. Refused as `bearoff_mean` is; then
-/// `distribution` stays as it was.
+/// rolls for each k from 0 to 22, as a numerator over 36 ^ 22. Refused as `bearoff_mean` is, but
+/// never as `Changed`; then `distribution` stays as it was.
 #[unsafe(no_mangle)]
 pub extern "C" fn bearoff_distribution(
     database: &Database<'_>,

@@ -4,7 +4,8 @@
 //! on `fixed_fraction` for exact numbers, on `epc_query` for what a line asks and the texts of
 //! replies, and on `race_model` for what each answer is. No crate stands above it: a program in C
 //! may use that an answer with the status 0 is what the definitions say, for as long as the bytes
-//! and the database are as `bearoff_open` left them.
+//! and the database are as `bearoff_open` left them. Where the bytes are changed no call reads
+//! beside them: what reads them, `lent`, knows how many they are, and nothing of what they are.
 #![tactic(auto)]
 
 mod answering;
@@ -15,6 +16,7 @@ mod costs;
 mod database;
 mod distribution;
 mod leading;
+mod lent;
 mod listing;
 mod losses;
 mod means;

@@ -1,14 +1,17 @@
 //! What C asks about plays: what one costs, and every result of a roll.
-ghost use Rattle.std.specs.Prelude.{◌≡◌, ◌<◌, ◌≤◌, ◌⊎◌, ◌↔◌, IsTrue, None, All, length, map, take, drop};
+ghost use Rattle.std.specs.Prelude.{◌≡◌, ℕ, ◌<◌, ◌≤◌, ◌⊎◌, ◌↔◌, IsTrue, None, All, length, map, take, drop};
+ghost use Rattle.std.specs.Prelude.{nat_le, if◌then◌else◌};
+ghost use Rattle.race_model.specs.Positions.{Board};
 ghost use Rattle.race_model.specs.Plays.{Legal};
-ghost use Rattle.race_model.specs.Files.{mean_at, play as play_of};
+ghost use Rattle.race_model.specs.Ranks.{rank as rank_of};
+ghost use Rattle.race_model.specs.Files.{record_at};
 ghost use Rattle.race_model.specs.LocalEquations.{whole};
 ghost use Rattle.race_model.specs.Fractions.{IsFraction};
 ghost use Rattle.race_model.specs.Losses.{loss as loss_of, IsLoss};
 ghost use Rattle.legal_plays.specs.Faces.{face, roll_of};
 ghost use Rattle.bearoff_c.specs.Databases.{IsKnown};
 ghost use Rattle.bearoff_c.specs.Refusals.{loss_refusal, play_refusal, status_of};
-ghost use Rattle.bearoff_c.specs.ResultLists.{places, HasLoss, IsResultList, IsResultCount};
+ghost use Rattle.bearoff_c.specs.ResultLists.{places, HasCost, IsResultList, IsResultCount};
 ghost use Rattle.bearoff_c.specs.Wides.{number_of};
 
 use crate::choice::Choice;
@@ -16,9 +19,12 @@ use crate::database::{Counts, Database};
 use crate::playing::Turn;
 use crate::refusal::{OK, Refusal, SHORT};
 use crate::wide_fraction::WideFraction;
-use fixed_fraction::Scaled;
+use fixed_fraction::{Scaled, mean};
 use home_board::Position;
 use legal_plays::results;
+
+/// How many positions a roll can lead to at most.
+const MOST_RESULTS: usize = 1296;
 
 /// What a result of a roll costs, in rolls: the least mean after it less the least such mean among
 /// all results. Refused as `bearoff_play` is, else as `TooMany` where the result has more than 15
@@ -88,45 +94,66 @@ pub extern "C" fn bearoff_results(
         Err(refusal) => return refusal.status(),
     };
     let found = results(&turn.position, turn.roll);
-    let Some(least) = database.least(&turn) else {
-        return Refusal::Changed.status();
-    };
-    *count = found.len();
-    if found.len() > room.len() {
-        return SHORT;
-    }
-    if database.list(&turn, least, found.as_slice(), room) {
-        OK
+    let mut lost = [Scaled::ZERO; MOST_RESULTS];
+    if database.find_lost(&turn, found.as_slice(), &mut lost) {
+        tell(found.as_slice(), &lost[..found.len()], room, count)
     } else {
         Refusal::Changed.status()
     }
 }
 
 impl<'a> Database<'a> {
-    /// Writes results of a turn, each with what it costs, to the front of a room. Whether it could
-    /// be done, which is so unless the bytes were changed since they were checked.
-    fn list(&self, turn: &Turn<'_>, least: Scaled, found: &[Position], room: &mut [Choice]) -> bool
+    /// Finds what each of the results of a turn costs, as a number of rolls. Whether it could be
+    /// done, which is so unless the bytes were changed since they were checked.
+    // so that its room is not part of its caller's
+    #[inline(never)]
+    fn find_lost(&self, turn: &Turn<'_>, found: &[Position], lost: &mut [Scaled]) -> bool
         requires opened { IsTrue self.now.is_open }
+        requires record { turn.now.view
+            ≡ record_at self.now.bytes.now (rank_of turn.now.position) }
         requires known { ∥ IsKnown self.now.bytes.now turn.now.position ∥₁ }
         requires legal { All (Legal turn.now.position turn.now.roll) found.now }
-        requires least { least ≡ mean_at
-            self.now.bytes.now (play_of self.now.bytes.now turn.now.position turn.now.roll) }
-        requires fits { length found.now ≤ length room.old }
+        requires fits { length found.now ≤ length lost.old }
         ensures done { IsTrue result }
-        ensures places { places (take (length found.now) room.new) ≡ found.now }
-        ensures losses { All (HasLoss self.now.bytes.now turn.now.position turn.now.roll)
-            (take (length found.now) room.new) }
-        ensures rest { drop (length found.now) room.new ≡ drop (length found.now) room.old }
+        ensures lost { take (length found.now) lost.new ≡ map
+            (loss_of self.now.bytes.now turn.now.position turn.now.roll) found.now }
     {
+        let Some(least) = self.least(turn) else {
+            return false;
+        };
         for (index, to) in found.iter().enumerate() {
-            let Some(lost) = self.lost(turn, least, to) else {
+            let Some(more) = self.lost(turn, least, to) else {
                 return false;
             };
-            room[index] = Choice {
-                to: Counts::of(to),
-                loss: WideFraction::of(lost),
-            };
+            lost[index] = more;
         }
         true
     }
+}
+
+/// Tells how many results there are, and writes them to the front of a room, each with what it
+/// costs: the status 0. With the status 8, exactly where they have no room, only their number is
+/// told. It reads no byte of a database.
+fn tell(found: &[Position], lost: &[Scaled], room: &mut [Choice], count: &mut usize) -> u32
+    requires { length lost.now ≡ length found.now }
+    ensures status { result ≡ (if nat_le (length found.now) (length room.old) then 0 else 8) }
+    ensures told { count.new ≡ length found.now }
+    ensures places { result ≡ 0 → places (take (length found.now) room.new) ≡ found.now }
+    ensures costs { result ≡ 0 → (cost : Board → ℕ) → lost.now ≡ map cost found.now
+        → All (HasCost cost) (take (length found.now) room.new) }
+    ensures rest { result ≡ 0 →
+        drop (length found.now) room.new ≡ drop (length found.now) room.old }
+    ensures left { ¬ (result ≡ 0) → room.new ≡ room.old }
+{
+    *count = found.len();
+    if found.len() > room.len() {
+        return SHORT;
+    }
+    for (index, to) in found.iter().enumerate() {
+        room[index] = Choice {
+            to: Counts::of(to),
+            loss: WideFraction::of(mean(lost[index])),
+        };
+    }
+    OK
 }

@@ -62,22 +62,20 @@ impl<'a> Database<'a> {
         self.mean_after(turn, &best)
     }
 
-    /// What a result of a turn costs beside the least mean. None only where the bytes were changed
-    /// since they were checked.
-    pub fn lost(&self, turn: &Turn<'_>, least: Scaled, to: &Position) -> Option<Fraction>
+    /// What a result of a turn costs beside the least mean, as a number of rolls. None only where
+    /// the bytes were changed since they were checked.
+    pub fn lost(&self, turn: &Turn<'_>, least: Scaled, to: &Position) -> Option<Scaled>
         requires opened { IsTrue self.now.is_open }
         requires known { ∥ IsKnown self.now.bytes.now turn.now.position ∥₁ }
         requires legal { Legal turn.now.position turn.now.roll to.now }
         requires least { least ≡ mean_at
             self.now.bytes.now (play_of self.now.bytes.now turn.now.position turn.now.roll) }
         ensures some { IsSome result }
-        ensures loss { IfSome result (λ lost. IsFraction
-            (loss_of self.now.bytes.now turn.now.position turn.now.roll to.now) whole
-            lost.numerator lost.denominator) }
+        ensures loss { IfSome result (λ lost.
+            lost ≡ loss_of self.now.bytes.now turn.now.position turn.now.roll to.now) }
     {
         let after = self.mean_after(turn, to)?;
-        let difference = after.minus(least)?;
-        Some(mean(difference))
+        after.minus(least)
     }
 
     /// What a result of a turn costs. None only where the bytes were changed since they were
@@ -94,7 +92,8 @@ impl<'a> Database<'a> {
             lost.numerator lost.denominator) }
     {
         let least = self.least(turn)?;
-        self.lost(turn, least, to)
+        let lost = self.lost(turn, least, to)?;
+        Some(mean(lost))
     }
 
     /// What a result of a roll costs: the mean number of rolls after it less the least such mean

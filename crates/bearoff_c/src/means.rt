@@ -12,8 +12,9 @@ use crate::wide::Wide;
 use fixed_fraction::epc;
 
 /// The least mean number of rolls of a position over all strategies, also those that look at the
-/// history, as a numerator over 36 ^ 22. Refused as `NotOpen`, `TooMany` or `OverBound`; then
-/// `mean` stays as it was.
+/// history, as a numerator over 36 ^ 22. Refused as `NotOpen`, `TooMany` or `OverBound`, and as
+/// `Changed` only where the bytes were changed since they were checked, of which no clause speaks;
+/// then `mean` stays as it was.
 #[unsafe(no_mangle)]
 pub extern "C" fn bearoff_mean(database: &Database<'_>, position: &Counts, mean: &mut Wide) -> u32
     ensures status { result ≡ status_of

@@ -64,6 +64,7 @@ fn opened<'a>(bytes: &'a [u8], checked: &Checked<Whole<'a>>) -> Database<'a>
         bytes,
         is_open: true,
         bound: checked.bound(),
+        version: checked.version(),
         ranks: RankTable::new(),
     }
 }
@@ -102,7 +103,7 @@ pub extern "C" fn bearoff_version(database: &Database<'_>, version: &mut u16) ->
     if !database.is_open {
         return Refusal::NotOpen.status();
     }
-    *version = database.version();
+    *version = database.version;
     OK
 }
 

@@ -38,7 +38,8 @@ pub struct RecordedPlay {
 
 /// The recorded play of a roll, given by its two dice in either order: no play has a smaller mean.
 /// Refused as `NotOpen`, else as `BadRoll` where a die isn't 1 to 6, else as `TooMany` or
-/// `OverBound`, and else as `Finished` where no checker is left; then `play` stays as it was.
+/// `OverBound`, and else as `Finished` where no checker is left, and as `Changed` only where the
+/// bytes were changed since they were checked; then `play` stays as it was.
 #[unsafe(no_mangle)]
 pub extern "C" fn bearoff_play(
     database: &Database<'_>,

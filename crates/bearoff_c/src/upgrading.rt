@@ -22,7 +22,8 @@ const NOT_OLD: u32 = 9;
 /// call uses as it likes; both need 7,608,420 bytes for 44 pips. The bytes are checked first: a
 /// status of 16 to 27 names their first fault. Refused with the status 9 exactly where they are a
 /// right database of version 2, and with 8 where a room is too small. Where the status is not 0
-/// `room` and `filled` stay as they were.
+/// `room` and `filled` stay as they were. (Of the work room and the status 8 the same holds as of
+/// `bearoff_build`.)
 #[unsafe(no_mangle)]
 pub extern "C" fn bearoff_upgrade(
     bytes: &[u8],

@@ -6,20 +6,20 @@ use Rattle.race_model.specs.Files.{record_place}
 use Rattle.race_model.proofs.Ranks.RankOrder.{first_of-rises}
 use Rattle.race_model.proofs.RightFiles.Places.{record_place-full}
 use Rattle.db_layout.proofs.RecordPlaces.{place_beyond, place_of_none, place-fits}
-use Rattle.bearoff_c.proofs.database.Database.start_of.Goals as goal
+use Rattle.bearoff_c.proofs.lent.Lent.start_of.Goals as goal
 
-pub returns-then-version-eq-VERSION : goal.returns-then-version-eq-VERSION
-returns-then-version-eq-VERSION c =
+pub returns-then-self-eq-VERSION : goal.returns-then-self-eq-VERSION
+returns-then-self-eq-VERSION c =
     omega (
       arith,
       c.from.ensures,
       c.first_of.ensures,
       record_place-full (first_of c.args.pips),
-      ap (λ n. record_place (version_by n) (first_of c.args.pips)) c.if-version-eq-VERSION.true,
+      ap (λ n. record_place (version_by n) (first_of c.args.pips)) c.if-self-eq-VERSION.true,
     )
 
 pub loop-level-init : goal.loop-level-init
-loop-level-init c = place_of_none (version_by c.args.version)
+loop-level-init c = place_of_none (version_by c.args.self.now.version)
 
 pub overflow_sub-count : goal.overflow_sub-count
 overflow_sub-count c =
@@ -33,7 +33,7 @@ overflow_sub-count c =
 -- where the next level begins
 next : (c : goal.After-from-in-loop-level-2) →
     c.loop-level.start + c.from-in-loop-level.result * c.from-in-loop-level-2.result
-    ≡ record_place (version_by c.args.version) (first_of (c.loop-level.level + 1))
+    ≡ record_place (version_by c.args.self.now.version) (first_of (c.loop-level.level + 1))
 next c =
     rw (
       c.loop-level.invariant,
@@ -43,7 +43,7 @@ next c =
       c.from-in-loop-level-2.ensures,
       c.record_length.ensures,
     )
-    (sym (place_beyond (version_by c.args.version) c.loop-level.level))
+    (sym (place_beyond (version_by c.args.self.now.version) c.loop-level.level))
 
 pub overflow_add-start : goal.overflow_add-start
 overflow_add-start c =
@@ -51,8 +51,8 @@ overflow_add-start c =
     (omega (
       arith,
       next c,
-      place-fits (version_by c.args.version) (c.loop-level.level + 1)
-          (omega (arith, c.loop-level-test.true, c.requires.low)),
+      place-fits (version_by c.args.self.now.version) (c.loop-level.level + 1)
+          (omega (arith, c.loop-level-test.true, c.requires)),
     ))
 
 pub loop-level-preserved : goal.loop-level-preserved
