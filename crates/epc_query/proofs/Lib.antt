@@ -8,3 +8,4 @@ pub mod CostOrder
 pub mod Stops
 pub mod Runs
 pub mod PipCounts
+pub mod UsedReads

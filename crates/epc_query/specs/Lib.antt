@@ -6,3 +6,4 @@ pub mod Faults
 pub mod Costs
 pub mod Runs
 pub mod LevelMeans
+pub mod UsedReads

@@ -6,6 +6,7 @@ ghost use Rattle.race_model.specs.InputLines.{whole_lines, lines_of};
 ghost use Rattle.db_reader.specs.Telling.{WhereTold};
 ghost use Rattle.certificate.specs.Databases.{Stays};
 ghost use Rattle.epc_query.specs.Runs.{HasReplies, IsStoppedAt, IsAnswered, IsRunStopped, RunCounted};
+ghost use Rattle.epc_query.specs.UsedReads.{HasUsed};
 
 use crate::line_buffer::LineBuffer;
 use crate::lines::{answer_chunk, answer_last};
@@ -28,9 +29,10 @@ const MOST_TURNS: u64 = 1 << 40;
 ///
 /// Refused as `Read` where the reader failed, as `Write` where the writer failed or took no byte,
 /// as `Table` where a record could not be read, as `Memory` where there was none for a list of
-/// moves, and as `Turns` where there were so many reads and no end yet. At each fault but `Write`
-/// the replies to all lines before it were written in full, and at `Write` a prefix of the
-/// replies. It takes no memory but at a line that asks for a list of moves.
+/// moves, and as `Turns` where there were so many reads and no end yet, each of which gave a
+/// byte. At each fault but `Write` the replies to all lines before it were written in full, and
+/// at `Write` a prefix of the replies. It takes no memory but at a line that asks for a list of
+/// moves.
 pub fn run<T: Table, R: Read, W: Write>(
     alloc: Global,
     checked: &mut Checked<T>,
@@ -46,6 +48,8 @@ pub fn run<T: Table, R: Read, W: Write>(
         (λ input. IfErr result
         (IsRunStopped file input (R.remaining reader.new) (W.contents writer.old)
         (W.contents writer.new)))) }
+    ensures used { WhereTold checked.old.told (λ _. WhereTold (R.remaining reader.old)
+        (λ input. IfErr result (HasUsed turns input (R.remaining reader.new)))) }
     ensures stays { Stays checked.old checked.new (λ before now. RunCounted before now result) }
 {
     laws::law_input_lines();

@@ -1,6 +1,6 @@
 //! Calls that take memory, while a growth of memory is refused from outside, and a few short
 //! trials by a word.
-use crate::inputs::answer_endless;
+use crate::inputs::{answer_endless, fail_reads};
 use crate::texts::{Text, fail_flush};
 use crate::wrong::{accepted, database};
 use certificate::{Checked, QueryFault, check};
@@ -68,6 +68,7 @@ pub(crate) fn try_growths(alloc: Global, word: &str) -> Outcome {
                 "puts" => try_puts(alloc, file.as_slice()),
                 "flushes" => try_flushes(alloc, file.as_slice()),
                 "turns" => try_turns(alloc, file.as_slice()),
+                "reads" => try_reads(alloc, file.as_slice()),
                 _ => Outcome::Wrong,
             }
         }
@@ -259,6 +260,12 @@ fn try_flushes(alloc: Global, file: &[u8]) -> Outcome {
         }
     }
     Outcome::Whole.or_wrong(fail_flush(alloc, file, Text::Run) == Ok(1))
+}
+
+/// An input in parts of 17 bytes: each read that fails is told as such, and where the reads run
+/// out before it that is told.
+fn try_reads(alloc: Global, file: &[u8]) -> Outcome {
+    Outcome::Whole.or_wrong(fail_reads(alloc, file, 17) == Ok(21))
 }
 
 /// An input that never ends: as many reads as turns.

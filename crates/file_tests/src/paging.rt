@@ -4,8 +4,10 @@ ghost use Rattle.std.specs.Prelude.{ℕ};
 
 use crate::given::{accepted, assert_replies, compact_database, database, pages, put};
 use certificate::{CheckFault, check};
-use db_reader::trial::FailOnce;
-use db_reader::{FileSource, Paged, PagedFault, SliceSource, Source, SourceFault, Whole};
+use db_reader::trial::{FailAt, FailOnce};
+use db_reader::{
+    FileSource, Paged, PagedFault, SliceSource, Source, SourceFault, Table, TableFault, Whole,
+};
 use std::process::Abort;
 use std::rt::Files;
 use std::test::Fail;
@@ -112,6 +114,24 @@ fn a_read_that_fails_is_told_and_passes(rt: HostRuntime) -> Result<(), Fail> {
                 accepted(table)?;
             }
             Ok(_) => return Err(Fail::from(CheckFault::Read)),
+        }
+    }
+    Ok(())
+}
+
+#[test]
+fn a_trial_fails_at_its_call_alone(rt: HostRuntime) -> Result<(), Fail> {
+    for call in 0..=5 {
+        let mut source = FailAt::new(SliceSource::new(b"bytes"), call);
+        let mut table = FailOnce::new(Whole::new(b"bytes"), call);
+        for made in 1..=6 {
+            let is_refused = if made % 2 == 0 {
+                source.length().is_err()
+            } else {
+                source.read_at(1, &mut [0]).is_err()
+            };
+            assert_eq!(rt; is_refused, made == call);
+            assert_eq!(rt; table.header() == Err(TableFault::Read), made == call);
         }
     }
     Ok(())

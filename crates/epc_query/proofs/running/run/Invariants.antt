@@ -14,7 +14,7 @@ invariant-loop-turn g l = record {
       × Consumes (Some input) (g.R.Read.remaining l.reader) done
       × IsAnswered file done (g.W.Write.contents l.initial.writer)
       (g.W.Write.contents l.writer) l.held
-      × (length (whole_lines done) ≡ l.count)));
+      × (length (whole_lines done) ≡ l.count) × (l._turn ≤ length done)));
   few : l.count ≤ 4096 * l._turn;
   long : length l.chunk ≡ 4096;
   stays : Stays l.initial.checked l.checked (λ before now. now ≡ before);
