@@ -61,12 +61,12 @@ const STATUSES: &str =
 2 the words are wrong; 3 the database was refused, and standard error says why.";
 
 const BUILD_STATUSES: &str =
-    "Exit status: 0 the file was written; 1 it could not be written (a file that stood there stays),
-or memory failed; 2 the words are wrong or N is over the greatest bound.";
+    "Exit status: 0 the file was written; 1 it, the output or memory failed (FILE is the old file, or
+the whole new one); 2 the words are wrong or N is over the greatest bound.";
 
 const UPGRADE_STATUSES: &str =
-    "Exit status: 0 NEW was written; 1 a file, the output or memory failed (a file that stood at NEW
-stays); 2 the words are wrong; 3 OLD was refused, or is new already.";
+    "Exit status: 0 NEW was written; 1 a file, the output or memory failed (NEW is the old file, or
+the whole new one); 2 the words are wrong; 3 OLD was refused, or is new already.";
 
 /// What the words after the program's own name ask for, where there is none `Default`. An error of
 /// `clap`'s is a mistake in the words, a help text that they ask for, or want of memory.

@@ -1,5 +1,5 @@
-use Rattle.std.proofs.Common.{◌≡◌, ◌+◌, ◌≤◌, ap, sym, ◌∙◌, arith}
-use Rattle.race_model.specs.Versions.{Version, version_by, full}
+use Rattle.std.proofs.Common.{ap, arith}
+use Rattle.race_model.specs.Versions.{Version}
 use Rattle.race_model.specs.Files.{record_place}
 use Rattle.race_model.proofs.RightFiles.Places.{record_place-full}
 use Rattle.db_layout.proofs.places.Places.find_full.Goals as goal
