@@ -1,5 +1,5 @@
 -- What the tests of the records of a file tell, one after another.
-use Rattle.std.proofs.Common.{◌≡◌, ⊎_elim, ℕ, ◌+◌, ◌<◌, ◌≤◌, List, sym, ap, subst, ◌∙◌, arith}
+use Rattle.std.proofs.Common.{◌≡◌, ◌↔◌, ⊎_elim, ℕ, ◌+◌, ◌<◌, ◌≤◌, List, refl, sym, ap, subst, ◌∙◌, arith}
 use Rattle.std.proofs.lemmas.Bool.{cases_lt}
 use Rattle.race_model.specs.Positions.{Board, IsPosition}
 use Rattle.race_model.specs.Ranks.{rank, at_rank, count_to}
@@ -15,8 +15,9 @@ use Rattle.race_model.proofs.FirstFaults.HeaderFacts.{header_fault_refuses}
 use Rattle.race_model.proofs.FirstFaults.Questions.{fault_refuses}
 use Rattle.race_model.proofs.RightFiles.Right.{local_of_right}
 use Rattle.db_layout.specs.HeaderFaults.{test_of}
-use Rattle.certificate.specs.RecordFaults.{IsFirstInRecord, IsFirstFaultAt, RecordCauses}
-use Rattle.certificate.specs.CheckFaults.{IsFirst, CheckCauses, of_record_at}
+use Rattle.db_reader.specs.Telling.{RoseWhere}
+use Rattle.certificate.specs.RecordFaults.{IsFirstInRecord, IsFirstFaultAt}
+use Rattle.certificate.specs.CheckFaults.{IsFirst, of_record_at}
 use Rattle.certificate.specs.declared.check_fault.CheckFault.{CheckFault}
 use Rattle.certificate.specs.declared.check_fault.CheckFault.TheVariants.{Header, Play as PlayAt}
 use Rattle.certificate.specs.declared.check_fault.CheckFault.TheVariants.{NotLeast as NotLeastAt, Mean as MeanAt}
@@ -69,14 +70,13 @@ fault-of_file f r (Spread k) file accepted first =
     (file, first-of_file f r (spread_test r k) accepted first)
 fault-of_file f r Read file accepted first = tt
 
--- a fault of a record has its cause as one of the file
-pub fault-cause : (r : ℕ) (fault : RecordFault) (before now : ℕ) → RecordCauses before now fault
-    → CheckCauses before now (of_record_at r fault)
-fault-cause r (Play roll) before now cause = cause
-fault-cause r (NotLeast roll) before now cause = cause
-fault-cause r Mean before now cause = cause
-fault-cause r (Spread k) before now cause = cause
-fault-cause r Read before now cause = cause
+-- a fault of a record is a failed read exactly where it is one as a fault of the file
+pub fault-read : (r : ℕ) (fault : RecordFault) → (of_record_at r fault ≡ ReadAt) ↔ (fault ≡ Read)
+fault-read r (Play roll) = (λ e. cc, λ e. cc)
+fault-read r (NotLeast roll) = (λ e. cc, λ e. cc)
+fault-read r Mean = (λ e. cc, λ e. cc)
+fault-read r (Spread k) = (λ e. cc, λ e. cc)
+fault-read r Read = (λ _. refl, λ _. refl)
 
 -- one record more is accepted
 pub accepted-more : (f : List ℕ) (r : ℕ) →
@@ -102,7 +102,7 @@ accepted-all f r file all accepted = record {
 -- a right file is refused by no fault but one of reading, and by that only where the count of
 -- failures rose
 pub none-of_right : (f : List ℕ) (before now : ℕ) (fault : CheckFault) → IsFirst f fault
-    → CheckCauses before now fault → now ≡ before → ¬ IsRight f
+    → RoseWhere (fault ≡ ReadAt) before now → now ≡ before → ¬ IsRight f
 none-of_right f before now (Header fault) first cause same = λ right.
     header_fault_refuses f (test_of fault) first right.file
 none-of_right f before now (PlayAt rank roll) first cause same = λ right.
@@ -113,4 +113,4 @@ none-of_right f before now (MeanAt rank) first cause same = λ right.
     fault_refuses f (mean_test rank) first.1 (local_of_right f right)
 none-of_right f before now (SpreadAt rank k) first cause same = λ right.
     fault_refuses f (spread_test rank k) first.1 (local_of_right f right)
-none-of_right f before now ReadAt first cause same = absurd (omega arith)
+none-of_right f before now ReadAt first cause same = absurd (omega (arith, cause.rose refl, same))

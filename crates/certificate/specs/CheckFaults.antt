@@ -1,5 +1,5 @@
 -- What a refusal of the checker means: the first fault of the file, in the checker's order.
-use Rattle.std.specs.Prelude.{◌≡◌, ℕ, ◌<◌, List, length, take, Result, Ok, Err}
+use Rattle.std.specs.Prelude.{ℕ, List, length, take}
 use Rattle.race_model.specs.Files.{IsFile}
 use Rattle.race_model.specs.Headers.{IsFirstHeaderFault}
 use Rattle.race_model.specs.FirstFault.{play_test, least_test, mean_test, spread_test, Asks, IsFirstFault}
@@ -28,19 +28,6 @@ of_record_at rank (NotLeastOf roll) = NotLeast rank roll
 of_record_at rank MeanOf = Mean rank
 of_record_at rank (SpreadOf k) = Spread rank k
 of_record_at rank ReadOf = Read
-
--- the read fault is answered exactly where the count of failures rose
-abbrev pub CheckCauses : ℕ → ℕ → CheckFault → Type 0
-CheckCauses before now (Header fault) = now ≡ before
-CheckCauses before now (Play rank roll) = now ≡ before
-CheckCauses before now (NotLeast rank roll) = now ≡ before
-CheckCauses before now (Mean rank) = now ≡ before
-CheckCauses before now (Spread rank k) = now ≡ before
-CheckCauses before now Read = before < now
-
-abbrev pub CheckCounted : {T : Type 0} → ℕ → ℕ → Result T CheckFault → Type 0
-CheckCounted before now (Ok x) = now ≡ before
-CheckCounted before now (Err fault) = CheckCauses before now fault
 
 -- the text of a fault
 abbrev pub line_of : CheckFault → List ℕ

@@ -1,5 +1,5 @@
 -- What a refused play means.
-use Rattle.std.specs.Prelude.{◌≡◌, ℕ, ◌<◌, List, Result, Ok, Err}
+use Rattle.std.specs.Prelude.{◌≡◌, ℕ, ◌<◌, List}
 use Rattle.race_model.specs.Positions.{Board}
 use Rattle.race_model.specs.Dice.{Throw, roll_at}
 use Rattle.race_model.specs.Plays.{Legal}
@@ -24,13 +24,3 @@ pub record FirstOfPlays (f : List ℕ) (x : Board) (roll : ℕ) (fault : PlayFau
   pub is_roll : roll < 21
   pub applies : Applies f x (roll_at roll) fault
   pub earlier : (i : ℕ) → i < roll → IsPlayed f x (roll_at i) × IsBest f x (roll_at i)
-
--- the read fault is answered exactly where the count of failures rose
-abbrev pub PlayCauses : ℕ → ℕ → PlayFault → Type 0
-PlayCauses before now NotLegal = now ≡ before
-PlayCauses before now NotLeast = now ≡ before
-PlayCauses before now Read = before < now
-
-abbrev pub PlayCounted : {T : Type 0} → ℕ → ℕ → Result T PlayFault → Type 0
-PlayCounted before now (Ok x) = now ≡ before
-PlayCounted before now (Err fault) = PlayCauses before now fault

@@ -1,11 +1,9 @@
 -- What a fault of a record means.
-use Rattle.std.specs.Prelude.{◌≡◌, ℕ, ◌<◌, List, Result, Ok, Err}
+use Rattle.std.specs.Prelude.{◌≡◌, ℕ, ◌<◌, List}
 use Rattle.race_model.specs.FirstFault.{Test, play_test, least_test, mean_test, spread_test}
 use Rattle.race_model.specs.FirstFault.{rank_of, place_of, Holds, Asks}
-use Rattle.certificate.specs.PlayFaults.{PlayCauses}
 use Rattle.certificate.specs.declared.plays.PlayFault.{PlayFault}
 use Rattle.certificate.specs.declared.plays.PlayFault.TheVariants.{NotLegal, NotLeast as NotLeastPlay, Read as ReadPlay}
-use Rattle.certificate.specs.declared.record_check.RefusedPlay.{RefusedPlay}
 use Rattle.certificate.specs.declared.record_check.RecordFault.{RecordFault}
 use Rattle.certificate.specs.declared.record_check.RecordFault.TheVariants.{Play, NotLeast, Mean, Spread, Read}
 
@@ -29,19 +27,3 @@ abbrev pub of_record : ℕ → PlayFault → RecordFault
 of_record roll NotLegal = Play roll
 of_record roll NotLeastPlay = NotLeast roll
 of_record roll ReadPlay = Read
-
--- the read fault is answered exactly where the count of failures rose
-abbrev pub RecordCauses : ℕ → ℕ → RecordFault → Type 0
-RecordCauses before now (Play roll) = now ≡ before
-RecordCauses before now (NotLeast roll) = now ≡ before
-RecordCauses before now Mean = now ≡ before
-RecordCauses before now (Spread k) = now ≡ before
-RecordCauses before now Read = before < now
-
-abbrev pub RecordCounted : {T : Type 0} → ℕ → ℕ → Result T RecordFault → Type 0
-RecordCounted before now (Ok x) = now ≡ before
-RecordCounted before now (Err fault) = RecordCauses before now fault
-
-abbrev pub SumsCounted : {T : Type 0} → ℕ → ℕ → Result T RefusedPlay → Type 0
-SumsCounted before now (Ok x) = now ≡ before
-SumsCounted before now (Err refused) = PlayCauses before now refused.fault

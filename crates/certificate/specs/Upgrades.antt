@@ -1,5 +1,5 @@
 -- What an upgrade writes. Source: this project's profile.
-use Rattle.std.specs.Prelude.{◌≡◌, ℕ, ◌<◌, List, Option, Result, Ok, Err, map}
+use Rattle.std.specs.Prelude.{ℕ, List, Option, map}
 use Rattle.std.specs.List.{range_with_len}
 use Rattle.std.specs.Io.KnownBytes.{Appends, Keeps}
 use Rattle.race_model.specs.Positions.{pips}
@@ -32,16 +32,6 @@ abbrev pub IsLater : UpgradeFault → Type 0
 IsLater NotOld = ⊥
 IsLater Read = Unit {0}
 IsLater Write = Unit {0}
-
--- the read fault is answered exactly where the count of failures rose
-abbrev pub UpgradeCauses : ℕ → ℕ → UpgradeFault → Type 0
-UpgradeCauses before now NotOld = now ≡ before
-UpgradeCauses before now Read = before < now
-UpgradeCauses before now Write = now ≡ before
-
-abbrev pub UpgradeCounted : {T : Type 0} → ℕ → ℕ → Result T UpgradeFault → Type 0
-UpgradeCounted before now (Ok x) = now ≡ before
-UpgradeCounted before now (Err fault) = UpgradeCauses before now fault
 
 -- the plays of the rolls 0 to 20 in the bytes of a record
 unfoldable pub plays_of : List ℕ → List ℕ

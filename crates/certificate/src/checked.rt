@@ -11,12 +11,13 @@ ghost use Rattle.race_model.specs.Strategies.{IsLeast, count_of};
 ghost use Rattle.race_model.specs.FirstPlays.{IsFirstPlay};
 ghost use Rattle.legal_plays.specs.MoveLists.{moves_of};
 ghost use Rattle.db_layout.specs.Records.{IsVersion};
-ghost use Rattle.db_reader.specs.Telling.{WhereTold};
+ghost use Rattle.db_reader.specs.Telling.{WhereTold, RoseWhere};
+ghost use Rattle.db_reader.specs.TableStays.{TableStays};
 ghost use Rattle.certificate.specs.Accepted.{IsAccepted};
 ghost use Rattle.certificate.specs.Databases.{Stays};
-ghost use Rattle.certificate.specs.CheckFaults.{IsFirst, CheckCauses};
-ghost use Rattle.certificate.specs.QueryFaults.{RefusesNumbers, RefusesPlays, QueryCounted};
-ghost use Rattle.certificate.specs.Upgrades.{WritesUpgrade, IsRefusedBy, UpgradeCounted};
+ghost use Rattle.certificate.specs.CheckFaults.{IsFirst};
+ghost use Rattle.certificate.specs.QueryFaults.{RefusesNumbers, RefusesPlays};
+ghost use Rattle.certificate.specs.Upgrades.{WritesUpgrade, IsRefusedBy};
 ghost use Rattle.std.specs.Io.KnownBytes.{Keeps};
 
 use crate::check_fault::CheckFault;
@@ -88,8 +89,8 @@ pub fn check<T: Table>(mut table: T) -> Result<Checked<T>, (T, CheckFault)>
         (λ file. IfErr result (λ refused. IsFirst file refused.1)) }
     ensures ok_cause { WhereTold (T.tells table)
         (λ _. IfOk result (λ checked. checked.failures ≡ T.failures table)) }
-    ensures err_cause { WhereTold (T.tells table) (λ _. IfErr result
-        (λ refused. CheckCauses (T.failures table) (T.failures refused.0) refused.1)) }
+    ensures err_cause { WhereTold (T.tells table) (λ _. IfErr result (λ refused. RoseWhere
+        (refused.1 ≡ CheckFault.Read) (T.failures table) (T.failures refused.0))) }
 {
     laws::law_right();
     let ranks = Ranks::new();
@@ -158,7 +159,7 @@ impl<T: Table> Checked<T> {
         ensures least { WhereTold self.old.told (λ _. IfOk result (IsLeast position.now)) }
         ensures recorded { WhereTold self.old.told
             (λ file. IfOk result (λ t. t ≡ mean_of file position.now)) }
-        ensures stays { Stays self.old self.new (λ before now. QueryCounted before now result) }
+        ensures stays { Stays self.old self.new (result ≡ Err QueryFault.Read) }
         ensures fault { IfErr result RefusesNumbers }
     {
         let mut room = Record::new();
@@ -184,7 +185,7 @@ impl<T: Table> Checked<T> {
             IsLeast position.now (mean_of file position.now)
             × IsMean (mean_of file position.now)
             fraction.numerator fraction.denominator)) }
-        ensures stays { Stays self.old self.new (λ before now. QueryCounted before now result) }
+        ensures stays { Stays self.old self.new (result ≡ Err QueryFault.Read) }
         ensures fault { IfErr result RefusesNumbers }
     {
         let rolls = self.scaled(position)?;
@@ -200,7 +201,7 @@ impl<T: Table> Checked<T> {
             IsLeast position.now (mean_of file position.now)
             × IsEffectivePips (mean_of file position.now)
             fraction.numerator fraction.denominator)) }
-        ensures stays { Stays self.old self.new (λ before now. QueryCounted before now result) }
+        ensures stays { Stays self.old self.new (result ≡ Err QueryFault.Read) }
         ensures fault { IfErr result RefusesNumbers }
     {
         let rolls = self.scaled(position)?;
@@ -217,7 +218,7 @@ impl<T: Table> Checked<T> {
             slice_index spread k ≡ count_of (follow file 22 position.now) k)) }
         ensures recorded { WhereTold self.old.told (λ file. IfOk result (λ spread.
             (k : ℕ) → k ≤ 22 → slice_index spread k ≡ share_of file position.now k)) }
-        ensures stays { Stays self.old self.new (λ before now. QueryCounted before now result) }
+        ensures stays { Stays self.old self.new (result ≡ Err QueryFault.Read) }
         ensures fault { IfErr result RefusesNumbers }
     {
         let mut room = Record::new();
@@ -247,7 +248,7 @@ impl<T: Table> Checked<T> {
         ensures first { IfOk result
             (λ answer. IsFirstPlay position.now roll answer.1 (moves_of answer.0.items)) }
         ensures legal { IfOk result (λ answer. Legal position.now roll answer.1) }
-        ensures stays { Stays self.old self.new (λ before now. QueryCounted before now result) }
+        ensures stays { Stays self.old self.new (result ≡ Err QueryFault.Read) }
         ensures fault { IfErr result RefusesPlays }
     {
         if position.pips() <= self.header.bound && position.is_finished() {
@@ -289,7 +290,7 @@ impl<T: Table> Checked<T> {
             (WritesUpgrade file (W.contents writer.old) (W.contents writer.new))) }
         ensures refused { WhereTold self.old.told (λ file. IfErr result
             (IsRefusedBy file (W.contents writer.old) (W.contents writer.new))) }
-        ensures stays { Stays self.old self.new (λ before now. UpgradeCounted before now result) }
+        ensures stays { Stays self.old self.new (result ≡ Err UpgradeFault.Read) }
     {
         if self.header.version == COMPACT_VERSION {
             return Err(UpgradeFault::NotOld);
@@ -313,11 +314,8 @@ fn load<T: Table>(
     ensures ready { IfOk result (λ rank. T.ready table.new room.new rank) }
     ensures local { WhereTold (T.tells table.old) (λ file. OnOk result
         (IsLocal file × (pips position.now ≤ bound_of file))) }
-    ensures stays { T.tells table.new ≡ T.tells table.old }
-    ensures accepted { T.accepted table.new ≡ T.accepted table.old }
     ensures fault { IfErr result RefusesNumbers }
-    ensures cause { WhereTold (T.tells table.old)
-        (λ _. QueryCounted (T.failures table.old) (T.failures table.new) result) }
+    ensures stays { TableStays ⟦<T as Table>⟧ table.old table.new (result ≡ Err QueryFault.Read) }
 {
     if position.pips() > header.bound {
         return Err(QueryFault::OverBound);

@@ -1,11 +1,12 @@
 //! The check of all records of a table, by rising rank.
-ghost use Rattle.std.specs.Prelude.{◌≡◌, ℕ, ◌+◌, ◌<◌, ◌≤◌, List, Some, IfOk, IfErr, OnOk};
+ghost use Rattle.std.specs.Prelude.{◌≡◌, ℕ, ◌+◌, ◌<◌, ◌≤◌, List, Some, Err, IfOk, IfErr, OnOk};
 ghost use Rattle.race_model.specs.Versions.{version_by};
 ghost use Rattle.race_model.specs.Files.{version_of, bound_of};
 ghost use Rattle.race_model.specs.LocalEquations.{IsLocal};
-ghost use Rattle.db_reader.specs.Telling.{WhereTold};
+ghost use Rattle.db_reader.specs.Telling.{WhereTold, RoseWhere};
+ghost use Rattle.db_reader.specs.TableStays.{TableStays};
 ghost use Rattle.db_reader.specs.Reads.{HasHeader};
-ghost use Rattle.certificate.specs.CheckFaults.{IsFirst, CheckCounted};
+ghost use Rattle.certificate.specs.CheckFaults.{IsFirst};
 ghost use Rattle.certificate.specs.KeptMeans.{HasRoom};
 
 use crate::check_fault::{CheckFault, fault_at};
@@ -35,8 +36,8 @@ pub fn check_records<T: Table>(table: &mut T, ranks: &Ranks) -> Result<Header, C
     ensures version { WhereTold (T.tells table.old)
         (λ file. IfOk result (λ header. version_by header.version ≡ version_of file)) }
     ensures first { WhereTold (T.tells table.old) (λ file. IfErr result (IsFirst file)) }
-    ensures cause { WhereTold (T.tells table.old)
-        (λ _. CheckCounted (T.failures table.old) (T.failures table.new) result) }
+    ensures cause { WhereTold (T.tells table.old) (λ _. RoseWhere (result ≡ Err CheckFault.Read)
+        (T.failures table.old) (T.failures table.new)) }
 {
     let header = match table.header() {
         Ok(header) => header,
@@ -66,13 +67,10 @@ fn check_under<T: Table, const ROOM: usize>(
     requires small { ROOM ≤ 46062 }
     requires file { WhereTold (T.tells table.old)
         (λ file. HasHeader file header) }
-    ensures stays { T.tells table.new ≡ T.tells table.old }
     ensures header { IfOk result (λ same. same ≡ header) }
-    ensures accepted { T.accepted table.new ≡ T.accepted table.old }
     ensures local { WhereTold (T.tells table.old) (λ file. OnOk result (IsLocal file)) }
     ensures first { WhereTold (T.tells table.old) (λ file. IfErr result (IsFirst file)) }
-    ensures cause { WhereTold (T.tells table.old)
-        (λ _. CheckCounted (T.failures table.old) (T.failures table.new) result) }
+    ensures stays { TableStays ⟦<T as Table>⟧ table.old table.new (result ≡ Err CheckFault.Read) }
 {
     let mut lower: LowerRecords<ROOM> = LowerRecords::new();
     let mut own = Record::new();

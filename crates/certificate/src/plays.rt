@@ -1,14 +1,15 @@
 //! The play equation and the least equation of a record, tested with records of lower rank.
-ghost use Rattle.std.specs.Prelude.{◌≡◌, ℕ, ◌<◌, ◌↔◌, List, IsTrue, IfOk, IfErr, OnOk};
+ghost use Rattle.std.specs.Prelude.{◌≡◌, ℕ, ◌<◌, ◌↔◌, List, Err, IsTrue, IsErr, IfOk, IfErr, OnOk};
 ghost use Rattle.race_model.specs.Positions.{Board, IsPosition};
 ghost use Rattle.race_model.specs.Ranks.{rank as rank_of};
 ghost use Rattle.race_model.specs.Files.{mean_at, play};
 ghost use Rattle.race_model.specs.Plays.{Legal};
 ghost use Rattle.race_model.specs.LocalEquations.{IsPlayed, IsBest};
 ghost use Rattle.race_model.specs.BestPlays.{IsBestPlay};
-ghost use Rattle.db_reader.specs.Telling.{WhereTold, Counted};
+ghost use Rattle.db_reader.specs.Telling.{WhereTold};
+ghost use Rattle.db_reader.specs.TableStays.{TableStays};
 ghost use Rattle.db_reader.specs.Reads.{HasRecord};
-ghost use Rattle.certificate.specs.PlayFaults.{IsResult, Applies, PlayCounted};
+ghost use Rattle.certificate.specs.PlayFaults.{IsResult, Applies};
 
 use db_reader::{ReadFault, Record, Table};
 use home_board::Position;
@@ -31,15 +32,12 @@ pub enum PlayFault {
 /// The mean that is recorded for a rank.
 fn mean_at<T: Table>(table: &mut T, rank: u16, room: &mut Record) -> Result<u128, ReadFault>
     requires { HasRecord (T.accepted table.old) rank }
-    ensures stays { T.tells table.new ≡ T.tells table.old }
-    ensures accepted { T.accepted table.new ≡ T.accepted table.old }
     ensures ready { OnOk result (T.ready table.new room.new rank) }
     ensures others { (bytes : List ℕ) (other : ℕ) →
         T.ready table.old bytes other → T.ready table.new bytes other }
     ensures told { WhereTold (T.tells table.old)
         (λ file. IfOk result (λ mean. mean ≡ mean_at file rank)) }
-    ensures cause { WhereTold (T.tells table.old)
-        (λ _. Counted (T.failures table.old) (T.failures table.new) result) }
+    ensures stays { TableStays ⟦<T as Table>⟧ table.old table.new (IsErr result) }
 {
     table.load(rank, room)?;
     Ok(table.lend(rank, room).mean())
@@ -73,8 +71,6 @@ pub fn check_recorded<T: Table>(
     requires result_best { (y : Board) × (Legal position.now roll y) × (rank_of y ≡ best) }
     requires best { WhereTold (T.tells table.old)
         (λ file. IsBestPlay (mean_at file) position.now roll best) }
-    ensures stays { T.tells table.new ≡ T.tells table.old }
-    ensures accepted { T.accepted table.new ≡ T.accepted table.old }
     ensures others { (bytes : List ℕ) (other : ℕ) →
         T.ready table.old bytes other → T.ready table.new bytes other }
     ensures ready { OnOk result (T.ready table.new room.new recorded) }
@@ -82,8 +78,7 @@ pub fn check_recorded<T: Table>(
         OnOk result (IsPlayed file position.now roll × IsBest file position.now roll)) }
     ensures fault { WhereTold (T.tells table.old) (λ file. recorded ≡ play file position.now roll →
         IfErr result (Applies file position.now roll)) }
-    ensures cause { WhereTold (T.tells table.old)
-        (λ _. PlayCounted (T.failures table.old) (T.failures table.new) result) }
+    ensures stays { TableStays ⟦<T as Table>⟧ table.old table.new (result ≡ Err PlayFault.Read) }
 {
     if recorded == best {
         return match table.load(recorded, room) {

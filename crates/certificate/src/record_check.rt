@@ -1,5 +1,5 @@
 //! The check of one record, with records of lower rank that were accepted.
-ghost use Rattle.std.specs.Prelude.{◌≡◌, ℕ, ◌+◌, ◌*◌, ◌<◌, ◌≤◌, List, slice_index, Some, sum, IfOk, IfErr, OnOk, OnErr};
+ghost use Rattle.std.specs.Prelude.{◌≡◌, ℕ, ◌+◌, ◌*◌, ◌<◌, ◌≤◌, List, slice_index, Some, Err, sum, IsErrAnd, IfOk, IfErr, OnOk, OnErr};
 ghost use Rattle.race_model.specs.Positions.{Board, IsPosition, IsFinished, pips};
 ghost use Rattle.race_model.specs.Dice.{roll_at, weight};
 ghost use Rattle.race_model.specs.Ranks.{rank as rank_of, at_rank};
@@ -9,12 +9,13 @@ ghost use Rattle.race_model.specs.BestPlays.{IsBestPlay};
 ghost use Rattle.race_model.specs.LocalEquations.{whole, IsPlayed, IsBest, IsLocalAt};
 ghost use Rattle.fixed_fraction.specs.Totals.{IsAdded};
 ghost use Rattle.db_reader.specs.Telling.{WhereTold};
+ghost use Rattle.db_reader.specs.TableStays.{TableStays};
 ghost use Rattle.db_reader.specs.Reads.{HasHeader, HasRecord};
 ghost use Rattle.certificate.specs.PlayFaults.{FirstOfPlays};
 ghost use Rattle.certificate.specs.KeptMeans.{HasRoom};
 ghost use Rattle.certificate.specs.LowerRecords.{IsLower};
 ghost use Rattle.certificate.specs.RecordNumbers.{shares_of, AreSumsOf};
-ghost use Rattle.certificate.specs.RecordFaults.{IsFirstFaultAt, of_record, SumsCounted, RecordCounted};
+ghost use Rattle.certificate.specs.RecordFaults.{IsFirstFaultAt, of_record};
 
 use crate::equations::{has_mean, wrong_share};
 use crate::kept::LowerRecords;
@@ -111,8 +112,6 @@ fn sum_plays<T: Table>(
         (y : Board) × (Legal position.now (roll_at i) y) × (rank_of y ≡ slice_index best.now i) }
     requires best { WhereTold (T.tells table.old) (λ file. (i : ℕ) → i < 21 →
         IsBestPlay (mean_at file) position.now (roll_at i) (slice_index best.now i)) }
-    ensures stays { T.tells table.new ≡ T.tells table.old }
-    ensures accepted { T.accepted table.new ≡ T.accepted table.old }
     ensures others { (bytes : List ℕ) (other : ℕ) →
         T.ready table.old bytes other → T.ready table.new bytes other }
     ensures right { WhereTold (T.tells table.old) (λ file. OnOk result ((i : ℕ) → i < 21 →
@@ -121,8 +120,8 @@ fn sum_plays<T: Table>(
         ¬ IsFinished position.now → AreSumsOf file position.now sums)) }
     ensures fault { WhereTold (T.tells table.old) (λ file. IfErr result
         (λ refused. FirstOfPlays file position.now refused.roll refused.fault)) }
-    ensures cause { WhereTold (T.tells table.old)
-        (λ _. SumsCounted (T.failures table.old) (T.failures table.new) result) }
+    ensures stays { TableStays ⟦<T as Table>⟧ table.old table.new
+        (IsErrAnd result (λ refused. refused.fault ≡ PlayFault.Read)) }
 {
     law_sums();
     let mut sums = RecordSums::new();
@@ -170,15 +169,12 @@ pub fn check_record<T: Table, const ROOM: usize>(
     requires lower { WhereTold (T.tells table.old)
         (λ file. (z : Board) → IsPosition z → rank_of z < rank → IsLocalAt file z) }
     requires kept { IsLower (T.tells table.old) lower.old rank }
-    ensures stays { T.tells table.new ≡ T.tells table.old }
-    ensures accepted { T.accepted table.new ≡ T.accepted table.old }
     ensures kept { OnOk result (IsLower (T.tells table.old) lower.new (rank + 1)) }
     ensures local { WhereTold (T.tells table.old)
         (λ file. OnOk result (IsLocalAt file (at_rank rank))) }
     ensures first { WhereTold (T.tells table.old)
         (λ file. IfErr result (IsFirstFaultAt file rank)) }
-    ensures cause { WhereTold (T.tells table.old)
-        (λ _. RecordCounted (T.failures table.old) (T.failures table.new) result) }
+    ensures stays { TableStays ⟦<T as Table>⟧ table.old table.new (result ≡ Err RecordFault.Read) }
 {
     laws::law_counts();
     laws::law_rank();

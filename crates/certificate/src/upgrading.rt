@@ -1,5 +1,5 @@
 //! An accepted database, written again as a file of version 2.
-ghost use Rattle.std.specs.Prelude.{◌≡◌, ℕ, ◌*◌, ◌<◌, ◌≤◌, ◌↔◌, Some, IsSome, IfSome, IfErr, OnOk, OnErr, sum};
+ghost use Rattle.std.specs.Prelude.{◌≡◌, ℕ, ◌*◌, ◌<◌, ◌≤◌, ◌↔◌, Some, Err, IsSome, IfSome, IfErr, OnOk, OnErr, sum};
 ghost use Rattle.std.specs.Io.KnownBytes.{Appends};
 ghost use Rattle.race_model.specs.Positions.{pips};
 ghost use Rattle.race_model.specs.Ranks.{at_rank, count_to};
@@ -8,10 +8,11 @@ ghost use Rattle.race_model.specs.Files.{bound_of, mean_of};
 ghost use Rattle.race_model.specs.LocalEquations.{whole, IsLocal};
 ghost use Rattle.db_layout.specs.Writes.{AppendsPart};
 ghost use Rattle.db_reader.specs.Telling.{WhereTold};
+ghost use Rattle.db_reader.specs.TableStays.{TableStays};
 ghost use Rattle.db_reader.specs.Reads.{HasRecord};
 ghost use Rattle.certificate.specs.RecordNumbers.{shares_of};
 ghost use Rattle.certificate.specs.Upgrades.{plays_of, compact_record, WritesUpgrade, IsRefusedBy};
-ghost use Rattle.certificate.specs.Upgrades.{IsLater, UpgradeCounted};
+ghost use Rattle.certificate.specs.Upgrades.{IsLater};
 
 use crate::numbers::{mean_in, spread_in};
 use crate::upgrade_fault::UpgradeFault;
@@ -77,11 +78,9 @@ fn write_compact<T: Table, W: Write>(
     ensures part { WhereTold (T.tells table.old) (λ file. OnErr result
         (AppendsPart (W.contents writer.old) (W.contents writer.new)
         (compact_record file rank))) }
-    ensures stays { T.tells table.new ≡ T.tells table.old }
-    ensures accepted { T.accepted table.new ≡ T.accepted table.old }
     ensures later { IfErr result IsLater }
-    ensures cause { WhereTold (T.tells table.old)
-        (λ _. UpgradeCounted (T.failures table.old) (T.failures table.new) result) }
+    ensures stays { TableStays ⟦<T as Table>⟧ table.old table.new
+        (result ≡ Err UpgradeFault.Read) }
 {
     let mut room = Record::new();
     table.load(rank, &mut room)?;
@@ -118,11 +117,9 @@ pub fn write_upgrade<T: Table, W: Write>(
         (WritesUpgrade file (W.contents writer.old) (W.contents writer.new))) }
     ensures refused { WhereTold (T.tells table.old) (λ file. IfErr result
         (IsRefusedBy file (W.contents writer.old) (W.contents writer.new))) }
-    ensures stays { T.tells table.new ≡ T.tells table.old }
-    ensures accepted { T.accepted table.new ≡ T.accepted table.old }
     ensures later { IfErr result IsLater }
-    ensures cause { WhereTold (T.tells table.old)
-        (λ _. UpgradeCounted (T.failures table.old) (T.failures table.new) result) }
+    ensures stays { TableStays ⟦<T as Table>⟧ table.old table.new
+        (result ≡ Err UpgradeFault.Read) }
 {
     let header = Header::new(COMPACT_VERSION, old.bound).unwrap();
     write_header(&header, writer)?;

@@ -1,2 +1,4 @@
 pub mod Telling
 pub mod Reads
+pub mod SourceStays
+pub mod TableStays

@@ -27,12 +27,6 @@ abbrev pub accepted_by : Result Header TableFault → Option Header
 accepted_by (Ok header) = Some header
 accepted_by (Err fault) = None
 
--- the header could not be read exactly where the count of failures rose
-abbrev pub HeaderCounted : ℕ → ℕ → Result Header TableFault → Type 0
-HeaderCounted before now (Ok header) = now ≡ before
-HeaderCounted before now (Err (Bad fault)) = now ≡ before
-HeaderCounted before now (Err Read) = before < now
-
 -- a rank under the count of the accepted header
 abbrev pub HasRecord : Option Header → ℕ → Type 0
 HasRecord accepted rank = IsSomeAnd accepted (λ header. rank < header.count)

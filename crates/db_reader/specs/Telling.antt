@@ -1,12 +1,12 @@
 -- What is said of bytes that are told. A list of bytes in memory tells them; a file of the system
 -- tells nothing.
-use Rattle.std.specs.Prelude.{◌≡◌, ℕ, ◌<◌, List, Option, Some, Result, Ok, Err}
+use Rattle.std.specs.Prelude.{◌≡◌, ℕ, ◌<◌, List, Option, Some}
 
 -- where bytes are told, this holds of them
 abbrev pub WhereTold : Option (List ℕ) → (List ℕ → Type 0) → Type 0
 WhereTold told P = (file : List ℕ) → told ≡ Some file → P file
 
--- an Err is answered exactly where the count of failures rose
-abbrev pub Counted : {T E : Type 0} → ℕ → ℕ → Result T E → Type 0
-Counted before now (Ok x) = now ≡ before
-Counted before now (Err fault) = before < now
+-- the count of failures rose where this holds, and is as it was where it doesn't
+pub record RoseWhere (Failed : Type 0) (before now : ℕ) : Type 0 where
+  pub rose : Failed → before < now
+  pub same : ¬ Failed → now ≡ before

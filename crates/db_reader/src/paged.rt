@@ -1,8 +1,9 @@
-ghost use Rattle.std.specs.Prelude.{◌≡◌, ◌≢◌, ℕ, ◌<◌, ◌↔◌, List, Some, None, Contains, IsOk, IfOk, IfErr};
+ghost use Rattle.std.specs.Prelude.{◌≡◌, ◌≢◌, ℕ, ◌<◌, ◌↔◌, List, Some, None, Contains, Err, IsOk, IsErr, IfOk, IfErr};
 ghost use Rattle.race_model.specs.Files.{record_at};
 ghost use Rattle.db_layout.specs.declared.header.Header.{Header as HeaderValue};
-ghost use Rattle.db_reader.specs.Telling.{WhereTold, Counted};
-ghost use Rattle.db_reader.specs.Reads.{HasHeader, IsHeaderOf, HeaderCounted};
+ghost use Rattle.db_reader.specs.Telling.{WhereTold};
+ghost use Rattle.db_reader.specs.Reads.{HasHeader, IsHeaderOf};
+ghost use Rattle.db_reader.specs.SourceStays.{SourceStays};
 
 use crate::front::header_of;
 use crate::record::Record;
@@ -119,10 +120,9 @@ impl<S: Source, A: Allocator + Clone> Table for Paged<S, A> {
 
 /// The header of the bytes of a source, or its first fault.
 fn read_header<S: Source>(source: &mut S) -> Result<Header, TableFault>
-    ensures stays { S.tells source.new ≡ S.tells source.old }
     ensures told { WhereTold (S.tells source.old) (λ file. IsHeaderOf file result) }
-    ensures cause { WhereTold (S.tells source.old)
-        (λ _. HeaderCounted (S.failures source.old) (S.failures source.new) result) }
+    ensures stays { SourceStays ⟦<S as Source>⟧ source.old source.new
+        (result ≡ Err TableFault.Read) }
 {
     let Ok(length) = source.length() else {
         return Err(TableFault::Read);
@@ -139,11 +139,9 @@ fn read_header<S: Source>(source: &mut S) -> Result<Header, TableFault>
 fn read_record<S: Source>(source: &mut S, places: &Places, rank: u16) -> Result<Record, SourceFault>
     requires rank { rank < places.now.count }
     requires file { WhereTold (S.tells source.old) (λ file. HasHeader file places.now) }
-    ensures stays { S.tells source.new ≡ S.tells source.old }
     ensures told { WhereTold (S.tells source.old)
         (λ file. IfOk result (λ read. read ≡ record_at file rank)) }
-    ensures cause { WhereTold (S.tells source.old)
-        (λ _. Counted (S.failures source.old) (S.failures source.new) result) }
+    ensures stays { SourceStays ⟦<S as Source>⟧ source.old source.new (IsErr result) }
 {
     let mut read = Record::new();
     read.read_from(source, places.header().version, places.find(rank))?;

@@ -1,7 +1,8 @@
-ghost use Rattle.std.specs.Prelude.{◌≡◌, ◌+◌, ◌≤◌, length, replicate, OnOk};
+ghost use Rattle.std.specs.Prelude.{◌≡◌, ◌+◌, ◌≤◌, length, replicate, IsErr, OnOk};
 ghost use Rattle.race_model.specs.Versions.{version_by, record_length};
 ghost use Rattle.race_model.specs.Files.{bytes_at, told_record};
-ghost use Rattle.db_reader.specs.Telling.{WhereTold, Counted};
+ghost use Rattle.db_reader.specs.Telling.{WhereTold};
+ghost use Rattle.db_reader.specs.SourceStays.{SourceStays};
 
 use crate::source::{Source, SourceFault};
 use db_layout::{Place, RECORD_BYTES, RecordView, VERSION, record_length};
@@ -54,12 +55,10 @@ impl Record {
         requires low { place.pips ≤ 58 }
         requires inside { WhereTold (S.tells source.old)
             (λ file. place.offset + place.length ≤ length file) }
-        ensures stays { S.tells source.new ≡ S.tells source.old }
         ensures told { WhereTold (S.tells source.old)
             (λ file. OnOk result (self.new ≡ told_record (version_by version) place.pips
             (bytes_at file place.offset place.length))) }
-        ensures cause { WhereTold (S.tells source.old)
-            (λ _. Counted (S.failures source.old) (S.failures source.new) result) }
+        ensures stays { SourceStays ⟦<S as Source>⟧ source.old source.new (IsErr result) }
     {
         self.version = version;
         self.pips = place.pips;

@@ -1,5 +1,5 @@
-ghost use Rattle.std.specs.Prelude.{◌≡◌, ℕ, ◌+◌, ◌≤◌, List, Option, length, take, drop, IfOk, OnOk};
-ghost use Rattle.db_reader.specs.Telling.{WhereTold, Counted};
+ghost use Rattle.std.specs.Prelude.{◌≡◌, ℕ, ◌+◌, ◌≤◌, List, Option, length, take, drop, IsErr, IfOk, OnOk};
+ghost use Rattle.db_reader.specs.Telling.{WhereTold, RoseWhere};
 
 use thiserror::Error;
 
@@ -26,7 +26,7 @@ pub trait Source {
         ensures told { WhereTold (tells self.old)
             (λ file. IfOk result (λ count. count ≡ length file)) }
         ensures cause { WhereTold (tells self.old)
-            (λ _. Counted (failures self.old) (failures self.new) result) };
+            (λ _. RoseWhere (IsErr result) (failures self.old) (failures self.new)) };
 
     /// Fills `into` with the bytes from an offset on, which have to be there where the source
     /// tells its bytes. At a fault `into` may hold any bytes.
@@ -36,5 +36,5 @@ pub trait Source {
         ensures told { WhereTold (tells self.old)
             (λ file. OnOk result (into.new ≡ take (length into.old) (drop offset file))) }
         ensures cause { WhereTold (tells self.old)
-            (λ _. Counted (failures self.old) (failures self.new) result) };
+            (λ _. RoseWhere (IsErr result) (failures self.old) (failures self.new)) };
 }

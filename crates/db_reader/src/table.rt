@@ -1,8 +1,8 @@
-ghost use Rattle.std.specs.Prelude.{◌≡◌, ℕ, ◌<◌, List, Option, OnOk};
+ghost use Rattle.std.specs.Prelude.{◌≡◌, ℕ, ◌<◌, List, Option, Err, IsErr, OnOk};
 ghost use Rattle.race_model.specs.Files.{record_at};
 ghost use Rattle.db_layout.specs.declared.header.Header.{Header as HeaderValue};
-ghost use Rattle.db_reader.specs.Telling.{WhereTold, Counted};
-ghost use Rattle.db_reader.specs.Reads.{IsHeaderOf, accepted_by, HeaderCounted, HasRecord};
+ghost use Rattle.db_reader.specs.Telling.{WhereTold, RoseWhere};
+ghost use Rattle.db_reader.specs.Reads.{IsHeaderOf, accepted_by, HasRecord};
 
 use crate::record::Record;
 use db_layout::{Header, HeaderFault, RecordView};
@@ -49,8 +49,8 @@ pub trait Table {
         ensures stays { tells self.new ≡ tells self.old }
         ensures told { WhereTold (tells self.old) (λ file. IsHeaderOf file result) }
         ensures accepted { accepted self.new ≡ accepted_by result }
-        ensures cause { WhereTold (tells self.old)
-            (λ _. HeaderCounted (failures self.old) (failures self.new) result) };
+        ensures cause { WhereTold (tells self.old) (λ _. RoseWhere
+            (result ≡ Err TableFault.Read) (failures self.old) (failures self.new)) };
 
     /// Makes the record of a rank under the count of the accepted header ready to be lent with
     /// this room. What was ready with another room stays so. At a fault the table is as it was,
@@ -63,7 +63,7 @@ pub trait Table {
         ensures others { (bytes : List ℕ) (other : ℕ) →
             ready self.old bytes other → ready self.new bytes other }
         ensures cause { WhereTold (tells self.old)
-            (λ _. Counted (failures self.old) (failures self.new) result) };
+            (λ _. RoseWhere (IsErr result) (failures self.old) (failures self.new)) };
 
     /// The record of a rank that was loaded with this room.
     fn lend<'a>(&'a self, rank: u16, room: &'a Record) -> RecordView<'a>

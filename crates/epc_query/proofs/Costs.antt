@@ -1,5 +1,5 @@
 -- Losses, from what a right file records.
-use Rattle.std.proofs.Common.{◌≡◌, ℕ, ◌+◌, ◌<◌, ◌≤◌, ◌↔◌, List, Result, Err, ap, arith}
+use Rattle.std.proofs.Common.{◌≡◌, ℕ, ◌+◌, ◌<◌, ◌≤◌, ◌↔◌, List, Result, Err, refl, ap, arith}
 use Rattle.race_model.specs.Positions.{Board, IsPosition, pips}
 use Rattle.race_model.specs.Dice.{Throw}
 use Rattle.race_model.specs.Files.{bound_of, mean, mean_at, play}
@@ -8,7 +8,7 @@ use Rattle.race_model.specs.RightFiles.{IsRight}
 use Rattle.race_model.specs.Losses.{loss}
 use Rattle.certificate.specs.declared.query_fault.QueryFault.{QueryFault}
 use Rattle.certificate.specs.declared.query_fault.QueryFault.TheVariants.{OverBound, Finished, NotLegal, Memory, Read}
-use Rattle.certificate.specs.QueryFaults.{RefusesNumbers, QueryCauses}
+use Rattle.certificate.specs.QueryFaults.{RefusesNumbers}
 
 -- the mean after the recorded play is that of the position that it leads to
 pub mean_after : (f : List ℕ) (x : Board) (v : Throw) → IsRight f → IsPosition x
@@ -28,13 +28,11 @@ loss_is f x v y best after least lost right is within e a b d =
     omega (arith, m, n)
 
 -- where the position has at most so many pips, a refusal is a read that failed
-pub must_be_read : {T : Type 0} (r : Result T QueryFault) (bound pips before now : ℕ)
-    (fault : QueryFault) → r ≡ Err fault
-    → (r ≡ Err OverBound) ↔ (bound < pips) → pips ≤ bound → RefusesNumbers fault
-    → QueryCauses before now fault → before < now
-must_be_read r bound pips before now OverBound e over low refuses cause = absurd
-    (omega (arith, over.0 e))
-must_be_read r bound pips before now Finished e over low refuses cause = absurd refuses
-must_be_read r bound pips before now NotLegal e over low refuses cause = absurd refuses
-must_be_read r bound pips before now Memory e over low refuses cause = absurd refuses
-must_be_read r bound pips before now Read e over low refuses cause = cause
+pub must_be_read : {T : Type 0} (r : Result T QueryFault) (bound pips : ℕ) (fault : QueryFault)
+    → r ≡ Err fault → (r ≡ Err OverBound) ↔ (bound < pips) → pips ≤ bound → RefusesNumbers fault
+    → fault ≡ Read
+must_be_read r bound pips OverBound e over low refuses = absurd (omega (arith, over.0 e))
+must_be_read r bound pips Finished e over low refuses = absurd refuses
+must_be_read r bound pips NotLegal e over low refuses = absurd refuses
+must_be_read r bound pips Memory e over low refuses = absurd refuses
+must_be_read r bound pips Read e over low refuses = refl

@@ -1,5 +1,5 @@
 -- When a query is refused, by a database of a bound. Source: this project's profile.
-use Rattle.std.specs.Prelude.{◌≡◌, ℕ, ◌<◌, ◌≤◌, List, Result, Ok, Err}
+use Rattle.std.specs.Prelude.{ℕ, ◌<◌, ◌≤◌, List, Result, Ok, Err}
 use Rattle.race_model.specs.Positions.{pips}
 use Rattle.race_model.specs.Queries.{Query, mean_query, dist_query, play_query, loss_query}
 use Rattle.race_model.specs.Queries.{moves_query, rank_query, subject, AsksOfFinished, HasResult}
@@ -62,9 +62,3 @@ IsHeard bound line (Rank number) = (q : Query) × IsAccepted bound line q
 abbrev pub IsStopOf : ℕ → List ℕ → Stop → Type 0
 IsStopOf bound line NoMemory = (q : Query) × IsAccepted bound line q × AsksMoves q
 IsStopOf bound line NoRead = (q : Query) × IsAccepted bound line q
-
--- the read fault is answered exactly where the count of failures rose
-abbrev pub StopCounted : {T : Type 0} → ℕ → ℕ → Result T Stop → Type 0
-StopCounted before now (Ok x) = now ≡ before
-StopCounted before now (Err NoMemory) = now ≡ before
-StopCounted before now (Err NoRead) = before < now

@@ -1,6 +1,6 @@
 -- What was written of the replies to the lines of an input. Source: this project's profile.
 use Rattle.std.specs.Prelude.{◌≡◌, ℕ, ◌<◌, ◌≤◌, List, [], ◌∷◌, ◌++◌, length, take, slice_index}
-use Rattle.std.specs.Prelude.{slice_index_or, Option, Some, Result, Ok, Err}
+use Rattle.std.specs.Prelude.{slice_index_or, Option, Some}
 use Rattle.std.specs.Io.KnownBytes.{Appends, Consumes}
 use Rattle.race_model.specs.Files.{bound_of}
 use Rattle.race_model.specs.Queries.{Query, IsAccepted}
@@ -74,15 +74,3 @@ pub record IsFirstFeed (bytes : List ℕ) (place : ℕ) : Type 0 where
 pub record IsAnswered (f done : List ℕ) (old new : Option (List ℕ)) (kept : List ℕ) : Type 0 where
   pub replies : HasReplies f (whole_lines done) old new
   pub held : kept ≡ take 130 (rest_of done)
-
--- a fault of the table is answered exactly where the count of failures rose
-abbrev pub RunCauses : ℕ → ℕ → RunFault → Type 0
-RunCauses before now Read = now ≡ before
-RunCauses before now Write = now ≡ before
-RunCauses before now Table = before < now
-RunCauses before now Memory = now ≡ before
-RunCauses before now Turns = now ≡ before
-
-abbrev pub RunCounted : {T : Type 0} → ℕ → ℕ → Result T RunFault → Type 0
-RunCounted before now (Ok x) = now ≡ before
-RunCounted before now (Err fault) = RunCauses before now fault

@@ -1,15 +1,14 @@
 //! The answer to a line.
-ghost use Rattle.std.specs.Prelude.{◌≡◌, ℕ, ◌<◌, ◌≤◌, List, IfOk, IfErr, OnOk};
+ghost use Rattle.std.specs.Prelude.{◌≡◌, ℕ, ◌<◌, ◌≤◌, List, Err, IfOk, IfErr, OnOk};
 ghost use Rattle.race_model.specs.Positions.{pips};
 ghost use Rattle.race_model.specs.Ranks.{rank as rank_of};
 ghost use Rattle.race_model.specs.Files.{bound_of};
 ghost use Rattle.race_model.specs.Queries.{IsAccepted};
 ghost use Rattle.db_reader.specs.Telling.{WhereTold};
 ghost use Rattle.certificate.specs.Databases.{Stays};
-ghost use Rattle.certificate.specs.QueryFaults.{QueryCounted};
 ghost use Rattle.epc_query.specs.Readings.{asked};
 ghost use Rattle.epc_query.specs.Answers.{IsReplyTo};
-ghost use Rattle.epc_query.specs.Faults.{IsAnswerable, IsFaultOf, stop_of, IsHeard, IsStopOf, StopCounted};
+ghost use Rattle.epc_query.specs.Faults.{IsAnswerable, IsFaultOf, stop_of, IsHeard, IsStopOf};
 
 use crate::losses::loss;
 use crate::move_list::moves;
@@ -54,7 +53,7 @@ fn ask<T: Table>(alloc: Global, checked: &mut Checked<T>, query: Query) -> Resul
     ensures heard { IfOk result (λ reply. (bound : ℕ) (line : List ℕ)
         → IsAccepted bound line (asked query) → IsHeard bound line reply) }
     ensures fault { IfErr result (IsFaultOf (checked.old.bound) (asked query)) }
-    ensures stays { Stays checked.old checked.new (λ before now. QueryCounted before now result) }
+    ensures stays { Stays checked.old checked.new (result ≡ Err QueryFault.Read) }
 {
     match query {
         Query::Mean(position) => {
@@ -111,7 +110,7 @@ pub fn answer_line<T: Table>(
         (λ file. IfOk result (IsReplyTo file line.now)) }
     ensures heard { IfOk result (IsHeard (checked.old.bound) line.now) }
     ensures stop { IfErr result (IsStopOf (checked.old.bound) line.now) }
-    ensures stays { Stays checked.old checked.new (λ before now. StopCounted before now result) }
+    ensures stays { Stays checked.old checked.new (result ≡ Err Stop.Read) }
 {
     let _bound = checked.bound();
     match read_query(line) {

@@ -1,10 +1,9 @@
 //! The positions of one pip count.
-ghost use Rattle.std.specs.Prelude.{◌≡◌, ℕ, ◌*◌, ◌<◌, ◌≤◌, List, IfOk, IfErr, OnOk, OnErr};
+ghost use Rattle.std.specs.Prelude.{◌≡◌, ℕ, ◌*◌, ◌<◌, ◌≤◌, List, Err, IfOk, IfErr, OnOk, OnErr};
 ghost use Rattle.race_model.specs.Ranks.{count_to};
 ghost use Rattle.race_model.specs.LocalEquations.{whole};
 ghost use Rattle.db_reader.specs.Telling.{WhereTold};
 ghost use Rattle.certificate.specs.Databases.{Stays};
-ghost use Rattle.certificate.specs.QueryFaults.{QueryCounted};
 ghost use Rattle.epc_query.specs.LevelMeans.{AreMeansOf, HasLevel, IsLevelFault};
 
 use crate::losses::recorded_mean;
@@ -22,7 +21,7 @@ pub fn audit_level<T: Table>(checked: &mut Checked<T>, pips: u8) -> Result<Level
     ensures within { OnOk result (pips ≤ checked.old.bound) }
     ensures fault { IfErr result (IsLevelFault (checked.old.bound) pips) }
     ensures level { WhereTold checked.old.told (λ file. IfOk result (HasLevel file pips)) }
-    ensures stays { Stays checked.old checked.new (λ before now. QueryCounted before now result) }
+    ensures stays { Stays checked.old checked.new (result ≡ Err QueryFault.Read) }
 {
     laws::law_rank();
     laws::law_at_rank();
@@ -61,7 +60,7 @@ fn means_of<T: Table>(
         × (means.greatest ≤ 22 * whole)) }
     ensures means { WhereTold checked.old.told
         (λ file. IfOk result (λ means. AreMeansOf file first end means.least means.greatest)) }
-    ensures stays { Stays checked.old checked.new (λ before now. QueryCounted before now result) }
+    ensures stays { Stays checked.old checked.new (result ≡ Err QueryFault.Read) }
 {
     laws::law_rank();
     laws::law_counts();

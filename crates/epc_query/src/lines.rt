@@ -1,11 +1,11 @@
 //! The lines of an input, answered as soon as they are whole.
 ghost use Rattle.std.specs.Prelude.{◌≡◌, ℕ, ◌+◌, ◌^◌, ◌<◌, ◌≤◌, List, [], ◌∷◌, ◌++◌, length};
-ghost use Rattle.std.specs.Prelude.{Option, Some, MatchOption, MatchResult, IfOk};
+ghost use Rattle.std.specs.Prelude.{Option, Some, Err, MatchOption, MatchResult, IfOk};
 ghost use Rattle.std.specs.Io.KnownBytes.{Keeps};
 ghost use Rattle.race_model.specs.InputLines.{HasNoFeed, whole_lines, lines_of};
 ghost use Rattle.db_reader.specs.Telling.{WhereTold};
 ghost use Rattle.certificate.specs.Databases.{Stays};
-ghost use Rattle.epc_query.specs.Runs.{HasReplies, IsStoppedAt, IsFirstFeed, IsAnswered, RunCounted};
+ghost use Rattle.epc_query.specs.Runs.{HasReplies, IsStoppedAt, IsFirstFeed, IsAnswered};
 
 use crate::answer::{Stop, answer_line};
 use crate::line_buffer::{LineBuffer, whole_line};
@@ -30,7 +30,7 @@ fn answer<T: Table, W: Write>(
     ensures answered { WhereTold checked.old.told (λ file. MatchResult result
         (λ _. HasReplies file (line.now ∷ []) (W.contents writer.old) (W.contents writer.new))
         (IsStoppedAt file (line.now ∷ []) (W.contents writer.old) (W.contents writer.new))) }
-    ensures stays { Stays checked.old checked.new (λ before now. RunCounted before now result) }
+    ensures stays { Stays checked.old checked.new (result ≡ Err RunFault.Table) }
 {
     laws::law_lines();
     crate::laws::law_reply_text();
@@ -75,7 +75,7 @@ fn answer_piece<T: Table, W: Write>(
         ≡ length (whole_lines done) + 1))
         (IsStoppedAt file (whole_lines ((done ++ piece.now) ++ 10 ∷ [])) start
         (W.contents writer.new))) }
-    ensures stays { Stays checked.old checked.new (λ before now. RunCounted before now result) }
+    ensures stays { Stays checked.old checked.new (result ≡ Err RunFault.Table) }
 {
     laws::law_lines();
     laws::law_input_lines();
@@ -107,7 +107,7 @@ pub(crate) fn answer_chunk<T: Table, W: Write>(
         × (length (whole_lines (done ++ chunk.now)) ≡ length (whole_lines done) + n))
         (IsStoppedAt file (whole_lines (done ++ chunk.now)) start (W.contents writer.new))) }
     ensures few { IfOk result (λ n. n ≤ length chunk.now) }
-    ensures stays { Stays checked.old checked.new (λ before now. RunCounted before now result) }
+    ensures stays { Stays checked.old checked.new (result ≡ Err RunFault.Table) }
 {
     laws::law_input_lines();
     let mut start = 0;
@@ -138,7 +138,7 @@ pub(crate) fn answer_last<T: Table, W: Write>(
         × (length (lines_of done) ≡ length (whole_lines done) + n))
         (IsStoppedAt file (lines_of done) start (W.contents writer.new))) }
     ensures few { IfOk result (λ n. n ≤ 1) }
-    ensures stays { Stays checked.old checked.new (λ before now. RunCounted before now result) }
+    ensures stays { Stays checked.old checked.new (result ≡ Err RunFault.Table) }
 {
     laws::law_lines();
     let line = held.rest();

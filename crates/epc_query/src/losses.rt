@@ -1,5 +1,5 @@
 //! What a play costs against the best one.
-ghost use Rattle.std.specs.Prelude.{◌≡◌, ◌≤◌, IfOk, IfErr, OnOk, OnErr};
+ghost use Rattle.std.specs.Prelude.{◌≡◌, ◌≤◌, Err, IfOk, IfErr, OnOk, OnErr};
 ghost use Rattle.race_model.specs.Positions.{IsPosition, IsFinished, pips};
 ghost use Rattle.race_model.specs.Plays.{Legal};
 ghost use Rattle.race_model.specs.Files.{mean as mean_of, mean_at, play};
@@ -9,7 +9,6 @@ ghost use Rattle.race_model.specs.Losses.{loss, IsLoss};
 ghost use Rattle.race_model.specs.Queries.{loss_query};
 ghost use Rattle.db_reader.specs.Telling.{WhereTold};
 ghost use Rattle.certificate.specs.Databases.{Stays};
-ghost use Rattle.certificate.specs.QueryFaults.{QueryCounted};
 ghost use Rattle.epc_query.specs.Faults.{IsAnswerable, IsFaultOf};
 
 use certificate::{Checked, QueryFault};
@@ -39,7 +38,7 @@ pub fn loss<T: Table>(
         IsFraction (loss file position.now roll to.now) whole lost.numerator lost.denominator)) }
     ensures lost { WhereTold checked.old.told (λ file. OnOk result
         (IsLoss position.now roll to.now (loss file position.now roll to.now))) }
-    ensures stays { Stays checked.old checked.new (λ before now. QueryCounted before now result) }
+    ensures stays { Stays checked.old checked.new (result ≡ Err QueryFault.Read) }
 {
     laws::law_loss();
     if position.pips() > checked.bound() {
@@ -69,7 +68,7 @@ fn lost<T: Table>(
     ensures fault { OnErr result (result ≡ Err QueryFault.Read) }
     ensures recorded { WhereTold checked.old.told (λ file. IfOk result (λ lost.
         IsFraction (loss file position.now roll to.now) whole lost.numerator lost.denominator)) }
-    ensures stays { Stays checked.old checked.new (λ before now. QueryCounted before now result) }
+    ensures stays { Stays checked.old checked.new (result ≡ Err QueryFault.Read) }
 {
     laws::law_loss();
     laws::law_results();
@@ -95,7 +94,7 @@ pub(crate) fn least_mean<T: Table>(
     ensures fault { OnErr result (result ≡ Err QueryFault.Read) }
     ensures recorded { WhereTold checked.old.told
         (λ file. IfOk result (λ least. least ≡ mean_at file (play file position.now roll))) }
-    ensures stays { Stays checked.old checked.new (λ before now. QueryCounted before now result) }
+    ensures stays { Stays checked.old checked.new (result ≡ Err QueryFault.Read) }
 {
     laws::law_results();
     let _bound = checked.bound();
@@ -114,7 +113,7 @@ pub(crate) fn recorded_mean<T: Table>(
     ensures fault { OnErr result (result ≡ Err QueryFault.Read) }
     ensures recorded { WhereTold checked.old.told
         (λ file. IfOk result (λ mean. mean ≡ mean_of file position.now)) }
-    ensures stays { Stays checked.old checked.new (λ before now. QueryCounted before now result) }
+    ensures stays { Stays checked.old checked.new (result ≡ Err QueryFault.Read) }
 {
     match checked.scaled(position) {
         Ok(mean) => Ok(mean),

@@ -1,7 +1,7 @@
 //! All results of a roll, by what they cost.
 ghost use Rattle.std.specs.Prelude.{◌≡◌, ℕ, ◌+◌, ◌*◌, ◌-◌, ◌<◌, ◌≤◌, ◌↔◌, ◌⊎◌, List, [], length};
 ghost use Rattle.std.specs.Prelude.{All, Contains, vec_len, vec_capacity, slice_index_or, IfOk};
-ghost use Rattle.std.specs.Prelude.{IfErr, OnOk, OnErr};
+ghost use Rattle.std.specs.Prelude.{Err, IfErr, OnOk, OnErr};
 ghost use Rattle.arrayvec.specs.ArrayVec.{array_vec_len};
 ghost use Rattle.race_model.specs.Positions.{Board, pips};
 ghost use Rattle.race_model.specs.Ranks.{rank, at_rank};
@@ -11,7 +11,6 @@ ghost use Rattle.race_model.specs.Fractions.{IsFraction};
 ghost use Rattle.race_model.specs.Queries.{moves_query};
 ghost use Rattle.db_reader.specs.Telling.{WhereTold};
 ghost use Rattle.certificate.specs.Databases.{Stays};
-ghost use Rattle.certificate.specs.QueryFaults.{QueryCounted};
 ghost use Rattle.epc_query.specs.Answers.{AreChoices};
 ghost use Rattle.epc_query.specs.Costs.{IsByCost, IsCost, IsPriced, ArePriced};
 ghost use Rattle.epc_query.specs.Faults.{IsAnswerable, IsFaultOf};
@@ -49,7 +48,7 @@ pub fn moves<T: Table>(
         (IsFaultOf (checked.old.bound) (moves_query position.now roll)) }
     ensures choices { WhereTold checked.old.told
         (λ file. IfOk result (λ choices. AreChoices file position.now roll choices.items)) }
-    ensures stays { Stays checked.old checked.new (λ before now. QueryCounted before now result) }
+    ensures stays { Stays checked.old checked.new (result ≡ Err QueryFault.Read) }
 {
     laws::law_loss();
     laws::law_results();
@@ -85,7 +84,7 @@ fn costs_of<T: Table>(
     ensures members { WhereTold checked.old.told (λ file. OnOk result ((cost : ℕ × ℕ)
         → Contains costs.new.items cost ↔ ((y : Board) × Contains found.now y
         × (cost ≡ (mean_of file y, rank y))))) }
-    ensures stays { Stays checked.old checked.new (λ before now. QueryCounted before now result) }
+    ensures stays { Stays checked.old checked.new (result ≡ Err QueryFault.Read) }
 {
     for to in found {
         let mean = recorded_mean(checked, to)?;

@@ -1,11 +1,11 @@
 //! The answers to a whole input.
 ghost use Rattle.std.specs.Prelude.{◌≡◌, ℕ, ◌+◌, ◌^◌, ◌<◌, ◌≤◌, List, ◌++◌, length, Option};
-ghost use Rattle.std.specs.Prelude.{MatchResult, IfOk, IfErr, OnErr};
+ghost use Rattle.std.specs.Prelude.{Err, MatchResult, IfOk, IfErr, OnErr};
 ghost use Rattle.std.specs.Io.KnownBytes.{Keeps, IsAtEnd};
 ghost use Rattle.race_model.specs.InputLines.{whole_lines, lines_of};
 ghost use Rattle.db_reader.specs.Telling.{WhereTold};
 ghost use Rattle.certificate.specs.Databases.{Stays};
-ghost use Rattle.epc_query.specs.Runs.{HasReplies, IsStoppedAt, IsAnswered, IsRunStopped, RunCounted};
+ghost use Rattle.epc_query.specs.Runs.{HasReplies, IsStoppedAt, IsAnswered, IsRunStopped};
 ghost use Rattle.epc_query.specs.UsedReads.{HasUsed};
 
 use crate::line_buffer::LineBuffer;
@@ -50,7 +50,7 @@ pub fn run<T: Table, R: Read, W: Write>(
         (W.contents writer.new)))) }
     ensures used { WhereTold checked.old.told (λ _. WhereTold (R.remaining reader.old)
         (λ input. IfErr result (HasUsed turns input (R.remaining reader.new)))) }
-    ensures stays { Stays checked.old checked.new (λ before now. RunCounted before now result) }
+    ensures stays { Stays checked.old checked.new (result ≡ Err RunFault.Table) }
 {
     laws::law_input_lines();
     let mut held = LineBuffer::new();
@@ -94,7 +94,7 @@ fn answer_read<T: Table, W: Write>(
         × (length (whole_lines (done ++ bytes.now)) ≡ length (whole_lines done) + n))
         (IsStoppedAt file (whole_lines (done ++ bytes.now)) start (W.contents writer.new))) }
     ensures few { IfOk result (λ n. n ≤ length bytes.now) }
-    ensures stays { Stays checked.old checked.new (λ before now. RunCounted before now result) }
+    ensures stays { Stays checked.old checked.new (result ≡ Err RunFault.Table) }
 {
     let count = answer_chunk(alloc, checked, held, bytes, text, writer)?;
     flush(writer)?;
@@ -116,7 +116,7 @@ fn answer_end<T: Table, W: Write>(
         × (length (lines_of done) ≡ length (whole_lines done) + n))
         (IsStoppedAt file (lines_of done) start (W.contents writer.new))) }
     ensures few { IfOk result (λ n. n ≤ 1) }
-    ensures stays { Stays checked.old checked.new (λ before now. RunCounted before now result) }
+    ensures stays { Stays checked.old checked.new (result ≡ Err RunFault.Table) }
 {
     let count = answer_last(alloc, checked, held, text, writer)?;
     flush(writer)?;

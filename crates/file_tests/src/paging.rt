@@ -128,7 +128,7 @@ fn a_trial_fails_at_its_call_alone(rt: HostRuntime) -> Result<(), Fail> {
             let is_refused = if made % 2 == 0 {
                 source.length().is_err()
             } else {
-                source.read_at(1, &mut [0]).is_err()
+                source.read_at(0, &mut []).is_err()
             };
             assert_eq!(rt; is_refused, made == call);
             assert_eq!(rt; table.header() == Err(TableFault::Read), made == call);

@@ -1,5 +1,6 @@
-use Rattle.std.proofs.Common.{refl, sym, ◌∙◌}
+use Rattle.std.proofs.Common.{Err, refl, sym, ap, ◌∙◌}
 use Rattle.std.proofs.lemmas.Bool.{false≢true}
+use Rattle.db_reader.proofs.Failures.{rose_as, err-same}
 use Rattle.certificate.proofs.FileTests.{none-of_right}
 use Rattle.certificate.proofs.checked.check.Goals as goal
 
@@ -30,5 +31,5 @@ returns-in-Err-clause-exactly g c file told same =
       λ is. absurd (false≢true is),
       λ right. absurd (none-of_right file (g.T.Table.failures c.args.table)
           (g.T.Table.failures c.check_records.new.table) c.in-Err.fault (said.first file told)
-          (said.cause file told) same right),
+          (rose_as (said.cause file told) (ap Err) err-same) same right),
     )

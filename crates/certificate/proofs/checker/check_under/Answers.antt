@@ -1,10 +1,11 @@
 -- The records are checked by rising rank; each is accepted or has the first fault.
-use Rattle.std.proofs.Common.{◌+◌, sym, ap, subst, ◌∙◌, arith, rules}
+use Rattle.std.proofs.Common.{◌+◌, Err, sym, ap, subst, ◌∙◌, arith, rules}
 use Rattle.race_model.specs.Ranks.{count_to}
 use Rattle.certificate.specs.CheckFaults.{IsFirst}
 use Rattle.certificate.specs.KeptMeans.{kept_mean}
 use Rattle.certificate.specs.LowerRecords.{IsLower}
-use Rattle.certificate.proofs.FileTests.{fault-of_file, accepted-more, accepted-all}
+use Rattle.db_reader.proofs.Failures.{err-same, table_first, table_then, table_as, table_more}
+use Rattle.certificate.proofs.FileTests.{fault-of_file, fault-read, accepted-more, accepted-all}
 use Rattle.certificate.proofs.checker.check_under.Goals as goal
 
 pub check_record-requires : goal.check_record-requires
@@ -12,7 +13,7 @@ check_record-requires g c =
     let before = c.loop-rank.invariant in (
       search rules,
       (
-        before.header,
+        before.stays.accepted ∙ c.requires.header,
         (
           c.loop-rank-test.true,
           (
@@ -22,11 +23,11 @@ check_record-requires g c =
               (
                 c.requires.small,
                 (
-                  (λ file told. c.requires.file file (sym before.stays ∙ told)),
+                  (λ file told. c.requires.file file (sym before.stays.told ∙ told)),
                   (
-                    (λ file told. before.lower file (sym before.stays ∙ told)),
+                    (λ file told. before.lower file (sym before.stays.told ∙ told)),
                     subst (λ told. IsLower told c.loop-rank.lower c.loop-rank.rank)
-                        (sym before.stays) before.kept,
+                        (sym before.stays.told) before.kept,
                   ),
                 ),
               ),
@@ -40,23 +41,29 @@ pub returns-in-Err-clause-first : goal.returns-in-Err-clause-first
 returns-in-Err-clause-first g c file told =
     let before = c.loop-rank.invariant in
     let whole = (c.requires.file file told).file in
-    let first = (c.in-Err.ensures {u = tt}).first file (before.stays ∙ told) in
+    let first = (c.in-Err.ensures {u = tt}).first file (before.stays.told ∙ told) in
     subst (IsFirst file) (sym c.fault_at.ensures)
     (fault-of_file file c.loop-rank.rank c.in-Err.fault whole (before.lower file told) first)
+
+pub returns-in-Err-clause-stays : goal.returns-in-Err-clause-stays
+returns-in-Err-clause-stays g c =
+    let same = fault-read c.loop-rank.rank c.in-Err.fault in
+    table_then c.loop-rank.invariant.stays (λ no. no)
+    (table_as (c.in-Err.ensures {u = tt}).stays
+    (λ e. ap Err (same.0 (sym c.fault_at.ensures ∙ err-same e)))
+    (λ e. ap Err (c.fault_at.ensures ∙ same.1 (err-same e))))
 
 pub loop-rank-preserved : goal.loop-rank-preserved
 loop-rank-preserved g c =
     let before = c.loop-rank.invariant in
     let fine = c.in_default.ensures {u = tt} in
     record {
-      stays = fine.stays ∙ before.stays;
-      header = fine.accepted ∙ before.header;
-      cause = λ file told. fine.cause file (before.stays ∙ told) ∙ before.cause file told;
+      stays = table_more before.stays fine.stays (λ e. cc);
       kept =
-          subst (λ told. IsLower told c.check_record.new.lower (c.loop-rank.rank + 1)) before.stays
+          subst (λ told. IsLower told c.check_record.new.lower (c.loop-rank.rank + 1)) before.stays.told
           fine.kept;
       lower = λ file told. accepted-more file c.loop-rank.rank (before.lower file told)
-          (fine.local file (before.stays ∙ told));
+          (fine.local file (before.stays.told ∙ told));
     }
 
 pub returns-clause-local : goal.returns-clause-local
@@ -68,9 +75,7 @@ returns-clause-local g c file told =
 
 pub loop-rank-init : goal.loop-rank-init
 loop-rank-init g c = record {
-  stays = search rules;
-  header = search rules;
-  cause = search rules;
+  stays = table_first _;
   kept = record {
     known = c.new-lower.ensures (kept_mean g.row.ROOM c.new-lower.result.means);
     means_are = λ file told r lt near. absurd (omega arith);

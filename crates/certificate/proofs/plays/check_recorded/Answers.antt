@@ -37,7 +37,7 @@ mean_at-requires g c =
 pub mean_at-requires-2 : goal.mean_at-requires-2
 mean_at-requires-2 g c =
     let yes : c.is_result.result ≡ true = search rules in
-    rw (c.in-Ok-mean_at.ensures {u = tt}).accepted
+    rw (c.in-Ok-mean_at.ensures {u = tt}).stays.accepted
     (rank-of_result c.args.position.now c.args.roll
     (HasRecord (g.T.Table.accepted c.args.table.now)) c.requires.records c.args.recorded
     (c.is_result.ensures.0 yes))
@@ -55,7 +55,7 @@ module _ (g : Over) (c : In-Ok-mean_at-2 g) where
   means_are file told =
       let first = c.in-Ok-mean_at.ensures {u = tt} in
       let second = c.in-Ok-mean_at-2.ensures {u = tt} in
-      (first.told file told, second.told file (first.stays ∙ told))
+      (first.told file told, second.told file (first.stays.told ∙ told))
 
 pub returns-in-Ok-mean_at-2-clause-fault : goal.returns-in-Ok-mean_at-2-clause-fault
 returns-in-Ok-mean_at-2-clause-fault g c file told read =

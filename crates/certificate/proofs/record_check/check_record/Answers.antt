@@ -1,5 +1,5 @@
 -- The tests of the record of one rank, from its plays to its shares.
-use Rattle.std.proofs.Common.{◌≡◌, ℕ, ◌+◌, ◌<◌, ◌≤◌, List, Some, true, false, slice_index, sym, ap}
+use Rattle.std.proofs.Common.{◌≡◌, ◌↔◌, refl, Err, ℕ, ◌+◌, ◌<◌, ◌≤◌, List, Some, true, false, slice_index, sym, ap}
 use Rattle.std.proofs.Common.{subst, ◌∙◌, arith, rules, tests}
 use Rattle.race_model.specs.Positions.{Board, pips}
 use Rattle.race_model.specs.Ranks.{rank, count_to, at_rank}
@@ -10,13 +10,16 @@ use Rattle.race_model.proofs.Plays.Spent.{legal_takes}
 use Rattle.race_model.proofs.Ranks.RankOrder.{rank_bound}
 use Rattle.race_model.proofs.Ranks.BestPlays.{legal_lower, play-agree_reached}
 use Rattle.race_model.proofs.RightFiles.Right.{bound_of-most}
-use Rattle.certificate.specs.PlayFaults.{FirstOfPlays, PlayCauses}
+use Rattle.certificate.specs.PlayFaults.{FirstOfPlays}
 use Rattle.certificate.specs.declared.plays.PlayFault.{PlayFault}
 use Rattle.certificate.specs.declared.plays.PlayFault.TheVariants.{NotLegal, NotLeast, Read}
+use Rattle.certificate.specs.declared.record_check.RecordFault.TheVariants.{Read as ReadRecord}
+use Rattle.db_reader.specs.TableStays.{TableStays}
+use Rattle.db_reader.proofs.Failures.{rose_then, rose_as, table_as, table_more, err-same}
 use Rattle.std.proofs.lemmas.Bool.{false≢true}
 use Rattle.certificate.specs.KeptMeans.{kept_mean}
 use Rattle.certificate.specs.RecordNumbers.{IsMeanOf, IsShareOf}
-use Rattle.certificate.specs.RecordFaults.{IsFirstFaultAt, RecordCauses, of_record}
+use Rattle.certificate.specs.RecordFaults.{IsFirstFaultAt, of_record}
 use Rattle.certificate.proofs.RecordBytes.{mean-of_record}
 use Rattle.certificate.proofs.KeptMeans.{accepted-mean_more}
 use Rattle.certificate.proofs.RecordTests.{IsSummed, first-refused, wrong-mean, wrong-share, right-numbers}
@@ -28,12 +31,11 @@ pub sum_plays-requires-clause-lower : goal.sum_plays-requires-clause-lower
 sum_plays-requires-clause-lower g c file told = c.requires.lower file
     (sym (c.in_default.ensures {u = tt}).stays ∙ told)
 
--- the fault of a play, as a fault of the record, has its cause
-play-cause : (roll : ℕ) (fault : PlayFault) (before now : ℕ) → PlayCauses before now fault
-    → RecordCauses before now (of_record roll fault)
-play-cause roll NotLegal before now cause = cause
-play-cause roll NotLeast before now cause = cause
-play-cause roll Read before now cause = cause
+-- the fault of a play is a failed read exactly where it is one as a fault of the record
+play-read : (roll : ℕ) (fault : PlayFault) → (of_record roll fault ≡ ReadRecord) ↔ (fault ≡ Read)
+play-read roll NotLegal = (λ e. cc, λ e. cc)
+play-read roll NotLeast = (λ e. cc, λ e. cc)
+play-read roll Read = (λ _. refl, λ _. refl)
 
 pub returns-in-Err-sum_plays-clause-first : goal.returns-in-Err-sum_plays-clause-first
 returns-in-Err-sum_plays-clause-first g c file told =
@@ -53,18 +55,21 @@ returns-in-Err-sum_plays-clause-first g c file told =
     (first-refused file c.args.rank lt refused.roll refused.fault
     (subst (λ (x : Board). FirstOfPlays file x refused.roll refused.fault) same first))
 
-pub returns-in-Err-sum_plays-clause-cause : goal.returns-in-Err-sum_plays-clause-cause
-returns-in-Err-sum_plays-clause-cause g c file told =
+pub returns-in-Err-sum_plays-clause-stays : goal.returns-in-Err-sum_plays-clause-stays
+returns-in-Err-sum_plays-clause-stays g c =
     let loaded = c.in_default.ensures {u = tt} in
-    let before = loaded.cause file told in
     let refused = c.in-Err-sum_plays.refused in
-    let cause = (c.in-Err-sum_plays.ensures {u = tt}).cause file (loaded.stays ∙ told) in
-    subst (RecordCauses (g.T.Table.failures c.args.table.now)
-    (g.T.Table.failures c.sum_plays.new.table)) (sym c.of_record.ensures)
-    (play-cause refused.roll refused.fault (g.T.Table.failures c.args.table.now)
-    (g.T.Table.failures c.sum_plays.new.table)
-    (subst (λ n. PlayCauses n
-    (g.T.Table.failures c.sum_plays.new.table) refused.fault) before cause))
+    let same = play-read refused.roll refused.fault in
+    let said = c.in-Err-sum_plays.ensures {u = tt} in
+    let summed = table_as said.stays
+    (λ e. same.0 (sym c.of_record.ensures ∙ err-same e))
+    (λ e. ap Err (c.of_record.ensures ∙ same.1 e)) in
+    record {
+      told = summed.told ∙ loaded.stays;
+      accepted = summed.accepted ∙ loaded.accepted;
+      cause = λ file told. rose_then (loaded.cause file told) (λ is. search rules)
+          (summed.cause file (loaded.stays ∙ told));
+    }
 
 -- what is known when the numbers of the record are tested, where the bytes are told
 module _ (g : Over) (c : After-has_mean g) (file : List ℕ)
@@ -83,7 +88,7 @@ module _ (g : Over) (c : After-has_mean g) (file : List ℕ)
   lent : c.lend-view.result ≡ record_at file c.args.rank
   lent =
       c.lend-view.ensures file
-      ((c.in-Ok.ensures {u = tt}).stays ∙ ((c.in_default.ensures {u = tt}).stays ∙ told))
+      ((c.in-Ok.ensures {u = tt}).stays.told ∙ ((c.in_default.ensures {u = tt}).stays ∙ told))
 
   -- its plays hold, and the sums are theirs
   summed : IsSummed file (at_rank c.args.rank) c.in-Ok.sums
@@ -100,6 +105,33 @@ module _ (g : Over) (c : After-has_mean g) (file : List ℕ)
   mean-accepted accepted =
       subst (λ (x : Board). IsMeanOf x (mean_of c.lend-view.result) c.in-Ok.sums) position-is
       (c.has_mean.ensures.0 accepted)
+
+-- no read failed where the numbers of the record are tested
+unread : (g : Over) (c : After-has_mean g) →
+    TableStays g.T.Table c.args.table.now c.sum_plays.new.table ⊥
+unread g c =
+    let loaded = c.in_default.ensures {u = tt} in
+    let first : TableStays g.T.Table c.args.table.now c.load.new.self ⊥ = record {
+      told = loaded.stays;
+      accepted = loaded.accepted;
+      cause = λ file told. rose_as (loaded.cause file told) (λ no. absurd no) false≢true;
+    } in
+    table_more first (c.in-Ok.ensures {u = tt}).stays (λ no. no)
+
+pub returns-then-not-has_mean-clause-stays : goal.returns-then-not-has_mean-clause-stays
+returns-then-not-has_mean-clause-stays g c =
+    let at = (goal.at.returns-then-not-has_mean-clause-stays g c).After-has_mean in
+    table_as (unread g at) (λ e. cc) (λ no. absurd no)
+
+pub returns-in-Some-clause-stays : goal.returns-in-Some-clause-stays
+returns-in-Some-clause-stays g c =
+    let at = (goal.at.returns-in-Some-clause-stays g c).After-has_mean in
+    table_as (unread g at) (λ e. cc) (λ no. absurd no)
+
+pub returns-in-None-clause-stays : goal.returns-in-None-clause-stays
+returns-in-None-clause-stays g c =
+    let at = (goal.at.returns-in-None-clause-stays g c).After-has_mean in
+    table_as (unread g at) (λ e. cc) (λ no. absurd no)
 
 pub returns-then-not-has_mean-clause-first : goal.returns-then-not-has_mean-clause-first
 returns-then-not-has_mean-clause-first g c file told =
@@ -171,7 +203,7 @@ returns-in-None-clause-kept g c = record {
       let now = (c.in_default.ensures {u = tt}).stays ∙ told in
       let fine = c.in-Ok.ensures {u = tt} in
       let before = c.args.lower.now.means in
-      let read = c.mean.ensures ∙ (ap mean_of (c.lend-view.ensures file (fine.stays ∙ now))
+      let read = c.mean.ensures ∙ (ap mean_of (c.lend-view.ensures file (fine.stays.told ∙ now))
       ∙ mean-of_record file c.args.rank) in
       accepted-mean_more file before c.accept.new.self.means g.row.ROOM c.args.rank
       (c.accept.ensures.mean ∙ read)

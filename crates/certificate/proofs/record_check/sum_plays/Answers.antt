@@ -9,6 +9,7 @@ use Rattle.race_model.specs.Files.{mean_at, play}
 use Rattle.race_model.specs.BestPlays.{IsBestPlay}
 use Rattle.race_model.proofs.Plays.Results.{legal_position, legal_pips}
 use Rattle.fixed_fraction.specs.Totals.{IsAdded, AreTotals}
+use Rattle.db_reader.proofs.Failures.{table_more}
 use Rattle.certificate.specs.PlayFaults.{Applies}
 use Rattle.certificate.specs.RecordNumbers.{shares_of, recorded_mean, recorded_share}
 use Rattle.certificate.proofs.Accepted.{play-of_lent}
@@ -27,7 +28,7 @@ module _ (g : Over) (c : After-check_recorded g) where
   recorded_is file told =
       c.play-recorded.ensures
       ∙ play-of_lent file c.lend.result c.args.position.now c.args.rank
-      (c.lend.ensures file (c.loop-index.invariant.stays ∙ told)) c.requires.rank
+      (c.lend.ensures file (c.loop-index.invariant.stays.told ∙ told)) c.requires.rank
       c.unwrap-roll.result
 
 -- where it is accepted, the plays of one roll more are played and least
@@ -43,13 +44,13 @@ held_more g c roll file told read =
     below_more (λ j. IsPlayed file x (roll_at j) × IsBest file x (roll_at j)) c.loop-index.index
     (before.held file told)
     (subst (λ v. IsPlayed file x v × IsBest file x v) roll
-    ((c.in_default.ensures {u = tt}).right file (before.stays ∙ told) read))
+    ((c.in_default.ensures {u = tt}).right file (before.stays.told ∙ told) read))
 
 pub check_recorded-requires-clause-records : goal.check_recorded-requires-clause-records
 check_recorded-requires-clause-records g c y legal =
     let x = c.args.position.now in
     let is = legal_position x c.unwrap-roll.result y c.requires.position legal in
-    rw c.loop-index.invariant.accepted
+    rw c.loop-index.invariant.stays.accepted
     (c.requires.records y is (legal_pips x c.unwrap-roll.result y legal))
 
 pub returns-in-Err-clause-fault : goal.returns-in-Err-clause-fault
@@ -60,7 +61,7 @@ returns-in-Err-clause-fault g c file told =
       is_roll = c.loop-index-test.true;
       applies =
           subst (λ v. Applies file c.args.position.now v c.in-Err.fault) (roll_is g at)
-          ((c.in-Err.ensures {u = tt}).fault file (before.stays ∙ told)
+          ((c.in-Err.ensures {u = tt}).fault file (before.stays.told ∙ told)
           (recorded_is g at file told));
       earlier = before.held file told;
     }
@@ -75,10 +76,8 @@ loop-index-preserved-then-is_finished g c =
     c.law_sums.ensures.within c.loop-index.index c.loop-index.sums.weight c.loop-index-test.true
     before.light in
     record {
-      stays = fine.stays ∙ before.stays;
-      accepted = fine.accepted ∙ before.accepted;
+      stays = table_more before.stays fine.stays (λ e. cc);
       others = λ bytes other ready. fine.others bytes other (before.others bytes other ready);
-      cause = λ file told. fine.cause file (before.stays ∙ told) ∙ before.cause file told;
       held = λ file told.
           held_more g at.In_default (roll_is g after) file told (recorded_is g after file told);
       light = omega (arith, within.1);
@@ -86,22 +85,28 @@ loop-index-preserved-then-is_finished g c =
           absurd (unfinished ((c.if-is_finished.ensures {u = tt}).value.0 refl));
     }
 
-pub returns-in-Err-add_numbers-clause-cause : goal.returns-in-Err-add_numbers-clause-cause
-returns-in-Err-add_numbers-clause-cause g c file told =
-    let at = (goal.at.returns-in-Err-add_numbers-clause-cause g c).After-check_recorded in
-    let x = c.args.position.now in
+pub returns-in-Err-add_numbers-clause-stays : goal.returns-in-Err-add_numbers-clause-stays
+returns-in-Err-add_numbers-clause-stays g c =
+    let at = (goal.at.returns-in-Err-add_numbers-clause-stays g c).After-check_recorded in
+    let before = c.loop-index.invariant in
     let fine = c.in_default.ensures {u = tt} in
-    let now = c.loop-index.invariant.stays ∙ told in
-    let read = recorded_is g at file told in
-    let unfinished : ¬ IsFinished x = λ end.
-    let is = (c.if-is_finished.ensures {u = tt}).value.1 end in cc in
-    let lower = subst (λ r. (z : Board) → IsPosition z → rank z < r
-    → IsLocalAt file z) c.requires.rank
-    (c.requires.lower file told) in
-    absurd ((c.in-Err-add_numbers.ensures {u = tt}).refused
-    (play-lent file x c.requires.position c.requires.short lower unfinished c.unwrap-roll.result
-    (fine.right file now read).0 c.lend-in-loop-index.result c.play-recorded.result
-    (c.lend-in-loop-index.ensures file (fine.stays ∙ now)) read))
+    record {
+      told = fine.stays.told ∙ before.stays.told;
+      accepted = fine.stays.accepted ∙ before.stays.accepted;
+      cause = λ file told.
+          let x = c.args.position.now in
+          let now = c.loop-index.invariant.stays.told ∙ told in
+          let read = recorded_is g at file told in
+          let unfinished : ¬ IsFinished x = λ end.
+          let is = (c.if-is_finished.ensures {u = tt}).value.1 end in cc in
+          let lower = subst (λ r. (z : Board) → IsPosition z → rank z < r
+          → IsLocalAt file z) c.requires.rank
+          (c.requires.lower file told) in
+          absurd ((c.in-Err-add_numbers.ensures {u = tt}).refused
+          (play-lent file x c.requires.position c.requires.short lower unfinished c.unwrap-roll.result
+          (fine.right file now read).0 c.lend-in-loop-index.result c.play-recorded.result
+          (c.lend-in-loop-index.ensures file (fine.stays.told ∙ now)) read));
+    }
 
 pub loop-index-preserved : goal.loop-index-preserved
 loop-index-preserved g c =
@@ -118,10 +123,8 @@ loop-index-preserved g c =
     let added = (c.in_default-add_numbers.ensures {u = tt}).added in
     let bytes = c.lend-in-loop-index.result in
     record {
-      stays = fine.stays ∙ before.stays;
-      accepted = fine.accepted ∙ before.accepted;
+      stays = table_more before.stays fine.stays (λ e. cc);
       others = λ bytes other ready. fine.others bytes other (before.others bytes other ready);
-      cause = λ file told. fine.cause file (before.stays ∙ told) ∙ before.cause file told;
       held = λ file told.
           held_more g at.In_default (roll_is g after) file told (recorded_is g after file told);
       light =
@@ -129,7 +132,7 @@ loop-index-preserved g c =
           omega (arith, within.1, more);
       totals = λ file told unfinished.
           let read = recorded_is g after file told in
-          let lent = c.lend-in-loop-index.ensures file (fine.stays ∙ (before.stays ∙ told)) in
+          let lent = c.lend-in-loop-index.ensures file (fine.stays.told ∙ (before.stays.told ∙ told)) in
           let mean = lent-mean file bytes x v c.play-recorded.result lent read in
           let numbers = subst (λ m. IsAdded c.loop-index.sums (weight v) m
           (shares_of bytes) c.add_numbers.new.sums)
@@ -177,7 +180,7 @@ pub check_recorded-requires-clause-best : goal.check_recorded-requires-clause-be
 check_recorded-requires-clause-best g c file told =
     let x = c.args.position.now in
     let roll = rw c.unwrap-roll.ensures at c.from_index.ensures.value in
-    let best = c.requires.best file (sym c.loop-index.invariant.stays ∙ told) c.loop-index.index
+    let best = c.requires.best file (sym c.loop-index.invariant.stays.told ∙ told) c.loop-index.index
     c.loop-index-test.true in
     subst (λ v. IsBestPlay (mean_at file) x v (slice_index c.args.best.now c.from.result))
     (sym roll)

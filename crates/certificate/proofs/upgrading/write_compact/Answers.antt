@@ -29,18 +29,23 @@ pips-low header rank p x under pips_are is =
     subst (λ n. n ≤ header.bound) (sym (pips_are ∙ ap pips is))
     (within_bound header.bound rank (omega (arith, under, header.counted))).1
 
-pub returns-in_default-clause-cause : goal.returns-in_default-clause-cause
-returns-in_default-clause-cause g c file told =
-    let accepted = c.requires.local file told in
+pub returns-in_default-clause-stays : goal.returns-in_default-clause-stays
+returns-in_default-clause-stays g c =
     let ok = c.in_ok-load.ensures {u = tt} in
-    let lent = c.lend.ensures file (ok.stays ∙ told) in
-    let under = rank-under c.args.header.now file c.args.rank c.requires.rank accepted.1 in
-    absurd (false≢true ((c.in_default.ensures {u = tt}).some.1 (
-      subst (λ bytes. mean_of bytes ≤ 22 * whole) (sym lent)
-          (mean-here file accepted.0 c.args.rank under),
-      subst (λ bytes. sum (shares_of bytes) ≡ whole) (sym lent)
-          (total-here file accepted.0 c.args.rank under),
-    )))
+    record {
+      told = ok.stays;
+      accepted = ok.accepted;
+      cause = λ file told.
+          let accepted = c.requires.local file told in
+          let lent = c.lend.ensures file (ok.stays ∙ told) in
+          let under = rank-under c.args.header.now file c.args.rank c.requires.rank accepted.1 in
+          absurd (false≢true ((c.in_default.ensures {u = tt}).some.1 (
+            subst (λ bytes. mean_of bytes ≤ 22 * whole) (sym lent)
+                (mean-here file accepted.0 c.args.rank under),
+            subst (λ bytes. sum (shares_of bytes) ≡ whole) (sym lent)
+                (total-here file accepted.0 c.args.rank under),
+          )));
+    }
 
 pub unwrap-requires : goal.unwrap-requires
 unwrap-requires g c =
@@ -56,20 +61,25 @@ holds-requires g c =
     pips-low c.args.header.now c.args.rank c.pips-pips.result c.unwrap.result c.requires.rank
     c.pips-pips.ensures.value (rw c.unwrap.ensures at c.unrank.ensures.value)
 
-pub returns-then-not-holds-clause-cause : goal.returns-then-not-holds-clause-cause
-returns-then-not-holds-clause-cause g c file told =
-    let accepted = c.requires.local file told in
+pub returns-then-not-holds-clause-stays : goal.returns-then-not-holds-clause-stays
+returns-then-not-holds-clause-stays g c =
     let ok = c.in_ok-load.ensures {u = tt} in
-    let lent = c.lend.ensures file (ok.stays ∙ told) in
-    let under = rank-under c.args.header.now file c.args.rank c.requires.rank accepted.1 in
-    let is = rw c.unwrap.ensures at c.unrank.ensures.value in
-    let pips_are = c.pips-pips.ensures.value ∙ ap pips is in
-    let shares_are = (c.in-Some.ensures {u = tt}).spread ∙ ap shares_of lent in
-    let held : IsHeld (version_by c.args.header.now.version) c.pips-pips.result
-    c.in-Some.numbers.spread =
-    rw (c.requires.compact, pips_are, shares_are)
-    (held-here file accepted.0 c.args.rank under) in
-    absurd (false≢true (sym c.if-not-holds.true ∙ c.holds.ensures.1 held))
+    record {
+      told = ok.stays;
+      accepted = ok.accepted;
+      cause = λ file told.
+          let accepted = c.requires.local file told in
+          let lent = c.lend.ensures file (ok.stays ∙ told) in
+          let under = rank-under c.args.header.now file c.args.rank c.requires.rank accepted.1 in
+          let is = rw c.unwrap.ensures at c.unrank.ensures.value in
+          let pips_are = c.pips-pips.ensures.value ∙ ap pips is in
+          let shares_are = (c.in-Some.ensures {u = tt}).spread ∙ ap shares_of lent in
+          let held : IsHeld (version_by c.args.header.now.version) c.pips-pips.result
+          c.in-Some.numbers.spread =
+          rw (c.requires.compact, pips_are, shares_are)
+          (held-here file accepted.0 c.args.rank under) in
+          absurd (false≢true (sym c.if-not-holds.true ∙ c.holds.ensures.1 held));
+    }
 
 pub write_record-requires-clause-low : goal.write_record-requires-clause-low
 write_record-requires-clause-low g c =

@@ -7,6 +7,7 @@ use Rattle.db_layout.specs.Writes.{AppendsPart}
 use Rattle.db_layout.proofs.Known.{one-error}
 use Rattle.db_layout.proofs.Prefixes.{header-first, header-part, more-part, more-written}
 use Rattle.db_layout.proofs.WholeFiles.{records-one}
+use Rattle.db_reader.proofs.Failures.{table_first, table_more}
 use Rattle.certificate.specs.Upgrades.{compact_record, IsRefusedBy}
 use Rattle.certificate.specs.declared.upgrade_fault.UpgradeFault.TheVariants.{Write}
 use Rattle.certificate.proofs.Upgrades.{part-written, all-written, refused-later}
@@ -36,9 +37,7 @@ returns-in_err-write_header-clause-refused g c file told =
 
 pub loop-rank-init : goal.loop-rank-init
 loop-rank-init g c = record {
-  stays = refl;
-  accepted = refl;
-  read = λ file told. refl;
+  stays = table_first _;
   written =
       λ file told.
       let old = g.W.Write.contents c.args.writer.now in
@@ -63,7 +62,7 @@ returns-in_err-write_compact-clause-refused g c file told =
     let new = g.W.Write.contents c.write_compact.new.writer in
     let said = c.in_err-write_compact.ensures {u = tt} in
     let part = subst (λ (bs : List ℕ). AppendsPart mid new bs)
-    (sym (records-one (compact_record file) rank)) (said.part file (is.stays ∙ told)) in
+    (sym (records-one (compact_record file) rank)) (said.part file (is.stays.told ∙ told)) in
     one-error c.from_residual-in_err-write_compact.result c.in_err-write_compact.field-0.0
     (IsRefusedBy file old new)
     c.from_residual-in_err-write_compact.ensures.1
@@ -84,9 +83,7 @@ loop-rank-preserved g c =
     let is = c.loop-rank.invariant in
     let said = c.in_ok-write_compact.ensures {u = tt} in
     record {
-      stays = said.stays ∙ is.stays;
-      accepted = said.accepted ∙ is.accepted;
-      read = λ file told. said.cause file (is.stays ∙ told) ∙ is.read file told;
+      stays = table_more is.stays said.stays (λ e. cc);
       written =
           λ file told.
           let rank = c.loop-rank.rank in
@@ -96,7 +93,7 @@ loop-rank-preserved g c =
           more-written compact (bound_of file) (compact_record file) old mid new rank 1
           (is.written file told)
           (subst (λ (bs : List ℕ). Appends mid new bs)
-          (sym (records-one (compact_record file) rank)) (said.all file (is.stays ∙ told)));
+          (sym (records-one (compact_record file) rank)) (said.all file (is.stays.told ∙ told)));
     }
 
 pub returns-clause-upgraded : goal.returns-clause-upgraded

@@ -1,16 +1,13 @@
-use Rattle.std.proofs.Common.{◌≡◌}
 use Rattle.std.specs.Io.KnownBytes.{Appends}
 use Rattle.db_reader.specs.Telling.{WhereTold}
+use Rattle.db_reader.specs.TableStays.{TableStays}
 use Rattle.certificate.proofs.Upgrades.{upgraded_to}
 use Rattle.certificate.proofs.upgrading.write_upgrade.Given as goal
 
 -- the records of lower rank are written, and no read failed
 abbrev pub invariant-loop-rank : goal.invariant-loop-rank
 invariant-loop-rank g l = record {
-  stays : g.T.Table.tells l.table ≡ g.T.Table.tells l.fn.table;
-  accepted : g.T.Table.accepted l.table ≡ g.T.Table.accepted l.fn.table;
-  read : WhereTold (g.T.Table.tells l.fn.table)
-      (λ _. g.T.Table.failures l.table ≡ g.T.Table.failures l.fn.table);
+  stays : TableStays g.T.Table l.fn.table l.table ⊥;
   written : WhereTold (g.T.Table.tells l.fn.table)
       (λ file. Appends (g.W.Write.contents l.fn.writer) (g.W.Write.contents l.writer)
       (upgraded_to file l.rank));

@@ -2,7 +2,7 @@ use Rattle.std.proofs.Common.{◌≡◌, ap, ◌∙◌, lit≤, refl, inl, inr, 
 use Rattle.std.proofs.lemmas.Bool.{cases_lt}
 use Rattle.race_model.specs.Files.{mean_at}
 use Rattle.race_model.specs.LocalEquations.{whole}
-use Rattle.certificate.proofs.Databases.{stays_first, stays_then}
+use Rattle.certificate.proofs.Databases.{stays_first, stays_more}
 use Rattle.epc_query.proofs.PipCounts.{no_means, more_means}
 use Rattle.epc_query.proofs.levels.means_of.Goals as goal
 
@@ -38,7 +38,7 @@ loop-rank-preserved g c =
         c.numerator-mean.ensures.range,
       );
       fresh = λ e. absurd (omega arith);
-      stays = stays_then c.loop-rank.invariant.stays told.stays;
+      stays = stays_more c.loop-rank.invariant.stays told.stays (λ e. cc);
     }
 
 pub returns-clause-means : goal.returns-clause-means

@@ -13,5 +13,5 @@ invariant-loop-rank g l = record {
   low : l.means.least ≤ 22 * whole;
   high : l.means.greatest ≤ 22 * whole;
   fresh : l.fn.first ≡ l.rank → (l.means.least ≡ 22 * whole) × (l.means.greatest ≡ 0);
-  stays : Stays l.initial.checked l.checked (λ before now. now ≡ before);
+  stays : Stays l.initial.checked l.checked ⊥;
 }

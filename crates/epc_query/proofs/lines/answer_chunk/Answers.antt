@@ -1,7 +1,7 @@
 use Rattle.std.proofs.Common.{◌≡◌, ◌+◌, [], ◌∷◌, ◌++◌, length, take, drop, Err, ap, ◌∙◌, arith, rules}
 use Rattle.std.proofs.lemmas.List.{length-drop}
 use Rattle.race_model.specs.InputLines.{whole_lines}
-use Rattle.certificate.proofs.Databases.{stays_then}
+use Rattle.certificate.proofs.Databases.{stays_more}
 use Rattle.epc_query.proofs.Runs.{all_left, piece_joined, piece_rest, chunk_parts, stopped_before}
 use Rattle.epc_query.proofs.Runs.{rest_more, bytes_kept}
 use Rattle.epc_query.proofs.lines.answer_chunk.Goals as goal
@@ -42,7 +42,7 @@ loop-length-preserved g c =
             omega (arith, ap (λ input. length (whole_lines input)) next, now.1, before.1),
           );
       few = omega (arith, c.loop-length.invariant.few);
-      stays = stays_then c.loop-length.invariant.stays told.stays;
+      stays = stays_more c.loop-length.invariant.stays told.stays (λ e. cc);
     }
 
 pub returns-clause-answered : goal.returns-clause-answered

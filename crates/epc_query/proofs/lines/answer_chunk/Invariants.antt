@@ -17,7 +17,7 @@ invariant-loop-length g l = record {
       × (length (whole_lines (done ++ take l.start l.chunk)) ≡ length
       (whole_lines done) + l.count));
   few : l.count ≤ l.start;
-  stays : Stays l.initial.checked l.checked (λ before now. now ≡ before);
+  stays : Stays l.initial.checked l.checked ⊥;
 }
 
 -- what is left of the chunk falls

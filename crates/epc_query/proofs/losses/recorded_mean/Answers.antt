@@ -1,3 +1,4 @@
+use Rattle.std.proofs.Common.{Err, ap, refl}
 use Rattle.certificate.proofs.Databases.{stays_as}
 use Rattle.epc_query.proofs.Costs.{must_be_read}
 use Rattle.epc_query.proofs.losses.recorded_mean.Goals as goal
@@ -5,6 +6,6 @@ use Rattle.epc_query.proofs.losses.recorded_mean.Goals as goal
 pub returns-in-Err-clause-stays : goal.returns-in-Err-clause-stays
 returns-in-Err-clause-stays g c =
     let said = c.in-Err.ensures {u = tt} in
-    stays_as said.stays (λ file t.
-    must_be_read c.scaled.result _ _ _ _ c.in-Err.field-0 c.in-Err.is c.scaled.ensures.over_bound
-    c.requires said.fault (said.stays.cause file t))
+    let read = must_be_read c.scaled.result _ _ c.in-Err.field-0 c.in-Err.is
+    c.scaled.ensures.over_bound c.requires said.fault in
+    stays_as said.stays (λ _. ap Err read) (λ _. refl)

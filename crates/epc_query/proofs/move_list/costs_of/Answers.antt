@@ -2,7 +2,7 @@ use Rattle.std.proofs.Common.{◌≡◌, ◌↔◌, List, Contains, take, subst,
 use Rattle.race_model.specs.Positions.{Board}
 use Rattle.race_model.specs.Ranks.{rank}
 use Rattle.race_model.specs.Files.{mean}
-use Rattle.certificate.proofs.Databases.{stays_then}
+use Rattle.certificate.proofs.Databases.{stays_more}
 use Rattle.epc_query.proofs.CostOrder.{one_more_cost, still_costs}
 use Rattle.epc_query.proofs.move_list.costs_of.Goals as goal
 
@@ -21,7 +21,7 @@ loop-to-preserved g c =
           (c.numerator.ensures.value ∙ told.recorded file (c.loop-to.invariant.stays.told
           ∙ t)) c.rank-rank.ensures.value
           (c.include_cost.ensures.members cost) (c.loop-to.invariant.members file t cost);
-      stays = stays_then c.loop-to.invariant.stays told.stays;
+      stays = stays_more c.loop-to.invariant.stays told.stays (λ e. cc);
     }
 
 pub returns-clause-members : goal.returns-clause-members

@@ -1,7 +1,7 @@
 use Rattle.std.proofs.Common.{◌≡◌, ◌++◌, length, take, Err, ap, ◌∙◌, arith, rules}
 use Rattle.std.proofs.lemmas.List.{length-take}
 use Rattle.race_model.specs.InputLines.{lines_of}
-use Rattle.certificate.proofs.Databases.{stays_then}
+use Rattle.certificate.proofs.Databases.{stays_more}
 use Rattle.epc_query.proofs.Runs.{read_none, read_more, read_all, read_front, stopped_in, run_stopped}
 use Rattle.epc_query.proofs.UsedReads.{used_in, longer}
 use Rattle.epc_query.proofs.running.run.Goals as goal
@@ -79,7 +79,7 @@ loop-turn-preserved g c =
         c.loop-turn.invariant.long,
       );
       long = omega (arith, c.read.auto.buf, c.loop-turn.invariant.long);
-      stays = stays_then c.loop-turn.invariant.stays told.stays;
+      stays = stays_more c.loop-turn.invariant.stays told.stays (λ e. cc);
     }
 
 pub returns-clause-stopped : goal.returns-clause-stopped

@@ -10,10 +10,10 @@ use Rattle.certificate.proofs.checked.Checked.play.Goals as goal
 pub returns-then-recorded-self-clause-stays : goal.returns-then-recorded-self-clause-stays
 returns-then-recorded-self-clause-stays g c =
     let ok = c.in_ok-rank.ensures {u = tt} in
-    stays_seen c.self.view_is ok.stays refl refl (λ file told.
+    stays_seen c.self.view_is ok.stays.told refl refl (λ file told.
     let x = c.args.position.now in
     let accepted = ok.local file told in
-    let lent = c.lend.ensures file (ok.stays ∙ told) in
+    let lent = c.lend.ensures file (ok.stays.told ∙ told) in
     let read = c.play-recorded.ensures
     ∙ play-of_lent file c.lend.result x c.in_ok-rank.rank lent ok.rank c.args.roll in
     let under = accepted-under file accepted.0 x ok.position accepted.1 c.args.roll in
@@ -40,10 +40,10 @@ unwrap-to-requires g c =
 pub returns-in_default-clause-stays : goal.returns-in_default-clause-stays
 returns-in_default-clause-stays g c =
     let ok = c.in_ok-rank.ensures {u = tt} in
-    stays_seen c.self.view_is ok.stays refl refl (λ file told.
+    stays_seen c.self.view_is ok.stays.told refl refl (λ file told.
     let x = c.args.position.now in
     let accepted = ok.local file told in
-    let lent = c.lend.ensures file (ok.stays ∙ told) in
+    let lent = c.lend.ensures file (ok.stays.told ∙ told) in
     let read = c.play-recorded.ensures
     ∙ play-of_lent file c.lend.result x c.in_ok-rank.rank lent ok.rank c.args.roll in
     let to = (rw c.unwrap-to.ensures at c.unrank.ensures.value) ∙ ap at_rank read in
@@ -56,7 +56,7 @@ returns-clause-recorded g c file t =
     let told = ap (λ d. d.told) c.self.view_is ∙ t in
     let x = c.args.position.now in
     let ok = c.in_ok-rank.ensures {u = tt} in
-    let lent = c.lend.ensures file (ok.stays ∙ told) in
+    let lent = c.lend.ensures file (ok.stays.told ∙ told) in
     let read = c.play-recorded.ensures
     ∙ play-of_lent file c.lend.result x c.in_ok-rank.rank lent ok.rank c.args.roll in
     (rw c.unwrap-to.ensures at c.unrank.ensures.value) ∙ ap at_rank read

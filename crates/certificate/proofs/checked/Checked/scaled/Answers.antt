@@ -10,10 +10,10 @@ use Rattle.certificate.proofs.checked.Checked.scaled.Goals as goal
 pub returns-in_default-clause-stays : goal.returns-in_default-clause-stays
 returns-in_default-clause-stays g c =
     let ok = c.in_ok-rank.ensures {u = tt} in
-    stays_seen c.self.view_is ok.stays refl refl (λ file told.
+    stays_seen c.self.view_is ok.stays.told refl refl (λ file told.
     let x = c.args.position.now in
     let accepted = ok.local file told in
-    let lent = c.lend.ensures file (ok.stays ∙ told) in
+    let lent = c.lend.ensures file (ok.stays.told ∙ told) in
     let read = mean-of_lent file c.lend.result x c.in_ok-rank.rank lent ok.rank in
     let small : mean_of c.lend.result ≤ 22 * whole = rw read
     (accepted-mean file accepted.0 x ok.position accepted.1) in
@@ -25,7 +25,7 @@ returns-clause-least g c file t =
     let x = c.args.position.now in
     let ok = c.in_ok-rank.ensures {u = tt} in
     let accepted = ok.local file told in
-    let lent = c.lend.ensures file (ok.stays ∙ told) in
+    let lent = c.lend.ensures file (ok.stays.told ∙ told) in
     let read = mean-of_lent file c.lend.result x c.in_ok-rank.rank lent ok.rank in
     subst (IsLeast x) (sym ((c.in-Some.ensures {u = tt}).value ∙ read))
     (accepted-right file accepted.0 x ok.position accepted.1).least
@@ -34,6 +34,6 @@ pub returns-clause-recorded : goal.returns-clause-recorded
 returns-clause-recorded g c file t =
     let told = ap (λ d. d.told) c.self.view_is ∙ t in
     let ok = c.in_ok-rank.ensures {u = tt} in
-    let lent = c.lend.ensures file (ok.stays ∙ told) in
+    let lent = c.lend.ensures file (ok.stays.told ∙ told) in
     (c.in-Some.ensures {u = tt}).value
     ∙ mean-of_lent file c.lend.result c.args.position.now c.in_ok-rank.rank lent ok.rank

@@ -8,10 +8,10 @@ use Rattle.certificate.proofs.checked.Checked.spread.Goals as goal
 pub returns-in_default-clause-stays : goal.returns-in_default-clause-stays
 returns-in_default-clause-stays g c =
     let ok = c.in_ok-rank.ensures {u = tt} in
-    stays_seen c.self.view_is ok.stays refl refl (λ file told.
+    stays_seen c.self.view_is ok.stays.told refl refl (λ file told.
     let x = c.args.position.now in
     let accepted = ok.local file told in
-    let lent = c.lend.ensures file (ok.stays ∙ told) in
+    let lent = c.lend.ensures file (ok.stays.told ∙ told) in
     let read = total-of_lent file c.lend.result x c.in_ok-rank.rank lent ok.rank in
     let whole = read ∙ accepted-total file accepted.0 x ok.position accepted.1 in
     absurd (false≢true ((c.in_default.ensures {u = tt}).some.1 whole)))
@@ -22,7 +22,7 @@ returns-clause-shares g c file t k few =
     let x = c.args.position.now in
     let ok = c.in_ok-rank.ensures {u = tt} in
     let accepted = ok.local file told in
-    let lent = c.lend.ensures file (ok.stays ∙ told) in
+    let lent = c.lend.ensures file (ok.stays.told ∙ told) in
     ap (λ xs. get_or xs k 0) (c.in-Some.ensures {u = tt}).value
     ∙ (get_or-shares_of c.lend.result k (omega arith)
     ∙ (share-of_lent file c.lend.result x c.in_ok-rank.rank lent ok.rank k
@@ -32,7 +32,7 @@ pub returns-clause-recorded : goal.returns-clause-recorded
 returns-clause-recorded g c file t k few =
     let told = ap (λ d. d.told) c.self.view_is ∙ t in
     let ok = c.in_ok-rank.ensures {u = tt} in
-    let lent = c.lend.ensures file (ok.stays ∙ told) in
+    let lent = c.lend.ensures file (ok.stays.told ∙ told) in
     ap (λ xs. get_or xs k 0) (c.in-Some.ensures {u = tt}).value
     ∙ (get_or-shares_of c.lend.result k (omega arith)
     ∙ share-of_lent file c.lend.result c.args.position.now c.in_ok-rank.rank lent ok.rank k)

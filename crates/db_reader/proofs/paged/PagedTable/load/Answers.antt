@@ -27,10 +27,10 @@ pub invariant_of-self-in_default-read_record : goal.invariant_of-self-in_default
 invariant_of-self-in_default-read_record g c = record {
   fits =
       λ file accepted told.
-      c.args.self.now.fits file accepted (sym c.read_record.ensures.stays ∙ told);
+      c.args.self.now.fits file accepted (sym c.read_record.ensures.stays.told ∙ told);
   kept = λ file rank bytes told has.
       looked_up file c.args.self.now.records.entries c.args.rank
-      (λ r b. c.args.self.now.kept file r b (sym c.read_record.ensures.stays ∙ told)) rank bytes
+      (λ r b. c.args.self.now.kept file r b (sym c.read_record.ensures.stays.told ∙ told)) rank bytes
       (subst (λ cache. Contains cache.entries (rank, bytes)) c.get.follows.holds-at-none has);
 }
 
@@ -38,9 +38,9 @@ pub invariant_of-self-2 : goal.invariant_of-self-2
 invariant_of-self-2 g c = record {
   fits =
       λ file accepted told.
-      c.args.self.now.fits file accepted (sym c.read_record.ensures.stays ∙ told);
+      c.args.self.now.fits file accepted (sym c.read_record.ensures.stays.told ∙ told);
   kept = λ file rank bytes told.
-      let before = sym c.read_record.ensures.stays ∙ told in
+      let before = sym c.read_record.ensures.stays.told ∙ told in
       after_put file c.get.follows.lender-at-none c.put.new.self c.args.rank c.in-Ok.read
       c.put.result
       c.put.ensures.entries c.put.ensures.err
