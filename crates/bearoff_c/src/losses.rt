@@ -28,11 +28,9 @@ impl<'a> Database<'a> {
         ensures recorded { IfSome result (λ rolls.
             rolls ≡ mean_of self.now.bytes.now position.now) }
     {
-        let _checkers = position.checkers();
-        match self.scaled(&Counts::of(position)) {
-            Ok(rolls) => Some(rolls),
-            Err(_) => None,
-        }
+        let _pips = position.pips();
+        let recorded = self.record(position).mean();
+        Scaled::new(recorded)
     }
 
     /// The recorded mean of a result of a turn. None only where the bytes were changed since they

@@ -1,5 +1,5 @@
 //! What a roll is played with.
-ghost use Rattle.std.specs.Prelude.{◌≡◌, ◌≤◌, ℕ, List, IsTrue, IfOk, OnOk, IsSome, IfSome, IfNone};
+ghost use Rattle.std.specs.Prelude.{◌≡◌, ◌≤◌, IsTrue, IfOk, OnOk, IsSome, IfSome};
 ghost use Rattle.race_model.specs.Positions.{IsPosition, IsFinished, pips};
 ghost use Rattle.race_model.specs.Plays.{Legal};
 ghost use Rattle.race_model.specs.Ranks.{rank as rank_of};
@@ -16,8 +16,7 @@ use crate::database::{Counts, Database};
 use crate::refusal::Refusal;
 use db_layout::RecordView;
 use home_board::Position;
-use legal_plays::{Die, Play, Roll, play_to, results};
-use ranking::RankTable;
+use legal_plays::{Die, Play, Roll, play_to};
 
 /// A position that is to be played, a roll, and the record of the position.
 #[derive(Drop)]
@@ -84,9 +83,8 @@ impl<'a> Database<'a> {
             to ≡ recorded self.now.bytes.now turn.now.position turn.now.roll) }
         ensures legal { IfSome result (λ to. Legal turn.now.position turn.now.roll to) }
     {
-        let _checkers = turn.position.checkers();
-        let recorded = turn.view.play(turn.roll);
-        result_of_rank(&self.ranks, &turn.position, turn.roll, recorded)
+        let (_, to) = self.played(turn)?;
+        Some(to)
     }
 
     /// The recorded play of a roll, given by its two dice in either order, and the position that
@@ -124,7 +122,8 @@ impl<'a> Database<'a> {
         ensures legal { IfSome result (λ answer.
             Legal turn.now.position turn.now.roll answer.1) }
     {
-        let to = self.best(turn)?;
+        let recorded = turn.view.play(turn.roll);
+        let to = self.ranks.unrank(recorded)?;
         let play = play_to(&turn.position, turn.roll, &to)?;
         Some((play, to))
     }
@@ -139,21 +138,4 @@ pub fn read_roll(one: u8, other: u8) -> Result<Roll, Refusal>
         (Some(one), Some(other)) => Ok(Roll::new(one, other)),
         _ => Err(Refusal::BadRoll),
     }
-}
-
-/// The result of a roll that has a rank; none exactly where the roll leads to no such position.
-fn result_of_rank(ranks: &RankTable, position: &Position, roll: Roll, rank: u16) -> Option<Position>
-    requires { IsRankTable ranks.now }
-    ensures legal { IfSome result (Legal position.now roll) }
-    ensures ranked { IfSome result (λ to. rank_of to ≡ rank) }
-    ensures none { IfNone result ((y : List ℕ) → Legal position.now roll y →
-        ¬ (rank_of y ≡ rank)) }
-{
-    let found = results(position, roll);
-    for to in found.as_slice() {
-        if ranks.rank(to) == rank {
-            return Some(*to);
-        }
-    }
-    None
 }
