@@ -2,34 +2,34 @@
 use Rattle.std.proofs.Common.{◌≡◌, ◌≢◌, ⊎_elim, ℕ, ◌+◌, ◌-◌, ◌<◌, ◌≤◌, List, sym, ap, ◌∙◌, arith}
 use Rattle.std.proofs.lemmas.Bool.{cases_lt, lt-ltb, le-ltb}
 use Rattle.race_model.specs.Files.{mean_at}
-use Rattle.certificate.specs.KeptMeans.{place_of, kept_mean}
+use Rattle.certificate.specs.KeptMeans.{kept_place, kept_mean}
 
 -- the place of a rank below the room
-place_of-low : (room r : ℕ) → r < room → place_of room r ≡ r
-unfolding place_of
-place_of-low room r low = rw (lt-ltb r room low)
+kept_place-low : (room r : ℕ) → r < room → kept_place room r ≡ r
+unfolding kept_place
+kept_place-low room r low = rw (lt-ltb r room low)
 
 -- .. and of another one
-place_of-high : (room r : ℕ) → room ≤ r → place_of room r ≡ r - room
-unfolding place_of
-place_of-high room r high = rw (le-ltb r room high)
+kept_place-high : (room r : ℕ) → room ≤ r → kept_place room r ≡ r - room
+unfolding kept_place
+kept_place-high room r high = rw (le-ltb r room high)
 
 -- ranks that are less than the room apart have places of their own
-pub places_apart : (room r n : ℕ) → r < n → n < r + room → place_of room r ≢ place_of room n
+pub places_apart : (room r n : ℕ) → r < n → n < r + room → kept_place room r ≢ kept_place room n
 places_apart room r n below near e = ⊎_elim
     (λ low. ⊎_elim
-    (λ both. omega (arith, place_of-low room r low, place_of-low room n both))
-    (λ past. omega (arith, place_of-low room r low, place_of-high room n past))
+    (λ both. omega (arith, kept_place-low room r low, kept_place-low room n both))
+    (λ past. omega (arith, kept_place-low room r low, kept_place-high room n past))
     (cases_lt n room))
     (λ high.
     let past : room ≤ n = omega arith in
-    omega (arith, place_of-high room r high, place_of-high room n past))
+    omega (arith, kept_place-high room r high, kept_place-high room n past))
     (cases_lt r room)
 
 -- where they were those of the file, they still are
 pub accepted-mean_more : (f before after : List ℕ) (room rank : ℕ)
     → kept_mean room after rank ≡ mean_at f rank
-    → ((r : ℕ) → place_of room r ≢ place_of room rank →
+    → ((r : ℕ) → kept_place room r ≢ kept_place room rank →
     kept_mean room after r ≡ kept_mean room before r)
     → ((r : ℕ) → r < rank → rank ≤ r + room → kept_mean room before r ≡ mean_at f r)
     → (r : ℕ) → r < rank + 1 → rank + 1 ≤ r + room → kept_mean room after r ≡ mean_at f r

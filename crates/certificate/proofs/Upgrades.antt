@@ -34,7 +34,8 @@ use Rattle.db_layout.proofs.Bytes.{record_reads, mean_fits, shares_fit, small_re
 use Rattle.db_layout.proofs.WholeFiles.{file-version, file-bound, file-bytes, whole-mean}
 use Rattle.db_layout.proofs.WholeFiles.{whole-play, whole-share, whole-is_file}
 use Rattle.certificate.specs.RecordNumbers.{shares_of}
-use Rattle.certificate.specs.Upgrades.{plays_of, compact_record, WritesUpgrade, WritesPart, IsRefusedBy, IsLater}
+use Rattle.certificate.specs.Upgrades.{plays_of, compact_record, WritesUpgrade, WritesUpgradePart}
+use Rattle.certificate.specs.Upgrades.{IsUpgradeRefused, IsLater}
 use Rattle.certificate.specs.declared.upgrade_fault.UpgradeFault.{UpgradeFault}
 use Rattle.certificate.specs.declared.upgrade_fault.UpgradeFault.TheVariants.{NotOld, Read, Write}
 use Rattle.certificate.proofs.Accepted.{accepted-right, accepted-mean, accepted-total, accepted-under}
@@ -207,7 +208,7 @@ module _ (f : List ℕ) (local : IsLocal f) where
 
   -- a prefix of it was written
   pub part-written : (old new : Option (List ℕ)) → AppendsPart old new upgraded →
-      WritesPart f old new
+      WritesUpgradePart f old new
   part-written old new part = (upgraded, is-upgrade, part)
 
   -- all of it was written, and nothing else
@@ -218,7 +219,7 @@ module _ (f : List ℕ) (local : IsLocal f) where
 
 -- where a prefix was written, a fault that comes while records are written may be answered
 pub refused-later : (f : List ℕ) (old new : Option (List ℕ)) (fault : UpgradeFault) →
-    IsLater fault → WritesPart f old new → IsRefusedBy f old new fault
+    IsLater fault → WritesUpgradePart f old new → IsUpgradeRefused f old new fault
 refused-later f old new NotOld later part = absurd later
 refused-later f old new Read later part = part
 refused-later f old new Write later part = part

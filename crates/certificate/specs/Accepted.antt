@@ -18,7 +18,7 @@ version_in (Some header) = version_by header.version
 
 -- the table has accepted this header, and the bytes that it tells
 -- meet the local equations and have its bound and its version
-pub record IsAccepted (told : Option (List ℕ)) (accepted : Option Header) (header : Header) :
+pub record HasAccepted (told : Option (List ℕ)) (accepted : Option Header) (header : Header) :
     Type 0 where
   pub header_is : accepted ≡ Some header
   pub local : WhereTold told (IsLocal)

@@ -4,12 +4,12 @@ use Rattle.race_model.specs.Positions.{Board, IsPosition, pips}
 use Rattle.race_model.specs.Ranks.{rank, count_to}
 
 -- the place of a rank: those from the room on have places again from the first one on
-unfoldable pub place_of : ℕ → ℕ → ℕ
-place_of room r = if nat_lt r room then r else r - room
+unfoldable pub kept_place : ℕ → ℕ → ℕ
+kept_place room r = if nat_lt r room then r else r - room
 
 -- the mean that is kept of a rank
 unfoldable pub kept_mean : ℕ → List ℕ → ℕ → ℕ
-kept_mean room means r = slice_index means (place_of room r)
+kept_mean room means r = slice_index means (kept_place room r)
 
 -- the means of a rank and of all positions to which a throw from there can lead have room at once
 abbrev pub HasRoom : ℕ → ℕ → Type 0

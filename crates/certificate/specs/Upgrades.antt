@@ -18,14 +18,14 @@ abbrev pub WritesUpgrade : List ℕ → Option (List ℕ) → Option (List ℕ) 
 WritesUpgrade f old new = (g : List ℕ) × (IsUpgrade f g) × (Appends old new g)
 
 -- a prefix of the upgrade of a file was written
-abbrev pub WritesPart : List ℕ → Option (List ℕ) → Option (List ℕ) → Type 0
-WritesPart f old new = (g : List ℕ) × (IsUpgrade f g) × (AppendsPart old new g)
+abbrev pub WritesUpgradePart : List ℕ → Option (List ℕ) → Option (List ℕ) → Type 0
+WritesUpgradePart f old new = (g : List ℕ) × (IsUpgrade f g) × (AppendsPart old new g)
 
 -- what was written where an upgrade was refused: nothing, or a prefix
-abbrev pub IsRefusedBy : List ℕ → Option (List ℕ) → Option (List ℕ) → UpgradeFault → Type 0
-IsRefusedBy f old new NotOld = Keeps old new
-IsRefusedBy f old new Read = WritesPart f old new
-IsRefusedBy f old new Write = WritesPart f old new
+abbrev pub IsUpgradeRefused : List ℕ → Option (List ℕ) → Option (List ℕ) → UpgradeFault → Type 0
+IsUpgradeRefused f old new NotOld = Keeps old new
+IsUpgradeRefused f old new Read = WritesUpgradePart f old new
+IsUpgradeRefused f old new Write = WritesUpgradePart f old new
 
 -- a fault that comes while records are written
 abbrev pub IsLater : UpgradeFault → Type 0

@@ -13,11 +13,11 @@ ghost use Rattle.legal_plays.specs.MoveLists.{moves_of};
 ghost use Rattle.db_layout.specs.Records.{IsVersion};
 ghost use Rattle.db_reader.specs.Telling.{WhereTold, RoseWhere};
 ghost use Rattle.db_reader.specs.TableStays.{TableStays};
-ghost use Rattle.certificate.specs.Accepted.{IsAccepted};
+ghost use Rattle.certificate.specs.Accepted.{HasAccepted};
 ghost use Rattle.certificate.specs.Databases.{Stays};
 ghost use Rattle.certificate.specs.CheckFaults.{IsFirst};
 ghost use Rattle.certificate.specs.QueryFaults.{RefusesNumbers, RefusesPlays};
-ghost use Rattle.certificate.specs.Upgrades.{WritesUpgrade, IsRefusedBy};
+ghost use Rattle.certificate.specs.Upgrades.{WritesUpgrade, IsUpgradeRefused};
 ghost use Rattle.std.specs.Io.KnownBytes.{Keeps};
 
 use crate::check_fault::CheckFault;
@@ -56,7 +56,7 @@ pub struct Checked<T: Table> {
 impl<T: Table> Model for Checked<T> {
     ghost use Rattle.race_model.specs.Versions.{version_by};
     ghost use Rattle.certificate.specs.Databases.{Database};
-    ghost use Rattle.certificate.specs.Accepted.{IsAccepted};
+    ghost use Rattle.certificate.specs.Accepted.{HasAccepted};
 
     ghost Value = { Database };
 
@@ -68,7 +68,7 @@ impl<T: Table> Model for Checked<T> {
     } };
 
     ghost invariant = { λ checked.
-        IsAccepted (T.tells checked.table) (T.accepted checked.table) checked.header };
+        HasAccepted (T.tells checked.table) (T.accepted checked.table) checked.header };
 }
 
 /// Checks a table. Where it tells its bytes and no read fails, it is accepted exactly where they
@@ -289,7 +289,7 @@ impl<T: Table> Checked<T> {
         ensures upgraded { WhereTold self.old.told (λ file. OnOk result
             (WritesUpgrade file (W.contents writer.old) (W.contents writer.new))) }
         ensures refused { WhereTold self.old.told (λ file. IfErr result
-            (IsRefusedBy file (W.contents writer.old) (W.contents writer.new))) }
+            (IsUpgradeRefused file (W.contents writer.old) (W.contents writer.new))) }
         ensures stays { Stays self.old self.new (result ≡ Err UpgradeFault.Read) }
     {
         if self.header.version == COMPACT_VERSION {
@@ -307,7 +307,7 @@ fn load<T: Table>(
     position: &Position,
     room: &mut Record,
 ) -> Result<u16, QueryFault>
-    requires { IsAccepted (T.tells table.old) (T.accepted table.old) header }
+    requires { HasAccepted (T.tells table.old) (T.accepted table.old) header }
     ensures over_bound { (result ≡ Err QueryFault.OverBound) ↔ (header.bound < pips position.now) }
     ensures position { IsPosition position.now }
     ensures rank { IfOk result (λ rank. rank ≡ rank_of position.now) }

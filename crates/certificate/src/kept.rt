@@ -6,7 +6,7 @@ ghost use Rattle.race_model.specs.Dice.{roll_at};
 ghost use Rattle.race_model.specs.Ranks.{rank as rank_of};
 ghost use Rattle.race_model.specs.BestPlays.{IsBestPlay};
 ghost use Rattle.least_plays.specs.Known.{Knows};
-ghost use Rattle.certificate.specs.KeptMeans.{place_of, kept_mean, HasRoom};
+ghost use Rattle.certificate.specs.KeptMeans.{kept_place, kept_mean, HasRoom};
 
 use home_board::Position;
 use least_plays::{LeastPlays, Means};
@@ -42,18 +42,18 @@ impl<const ROOM: usize> AcceptedMeans<ROOM> {
     fn set(&mut self, rank: u16, mean: u128)
         requires { rank < ROOM + ROOM }
         ensures mean { kept_mean ROOM self.new rank ≡ mean }
-        ensures others { (r : ℕ) → place_of ROOM r ≢ place_of ROOM rank →
+        ensures others { (r : ℕ) → kept_place ROOM r ≢ kept_place ROOM rank →
             kept_mean ROOM self.new r ≡ kept_mean ROOM self.old r }
     {
-        self.means[place_of(rank, ROOM)] = mean;
+        self.means[kept_place(rank, ROOM)] = mean;
     }
 }
 
 /// The place of a rank.
-#[tactic(auto, unfolding(crate::specs::KeptMeans::place_of))]
-fn place_of(rank: u16, room: usize) -> usize
+#[tactic(auto, unfolding(crate::specs::KeptMeans::kept_place))]
+fn kept_place(rank: u16, room: usize) -> usize
     requires { rank < room + room }
-    ensures value { result ≡ place_of room rank }
+    ensures value { result ≡ kept_place room rank }
     ensures range { result < room }
     ensures few { result ≤ rank }
 {
@@ -69,7 +69,7 @@ impl<const ROOM: usize> Means for AcceptedMeans<ROOM> {
 
     #[tactic(auto, unfolding(crate::specs::KeptMeans::kept_mean))]
     fn mean(&self, rank: u16) -> u128 {
-        self.means[place_of(rank, ROOM)]
+        self.means[kept_place(rank, ROOM)]
     }
 }
 
@@ -119,7 +119,7 @@ impl<const ROOM: usize> LowerRecords<ROOM> {
         requires near { HasRoom ROOM rank }
         requires known { Knows (kept_mean ROOM self.old.means) self.old.plays (rank + 1) }
         ensures mean { kept_mean ROOM self.new.means rank ≡ mean }
-        ensures others { (r : ℕ) → place_of ROOM r ≢ place_of ROOM rank →
+        ensures others { (r : ℕ) → kept_place ROOM r ≢ kept_place ROOM rank →
             kept_mean ROOM self.new.means r ≡ kept_mean ROOM self.old.means r }
         ensures known { Knows (kept_mean ROOM self.new.means) self.new.plays (rank + 1) }
     {

@@ -11,7 +11,7 @@ ghost use Rattle.db_reader.specs.Telling.{WhereTold};
 ghost use Rattle.db_reader.specs.TableStays.{TableStays};
 ghost use Rattle.db_reader.specs.Reads.{HasRecord};
 ghost use Rattle.certificate.specs.RecordNumbers.{shares_of};
-ghost use Rattle.certificate.specs.Upgrades.{plays_of, compact_record, WritesUpgrade, IsRefusedBy};
+ghost use Rattle.certificate.specs.Upgrades.{plays_of, compact_record, WritesUpgrade, IsUpgradeRefused};
 ghost use Rattle.certificate.specs.Upgrades.{IsLater};
 
 use crate::numbers::{mean_in, spread_in};
@@ -116,7 +116,7 @@ pub fn write_upgrade<T: Table, W: Write>(
     ensures upgraded { WhereTold (T.tells table.old) (λ file. OnOk result
         (WritesUpgrade file (W.contents writer.old) (W.contents writer.new))) }
     ensures refused { WhereTold (T.tells table.old) (λ file. IfErr result
-        (IsRefusedBy file (W.contents writer.old) (W.contents writer.new))) }
+        (IsUpgradeRefused file (W.contents writer.old) (W.contents writer.new))) }
     ensures later { IfErr result IsLater }
     ensures stays { TableStays ⟦<T as Table>⟧ table.old table.new
         (result ≡ Err UpgradeFault.Read) }

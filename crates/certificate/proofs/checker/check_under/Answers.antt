@@ -60,8 +60,8 @@ loop-rank-preserved g c =
     record {
       stays = table_more before.stays fine.stays (λ e. cc);
       kept =
-          subst (λ told. IsLower told c.check_record.new.lower (c.loop-rank.rank + 1)) before.stays.told
-          fine.kept;
+          subst (λ told. IsLower told c.check_record.new.lower (c.loop-rank.rank + 1))
+          before.stays.told fine.kept;
       lower = λ file told. accepted-more file c.loop-rank.rank (before.lower file told)
           (fine.local file (before.stays.told ∙ told));
     }

@@ -103,7 +103,8 @@ returns-in-Err-add_numbers-clause-stays g c =
           → IsLocalAt file z) c.requires.rank
           (c.requires.lower file told) in
           absurd ((c.in-Err-add_numbers.ensures {u = tt}).refused
-          (play-lent file x c.requires.position c.requires.short lower unfinished c.unwrap-roll.result
+          (play-lent file x c.requires.position c.requires.short lower unfinished
+          c.unwrap-roll.result
           (fine.right file now read).0 c.lend-in-loop-index.result c.play-recorded.result
           (c.lend-in-loop-index.ensures file (fine.stays.told ∙ now)) read));
     }
@@ -132,7 +133,8 @@ loop-index-preserved g c =
           omega (arith, within.1, more);
       totals = λ file told unfinished.
           let read = recorded_is g after file told in
-          let lent = c.lend-in-loop-index.ensures file (fine.stays.told ∙ (before.stays.told ∙ told)) in
+          let lent = c.lend-in-loop-index.ensures file
+          (fine.stays.told ∙ (before.stays.told ∙ told)) in
           let mean = lent-mean file bytes x v c.play-recorded.result lent read in
           let numbers = subst (λ m. IsAdded c.loop-index.sums (weight v) m
           (shares_of bytes) c.add_numbers.new.sums)
@@ -180,8 +182,8 @@ pub check_recorded-requires-clause-best : goal.check_recorded-requires-clause-be
 check_recorded-requires-clause-best g c file told =
     let x = c.args.position.now in
     let roll = rw c.unwrap-roll.ensures at c.from_index.ensures.value in
-    let best = c.requires.best file (sym c.loop-index.invariant.stays.told ∙ told) c.loop-index.index
-    c.loop-index-test.true in
+    let best = c.requires.best file (sym c.loop-index.invariant.stays.told ∙ told)
+    c.loop-index.index c.loop-index-test.true in
     subst (λ v. IsBestPlay (mean_at file) x v (slice_index c.args.best.now c.from.result))
     (sym roll)
     (subst

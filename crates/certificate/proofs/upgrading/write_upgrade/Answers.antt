@@ -8,7 +8,7 @@ use Rattle.db_layout.proofs.Known.{one-error}
 use Rattle.db_layout.proofs.Prefixes.{header-first, header-part, more-part, more-written}
 use Rattle.db_layout.proofs.WholeFiles.{records-one}
 use Rattle.db_reader.proofs.Failures.{table_first, table_more}
-use Rattle.certificate.specs.Upgrades.{compact_record, IsRefusedBy}
+use Rattle.certificate.specs.Upgrades.{compact_record, IsUpgradeRefused}
 use Rattle.certificate.specs.declared.upgrade_fault.UpgradeFault.TheVariants.{Write}
 use Rattle.certificate.proofs.Upgrades.{part-written, all-written, refused-later}
 use Rattle.certificate.proofs.upgrading.write_upgrade.Goals as goal
@@ -29,7 +29,7 @@ returns-in_err-write_header-clause-refused g c file told =
     let part = subst (λ (bs : List ℕ). AppendsPart old new bs)
     (header-is made.version made.bound (bound_of file) version_is (bound_is ∙ accepted.1))
     (c.in_err-write_header.ensures {u = tt}).part in
-    one-error c.from_residual.result Write (IsRefusedBy file old new)
+    one-error c.from_residual.result Write (IsUpgradeRefused file old new)
     c.from_residual.ensures.1
     (part-written file accepted.0 old new
     (header-part compact (bound_of file) (compact_record file) (count_to (bound_of file)) old new
@@ -64,7 +64,7 @@ returns-in_err-write_compact-clause-refused g c file told =
     let part = subst (λ (bs : List ℕ). AppendsPart mid new bs)
     (sym (records-one (compact_record file) rank)) (said.part file (is.stays.told ∙ told)) in
     one-error c.from_residual-in_err-write_compact.result c.in_err-write_compact.field-0.0
-    (IsRefusedBy file old new)
+    (IsUpgradeRefused file old new)
     c.from_residual-in_err-write_compact.ensures.1
     (refused-later file old new c.in_err-write_compact.field-0.0 said.later
     (part-written file accepted.0 old new

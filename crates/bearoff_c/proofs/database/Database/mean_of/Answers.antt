@@ -26,7 +26,8 @@ returns-clause-some c =
     c.new.ensures.some.1 (∥∥₁_elim c.args.self.now.accepted le_prop (λ held.
     let opened = held c.requires.opened in
     let within : pips x ≤ bound_of f = omega (arith, opened.bound_is, c.requires.within) in
-    rw same (accepted-mean f (local_of_right f opened.right) x c.pips-pips.ensures.position within)))
+    rw same
+    (accepted-mean f (local_of_right f opened.right) x c.pips-pips.ensures.position within)))
 
 pub returns-clause-recorded : goal.returns-clause-recorded
 returns-clause-recorded c =

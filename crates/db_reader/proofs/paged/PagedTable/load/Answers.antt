@@ -30,7 +30,8 @@ invariant_of-self-in_default-read_record g c = record {
       c.args.self.now.fits file accepted (sym c.read_record.ensures.stays.told ∙ told);
   kept = λ file rank bytes told has.
       looked_up file c.args.self.now.records.entries c.args.rank
-      (λ r b. c.args.self.now.kept file r b (sym c.read_record.ensures.stays.told ∙ told)) rank bytes
+      (λ r b. c.args.self.now.kept file r b (sym c.read_record.ensures.stays.told ∙ told))
+      rank bytes
       (subst (λ cache. Contains cache.entries (rank, bytes)) c.get.follows.holds-at-none has);
 }
 
