@@ -212,7 +212,7 @@ export const settled = () => new Promise((keep) => setImmediate(keep));
 
 export const pipsOf = (points) => points.reduce((sum, count, place) => sum + count * (place + 1), 0);
 
-// Numbers of a position, made from its counts.
+// A number of a position, made from its counts.
 const madeUp = (points) => BigInt(points.reduce((sum, count) => 16 * sum + count, 1));
 
 export const nearest = (above, below) => (2000n * above + below) / (2n * below);
@@ -228,7 +228,8 @@ export function answerTo(points, bound = 44) {
     if (standing.pips > bound) {
         return { points, standing, bound, status: 4, refusal: "The position has more pips than the database." };
     }
-    const [mean, effective, wastage] = [1n, 2n, 3n].map((which) => 10n * madeUp(points) + which);
+    const [mean, effective] = [1n, 2n].map((which) => 10n * madeUp(points) + which);
+    const wastage = effective - 1000n * BigInt(standing.pips);
     const rounded = (thousandths) => ({ exact: `${thousandths}/1000`, thousandths, text: decimal(thousandths) });
     const share = (rolls, exactly, within) =>
         ({ rolls, exactly, within, exactlyText: percent(exactly), withinText: percent(within) });

@@ -73,10 +73,10 @@ export function chances(list) {
             `Possible too, each with less than 0.05 %: ${rare.join(", ")}.`))));
 }
 
-const spoken = ([one, other]) => (one === other ? `Double ${one}` : `${one} and ${other}`);
+const inWords = ([one, other]) => (one === other ? `Double ${one}` : `${one} and ${other}`);
 
 const dicePicture = ([one, other]) => [
-    heard(spoken([one, other])), h("span", { class: "dice", "aria-hidden": "true" }, die(one), die(other)),
+    heard(inWords([one, other])), h("span", { class: "dice", "aria-hidden": "true" }, die(one), die(other)),
 ];
 
 // Where a key leads among the elements of a group that stand in rows of so many columns, or null.
