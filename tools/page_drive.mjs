@@ -1,7 +1,7 @@
 // Drives the page in the headless browsers that are installed, Chromium and Firefox, as a reader would, and compares what
 // it shows with the program's replies: page_drive.mjs PAGE PROGRAM FOLDER [PICTURES [PART..]], where the folder has the
 // program's files eight and race.db. With a folder for pictures it leaves one for each width and colours there; with
-// words for parts it drives those alone. Says what went wrong, and fails.
+// words for parts it drives those alone, and with BROWSERS=chromium that browser alone. Says what went wrong, and fails.
 import { execFileSync } from "node:child_process";
 import { readFileSync, writeFileSync } from "node:fs";
 import { createServer } from "node:http";
@@ -581,7 +581,7 @@ async function drive(browser) {
     }
 }
 
-const browsers = await started().catch((error) => {
+const browsers = await started(process.env.BROWSERS?.split(" ")).catch((error) => {
     console.log(`page: ${error.message}`);
     process.exit(1);
 });

@@ -153,6 +153,11 @@ async function moments() {
     equal("the link", used.window.location.hash.includes("pips=58"), true);
     equal("open", [used.text("open"), used.text("known")], ["58 pips", "35,327"]);
 
+    used = await Used.open("#at=0,0,0,3,5,3&p=0,0,0,0,5,5");
+    used.click("wider");
+    await used.ready(58);
+    equal("what was refused is answered then", [used.figures[0], used.row("0,0,0,0,5,5")[0]], ["55", "55"]);
+
     part = "two changes in one tick";
     used = await Used.open();
     used.click("Remove 6");

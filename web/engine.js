@@ -1,5 +1,5 @@
-// The proved module: its memory, its calls, and texts of what they answer. Every number comes out of the module; what
-// is done here is to hand over bytes and to write what came back in decimals.
+// The proved module: its memory, its calls, and texts of what they answer. Every number here comes out of the module;
+// what is done is to hand over bytes and to write what came back in decimals.
 
 const WHOLE = { high: 939150716956721n, low: 9738770311398031360n }; // 36 ^ 22, the denominator of every share
 

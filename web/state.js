@@ -136,7 +136,7 @@ export function loading(state) {
 export function opened(state, { bound, positions }) {
     return {
         ...state, loads: state.loads - 1, database: { bound, positions }, bound: bound === 58 ? 58 : 44,
-        answers: new Map(), rolls: new Map(), decimals: new Map(), said: "",
+        answers: new Map(), rolls: new Map(), said: "",
     };
 }
 
