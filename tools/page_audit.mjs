@@ -11,7 +11,8 @@ const NAMED = new Set(["image", "img", "table", "region", "dialog"]);
 const LOOK = `(() => {
     const parsed = (text) => {
         const numbers = (text.match(/[\\d.]+/g) || []).map(Number);
-        return text === "none" || numbers.length < 3 ? null : { rgb: numbers.slice(0, 3), alpha: numbers[3] ?? 1 };
+        const alpha = numbers[3] ?? 1;
+        return text === "none" || numbers.length < 3 || alpha === 0 ? null : { rgb: numbers.slice(0, 3), alpha };
     };
     const light = (rgb) => rgb.map((part) => part / 255)
         .map((part) => (part <= 0.04045 ? part / 12.92 : ((part + 0.055) / 1.055) ** 2.4))

@@ -239,7 +239,7 @@ export function answerTo(points, bound = 44) {
     };
 }
 
-// Three plays of each roll: the recorded one, one as good, and one that loses an 18th.
+// Three plays of each roll: the recorded one, one as good, and one that loses an 18th and comes first by its text.
 export function rollsFrom(points) {
     if (points.every((count) => count === 0)) return [];
     return ROLLS.map(([one, other]) => ({
@@ -249,7 +249,7 @@ export function rollsFrom(points) {
             const moves = [[one, 0], [other, place]];
             return {
                 exact, loss, lossText: decimal(loss), moves, to: [place, ...points.slice(1)],
-                text: `${one}/off ${other}/${place}`, isBest: place < 2, isRecorded: place === 0,
+                text: place < 2 ? `${one}/off ${other}/${place}` : `${one}/1 ${other}/${place}`, isBest: place < 2, isRecorded: place === 0,
             };
         }),
     }));

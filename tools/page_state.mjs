@@ -362,7 +362,7 @@ async function keys() {
 
     part = "arrows within the plays";
     await used.clicked("roll 31");
-    equal("its plays", used.plays(), ["play 3/off 1/0", "play 3/off 1/1", "play 3/off 1/2"]);
+    equal("its plays", used.plays(), ["play 3/off 1/0", "play 3/off 1/1", "play 3/1 1/2"]);
     used.find("play 3/off 1/0").focus();
     used.at("plays").querySelectorAll("button").forEach((node, place) => { node.offsetTop = place; });
     used.document.activeElement.tell("keydown", { key: "ArrowDown" });
@@ -408,10 +408,11 @@ async function plays() {
     const paths = () => used.at("board").querySelectorAll("path").map((node) => node.getAttribute("d")).filter((way) => way.includes("C")).length;
     equal("arcs with their halos", paths(), 4);
     equal("what is lost", used.text("plays").includes("3/off 1/0 loses nothing."), true);
-    used.click("play 3/off 1/2");
-    equal("exactly", used.text("plays").includes("3/off 1/2 loses 1/18 of a roll."), true);
-    equal("as decimals", used.find("play 3/off 1/2").textContent, "3/off 1/2 \u22120.056");
-    equal("it is chosen", used.find("play 3/off 1/2").getAttribute("aria-pressed"), "true");
+    used.click("play 3/1 1/2");
+    equal("exactly", used.text("plays").includes("3/1 1/2 loses 1/18 of a roll."), true);
+    equal("as decimals", used.find("play 3/1 1/2").textContent, "3/1 1/2 \u22120.056");
+    equal("exactly, for a mouse that is held over it", used.find("play 3/1 1/2").all.map((node) => node.getAttribute("title")).filter(Boolean), ["1/18 of a roll"]);
+    equal("it is chosen", used.find("play 3/1 1/2").getAttribute("aria-pressed"), "true");
     equal("a small board", used.at("plays").querySelectorAll("svg").some((node) => (node.getAttribute("aria-label") || "").startsWith("The board: 1 on 6, 1 on 4, 13 borne off")), true);
     await used.clicked("onward");
     equal("its position", used.board, [2, 0, 0, 1, 0, 1]);
@@ -438,14 +439,15 @@ async function guesses() {
     equal("and their order tells nothing", used.rows.map((row) => row.getAttribute("data-key")), ["0,0,0,1,0,1", "0,0,0,1,0,0"]);
     equal("words", used.text("sorting"), "Their numbers are hidden while you guess.");
     equal("the rolls tell nothing", used.text("grid").includes("/"), false);
+    equal("in the order of their texts", used.plays(), ["play 5/1 2/2", "play 5/off 2/0", "play 5/off 2/1"]);
     equal("the plays tell nothing", ["best ", "as good", "0.056", "loses", "1/18"].some((word) => used.text("plays").replace("Which play is best?", "").includes(word)), false);
     equal("nor do their titles", used.at("plays").all.some((node) => node.getAttribute("title")), false);
     equal("nor their class", used.at("plays").all.some((node) => node.getAttribute("class") === "good"), false);
     equal("no arc", used.at("board").querySelectorAll("path").filter((node) => node.getAttribute("d").includes("C")).length, 0);
     let said = [];
     used.at("said").appendChild = function add(node) { if (node.data) said.push(node.data); this.insertBefore(node, null); };
-    await used.clicked("play 5/off 2/2");
-    equal("said once", said, ["5/off 2/2 loses 0.056 of a roll; best is 5/off 2/0. One guess has lost 0.056 of a roll."]);
+    await used.clicked("play 5/1 2/2");
+    equal("said once", said, ["5/1 2/2 loses 0.056 of a roll; best is 5/off 2/0. One guess has lost 0.056 of a roll."]);
     equal("seen", used.text("plays").includes("One guess has lost 0.056 of a roll. Exactly: 1/18."), true);
     equal("then it tells", [used.find("roll 52").textContent.includes("5/off 2/0"), used.find("roll 31").textContent.includes("/")], [true, false]);
     equal("and so do the kept", hidden().some((text) => text.includes("\u2026")), false);
@@ -454,20 +456,32 @@ async function guesses() {
     equal("a roll counts once", used.text("plays").includes("One guess has lost"), true);
     for (const roll of ["31", "41"]) {
         await used.clicked(`roll ${roll}`);
-        await used.clicked(`play ${roll[0]}/off ${roll[1]}/2`);
+        await used.clicked(`play ${roll[0]}/1 ${roll[1]}/2`);
     }
     equal("three of 1/18 are 1/6", used.text("plays").includes("3 guesses have lost 0.167 of a roll. Exactly: 1/6."), true);
     await used.clicked("roll 52");
     await used.clicked("roll 52");
     equal("a guessed roll is not guessed again", [used.text("plays").includes("Which play"), used.session.state.guesses.length], [false, 3]);
+    await used.clicked("Add 2");
+    await used.clicked("roll 52");
+    equal("in another position it is", [used.text("plays").includes("Which play"), used.find("roll 52").textContent.includes("/")], [true, false]);
+    await used.clicked("Remove 2");
+    equal("and here it isn't", used.find("roll 52").textContent.includes("/"), true);
     said = [];
     await used.clicked("roll 62");
     await used.clicked("play 6/off 2/1");
     equal("one as good", said.filter(Boolean), ["6/off 2/1 is best, as is 6/off 2/0. 4 guesses have lost 0.167 of a roll."]);
     await used.clicked("reset");
     equal("begun anew", [used.session.state.guesses.length, used.text("plays").includes("Which play is best?"), used.focus()], [0, true, "roll 62"]);
-    await used.clicked("play 6/off 2/2");
+    await used.clicked("play 6/1 2/2");
     equal("and counted anew", used.text("plays").includes("One guess has lost 0.056"), true);
+    said = [];
+    for (const roll of ["31", "41"]) {
+        used.click(`roll ${roll}`);
+        used.click(`play ${roll[0]}/1 ${roll[1]}/2`);
+    }
+    await used.worker.answerAll();
+    equal("two at once", said.filter(Boolean), ["4/1 1/2 loses 0.056 of a roll; best is 4/off 1/0. 3 guesses have lost 0.167 of a roll."]);
     used.at("guess").tell("change", { target: { checked: false } });
     used.window.pass(1000);
     equal("not guessing", [used.text("plays").includes("guess"), used.find("roll 31").textContent.includes("/"), used.window.location.hash.includes("guess")], [false, true, false]);
@@ -571,6 +585,7 @@ async function addresses() {
     await open.worker.answerAll(58);
     open.window.pass(1000);
     equal("a link", [open.board.join(), open.window.location.hash], ["0,0,0,1,0,0", "#at=0,0,0,1,0,0&pips=58"]);
+    equal("which is one entry", open.window.entries.length, 3);
     open.window.type("#at=0,0,0,1,0,0&pips=58&t=<b>T</b>");
     equal("the title is text", [open.text("lesson"), open.at("lesson").all.length, open.at("lesson").hidden], ["<b>T</b>", 0, false]);
     equal("twice the same", readLink("#p=1,0,0,0,0,0&c=a&p=2,0,0,0,0,0&p=1,0,0,0,0,0&c=b&p=9,9,0,0,0,0&c=x").kept.map(({ points, caption }) => `${points[0]} ${caption}`), ["1 a", "2 "]);
@@ -597,7 +612,10 @@ async function addresses() {
     disk.click("copy");
     await settled();
     equal("on a disk", disk.text("copied"), "The link is copied. This page is a file of this device, so the link opens only here.");
-    const shut = await Used.open("", { before: (window) => { window.navigator = {}; } });
+    const shut = await Used.open("", { before: (window, document) => {
+        window.navigator = {};
+        document.getElementById("link").hidden = true;
+    } });
     shut.click("copy");
     await settled();
     equal("where it can't", [shut.text("copied").startsWith("The browser lets this page copy nothing."), shut.at("link").hidden, shut.at("link").value, shut.at("link").isSelected], [true, false, "https://here/page.html#at=2,2,2,2,2,2", true]);
