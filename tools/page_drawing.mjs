@@ -8,6 +8,7 @@ import { chances, kept, numbers } from "../web/panels.js";
 import { Bar, reached } from "../web/progress.js";
 import { byLoss } from "../web/state.js";
 import { build, draw, h, textOf } from "../web/tree.js";
+import { Browser } from "./browser.mjs";
 import { Document, Window, Worker } from "./page_stand_in.mjs";
 
 let failed = 0;
@@ -144,6 +145,13 @@ equal("replies", [await other, refusal.message, refusal.status, refusal.line, st
 const late = client.ask({ kind: "late" });
 client.worker.onerror({ message: "gone" });
 equal("a worker that is gone", [(await late.catch(({ message }) => message)), await client.ask({}).catch(({ message }) => message), client.isDead], ["gone", "gone", true]);
+
+// a browser that ends makes what waits for it fail
+for (const [ended, how] of [["/bin/false", "the browser ended with 1"], ["/nowhere/browser", "the browser doesn't start: spawn /nowhere/browser ENOENT"]]) {
+    const dead = new Browser(ended);
+    equal("a browser that is gone", await dead.send("Browser.getVersion").catch(({ message }) => message), how);
+    equal("and is asked later", await dead.send("Browser.getVersion").catch(({ message }) => message), how);
+}
 
 equal("no WebAssembly", abilities(null), "none");
 equal("this node", ["wide", "narrow"].includes(abilities()), true);

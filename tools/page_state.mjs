@@ -598,6 +598,12 @@ async function addresses() {
     full.window.pass(1000);
     equal("and the address follows", full.window.location.hash, "#at=3,2,2,2,2,2");
 
+    full.window.history.replaceState = full.window.history.pushState;
+    full.click("Add 1");
+    full.click("copy");
+    await settled();
+    equal("and the link that is copied is of now", full.window.copied, "https://here/page.html#at=4,2,2,2,2,2");
+
     part = "Copy the link";
     const copied = await Used.open();
     copied.click("Add 1");
