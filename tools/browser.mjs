@@ -11,6 +11,9 @@ const NAMES = {
     firefox: ["firefox-esr", "firefox"],
 };
 
+// A headless Chromium has no mouse unless it is told so.
+const MOUSE = "--blink-settings=primaryHoverType=2,availableHoverTypes=2,primaryPointerType=4,availablePointerTypes=4";
+
 const wait = (milliseconds) => new Promise((keep) => setTimeout(keep, milliseconds));
 
 // Where a browser is installed, or null.
@@ -86,7 +89,7 @@ class AnyPage {
 export class Browser extends Program {
     constructor(program) {
         super(program, (folder) => [
-            "--headless=new", "--no-sandbox", "--disable-gpu", "--disable-dev-shm-usage", "--hide-scrollbars",
+            "--headless=new", "--no-sandbox", MOUSE, "--disable-gpu", "--disable-dev-shm-usage", "--hide-scrollbars",
             `--user-data-dir=${folder}`, "--remote-debugging-pipe", "about:blank",
         ], ["ignore", "ignore", "ignore", "pipe", "pipe"]);
         [, , , this.to, this.from] = this.process.stdio;

@@ -139,8 +139,10 @@ export async function audit(page) {
     if (levels.filter((level) => level === 1).length !== 1 || levels.some((level, place) => level > (levels[place - 1] ?? 0) + 1)) faults.push(`headings of the levels ${levels}`);
     const pressed = told.filter(({ role, properties }) => role === "button" && properties.pressed === "true").map(({ name }) => name);
     if (pressed.length !== 2) faults.push(`pressed are ${pressed.join("; ")}`);
-    const buttons = roles("button").map(({ name }) => name);
-    for (const name of buttons) if (buttons.indexOf(name) !== buttons.lastIndexOf(name)) faults.push(`two buttons are called ${name}`);
+    const names = [...roles("button"), ...roles("textbox")].map(({ role, name }) => `${role} ${name}`);
+    for (const name of new Set(names)) {
+        if (names.indexOf(name) !== names.lastIndexOf(name)) faults.push(`two are called ${name}`);
+    }
 
     // what is seen on a thing is part of its name
     const { root } = await page.send("DOM.getDocument", { depth: -1 });

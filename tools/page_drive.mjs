@@ -153,6 +153,9 @@ async function compareBars(page) {
 async function driveBoard(browser) {
     const page = await browser.open(address, { before: WATCH });
     await page.until(READY);
+    const [isMouse, how] = await page.value('[matchMedia("(hover: hover)").matches, document.getElementById("how").innerText]');
+    equal("how a point is set", how.startsWith(isMouse ? "Click" : "Tap"), true);
+    if (browser.name === "Chromium") equal("with a mouse", isMouse, true);
     await compare(page, "the first position", "2,2,2,2,2,2");
     await compareBars(page);
     await page.click('[data-key="clear"]');

@@ -568,6 +568,12 @@ async function addresses() {
     used.window.pass(1000);
     equal("Back within a step", [used.board[0], used.window.place], [5, 6]);
 
+    const soon = await Used.open("#at=1,0,0,0,0,0&t=T");
+    soon.click("Add 1");
+    equal("a step right after the address was completed", soon.window.entries.length, 2);
+    soon.window.go(-1);
+    equal("is undone", soon.board[0], 1);
+
     part = "a link that is set in an open page";
     const open = await Used.open();
     open.window.pass(1000);

@@ -8,13 +8,17 @@ export class Past {
         this.window = window;
         this.current = window.location.hash; // the address as the page knows it
         this.timer = null;
+        this.isStep = false; // whether what is written now is a step
     }
 
     // The address of a state; `isStep` where Back shall undo what led to it.
     remember(link, isStep) {
         if (link === this.current) return;
         this.current = link;
-        if (this.timer === null) this.write(link, isStep);
+        if (this.timer === null || (isStep && !this.isStep)) {
+            this.isStep = isStep;
+            this.write(link, isStep);
+        }
         this.window.clearTimeout(this.timer);
         this.timer = this.window.setTimeout(() => this.settle(), ONE_STEP);
     }
