@@ -270,7 +270,7 @@ async function driveSum(browser) {
         sum = [sum[0] * below + above * sum[1], sum[1] * below];
     }
     const told = (await page.value('document.querySelector(".verdict p").textContent')).match(/Exactly: (\d+)\/(\d+)/);
-    equal("the sum of three losses", told && BigInt(told[1]) * sum[1] === BigInt(told[2]) * sum[0], true);
+    equal("the sum of three losses", told ? BigInt(told[1]) * sum[1] === BigInt(told[2]) * sum[0] : sum[0] === 0n, true);
     equal("then the kept numbers are there", await page.value('document.querySelector(".kept").textContent.includes("\u2026")'), false);
 }
 
