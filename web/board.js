@@ -34,8 +34,8 @@ const tip = (name) => h("defs", {}, h("marker", {
     id: name, viewBox: "0 0 10 10", refX: 7, refY: 5, markerWidth: 5, markerHeight: 5, orient: "auto",
 }, h("path", { d: "M 0 0 L 10 5 L 0 10 z" })));
 
-// The moves of a play as arcs, and the checkers that come down as rings. Each lies on a wider halo, so that it stands out
-// from a checker as well as from the felt.
+// The moves of a play as arcs, and the checkers that come down as rings. Each lies on a wider halo, so that it stands
+// out from a checker as well as from the felt.
 function arcs(points, moves, name) {
     const counts = [...points];
     return h("g", { class: "arcs", "aria-hidden": "true" }, moves.map(([from, to], number) => {
@@ -83,7 +83,8 @@ function column(points, point, free, act) {
             const next = { ArrowLeft: point + 1, ArrowRight: point - 1 }[event.key];
             const group = next && event.currentTarget.parentNode.querySelector(`[data-point="${next}"]`);
             if (group) group.focus();
-            if (!event.ctrlKey && !event.metaKey && !event.altKey && act.press(point, event.key)) event.preventDefault();
+            const isAlone = !event.ctrlKey && !event.metaKey && !event.altKey;
+            if (isAlone && act.press(point, event.key)) event.preventDefault();
         },
     },
         h("rect", { class: "ground", x: (6 - point) * WIDTH + 2, y: 4, width: WIDTH - 4, height: FLOOR - 2, rx: 6 }),

@@ -1,5 +1,6 @@
 // The addresses that one went through: each change is a step, and Back undoes it. What follows a change at once, as
-// under a key that is held, belongs to the same step, since browsers take only so many changes of an address in a while.
+// under a key that is held, belongs to the same step, since browsers take only so many changes of an address in a
+// while.
 
 const ONE_STEP = 250; // milliseconds
 

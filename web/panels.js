@@ -54,6 +54,9 @@ export function numbers(answer, isComing = true) {
 // How long a bar is, of a hundred: the longest chance has them all.
 const length = (exactly, longest) => (100 * Number(exactly)) / Number(longest);
 
+const bar = (width) => h("svg", { viewBox: "0 0 100 10", preserveAspectRatio: "none", "aria-hidden": "true" },
+    h("rect", { width, height: 10 }));
+
 // The chance of each number of rolls, as bars, and to be off within it. What rounds to nothing is named below.
 export function chances(list) {
     const rows = list.filter(({ exactly }) => exactly > 0n);
@@ -66,8 +69,7 @@ export function chances(list) {
         h("tbody", {}, rows.map((row) => h("tr", {},
             h("th", { scope: "row" }, row.rolls),
             h("td", { class: "share" }, row.exactlyText),
-            h("td", { class: "bar" }, h("svg", { viewBox: "0 0 100 10", preserveAspectRatio: "none", "aria-hidden": "true" },
-                h("rect", { width: length(row.exactly, longest), height: 10 }))),
+            h("td", { class: "bar" }, bar(length(row.exactly, longest))),
             h("td", { class: "share" }, row.withinText)))),
         rare.length > 0 && h("tfoot", {}, h("tr", {}, h("td", { colspan: 4 },
             `Possible too, each with less than 0.05 %: ${rare.join(", ")}.`))));
@@ -129,7 +131,8 @@ const cost = (play) => (play.isRecorded ? "best" : play.isBest ? "as good" : `\u
 // What the plays of a roll are before they are known, and where no roll was chosen.
 const NO_ROLL = h("p", { class: "hint" }, "Choose a roll to see its plays here and on the board.");
 
-// The plays of the chosen roll on a small board, and what each loses; in a guess they stand in the order of their texts.
+// The plays of the chosen roll on a small board, and what each loses; in a guess they stand in the order of their
+// texts.
 export function plays({ points, dice, list, shown, isHidden, stop }, act) {
     if (!dice) return NO_ROLL;
     const byText = (one, other) => one.text.localeCompare(other.text);

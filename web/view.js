@@ -12,6 +12,8 @@ export function view(state, act) {
     const list = rollsOf(state);
     const shown = shownPlay(state);
     const told = verdictOf(state);
+    const chosen = chosenOf(state)?.plays;
+    const isHidden = hides(state);
     const hasRolls = answer ? !answer.refusal && answer.standing.checkers > 0 : isComing(state);
     return {
         trees: {
@@ -20,10 +22,10 @@ export function view(state, act) {
             chances: answer && !answer.refusal ? chances(answer.distribution) : [],
             grid: rolls(list, roll, (dice) => hides(state, dice), stops.rolls, act),
             plays: [
-                plays({ points, dice: roll, list: chosenOf(state)?.plays, shown, isHidden: hides(state), stop: stops.plays }, act),
+                plays({ points, dice: roll, list: chosen, shown, isHidden, stop: stops.plays }, act),
                 told && verdict(told, act),
             ],
-            kept: kept(orderOf(state), (at) => answerOf(state, at), hides(state), act),
+            kept: kept(orderOf(state), (at) => answerOf(state, at), isHidden, act),
         },
         texts: {
             lesson: state.title,
@@ -33,7 +35,7 @@ export function view(state, act) {
             known: database ? database.positions.toLocaleString("en") : "\u2026",
             keep: isKept(state) ? "Kept below" : isFull(state) ? "Ten are kept" : "Keep this position",
             why: typed ? typed.fault : "",
-            sorting: hides(state) ? "Their numbers are hidden while you guess." : "Sorted by effective pip count.",
+            sorting: isHidden ? "Their numbers are hidden while you guess." : "Sorted by effective pip count.",
         },
         hidden: {
             lesson: !state.title,
