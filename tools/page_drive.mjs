@@ -1,43 +1,101 @@
-// Drives the page in a headless Chromium, as a reader would, and compares what it shows with the program's replies:
-// page_drive.mjs PAGE PROGRAM FOLDER [PICTURES], where the folder has the program's files eight and race.db. With a folder
-// for pictures it leaves one for each width and colour there. Says what went wrong, and fails.
+// Drives the page in the headless browsers that are installed, Chromium and Firefox, as a reader would, and compares what
+// it shows with the program's replies: page_drive.mjs PAGE PROGRAM FOLDER [PICTURES [PART..]], where the folder has the
+// program's files eight and race.db. With a folder for pictures it leaves one for each width and colours there; with
+// words for parts it drives those alone, and with BROWSERS=chromium that browser alone. Says what went wrong, and fails.
 import { execFileSync } from "node:child_process";
 import { readFileSync, writeFileSync } from "node:fs";
+import { createServer } from "node:http";
 import { join, resolve } from "node:path";
 import { pathToFileURL } from "node:url";
-import { Browser, installed } from "./browser.mjs";
+import { started } from "./browser.mjs";
+import { audit } from "./page_audit.mjs";
 
-const [, , pagePath, program, folder, pictures] = process.argv;
-const found = installed();
-if (!found) {
-    console.log("page: Chromium isn't installed, so the page is not driven");
-    process.exit(0);
-}
+const [, , pagePath, program, folder, pictures, ...parts] = process.argv;
 const address = pathToFileURL(resolve(pagePath)).href;
-const ask = (line, file = "race.db") => execFileSync(program, ["query", join(folder, file)], { input: `${line}\n`, encoding: "utf8" }).trim();
+const asked = new Map();
 let failed = 0;
+let browserName = "";
+
 const wrong = (text) => {
     failed += 1;
-    console.log(`page: ${text}`);
+    console.log(`page: in ${browserName}: ${text}`);
 };
 const equal = (name, is, wanted) => JSON.stringify(is) === JSON.stringify(wanted) || wrong(`${name}: ${JSON.stringify(is)}, and not ${JSON.stringify(wanted)}`);
-const READY = 'document.body.dataset.ready && document.querySelector("#numbers .figures")';
+const FOCUS = 'document.activeElement.getAttribute("data-key") || document.activeElement.id';
+const wait = (milliseconds) => new Promise((keep) => setTimeout(keep, milliseconds));
 
-// Keeps what the bar shows, and for how many milliseconds from the page's start.
-const WATCH = `window.watched = { ready: 0, seen: [] };
+// The program's reply to a line.
+function ask(line) {
+    if (!asked.has(line)) {
+        const reply = execFileSync(program, ["query", join(folder, "race.db")], { input: `${line}\n`, encoding: "utf8" });
+        asked.set(line, reply.trim());
+    }
+    return asked.get(line);
+}
+
+const pipsOf = (position) => position.split(",").reduce((sum, count, place) => sum + count * (place + 1), 0);
+const READY = 'document.body.dataset.ready && document.querySelector("#numbers .figures")';
+const KNOWN = '!document.querySelector(".figures").textContent.includes("\\u2026")';
+
+// Keeps what the bar shows, each position with the numbers beside it, and what the page's policy refuses. Without
+// frames, as where a browser draws none, nothing is kept of the bar.
+const WATCH = `window.watched = { ready: 0, bar: [], pairs: [], refused: [] };
+document.addEventListener("securitypolicyviolation", ({ violatedDirective, blockedURI }) => watched.refused.push(violatedDirective + " " + blockedURI));
 (function look() {
     const bar = document.getElementById("bar");
     if (document.body && document.body.dataset.ready) {
         watched.ready = performance.now();
         return;
     }
-    if (bar && !bar.hidden) watched.seen.push(document.getElementById("progress").value);
+    if (bar && !bar.hidden) watched.bar.push(document.getElementById("progress").value);
     requestAnimationFrame(look);
+})();
+(function observe() {
+    const seen = new Set();
+    const keep = (...pair) => {
+        const text = JSON.stringify(pair);
+        if (!seen.has(text)) watched.pairs.push(pair);
+        seen.add(text);
+    };
+    new MutationObserver(() => {
+        const board = [...document.querySelectorAll("[role=spinbutton]")].map((point) => point.getAttribute("aria-valuenow")).reverse().join();
+        const figures = [...document.querySelectorAll(".figure dd")].map((figure) => figure.textContent.trim().split(" ")[0]);
+        if (figures.length === 4) keep(board, figures);
+        const refusal = document.querySelector(".refusal")?.textContent.match(/^\\d+ pips/);
+        if (refusal) keep(board, [refusal[0].split(" ")[0]]);
+        for (const row of document.querySelectorAll(".kept tbody tr")) {
+            const position = row.querySelector(".show").getAttribute("aria-label").match(/\\d+/g).join();
+            const cells = [...row.querySelectorAll("td[data-head]")].map((cell) => cell.textContent);
+            if (cells.length === 4) keep(position, cells);
+        }
+    }).observe(document, { subtree: true, childList: true, characterData: true, attributes: true });
 })();`;
+
+// Every number that was ever beside a position is the program's for it.
+async function compareWatched(page, name, least) {
+    const { pairs, refused } = await page.value("watched");
+    let told = 0;
+    for (const [position, figures] of pairs) {
+        const right = [String(pipsOf(position))];
+        if (pipsOf(position) <= 44 && figures.length === 4 && figures[1] !== "\u2026") {
+            const [, mean, , , effective] = ask(`mean ${position}`).split(" ");
+            const [above, below] = mean.split("/").map(BigInt);
+            const thousandths = (2000n * above + below) / (2n * below);
+            right.push((Number(thousandths) / 1000).toFixed(3), effective, (Number(effective) - pipsOf(position)).toFixed(3));
+            told += 1;
+        }
+        figures.forEach((figure, place) => {
+            if (figure !== "\u2026" && figure !== "\u2013" && right[place] !== undefined && figure !== right[place]) {
+                wrong(`${name}: beside ${position} once stood ${figures.join(" ")}, and right is ${right.join(" ")}`);
+            }
+        });
+    }
+    if (told < least) wrong(`${name}: only ${told} positions had numbers`);
+    equal(`${name}: what the policy refused`, refused, []);
+}
 
 // What the page shows, read from it.
 const SHOWN = `({
-    counts: document.getElementById("counts").value,
     values: [...document.querySelectorAll("[role=spinbutton]")].map((point) => Number(point.getAttribute("aria-valuenow"))).reverse().join(),
     figures: [...document.querySelectorAll(".figure dd")].map((figure) => figure.textContent.trim().split(" ")[0]),
     exact: [...document.querySelectorAll(".exact dd")].map((figure) => figure.textContent),
@@ -51,7 +109,7 @@ async function compare(page, name, position) {
     await page.until(`document.querySelectorAll(".figure dd")[2].textContent.startsWith("${rounded}")`, 5000)
         .catch(() => wrong(`${name}: no effective pip count of ${rounded}`));
     const shown = await page.value(SHOWN);
-    const pips = position.split(",").reduce((sum, count, place) => sum + count * (place + 1), 0);
+    const pips = pipsOf(position);
     equal(`${name}, the points`, shown.values, position);
     equal(`${name}, pips and effective`, [shown.figures[0], shown.figures[2]], [String(pips), rounded]);
     equal(`${name}, exact`, shown.exact, [mean, epc]);
@@ -59,35 +117,47 @@ async function compare(page, name, position) {
     equal(`${name}, said`, shown.said.includes(`effective pip count ${rounded}`), true);
 }
 
-// Every roll's best play is the recorded one, and the chosen roll's plays are those of the program.
+// Every roll's best play is the recorded one with the loss of the next best, and the chosen roll's plays are those of the
+// program.
 async function compareRolls(page, position) {
-    await page.until('document.querySelector(".rolls")');
-    const best = await page.value('[...document.querySelectorAll(".rolls button")].map((roll) => [roll.dataset.key.slice(5), roll.querySelector(".best").textContent])');
-    equal("how many rolls", best.length, 21);
-    for (const [roll, text] of best) equal(`the best play of ${roll}`, `play ${text}`, ask(`play ${position} ${roll}`).split(" to ")[0]);
+    await page.until('document.querySelector(".rolls .next")');
+    const rolls = await page.value(`[...document.querySelectorAll(".rolls button")].map((roll) =>
+        [roll.dataset.key.slice(5), roll.querySelector(".best").textContent, roll.querySelector(".next").textContent])`);
+    equal("how many rolls", rolls.length, 21);
+    for (const [roll, text, next] of rolls) {
+        equal(`the best play of ${roll}`, `play ${text}`, ask(`play ${position} ${roll}`).split(" to ")[0]);
+        const losses = ask(`moves ${position} ${roll}`).split(" ").slice(1).map((word) => word.split(":")[1].split("/").map(BigInt))
+            .map(([above, below]) => (2000n * above + below) / (2n * below)).sort((one, other) => (one < other ? -1 : one > other ? 1 : 0));
+        equal(`the next best of ${roll}`, next, losses.length === 1 ? "only play" : `then \u2212${(Number(losses[1]) / 1000).toFixed(3)}`);
+    }
     await page.click('[data-key="roll 31"]');
-    await page.until('document.querySelector("#plays ol")');
+    await page.until('document.querySelector(".plays")');
     const costs = await page.value('[...document.querySelectorAll("#plays .cost")].map((cost) => cost.title.split(" ")[0])');
     equal("what the plays of 31 lose", costs, ask(`moves ${position} 31`).split(" ").slice(1).map((word) => word.split(":")[1]));
-    equal("arcs on the board", await page.value('document.querySelectorAll(".arc").length'), 2);
+    equal("arcs on the board", await page.value('document.querySelectorAll("#board .arc").length'), 2);
+    await page.click(".plays button:last-child");
+    equal("exactly", await page.value('document.querySelector(".loss").textContent.includes(" loses " + document.querySelector(".plays button:last-child .cost").title)'), true);
 }
 
-// Drops a file on the page.
-const drop = (page, bytes) => page.value(`(() => {
-    const bytes = Uint8Array.from(atob(${JSON.stringify(Buffer.from(bytes).toString("base64"))}), (letter) => letter.charCodeAt(0));
-    const transfer = new DataTransfer();
-    transfer.items.add(new File([bytes], "own.db"));
-    document.body.dispatchEvent(new DragEvent("drop", { dataTransfer: transfer, bubbles: true, cancelable: true }));
-})()`);
+// The bars are as long as the chances beside them.
+async function compareBars(page) {
+    const bars = await page.value(`[...document.querySelectorAll(".chances tbody tr")].map((row) =>
+        [Number(row.querySelector(".share").textContent.split(" ")[0]), row.querySelector("rect").getBoundingClientRect().width])`);
+    const most = bars.reduce((one, other) => (other[0] > one[0] ? other : one));
+    for (const [share, width] of bars) {
+        if (Math.abs(width / most[1] - share / most[0]) > 0.02) wrong(`a bar for ${share} % is ${width} wide, where ${most[0]} % has ${most[1]}`);
+    }
+    if (most[1] < 50) wrong(`the longest bar is ${most[1]} wide`);
+}
 
 async function driveBoard(browser) {
     const page = await browser.open(address, { before: WATCH });
     await page.until(READY);
-    const { ready, seen } = await page.value("watched");
-    console.log(`page: ready after ${ready.toFixed(0)} ms, with a bar that moved ${new Set(seen).size} times`);
-    (new Set(seen).size > 5 && seen.every((part, place) => place === 0 || part >= seen[place - 1])) ||
-        wrong(`the bar moved on so: ${seen.join(" ")}`);
+    const [isMouse, how] = await page.value('[matchMedia("(hover: hover)").matches, document.getElementById("how").innerText]');
+    equal("how a point is set", how.startsWith(isMouse ? "Click" : "Tap"), true);
+    if (browser.name === "Chromium") equal("with a mouse", isMouse, true);
     await compare(page, "the first position", "2,2,2,2,2,2");
+    await compareBars(page);
     await page.click('[data-key="clear"]');
     await page.until('document.getElementById("counts").value === "0,0,0,0,0,0"');
     for (const point of [6, 6, 4]) await page.click(`[data-key="point ${point}"]`);
@@ -96,19 +166,33 @@ async function driveBoard(browser) {
     await page.click('[data-key="Add 1"]');
     await page.click('[data-key="Remove 4"]');
     await compare(page, "changed by clicks", "1,0,0,0,0,1");
+    await page.click('[data-key="point 1"]', { button: "right" });
+    await compare(page, "a right-click", "0,0,0,0,0,1");
     await page.value('document.querySelector(\'[data-key="point 5"]\').focus()');
-    for (const [key, text] of [["4", "4"], ["ArrowLeft"], ["ArrowUp"], ["ArrowRight"], ["ArrowRight"], ["3", "3"], ["ArrowDown"]]) {
-        await page.key(key, text);
-        await new Promise((keep) => setTimeout(keep, 60));
-    }
-    await compare(page, "set up by keyboard", "1,0,0,2,4,2");
+    for (const key of ["4", "ArrowLeft", "ArrowUp", "ArrowRight", "ArrowRight", "3", "ArrowDown"]) await page.key(key);
+    await compare(page, "set up by keyboard", "0,0,0,2,4,2");
     await page.click('[data-key="clear"]');
-    for (const [point, count] of [[4, 4], [5, 4], [6, 1]]) {
-        await page.value(`document.querySelector('[data-key="point ${point}"]').focus()`);
-        await page.key(String(count), String(count));
-    }
+    await page.value('document.querySelector(\'[data-key="point 1"]\').focus()');
+    for (const key of ["1", "2"]) await page.key(key);
+    await compare(page, "two digits", "12,0,0,0,0,0");
+    await page.click("#counts");
+    await page.value('document.getElementById("counts").select()');
+    for (const key of ["9", " ", "9", "Enter"]) await page.key(key);
+    await page.until('!document.getElementById("why").hidden');
+    equal("why not", await page.value('document.getElementById("why").textContent'), "Six counts are wanted, and here are 2.");
+    await page.value('document.getElementById("counts").select()');
+    for (const key of ["0", " ", "0", " ", "0", " ", "4", " ", "4", " ", "1", "Enter"]) await page.key(key);
     await compare(page, "nine checkers", "0,0,0,4,4,1");
     await compareRolls(page, "0,0,0,4,4,1");
+    equal("nothing went wrong", page.troubles(), []);
+    return page;
+}
+
+// How long it takes, and that the bar moves on.
+async function driveTimes(page) {
+    const { ready, bar } = await page.value("watched");
+    console.log(`page: ready after ${ready.toFixed(0)} ms, with a bar that moved ${new Set(bar).size} times`);
+    (new Set(bar).size > 5 && bar.every((part, place) => place === 0 || part >= bar[place - 1])) || wrong(`the bar moved on so: ${bar.join(" ")}`);
     const times = await page.value(`(async () => {
         const times = [];
         for (const [key, pips] of [["Add 2", 44], ["Remove 2", 42], ["Add 1", 43], ["Remove 1", 42], ["Add 2", 44]]) {
@@ -120,29 +204,94 @@ async function driveBoard(browser) {
         return times.sort((one, other) => one - other);
     })()`);
     console.log(`page: a click was answered in ${times[2].toFixed(0)} ms, the middle of five`);
+    await compareWatched(page, "the board", 6);
+}
+
+// One stop of Tab for the rolls and one for the plays, arrows within them, and the focus where one was.
+async function driveKeyboard(browser) {
+    const page = await browser.open(`${address}#at=0,0,0,1,0,1&p=1,0,0,0,0,0&p=2,0,0,0,0,0`);
+    await page.until(`${READY} && document.querySelector(".rolls .next")`);
+    const go = async (from, keys) => {
+        await page.value(`document.querySelector(${JSON.stringify(from)}).focus()`);
+        const path = [];
+        for (const key of keys) {
+            await page.key(key);
+            await wait(50);
+            path.push(await page.value(FOCUS));
+        }
+        return path;
+    };
+    const plays = ask("moves 0,0,0,1,0,1 21").split(" ").length - 1;
+    const path = await go("#guess", ["Tab", "ArrowRight", "ArrowRight", "ArrowLeft", "Enter", "Tab", "End", "Tab", "Enter"]);
+    const texts = path.map((key) => (key.startsWith("play ") ? "play" : key));
+    equal("where keys lead", texts, ["roll 11", "roll 21", "roll 22", "roll 21", "roll 21", "play", "play", "onward", "roll 21"]);
+    equal("to the first and the last play", path[5] !== path[6], plays > 1);
+    await page.until(`document.getElementById("counts").value === "${ask("play 0,0,0,1,0,1 21").split(" to ")[1]}"`);
+    equal("Keep", await go("#keep", ["Enter"]), ["keep"]);
+    equal("kept", await page.value('document.querySelectorAll(".kept tbody tr").length'), 3);
+    equal("Escape", (await go('[data-key="roll 31"]', ["Enter", "Tab", "Escape"])).map((key) => key.split(" ")[0]), ["roll", "play", "roll"]);
+    await page.until('![...document.querySelectorAll(".kept td[data-head]")].some((cell) => cell.textContent === "\u2026")');
+    const rows = await page.value('[...document.querySelectorAll(".kept .remove")].map((button) => button.dataset.key)');
+    equal("Remove", await go(`[data-key="${rows[0]}"]`, ["Enter", "Enter", "Enter"]), [rows[1], rows[2], "keep"]);
     equal("nothing went wrong", page.troubles(), []);
-    return page;
 }
 
 async function driveGuess(page) {
     await page.click("#guess");
     await page.click('[data-key="roll 21"]');
-    await page.until('document.querySelector("#plays ol")');
+    await page.until('document.querySelector(".plays")');
     equal("a guess hides the best play", await page.value('document.querySelector("#grid").textContent.includes("/")'), false);
     equal("a guess shows no arc", await page.value('document.querySelectorAll(".arc").length'), 0);
-    equal("a guess tells no loss", await page.value('[...document.querySelectorAll("#plays .cost")].every((cost) => cost.textContent === "")'), true);
-    await page.click("#plays li:last-child button");
-    await page.until('document.querySelector(".verdict")');
-    const verdict = await page.value('document.querySelector(".verdict").textContent');
-    /One guess has lost \d+\.\d{3} of a roll/.test(verdict) || wrong(`the verdict: ${verdict}`);
+    equal("a guess tells no loss", await page.value('document.querySelectorAll("#plays .cost").length'), 0);
+    await page.click(".plays button:last-child");
+    await page.until('document.querySelector(".verdict") && !document.querySelector(".verdict").textContent.includes("\u2026")');
+    const verdict = await page.value('document.querySelector(".verdict p").textContent');
+    /One guess has lost \d+\.\d{3} of a roll\./.test(verdict) || wrong(`the verdict: ${verdict}`);
+    const said = await page.value('document.getElementById("said").textContent');
+    verdict.startsWith(said) || wrong(`said is ${said}, and the verdict ${verdict}`);
+    await page.click('[data-key="reset"]');
+    await page.until('document.querySelector("#plays h3").textContent.includes("Which play is best?")');
     await page.click("#guess");
 }
+
+// The lesson of three losses of 1/18.
+async function driveSum(browser) {
+    const page = await browser.open(`${address}#at=0,0,0,1,0,1&guess=1&p=0,0,0,1,0,0&p=1,1,0,0,0,0`);
+    await page.until(`${READY} && document.querySelector(".rolls button")`);
+    equal("the kept numbers are hidden", await page.value('[...new Set([...document.querySelectorAll(".kept td[data-head]")].map((cell) => cell.textContent))]'), ["\u2026"]);
+    let sum = [0n, 1n];
+    for (const roll of ["52", "61", "41"]) {
+        await page.click(`[data-key="roll ${roll}"]`);
+        await page.until('document.querySelector(".plays")');
+        const text = await page.value('document.querySelector(".plays button:last-child .moves").textContent');
+        await page.click(".plays button:last-child");
+        await page.until('document.querySelector(".verdict") && !document.querySelector(".verdict").textContent.includes("\u2026")');
+        const [above, below] = (await page.value(`document.querySelector('[data-key="play ${text}"] .cost').title`)).split(" ")[0].split("/").map(BigInt);
+        sum = [sum[0] * below + above * sum[1], sum[1] * below];
+    }
+    const told = (await page.value('document.querySelector(".verdict p").textContent')).match(/Exactly: (\d+)\/(\d+)/);
+    equal("the sum of three losses", told ? BigInt(told[1]) * sum[1] === BigInt(told[2]) * sum[0] : sum[0] === 0n, true);
+    equal("then the kept numbers are there", await page.value('document.querySelector(".kept").textContent.includes("\u2026")'), false);
+}
+
+// Drops a file on the page, or chooses it at its foot.
+const put = (page, bytes, how = "drop") => page.value(`(() => {
+    const bytes = Uint8Array.from(atob(${JSON.stringify(Buffer.from(bytes).toString("base64"))}), (letter) => letter.charCodeAt(0));
+    const transfer = new DataTransfer();
+    transfer.items.add(new File([bytes], "own.db"));
+    if (${JSON.stringify(how)} === "drop") {
+        document.body.dispatchEvent(new DragEvent("drop", { dataTransfer: transfer, bubbles: true, cancelable: true }));
+    } else {
+        document.getElementById("file").files = transfer.files;
+        document.getElementById("file").dispatchEvent(new Event("change", { bubbles: true }));
+    }
+})()`);
 
 async function driveFiles(page) {
     const eight = readFileSync(join(folder, "eight"));
     const damaged = Buffer.from(eight);
     damaged[32 + 426 + 3] ^= 1;
-    await drop(page, damaged);
+    await put(page, damaged);
     await page.until('!document.getElementById("trouble").hidden');
     const trouble = await page.value('document.getElementById("trouble").textContent');
     let line = "";
@@ -154,22 +303,67 @@ async function driveFiles(page) {
     }
     (line && trouble.includes(`First fault: ${line}.`)) || wrong(`the refusal says "${trouble}", and the program "${line}"`);
     equal("the former database stays", await page.value('document.getElementById("open").textContent'), "44 pips");
-    await drop(page, eight);
+    await put(page, eight, "choose");
     await page.until('document.getElementById("open").textContent === "8 pips"');
     equal("the trouble is gone", await page.value('document.getElementById("trouble").hidden'), true);
     await page.click('[data-key="clear"]');
     for (let checker = 0; checker < 5; checker += 1) await page.click('[data-key="Add 1"]');
-    await compare(page, "over a dropped file", "5,0,0,0,0,0");
+    await compare(page, "over a file of one's own", "5,0,0,0,0,0");
+}
+
+// A board that changes while a dropped file is checked and while 58 pips are built, twice in a tick, and with Keep in
+// between: no number is ever beside a position that it isn't of.
+async function driveMoments(browser) {
+    const race = readFileSync(join(folder, "race.db"));
+    race[race.length - 1] ^= 1;
+    const page = await browser.open(`${address}#p=2,2,2,2,2,2`, { before: WATCH });
+    await page.until(`${READY} && ${KNOWN}`);
+    await page.value(`window.dropped = (bytes) => {
+        const transfer = new DataTransfer();
+        transfer.items.add(new File([Uint8Array.from(atob(bytes), (letter) => letter.charCodeAt(0))], "own.db"));
+        document.body.dispatchEvent(new DragEvent("drop", { dataTransfer: transfer, bubbles: true, cancelable: true }));
+    }`);
+    await page.value(`(async () => {
+        dropped(${JSON.stringify(race.toString("base64"))});
+        await new Promise((keep) => setTimeout(keep, 100));
+        document.querySelector('[data-key="Remove 6"]').click();
+        document.getElementById("keep").click();
+        document.querySelector('[data-key="Remove 5"]').click();
+        document.querySelector('[data-key="Remove 5"]').click();
+    })()`);
+    equal("a board that changes while a file is checked", await page.value(`({ board: ${SHOWN}.values, bar: document.getElementById("bar").hidden })`), { board: "2,2,2,2,0,1", bar: false });
+    await page.until('!document.getElementById("trouble").hidden');
+    await compare(page, "after the refusal", "2,2,2,2,0,1");
+    await page.until('![...document.querySelectorAll(".kept td[data-head]")].some((cell) => cell.textContent === "\u2026")');
+    await compareWatched(page, "while a file is checked", 3);
+
+    const wider = await browser.open(`${address}#at=0,0,0,3,5,3`, { before: WATCH });
+    await wider.until('document.body.dataset.ready && document.querySelector(".refusal")');
+    equal("more pips than the database", await wider.value('document.querySelector(".refusal").textContent.includes("55 pips.")'), true);
+    await wider.value(`(async () => {
+        document.getElementById("wider").click();
+        for (const count of [1, 2, 3]) {
+            await new Promise((keep) => setTimeout(keep, 40));
+            document.querySelector('[data-key="Remove 6"]').click();
+        }
+        document.getElementById("keep").click();
+        document.querySelector('[data-key="Add 1"]').click();
+        document.querySelector('[data-key="Add 1"]').click();
+    })()`);
+    await wider.until('document.getElementById("open").textContent === "58 pips"', 60000);
+    await compare(wider, "after 58 pips were built", "2,0,0,3,5,0");
+    await wider.until('document.querySelectorAll(".kept td[data-head]").length === 4 && !document.querySelector(".kept").textContent.includes("\u2026")');
+    await compareWatched(wider, "while 58 pips are built", 2);
+    await wider.until('location.hash.includes("pips=58")', 3000).catch(() => wrong("the address doesn't say 58"));
 }
 
 // Each of three kept positions has its numbers.
-const SORTED = `${READY} && document.querySelectorAll(".kept [data-head=Effective]").length === 3`;
+const SORTED = `${READY} && document.querySelectorAll(".kept [data-head=Effective]").length === 3 && !document.querySelector(".kept").textContent.includes("\\u2026")`;
+const LESSON = new URLSearchParams([["t", "<b>A lesson</b>"], ["p", "0,0,0,4,4,1"], ["c", '<img src=x onerror="document.title=1"> & "quotes"'], ["p", "15,0,0,0,0,0"], ["c", "'fifteen'"], ["p", "2,2,2,2,2,2"]]);
 
 async function driveLesson(browser) {
-    const caption = '<img src=x onerror="document.title=1"> & "quotes"';
-    const hash = `#${new URLSearchParams([["t", "<b>A lesson</b>"], ["p", "0,0,0,4,4,1"], ["c", caption], ["p", "15,0,0,0,0,0"], ["c", "'fifteen'"], ["p", "2,2,2,2,2,2"]])}`;
-    const page = await browser.open(address + hash);
-    await page.until(READY);
+    const caption = LESSON.get("c");
+    const page = await browser.open(`${address}#${LESSON}`);
     await page.until(SORTED);
     equal("captions are text", await page.value('[...document.querySelectorAll(".kept input")].map((input) => input.value)'), [caption, "", "'fifteen'"]);
     equal("no markup was read", await page.value('document.querySelectorAll("img, b:not(dialog b)").length'), 0);
@@ -177,67 +371,234 @@ async function driveLesson(browser) {
     equal("the title of the page", await page.value("document.title"), "Bearing off, proved");
     equal("sorted", await page.value('[...document.querySelectorAll(".kept [data-head=Effective]")].map((cell) => cell.textContent)'),
         ["0,0,0,4,4,1", "2,2,2,2,2,2", "15,0,0,0,0,0"].map((position) => ask(`mean ${position}`).split(" ").pop()));
+    equal("wastage", await page.value('[...document.querySelectorAll(".kept [data-head=Wastage]")].map((cell) => cell.textContent)'),
+        ["0,0,0,4,4,1", "2,2,2,2,2,2", "15,0,0,0,0,0"].map((position) => (Number(ask(`mean ${position}`).split(" ").pop()) - pipsOf(position)).toFixed(3)));
     await page.until('location.hash.includes("at=")', 3000);
     const kept = await page.value("location.hash");
     const again = await browser.open(address + kept);
     await again.until(SORTED);
     equal("the address keeps all", await again.value('[...document.querySelectorAll(".kept input")].map((input) => input.value)'), [caption, "", "'fifteen'"]);
-    const paper = await again.pdf();
-    (paper.subarray(0, 5).toString() === "%PDF-" && paper.length > 10000) || wrong("nothing was printed");
     equal("nothing went wrong", [...page.troubles(), ...again.troubles()], []);
 }
 
-async function driveWider(browser) {
-    const page = await browser.open(`${address}#at=0,0,0,3,5,3`);
-    await page.until('document.body.dataset.ready && document.querySelector(".refusal")');
-    equal("more pips than the database", await page.value('document.querySelector(".refusal").textContent.includes("55 pips.")'), true);
-    await page.click("#wider");
+async function driveHistory(browser) {
+    const page = await browser.open(`${address}#at=1,0,0,0,0,0`);
+    await page.until(`${READY} && ${KNOWN}`);
+    await page.until('location.hash === "#at=1,0,0,0,0,0"');
+    await page.value('document.querySelector(\'[data-key="Add 4"]\').click()');
+    await wait(400);
+    await page.value('document.getElementById("keep").click()');
+    await wait(400);
+    await page.click('[data-key="roll 21"]');
+    await wait(400);
+    const state = '[document.getElementById("counts").value, document.querySelectorAll(".kept tbody tr").length, document.querySelectorAll(".rolls [aria-pressed=true]").length].join(" ")';
+    equal("before Back", await page.value(state), "1,0,0,1,0,0 1 1");
+    for (const [move, wanted] of [["back", "1,0,0,1,0,0 1 0"], ["back", "1,0,0,1,0,0 0 0"], ["back", "1,0,0,0,0,0 0 0"], ["forward", "1,0,0,1,0,0 0 0"], ["forward", "1,0,0,1,0,0 1 0"], ["forward", "1,0,0,1,0,0 1 1"]]) {
+        await page[move]();
+        await page.until(`${state} === "${wanted}"`, 3000).catch(async () => wrong(`${move}: ${await page.value(state)}, and not ${wanted}`));
+    }
+    await compare(page, "after Forward", "1,0,0,1,0,0");
+    await page.value('location.hash = "#at=0,0,0,3,5,3&pips=58"');
     await page.until('document.getElementById("open").textContent === "58 pips" && document.querySelector(".figures")', 60000);
-    equal("55 pips", await page.value('document.querySelector(".figure dd").textContent.trim()'), "55");
-    await page.until('location.hash.includes("pips=58")', 3000).catch(() => wrong("the address doesn't say 58"));
+    await page.until('document.querySelector(".figure dd").textContent.trim() === "55"');
 }
 
-// A browser without memories of 64-bit addresses gets the narrowed module; one without WebAssembly, or without workers,
-// is told so, and has the board all the same.
+async function driveCopy(browser) {
+    const page = await browser.open(`${address}#at=1,0,0,0,0,0`);
+    await page.until(`${READY} && ${KNOWN}`);
+    await page.click('[data-key="Add 4"]');
+    await page.click("#copy");
+    await page.until('document.getElementById("copied").textContent');
+    equal("on a disk it says so", await page.value('document.getElementById("copied").textContent.includes("opens only here")'), true);
+    equal("the address is as it is now", await page.value('location.hash'), "#at=1,0,0,1,0,0");
+    const field = await page.value('[document.getElementById("link").hidden, document.getElementById("link").value === location.href, document.getElementById("copy").textContent]');
+    (field[0] && field[2] === "Copied") || (!field[0] && field[1]) || wrong(`the link: ${field.join(" ")}`);
+}
+
+// A browser without memories of 64-bit addresses gets the narrowed module; one without WebAssembly, without workers or
+// without script is told so, and but for the last has the board all the same.
 async function driveOlder(browser) {
     const older = "const validate = WebAssembly.validate; WebAssembly.validate = (bytes) => bytes.length === 8 && validate(bytes); delete window.DecompressionStream;";
     const page = await browser.open(`${address}#at=7,4,2,0,0,0`, { before: older });
     await page.until(READY);
     await compare(page, "with 32-bit addresses", "7,4,2,0,0,0");
     equal("nothing went wrong", page.troubles(), []);
-    const oldest = await browser.open(address, { before: "delete window.WebAssembly;" });
-    await oldest.until('!document.getElementById("trouble").hidden');
-    equal("no WebAssembly", await oldest.value('document.getElementById("trouble").textContent.includes("no WebAssembly")'), true);
-    const alone = await browser.open(address, { before: "delete window.Worker;" });
-    await alone.until('!document.getElementById("trouble").hidden && document.querySelector("[role=spinbutton]")');
-    equal("no workers", await alone.value('document.getElementById("trouble").textContent.startsWith("Nothing can be computed")'), true);
+    for (const [what, words] of [["WebAssembly", "runs no WebAssembly"], ["Worker", "runs no workers"]]) {
+        const poor = await browser.open(address, { before: `delete window.${what};` });
+        await poor.until('!document.getElementById("trouble").hidden && document.querySelector("[role=spinbutton]")');
+        equal(`no ${what}`, await poor.value(`document.getElementById("trouble").textContent.startsWith("Nothing can be computed here: this browser ${words}")`), true);
+        equal(`no wait without ${what}`, await poor.value('document.getElementById("bar").hidden'), true);
+    }
+    const still = await browser.open(address, { scripts: false });
+    await still.send("DOM.enable");
+    let text = "";
+    for (let tries = 0; tries < 100 && !text.includes("scripts are turned off"); tries += 1) {
+        await wait(50);
+        const { nodes } = await still.send("Accessibility.getFullAXTree");
+        text = nodes.map(({ name }) => name?.value || "").join(" ");
+    }
+    equal("no script", [text.includes("scripts are turned off"), text.includes("Starting")], [true, false]);
 }
 
-async function takePictures(browser) {
-    const hash = "#t=What wastage is&at=0,0,0,4,4,1&roll=31&p=0,0,0,4,4,1&c=Nine on the high points&p=2,2,2,2,2,2&c=Two on each point&p=15,0,0,0,0,0&c=Fifteen on the ace point";
-    for (const [name, size] of Object.entries({
-        desk: { width: 1600, height: 1000 }, "desk-dark": { width: 1600, height: 1000, dark: true },
-        phone: { width: 360, height: 780, mobile: true }, "phone-dark": { width: 360, height: 780, mobile: true, dark: true },
-    })) {
-        const page = await browser.open(address + encodeURI(hash).replace("%23", "#"), size);
-        await page.until(`${READY} && document.querySelector("#plays ol")`);
-        equal(`nothing stands out at ${name}`, await page.value("document.documentElement.scrollWidth"), size.width);
-        if (pictures) writeFileSync(join(pictures, `${name}.png`), await page.picture());
+// On a server the page asks for nothing but itself, and its policy lets it ask for nothing.
+async function driveHosted(browser) {
+    const requests = [];
+    const server = createServer((request, response) => {
+        requests.push(request.url);
+        response.writeHead(200, { "Content-Type": "text/html; charset=utf-8" });
+        response.end(readFileSync(pagePath));
+    });
+    await new Promise((keep) => server.listen(0, "127.0.0.1", keep));
+    try {
+        const here = `http://127.0.0.1:${server.address().port}/bearoff.html`;
+        const page = await browser.open(`${here}#at=7,4,2,0,0,0&p=15,0,0,0,0,0`, { before: WATCH });
+        await page.until(`${READY} && ${KNOWN}`);
+        await compare(page, "on a server", "7,4,2,0,0,0");
+        await page.click("#copy");
+        await page.until('document.getElementById("copied").textContent');
+        equal("on a server the link opens elsewhere too", await page.value('document.getElementById("copied").textContent.includes("only here")'), false);
+        await compareWatched(page, "on a server", 1);
+        equal("nothing went wrong", page.troubles(), []);
+        const tried = await page.value(`Promise.all([
+            fetch("/x").then(() => "fetched", () => "refused"),
+            new Promise((keep) => { const image = new Image(); image.onload = () => keep("loaded"); image.onerror = () => keep("refused"); image.src = "/x.png"; }),
+            new Promise((keep) => { const code = document.createElement("script"); code.textContent = "window.ran = true"; document.body.append(code); keep(window.ran ? "ran" : "refused"); }),
+            new Promise((keep) => { const code = document.createElement("script"); code.onload = () => keep("ran"); code.onerror = () => keep("refused"); code.src = "/x.js"; document.body.append(code); }),
+        ])`);
+        equal("what the policy refuses", tried, ["refused", "refused", "refused", "refused"]);
+        equal("what was asked for", requests, ["/bearoff.html"]);
+    } finally {
+        server.closeAllConnections();
+        server.close();
     }
 }
 
-const browser = new Browser(found);
-try {
-    const page = await driveBoard(browser);
-    await driveGuess(page);
-    await driveFiles(page);
-    await driveLesson(browser);
-    await driveWider(browser);
-    await driveOlder(browser);
-    await takePictures(browser);
-} catch (error) {
-    wrong(error.stack);
-} finally {
-    await browser.close();
+const TEACHING = encodeURI("#t=What wastage is&at=0,0,0,4,4,1&roll=31&p=0,0,0,4,4,1&c=Nine on the high points&p=2,2,2,2,2,2&c=Two on each point&p=15,0,0,0,0,0&c=Fifteen on the ace point");
+
+// A telephone and a tablet: the plays of a tapped roll are in sight with a board, and so is what they lose exactly.
+async function driveTouch(browser) {
+    for (const [width, height] of [[360, 780], [768, 1024]]) {
+        const name = `${width} x ${height}`;
+        const page = await browser.open(`${address}#at=0,0,0,4,4,1&p=2,2,2,2,2,2`, { width, height, mobile: true });
+        await page.until(`${READY} && document.querySelector(".rolls .next")`);
+        const seen = (selector) => `(() => {
+            const box = document.querySelector(${JSON.stringify(selector)}).getBoundingClientRect();
+            const { left, top, right, bottom } = box;
+            const at = document.elementFromPoint((left + right) / 2, (top + bottom) / 2);
+            return box.width > 0 && top >= 0 && left >= 0 && bottom <= innerHeight && right <= innerWidth
+                && Boolean(at && at.closest(${JSON.stringify(selector)}));
+        })()`;
+        const words = await page.value('document.getElementById("how").innerText');
+        equal(`${name}: no mouse`, [words.includes("right-click"), words.startsWith("Tap")], [false, true]);
+        equal(`${name}: no plays yet`, await page.value('document.getElementById("plays").offsetHeight'), 0);
+        await page.value('document.querySelector(\'[data-key="roll 53"]\').scrollIntoView({ block: "center" })');
+        await page.tap('[data-key="roll 53"]');
+        await page.until('document.querySelector(".plays")');
+        for (const selector of [".small", ".plays button", '[data-key="close"]', '[data-key="onward"]', ".shown .loss"]) {
+            equal(`${name}: ${selector} is in sight`, await page.value(seen(selector)), true);
+        }
+        equal(`${name}: so is the tile`, await page.value(`document.querySelector('[data-key="roll 53"]').getBoundingClientRect().bottom
+            <= document.getElementById("plays").getBoundingClientRect().top`), true);
+        await page.tap(".plays button:nth-child(2)");
+        await page.until('document.querySelector(".plays button:nth-child(2)").getAttribute("aria-pressed") === "true"');
+        const [loss, title] = await page.value('[document.querySelector(".loss").textContent, document.querySelector(".plays button:nth-child(2) .cost").title]');
+        equal(`${name}: the exact loss`, loss.includes(title.startsWith("0/") ? "loses nothing" : `loses ${title}`), true);
+        equal(`${name}: the small board shows it`, await page.value('document.querySelectorAll(".small .arc").length'), 2);
+        await page.tap('[data-key="close"]');
+        await page.until('document.getElementById("plays").offsetHeight === 0');
+        equal(`${name}: what one taps is big enough`, await page.value(`[...document.querySelectorAll("button:not(.plain)")]
+            .filter((button) => button.offsetHeight > 0 && (button.offsetHeight < 24 || button.offsetWidth < 24)).map((button) => button.outerHTML.slice(0, 80))`), []);
+        equal(`${name}: nothing went wrong`, page.troubles(), []);
+    }
+    const page = await browser.open(address + TEACHING, { width: 360, height: 780, mobile: true });
+    await page.until(`${READY} && document.querySelector(".plays")`);
+    await page.value('document.documentElement.style.fontSize = "32px"');
+    equal("twice the font at 360 pixels", await page.value("document.documentElement.scrollWidth"), 360);
+    await page.value('document.querySelector("details").open = true');
+    equal("with fractions", await page.value("document.documentElement.scrollWidth"), 360);
+}
+
+// One page of A4, and one of US Letter.
+async function drivePrint(browser) {
+    for (const [what, hash] of [["a lesson", TEACHING], ["ten positions", `#at=2,2,2,2,2,2&roll=11&t=Ten&${Array.from({ length: 10 }, (_, count) => `p=${count},1,0,0,0,1&c=number ${count}`).join("&")}`], ["a guess", `${TEACHING}&guess=1`]]) {
+        const page = await browser.open(address + encodeURI(decodeURI(hash)));
+        await page.until(`${READY} && document.querySelector(".plays")`);
+        for (const [paper, width, height] of [["A4", 8.27, 11.69], ["US Letter", 8.5, 11]]) {
+            const bytes = await page.pdf(width, height);
+            const pages = bytes.toString("latin1").match(/\/Type\s*\/Page\b(?!s)/g) || [];
+            equal(`pages of ${paper} for ${what}`, [bytes.subarray(0, 5).toString(), pages.length], ["%PDF-", 1]);
+            if (pictures) writeFileSync(join(pictures, `${what} on ${paper}.pdf`.replaceAll(" ", "-")), bytes);
+        }
+    }
+}
+
+async function driveAudit(browser) {
+    let [compared, labels] = [0, 0];
+    for (const [width, height, mobile] of [[360, 780, true], [1180, 800, false]]) {
+        for (const colours of ["light", "dark", "forced"]) {
+            const page = await browser.open(address + TEACHING, { width, height, mobile, colours });
+            await page.until(`${READY} && document.querySelector(".plays") && ${KNOWN}`);
+            const told = await audit(page);
+            for (const fault of told.faults) wrong(`${width} wide, ${colours}: ${fault}`);
+            compared += told.compared;
+            labels += told.labels;
+        }
+    }
+    console.log(`page: ${compared} contrasts and ${labels} names were compared`);
+}
+
+async function takePictures(browser) {
+    for (const [width, height] of [[360, 780], [768, 1024], [1180, 800], [1920, 1080]]) {
+        for (const colours of ["light", "dark", "forced"]) {
+            const page = await browser.open(address + TEACHING, { width, height, colours, mobile: width < 900 });
+            await page.until(`${READY} && document.querySelector(".plays") && ${KNOWN}`);
+            equal(`nothing stands out at ${width}, ${colours}`, await page.value("document.documentElement.scrollWidth"), width);
+            if (pictures) writeFileSync(join(pictures, `${width}-${colours}.png`), await page.picture(false));
+            if (pictures) writeFileSync(join(pictures, `${width}-${colours}-whole.png`), await page.picture(true));
+        }
+    }
+}
+
+// The parts in which Chromium alone is driven, since a script runs first there and media are set.
+const OWN = {
+    times: async (browser) => driveTimes(await driveBoard(browser)),
+    files: async (browser) => {
+        const page = await browser.open(`${address}#at=0,0,0,4,4,1`);
+        await page.until(`${READY} && ${KNOWN}`);
+        await driveGuess(page);
+        await driveFiles(page);
+    },
+    moments: driveMoments, older: driveOlder, hosted: driveHosted, touch: driveTouch, print: drivePrint,
+    audit: driveAudit, pictures: takePictures,
+};
+
+// Those in which each browser is.
+const ALL = {
+    board: driveBoard, keyboard: driveKeyboard, sum: driveSum, lesson: driveLesson, history: driveHistory, copy: driveCopy,
+};
+
+async function drive(browser) {
+    const whole = browser.name === "Chromium" ? { ...OWN, ...ALL, board: async () => {} } : ALL;
+    for (const [name, part] of Object.entries(whole)) {
+        if (parts.length === 0 || parts.includes(name)) await part(browser);
+    }
+}
+
+const browsers = await started(process.env.BROWSERS?.split(" ")).catch((error) => {
+    console.log(`page: ${error.message}`);
+    process.exit(1);
+});
+if (browsers.length === 0) console.log("page: neither Chromium nor Firefox is installed, so the page is not driven");
+for (const browser of browsers) {
+    browserName = browser.name;
+    const start = performance.now();
+    try {
+        await drive(browser);
+        console.log(`page: driven in ${browser.name}, ${((performance.now() - start) / 1000).toFixed(0)} s`);
+    } catch (error) {
+        wrong(error.stack);
+    } finally {
+        await browser.close();
+    }
 }
 process.exit(failed > 0 ? 1 : 0);

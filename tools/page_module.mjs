@@ -190,7 +190,9 @@ async function compareRefusals(file) {
     refused("the die 7", 2, () => engine.plays([1, 0, 0, 0, 0, 0], 7, 1));
     refused("no checker", 5, () => engine.plays([0, 0, 0, 0, 0, 0], 2, 1));
     refused("a play that isn't one", 6, () => engine.call("bearoff_play_to", 256, engine.put([0, 0, 0, 0, 0, 1]), 2, 1, engine.put([1, 0, 0, 0, 0, 0], 16)));
-    equal("a sum", engine.add(111n, 42n), 153n);
+    for (const fraction of ["0/1", "1/6", "1/2000", "999/2000000", "31/2", `${7n ** 45n}/${36n ** 22n}`]) {
+        equal(`${fraction} in decimals`, engine.round(fraction), decimal(nearest(...over(fraction))));
+    }
 }
 
 if (readPoints("0,0,0,0,0,1") === null) wrong("link.js reads no position");

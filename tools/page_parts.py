@@ -1,10 +1,12 @@
 """Puts the page together: page_parts.py WEB WIDE NARROW PAGE writes one file of the parts in WEB and the two modules.
 
 The scripts in WEB are modules that name each other by `import` and `export`; here they become one script each for the
-page and for its worker, in the order in which they rest on each other, in a function of their own.
+page and for its worker, in the order in which they rest on each other, in a function of their own. The page's policy
+lets run and style what was put into it, by its hash, and nothing else.
 """
 import base64
 import gzip
+import hashlib
 import json
 import re
 import sys
@@ -37,17 +39,33 @@ def script(web, name, start):
     return f'(() => {{\n"use strict";\n{body}\n{start}\n}})();'
 
 
+def hashed(text):
+    """What the policy calls an element of this text."""
+    return f"'sha256-{base64.b64encode(hashlib.sha256(text.encode()).digest()).decode()}'"
+
+
+def policy(code, style):
+    """What the page may do: run its script and its worker, have its style and its icon, and fetch nothing."""
+    return "; ".join((
+        "default-src 'none'", f"script-src {hashed(code)} 'wasm-unsafe-eval'", f"style-src {hashed(style)}",
+        "worker-src blob:", "img-src data:", "base-uri 'none'", "form-action 'none'",
+    ))
+
+
 def main(web, wide, narrow, page):
     web = Path(web)
     # a browser with memories of 64-bit addresses can unpack; an older one needs the other module as it is
     packed = {"wide": gzip.compress(Path(wide).read_bytes(), 9, mtime=0), "narrow": Path(narrow).read_bytes()}
     modules = {name: base64.b64encode(module).decode() for name, module in packed.items()}
     parts = json.dumps({"worker": script(web, "worker", "serve(self);"), **modules}).replace("</", "<\\/")
+    code = script(web, "app", f"start(document, window, {parts});")
+    style = (web / "style.css").read_text()
     text = (web / "index.html").read_text()
     for mark, part in (
-        ("/*STYLE*/", (web / "style.css").read_text()),
+        ("/*POLICY*/", policy(code, style)),
+        ("/*STYLE*/", style),
         ("<!--PROMISES-->", (web / "promises.html").read_text()),
-        ("/*SCRIPT*/", script(web, "app", f"start(document, window, {parts});")),
+        ("/*SCRIPT*/", code),
     ):
         if text.count(mark) != 1:
             sys.exit(f"page: {mark} stands not once in index.html")

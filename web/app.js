@@ -1,235 +1,167 @@
-// The page: its state, what is clicked, and what is drawn again.
+// The page: draws what the state says, and hands on what is clicked, typed, dropped, and where Back and Forward lead.
 import { abilities, Client } from "./client.js";
-import { board } from "./board.js";
-import { decimal, FAULTS } from "./engine.js";
-import { MOST_KEPT, readLink, readPoints, writeLink } from "./link.js";
-import { byLoss, chances, kept, numbers, plays, rolls, sameRoll, verdict } from "./panels.js";
+import { Past } from "./history.js";
+import { readLink, writeLink } from "./link.js";
 import { Bar } from "./progress.js";
-import { draw, h } from "./tree.js";
+import { Session } from "./session.js";
+import {
+    addCheckers, choosePlay, chooseRoll, keep, orderOf, playOn, pressed, remove, resetGuesses, setCaption, setGuess,
+    setPoints, stopAt, typeCounts, visit,
+} from "./state.js";
+import { draw } from "./tree.js";
+import { view } from "./view.js";
+
+const LONG = 1500; // milliseconds that a button says what it did
+
+// Puts what is shown into the page.
+export function put(document, shown) {
+    const at = (name) => document.getElementById(name);
+    // what isn't known yet keeps the room that it had, so that nothing jumps
+    at("chances").style.minHeight = shown.isKnown ? "" : `${at("chances").offsetHeight}px`;
+    for (const [name, tree] of Object.entries(shown.trees)) draw(document, at(name), tree);
+    for (const [name, text] of Object.entries(shown.texts)) {
+        if (at(name).textContent !== text) at(name).textContent = text;
+    }
+    for (const [name, isHidden] of Object.entries(shown.hidden)) at(name).hidden = isHidden;
+    if (at("counts").getAttribute("data-told") !== shown.counts) {
+        at("counts").setAttribute("data-told", shown.counts);
+        at("counts").value = shown.counts;
+    }
+    at("counts").setAttribute("aria-invalid", String(shown.isRefused));
+    at("keep").setAttribute("aria-disabled", String(!shown.canKeep));
+    at("guess").checked = shown.guess;
+    at("rolls").classList.toggle("opened", shown.isOpen);
+}
+
+// What the parts of the page do with a session.
+export function actionsOf(session, document, window) {
+    const change = (how, ...words) => session.change(how, ...words);
+    const focus = (key) => {
+        const element = document.querySelector(`[data-key="${key}"]`);
+        if (element) element.focus();
+    };
+    const isWithin = (name) => document.getElementById(name).contains(document.activeElement);
+    return {
+        add: (point, count) => change(addCheckers, point, count),
+        clear: () => change(setPoints, [0, 0, 0, 0, 0, 0]),
+        press(point, key) {
+            const next = pressed(session.state, point, key, window.performance.now());
+            if (next === null) return false;
+            change(() => next);
+            return true;
+        },
+        type: (text) => change(typeCounts, text),
+        roll(roll, button) {
+            change(chooseRoll, roll);
+            if (roll && button) button.scrollIntoView({ block: "nearest" });
+        },
+        play: (text) => change(choosePlay, text),
+        close() {
+            const { roll } = session.state;
+            change(chooseRoll, null);
+            if (roll) focus(`roll ${roll.join("")}`);
+        },
+        onward() {
+            const { roll } = session.state;
+            const wasWithin = isWithin("plays");
+            change(playOn);
+            if (wasWithin && roll) focus(`roll ${roll.join("")}`);
+        },
+        guess: (isOn) => change(setGuess, isOn),
+        reset() {
+            const { roll } = session.state;
+            change(resetGuesses);
+            if (roll) focus(`roll ${roll.join("")}`);
+        },
+        stop: (group, key) => change(stopAt, group, key),
+        keep: () => change(keep),
+        show(points) {
+            change(setPoints, points);
+            document.getElementById("board").scrollIntoView({ block: "nearest" });
+        },
+        caption: (key, caption) => change(setCaption, key, caption),
+        // the focus goes to the row that takes the place of the one that was removed
+        remove(key) {
+            const keys = orderOf(session.state).map(({ points }) => points.join());
+            const place = keys.indexOf(key);
+            change(remove, key);
+            const next = keys[place + 1] || keys[place - 1];
+            if (next) focus(`remove ${next}`);
+            else document.getElementById("keep").focus();
+        },
+    };
+}
+
+// Copies a link, and says so, or that it can't be and where the link stands.
+export async function copyLink(document, window, href) {
+    const at = (name) => document.getElementById(name);
+    const where = window.location.protocol === "file:"
+        ? " This page is a file of this device, so the link opens only here." : "";
+    try {
+        await window.navigator.clipboard.writeText(href);
+        at("copied").textContent = `The link is copied.${where}`;
+        at("copy").textContent = "Copied";
+        window.setTimeout(() => { at("copy").textContent = "Copy the link"; }, LONG);
+        at("link").hidden = true;
+    } catch {
+        at("copied").textContent = `The browser lets this page copy nothing. Copy the link from here:${where}`;
+        at("link").hidden = false;
+        at("link").value = href;
+        at("link").select();
+    }
+}
 
 // Starts the page: `parts` are the worker's script and the two modules in base 64.
 export function start(document, window, parts) {
     const at = (name) => document.getElementById(name);
-    const state = {
-        ...readLink(window.location.hash), answer: null, shown: null, verdict: null, guessed: null,
-        rolls: [], guesses: 0, lost: 0n, busy: true, client: null, asked: 0,
-    };
-
-    const say = (text) => { at("said").textContent = text; };
-    const complain = (text) => {
-        at("trouble").hidden = !text;
-        at("trouble").textContent = text;
-    };
     const bar = new Bar(document, window);
+    const past = new Past(window);
+    let act = null;
 
-    // Some browsers take only so many changes of an address in a while.
-    const remember = () => {
-        window.clearTimeout(state.remembering);
-        state.remembering = window.setTimeout(() => {
-            const link = writeLink(state);
-            if (link !== window.location.hash) window.history.replaceState(null, "", link);
-        }, 150);
+    const session = new Session(readLink(window.location.hash), (state, isStep) => {
+        put(document, view(state, act));
+        if (state.database) document.body.dataset.ready = String(state.database.bound);
+        if (state.loads === 0) bar.show(null);
+        past.remember(writeLink(state), isStep);
+    });
+    act = actionsOf(session, document, window);
+
+    const load = (text, question, lent) => {
+        if (!session.client) return;
+        bar.show({ from: 0.02, until: 0.1, usual: 200, text });
+        session.load(question, lent);
     };
 
-    const rollOf = (dice) => state.rolls.find((roll) => sameRoll(roll.dice, dice));
+    const build = (bound) => load("Starting\u2026", { kind: "build", bound });
 
-    const isHidden = () => state.guess && !sameRoll(state.guessed, state.roll);
-
-    // What a play on the board shows: the chosen one, or the best of the chosen roll.
-    const showBest = () => {
-        const roll = rollOf(state.roll);
-        state.shown = roll && !isHidden() ? byLoss(roll.plays)[0] : null;
+    const take = (file) => {
+        if (!file) return;
+        const read = file.arrayBuffer().then((bytes) => ({ kind: "open", file: new Uint8Array(bytes) }));
+        load("Reading the file\u2026", read, ({ file: bytes }) => [bytes.buffer]);
     };
 
-    const change = (point, count) => {
-        const points = point === 0 ? [0, 0, 0, 0, 0, 0] : [...state.points];
-        if (point > 0) points[point - 1] = count;
-        show(points);
+    const go = () => {
+        if (!past.isElsewhere()) return;
+        const link = readLink(window.location.hash);
+        session.become(visit(session.state, link), false);
+        if (link.bound === 58 && session.state.bound < 58) build(58);
+        session.ask();
     };
-
-    function show(points, roll = null) {
-        Object.assign(state, { points, roll, shown: null, verdict: null, guessed: null });
-        drawBoard();
-        remember();
-        return ask();
-    }
-
-    async function ask() {
-        if (state.busy) return;
-        state.asked += 1;
-        const { asked, points } = state;
-        const answer = await state.client.ask({ kind: "ask", points });
-        if (asked !== state.asked) return;
-        state.answer = answer;
-        state.rolls = [];
-        if (!answer.refusal) {
-            const { standing, mean, effective, wastage } = answer;
-            say(`${standing.pips} pips, mean ${mean.text} rolls, effective pip count ${effective.text}, `
-                + `wastage ${wastage.text}.`);
-        } else {
-            say(answer.refusal);
-        }
-        drawNumbers();
-        const list = answer.refusal ? [] : await state.client.ask({ kind: "rolls", points });
-        if (asked !== state.asked) return;
-        state.rolls = list;
-        showBest();
-        drawBoard();
-        drawRolls();
-    }
-
-    async function askKept() {
-        for (const entry of state.kept.filter(({ answer }) => !answer || answer.bound !== state.bound)) {
-            entry.answer = await state.client.ask({ kind: "ask", points: entry.points });
-        }
-        drawKept();
-    }
-
-    const chooseRoll = (dice) => {
-        Object.assign(state, { roll: dice, verdict: null, guessed: null });
-        showBest();
-        drawBoard();
-        drawRolls();
-        remember();
-    };
-
-    async function choosePlay(play) {
-        const roll = rollOf(state.roll);
-        if (isHidden()) {
-            state.guessed = state.roll;
-            state.guesses += 1;
-            state.lost = await state.client.ask({ kind: "add", one: state.lost, other: play.loss });
-            state.verdict = { play, best: byLoss(roll.plays)[0], count: state.guesses, lost: decimal(state.lost) };
-        }
-        state.shown = play;
-        drawBoard();
-        drawRolls();
-    }
-
-    function keep() {
-        const isKept = state.kept.some(({ points }) => points.join() === state.points.join());
-        if (isKept || state.kept.length >= MOST_KEPT) return;
-        state.kept.push({ points: state.points, caption: "", answer: state.answer });
-        say("The position is kept.");
-        drawKept();
-        remember();
-    }
-
-    const actions = {
-        show: (entry) => { show(entry.points); at("board").scrollIntoView({ block: "nearest" }); },
-        caption: (entry, caption) => { entry.caption = caption; remember(); },
-        remove: (entry) => {
-            state.kept = state.kept.filter((other) => other !== entry);
-            drawKept();
-            remember();
-        },
-    };
-
-    function drawBoard() {
-        const free = 15 - state.points.reduce((sum, count) => sum + count, 0);
-        const moves = state.shown ? state.shown.moves : [];
-        const drawn = JSON.stringify([state.points, moves]);
-        // a board that is drawn anew between the press and the release of a button would lose the click
-        if (drawn !== state.drawn) draw(document, at("board"), board(state.points, free, moves, change));
-        state.drawn = drawn;
-        const isKept = state.kept.some(({ points }) => points.join() === state.points.join());
-        at("keep").disabled = isKept || state.kept.length >= MOST_KEPT;
-        at("keep").textContent = isKept ? "Kept below" : "Keep this position";
-        at("counts").value = state.points.join(",");
-    }
-
-    function drawNumbers() {
-        const { answer } = state;
-        draw(document, at("numbers"), numbers(answer));
-        at("wider").hidden = !(answer.status === 4 && state.bound < 58);
-        draw(document, at("chances"), answer.refusal ? [] : chances(answer.distribution));
-        at("open").textContent = `${answer.bound} pips`;
-    }
-
-    function drawRolls() {
-        at("rolls").hidden = state.rolls.length === 0;
-        draw(document, at("grid"), rolls(state.rolls, state.roll, state.guess, chooseRoll));
-        const roll = rollOf(state.roll);
-        const guessing = isHidden();
-        draw(document, at("plays"), roll
-            ? [plays(roll, state.shown?.text, guessing, choosePlay), state.verdict && verdict(state.verdict),
-                state.shown && h("button", {
-                    type: "button", class: "onward", "data-key": "onward", click: () => show(state.shown.to),
-                }, `Play ${state.shown.text}`)]
-            : h("p", { class: "hint" }, "Choose a roll to see its plays here and on the board."));
-    }
-
-    function drawKept() {
-        at("keeping").hidden = state.kept.length === 0;
-        draw(document, at("kept"), kept(state.kept, actions));
-        drawBoard();
-    }
-
-    function drawLesson() {
-        at("lesson").hidden = !state.title;
-        at("lesson").textContent = state.title;
-        at("guess").checked = state.guess;
-    }
-
-    // Builds or opens a database. Where it is refused the one that was open stays so.
-    async function load(question, lent) {
-        state.busy = true;
-        complain("");
-        bar.show({ from: 0.02, until: 0.1, usual: 200, text: "Starting\u2026" });
-        try {
-            const { bound, positions } = await state.client.ask(question, lent);
-            state.bound = bound;
-            at("open").textContent = `${bound} pips`;
-            at("known").textContent = positions.toLocaleString("en");
-            document.body.dataset.ready = String(bound);
-        } catch (failure) {
-            complain(failure.status
-                ? "The file was refused, and nothing of it is used. "
-                    + `${FAULTS[failure.status] || failure.message} First fault: ${failure.line}.`
-                : `This didn't work: ${failure.message}.`);
-        }
-        bar.show(null);
-        state.busy = false;
-        if (!document.body.dataset.ready) return;
-        remember();
-        await ask();
-        await askKept();
-    }
-
-    async function take(file) {
-        const bytes = new Uint8Array(await file.arrayBuffer());
-        await load({ kind: "open", file: bytes }, [bytes.buffer]);
-    }
 
     function listen() {
-        at("keep").addEventListener("click", keep);
-        at("guess").addEventListener("change", (event) => {
-            Object.assign(state, { guess: event.target.checked, verdict: null, guessed: null });
-            showBest();
-            drawBoard();
-            drawRolls();
-            remember();
-        });
-        at("counts").addEventListener("change", (event) => {
-            const points = readPoints(event.target.value.replace(/\s+/g, ""));
-            if (points) show(points);
-            else drawBoard();
-        });
-        at("wider").addEventListener("click", () => load({ kind: "build", bound: 58 }));
+        at("keep").addEventListener("click", act.keep);
+        at("guess").addEventListener("change", ({ target }) => act.guess(target.checked));
+        at("counts").addEventListener("change", ({ target }) => act.type(target.value));
+        at("rolls").addEventListener("keydown", ({ key }) => { if (key === "Escape") act.close(); });
+        at("wider").addEventListener("click", () => build(58));
         at("print").addEventListener("click", () => window.print());
-        at("copy").addEventListener("click", async () => {
-            window.history.replaceState(null, "", writeLink(state));
-            try {
-                await window.navigator.clipboard.writeText(window.location.href);
-                say("The link is copied.");
-                at("copy").textContent = "Copied";
-                window.setTimeout(() => { at("copy").textContent = "Copy the link"; }, 1500);
-            } catch {
-                say("The link is the address of this page.");
-            }
+        at("copy").addEventListener("click", () => {
+            past.settle();
+            copyLink(document, window, window.location.href.replace(/#.*/, "") + past.current);
         });
-        at("file").addEventListener("change", (event) => {
-            if (event.target.files[0]) take(event.target.files[0]);
+        at("file").addEventListener("change", ({ target }) => {
+            take(target.files[0]);
+            target.value = ""; // so that the same file can be chosen again
         });
         document.addEventListener("dragover", (event) => {
             event.preventDefault();
@@ -239,15 +171,10 @@ export function start(document, window, parts) {
         document.addEventListener("drop", (event) => {
             event.preventDefault();
             document.body.classList.remove("over");
-            if (event.dataTransfer.files[0]) take(event.dataTransfer.files[0]);
+            take(event.dataTransfer.files[0]);
         });
-        window.addEventListener("hashchange", () => {
-            const { bound, ...rest } = readLink(window.location.hash);
-            Object.assign(state, rest, { shown: null, verdict: null, guessed: null });
-            drawLesson();
-            drawKept();
-            ask().then(askKept);
-        });
+        window.addEventListener("popstate", go);
+        window.addEventListener("hashchange", go);
         at("promises").addEventListener("click", () => at("proved").showModal());
     }
 
@@ -255,18 +182,18 @@ export function start(document, window, parts) {
     function begin() {
         const able = abilities(window.WebAssembly);
         if (able === "none") throw new Error("this browser runs no WebAssembly; one of the last few years can");
-        state.client = new Client(parts.worker, (step) => bar.show(step));
-        load({ kind: "start", module: { text: parts[able], isPacked: able === "wide" }, bound: state.bound });
+        if (!window.Worker) throw new Error("this browser runs no workers; one of the last few years can");
+        session.client = new Client(parts.worker, (step) => { if (session.state.loads > 0) bar.show(step); });
+        const module = { text: parts[able], isPacked: able === "wide" };
+        load("Starting\u2026", { kind: "start", module, bound: session.state.bound });
     }
 
+    listen();
     try {
         begin();
     } catch (error) {
-        complain(`Nothing can be computed here: ${error.message}.`);
-        bar.show(null);
+        session.end(`Nothing can be computed here: ${error.message}.`);
     }
-    drawLesson();
-    drawKept();
-    listen();
-    return state;
+    put(document, view(session.state, act));
+    return session;
 }

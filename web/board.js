@@ -1,5 +1,6 @@
 // The board: six points, the checkers on them, those that are borne off, and the moves of a play.
 import { h } from "./tree.js";
+import { MOST_CHECKERS, sumOf } from "./link.js";
 
 const WIDTH = 100; // of a point
 const FLOOR = 330;
@@ -21,15 +22,23 @@ function stack(point, count) {
 
 function tray(off) {
     const thick = 18;
-    return Array.from({ length: off }, (_, place) => h("rect", {
-        class: "checker", x: 6 * WIDTH + 20, y: FLOOR - (place + 1) * (thick + 2), width: 60, height: thick, rx: 5,
-    }));
+    return h("g", {},
+        h("rect", { class: "tray", x: 606, y: 6, width: 88, height: FLOOR - 4, rx: 8 }),
+        Array.from({ length: off }, (_, place) => h("rect", {
+            class: "checker", x: 6 * WIDTH + 20, y: FLOOR - (place + 1) * (thick + 2), width: 60, height: thick, rx: 5,
+        })));
 }
 
-// The moves of a play as arcs, and the checkers that come down as rings.
-function arcs(points, moves) {
+// The tip of an arc, by a name that stands once in the page.
+const tip = (name) => h("defs", {}, h("marker", {
+    id: name, viewBox: "0 0 10 10", refX: 7, refY: 5, markerWidth: 5, markerHeight: 5, orient: "auto",
+}, h("path", { d: "M 0 0 L 10 5 L 0 10 z" })));
+
+// The moves of a play as arcs, and the checkers that come down as rings. Each lies on a wider halo, so that it stands
+// out from a checker as well as from the felt.
+function arcs(points, moves, name) {
     const counts = [...points];
-    return moves.map(([from, to], number) => {
+    return h("g", { class: "arcs", "aria-hidden": "true" }, moves.map(([from, to], number) => {
         counts[from - 1] -= 1;
         const top = height(counts[from - 1], points[from - 1]);
         if (to > 0) counts[to - 1] += 1;
@@ -37,86 +46,100 @@ function arcs(points, moves) {
         const low = to > 0 ? height(counts[to - 1] - 1, many) : FLOOR - 150;
         const [x, y, landed] = [middle(from), top, middle(to)];
         const high = Math.max(16, Math.min(y, low) - 50 - 8 * number);
+        const way = `M ${x} ${y} C ${x} ${high}, ${landed} ${high}, ${landed} ${low}`;
+        const ring = (kind, cx, cy) => ["halo", kind].map((layer) =>
+            h("circle", { class: layer, cx, cy, r: RADIUS - 3 }));
         return h("g", { class: "arc" },
-            h("circle", { class: "leaving", cx: x, cy: y, r: RADIUS - 1.5 }),
-            to > 0 && h("circle", { class: "landing", cx: landed, cy: low, r: RADIUS - 3 }),
-            h("path", {
-                d: `M ${x} ${y} C ${x} ${high}, ${landed} ${high}, ${landed} ${low}`, "marker-end": "url(#tip)",
-            }));
-    });
+            ring("leaving", x, y),
+            to > 0 && ring("landing", landed, low),
+            h("path", { class: "halo", d: way }),
+            h("path", { class: "way", d: way, "marker-end": `url(#${name})` }));
+    }));
 }
 
-// The keys that change a point, and what they make of a count with so many checkers free.
-export function pressed(key, count, free) {
-    const most = count + free;
-    const wanted = {
-        ArrowUp: count + 1, "+": count + 1, ArrowDown: count - 1, "-": count - 1, Delete: 0, Backspace: 0,
-        Home: 0, End: most, PageUp: count + 5, PageDown: count - 5,
-    };
-    const value = /^\d$/.test(key) ? Number(key) : wanted[key];
-    return value === undefined ? null : Math.max(0, Math.min(most, value));
-}
-
-function column(points, point, free, change) {
+// What stands on a point: its wedge, its checkers, and how many they are where that is hard to count.
+function standing(points, point) {
     const count = points[point - 1];
     const left = (6 - point) * WIDTH;
-    return h("g", {
-        class: "point", tabindex: 0, role: "spinbutton", "data-key": `point ${point}`, "data-point": point,
-        "aria-label": `Point ${point}`, "aria-valuenow": count, "aria-valuemin": 0, "aria-valuemax": count + free,
-        "aria-valuetext": count === 1 ? "1 checker" : `${count} checkers`,
-        click: (event) => change(point, event.shiftKey ? Math.max(0, count - 1) : count + (free > 0 ? 1 : 0)),
-        contextmenu: (event) => { event.preventDefault(); change(point, Math.max(0, count - 1)); },
-        keydown: (event) => {
-            const next = { ArrowLeft: point + 1, ArrowRight: point - 1 }[event.key];
-            const group = event.currentTarget.parentNode.querySelector(`[data-point="${next}"]`);
-            if (group) group.focus();
-            const value = event.ctrlKey || event.metaKey || event.altKey ? null : pressed(event.key, count, free);
-            if (value === null) return;
-            event.preventDefault();
-            change(point, value);
-        },
-    },
-        h("rect", { class: "ground", x: left + 2, y: 4, width: WIDTH - 4, height: FLOOR - 2, rx: 6 }),
+    return [
         h("polygon", {
             class: point % 2 === 0 ? "wedge even" : "wedge odd",
             points: `${left + 8},${FLOOR} ${left + WIDTH - 8},${FLOOR} ${left + WIDTH / 2},70`,
         }),
         stack(point, count),
-        count > 4 && h("text", { class: "tally", x: middle(point), y: height(count - 1, count) + 8 }, count));
+        count > 4 && h("text", { class: "tally", x: middle(point), y: height(count - 1, count) + 8 }, count),
+    ];
 }
 
-// The board of a position, which calls `change` with a point and the count that is wanted on it.
-export function board(points, free, moves, change) {
-    const small = (label, point, value, enabled) => h("button", {
-        type: "button", "data-key": `${label} ${point}`, disabled: !enabled, click: () => change(point, value),
-        "aria-label": `${label} a checker ${label === "Add" ? "to" : "from"} point ${point}`,
-    }, label === "Add" ? "+" : "\u2212");
+function column(points, point, free, act) {
+    const count = points[point - 1];
+    return h("g", {
+        class: "point", tabindex: 0, role: "spinbutton", "data-key": `point ${point}`, "data-point": point,
+        "aria-label": `Point ${point}`, "aria-valuenow": count, "aria-valuemin": 0, "aria-valuemax": count + free,
+        "aria-valuetext": count === 1 ? "1 checker" : `${count} checkers`,
+        click: (event) => act.add(point, event.shiftKey ? -1 : 1),
+        contextmenu: (event) => { event.preventDefault(); act.add(point, -1); },
+        keydown: (event) => {
+            const next = { ArrowLeft: point + 1, ArrowRight: point - 1 }[event.key];
+            const group = next && event.currentTarget.parentNode.querySelector(`[data-point="${next}"]`);
+            if (group) group.focus();
+            const isAlone = !event.ctrlKey && !event.metaKey && !event.altKey;
+            if (isAlone && act.press(point, event.key)) event.preventDefault();
+        },
+    },
+        h("rect", { class: "ground", x: (6 - point) * WIDTH + 2, y: 4, width: WIDTH - 4, height: FLOOR - 2, rx: 6 }),
+        standing(points, point));
+}
+
+const FELT = { class: "felt", x: 0, y: 0, width: 700, height: 334, rx: 10 };
+
+const number = (x, ...text) => h("text", { class: "number", x, y: 362, "aria-hidden": "true" }, ...text);
+
+// The board of a position, with the moves of a play. `act.add` adds checkers to a point or takes them away, `act.press`
+// says whether it knows a key on a point, and `act.clear` takes all of them off.
+export function board(points, moves, act) {
+    const free = MOST_CHECKERS - sumOf(points);
+    const small = (word, sign, point, count, isPossible) => h("button", {
+        type: "button", "data-key": `${word} ${point}`, "aria-disabled": isPossible ? null : "true",
+        click: () => act.add(point, count),
+        "aria-label": `${word} a checker ${count > 0 ? "to" : "from"} point ${point}`,
+    }, h("span", { "aria-hidden": "true" }, sign));
     return h("div", { class: "board" },
         h("svg", { viewBox: "0 0 700 372", role: "group", "aria-label": "Home board, set up point by point" },
-            h("defs", {}, h("marker", {
-                id: "tip", viewBox: "0 0 10 10", refX: 7, refY: 5, markerWidth: 5, markerHeight: 5, orient: "auto",
-            }, h("path", { d: "M 0 0 L 10 5 L 0 10 z" }))),
-            h("rect", { class: "felt", x: 0, y: 0, width: 700, height: 334, rx: 10 }),
-            POINTS.map((point) => column(points, point, free, change)),
-            h("g", { role: "img", "aria-label": `${free} borne off` },
-                h("rect", { class: "tray", x: 606, y: 6, width: 88, height: FLOOR - 4, rx: 8 }),
-                tray(free)),
-            h("g", { class: "arcs", "aria-hidden": "true" }, arcs(points, moves)),
-            POINTS.map((point) =>
-                h("text", { class: "number", x: middle(point), y: 362, "aria-hidden": "true" }, point)),
-            h("text", { class: "number", x: 650, y: 362, "aria-hidden": "true" }, `off ${free}`)),
+            tip("tip"),
+            h("rect", FELT),
+            POINTS.map((point) => column(points, point, free, act)),
+            h("g", { role: "img", "aria-label": `${free} borne off` }, tray(free)),
+            arcs(points, moves, "tip"),
+            POINTS.map((point) => number(middle(point), point)),
+            number(650, `off ${free}`)),
         h("div", { class: "steps" },
             POINTS.map((point) => h("span", {},
-                small("Remove", point, points[point - 1] - 1, points[point - 1] > 0),
-                small("Add", point, points[point - 1] + 1, free > 0))),
+                small("Remove", "\u2212", point, -1, points[point - 1] > 0),
+                small("Add", "+", point, 1, free > 0))),
             h("span", {}, h("button", {
-                type: "button", class: "clear", "data-key": "clear", click: () => change(0, 0),
+                type: "button", class: "clear", "data-key": "clear", click: () => act.clear(),
             }, "Clear"))));
+}
+
+// A smaller board that is only looked at, with the moves of a play.
+export function lookedAt(points, moves) {
+    const free = MOST_CHECKERS - sumOf(points);
+    const told = POINTS.filter((point) => points[point - 1] > 0).map((point) => `${points[point - 1]} on ${point}`);
+    return h("svg", {
+        class: "small", viewBox: "0 0 700 372", role: "img",
+        "aria-label": `The board: ${told.join(", ") || "no checker"}, ${free} borne off`,
+    },
+        tip("small-tip"),
+        h("rect", FELT),
+        POINTS.map((point) => h("g", {}, standing(points, point), number(middle(point), point))),
+        tray(free),
+        arcs(points, moves, "small-tip"));
 }
 
 // A small picture of a position for a table.
 export function miniature(points) {
-    return h("svg", { class: "miniature", viewBox: "0 0 96 40", role: "img", "aria-label": points.join(" ") },
+    return h("svg", { class: "miniature", viewBox: "0 0 96 40", "aria-hidden": "true" },
         POINTS.flatMap((point, place) => {
             const count = points[point - 1];
             const apart = Math.min(5, 34 / Math.max(1, count - 1));

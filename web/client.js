@@ -30,8 +30,10 @@ export class Client {
         this.tell = tell;
         this.waiting = new Map();
         this.number = 0;
+        this.isDead = false;
         this.worker = new Worker(this.address);
         this.worker.onmessage = ({ data }) => this.receive(data);
+        this.worker.onmessageerror = () => this.fail("what the worker answered can't be read");
         this.worker.onerror = (event) => this.fail(event.message || "the worker stopped");
     }
 
@@ -46,7 +48,10 @@ export class Client {
         else keep(data.reply);
     }
 
+    // The worker is gone: what is asked of it now or later fails.
     fail(message) {
+        this.isDead = true;
+        this.message = message;
         for (const { refuse } of this.waiting.values()) refuse(new Failure({ message, status: 0, line: "" }));
         this.waiting.clear();
     }
@@ -55,6 +60,7 @@ export class Client {
         this.number += 1;
         const { number } = this;
         return new Promise((keep, refuse) => {
+            if (this.isDead) throw new Failure({ message: this.message, status: 0, line: "" });
             this.waiting.set(number, { keep, refuse });
             this.worker.postMessage({ number, question }, lent);
         });

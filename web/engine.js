@@ -1,5 +1,5 @@
-// The proved module: its memory, its calls, and texts of what they answer. Every number comes out of the module; what
-// is done here is to hand over bytes and to write what came back in decimals.
+// The proved module: its memory, its calls, and texts of what they answer. Every number here comes out of the module;
+// what is done is to hand over bytes and to write what came back in decimals.
 
 const WHOLE = { high: 939150716956721n, low: 9738770311398031360n }; // 36 ^ 22, the denominator of every share
 
@@ -201,10 +201,14 @@ export class Engine {
         return this.view().getBigUint64(this.scratch + 48, true);
     }
 
-    // The sum of two numbers of thousandths.
-    add(one, other) {
-        this.exports.bearoff_add(one, other, BigInt(this.scratch + 48));
-        return this.view().getBigUint64(this.scratch + 48, true);
+    // The decimals of a fraction that is given as a text.
+    round(fraction) {
+        const place = this.scratch + 64;
+        fraction.split("/").map(BigInt).forEach((number, which) => {
+            this.view().setBigUint64(place + 16 * which, number >> 64n, true);
+            this.view().setBigUint64(place + 16 * which + 8, number & 0xffffffffffffffffn, true);
+        });
+        return decimal(this.thousandths(place));
     }
 
     // For each number of rolls that can be the last: the chance of exactly so many, and within so many.

@@ -1,27 +1,53 @@
 // What the address keeps: the positions, their captions, and how the page stands. Captions are text.
 
 export const MOST_KEPT = 10;
+export const MOST_CHECKERS = 15;
 const LONGEST_CAPTION = 200;
 export const START = [2, 2, 2, 2, 2, 2];
+
+export const sumOf = (counts) => counts.reduce((sum, count) => sum + count, 0);
 
 // Six counts of at most 15 checkers in all, or null.
 export function readPoints(text) {
     const counts = text.split(",");
     if (counts.length !== 6 || !counts.every((count) => /^\d{1,2}$/.test(count))) return null;
     const points = counts.map(Number);
-    return points.reduce((sum, count) => sum + count, 0) <= 15 ? points : null;
+    return sumOf(points) <= MOST_CHECKERS ? points : null;
+}
+
+// Six counts as a reader types them, with commas, spaces or full stops between them; or, in words, why they are none.
+export function readCounts(typed) {
+    const separator = /^[\d.]*$/.test(typed.trim()) ? /\.+/ : /[\s,;]+/;
+    const counts = typed.trim().split(separator).filter((count) => count !== "");
+    if (!counts.every((count) => /^\d{1,3}$/.test(count))) {
+        return { fault: "A count is a whole number; commas or spaces stand between the six." };
+    }
+    if (counts.length !== 6) {
+        return { fault: `Six counts are wanted, and here ${counts.length === 1 ? "is 1" : `are ${counts.length}`}.` };
+    }
+    const points = counts.map(Number);
+    return sumOf(points) > MOST_CHECKERS
+        ? { fault: `There are ${MOST_CHECKERS} checkers, and here are ${sumOf(points)}.` }
+        : { points };
 }
 
 const text = (word) => (word || "").replace(/\s+/g, " ").trim().slice(0, LONGEST_CAPTION);
 
-// The state that an address states. What can't be read there is left out.
+// The state that an address states. What can't be read there is left out, and so is a position that stood before.
 export function readLink(hash) {
     const words = new URLSearchParams(hash.replace(/^#/, ""));
     const kept = [];
+    let last = null;
     for (const [name, value] of words) {
         const points = name === "p" ? readPoints(value) : null;
-        if (points && kept.length < MOST_KEPT) kept.push({ points, caption: "" });
-        if (name === "c" && kept.length > 0) kept[kept.length - 1].caption = text(value);
+        if (points) {
+            last = kept.find((entry) => entry.points.join() === points.join()) || null;
+            if (!last && kept.length < MOST_KEPT) {
+                last = { points, caption: "" };
+                kept.push(last);
+            }
+        }
+        if (name === "c" && last && last.caption === "") last.caption = text(value);
     }
     const roll = /^[1-6]{2}$/.test(words.get("roll") || "") ? [...words.get("roll")].map(Number) : null;
     return {

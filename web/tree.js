@@ -4,38 +4,98 @@
 const SVG = "http://www.w3.org/2000/svg";
 const SVG_TAGS = new Set(["svg", "g", "path", "circle", "rect", "text", "line", "polygon", "title", "defs", "marker"]);
 
+const isThere = (child) => child !== null && child !== undefined && child !== false;
+
 export function h(tag, attributes = {}, ...children) {
-    const flat = children.flat(Infinity).filter((child) => child !== null && child !== undefined && child !== false);
-    return { tag, attributes, children: flat };
+    return { tag, attributes, children: children.flat(Infinity).filter(isThere) };
 }
 
-// The element of a tree. An attribute that is a function listens; one that is false or null is left out.
+// The attributes that an element was last given, among them its listeners.
+const given = new WeakMap();
+
+const isSet = (value) => isThere(value) && typeof value !== "function";
+
+// The events for which an element has a listener, once and for good: it does what the element's last tree says.
+const listening = new WeakMap();
+
+function listen(element, name) {
+    const names = listening.get(element) || new Set();
+    listening.set(element, names);
+    if (names.has(name)) return;
+    names.add(name);
+    element.addEventListener(name, (event) => {
+        const listener = given.get(element)[name];
+        if (typeof listener === "function") listener(event);
+    });
+}
+
+// Gives an element the attributes of a tree, and takes those that only its last tree had. An attribute that is a
+// function listens; one that is false or null is left out.
+function dress(element, attributes) {
+    const former = given.get(element);
+    given.set(element, attributes);
+    for (const name of new Set([...Object.keys(former || {}), ...Object.keys(attributes)])) {
+        const [old, value] = [former?.[name], attributes[name]];
+        if (typeof value === "function") listen(element, name);
+        if (!isSet(value)) {
+            if (isSet(old)) element.removeAttribute(name);
+        } else if (value !== old) {
+            element.setAttribute(name, value === true ? "" : String(value));
+            if (name === "value") element.value = value; // what is seen in a field, once it was edited
+        }
+    }
+}
+
+// The element of a tree.
 export function build(document, tree) {
     if (typeof tree !== "object") return document.createTextNode(String(tree));
     const element = SVG_TAGS.has(tree.tag)
         ? document.createElementNS(SVG, tree.tag)
         : document.createElement(tree.tag);
-    for (const [name, value] of Object.entries(tree.attributes)) {
-        if (value === null || value === undefined || value === false) continue;
-        if (typeof value === "function") element.addEventListener(name, value);
-        else element.setAttribute(name, value === true ? "" : String(value));
-    }
+    dress(element, tree.attributes);
     for (const child of tree.children) element.appendChild(build(document, child));
     return element;
 }
 
-// Puts trees in the place of what stood in an element, and keeps the focus where it was.
-export function draw(document, parent, ...trees) {
-    const active = document.activeElement;
-    const key = active && parent.contains(active) ? active.getAttribute("data-key") : null;
-    parent.replaceChildren(...trees.flat().filter(Boolean).map((tree) => build(document, tree)));
-    if (key === null) return;
-    for (const element of parent.querySelectorAll("[data-key]")) {
-        if (element.getAttribute("data-key") === key) element.focus({ preventScroll: true });
-    }
+// Whether a node can become what a tree says.
+function fits(node, tree) {
+    const attributes = given.get(node);
+    if (typeof tree !== "object" || !attributes) return typeof tree !== "object" && !attributes && node.nodeType === 3;
+    return node.localName === tree.tag && attributes["data-key"] === tree.attributes["data-key"];
 }
 
-// The text of a tree, as a reader hears it: for tests.
+function change(document, node, tree) {
+    if (typeof tree === "object") {
+        dress(node, tree.attributes);
+        fill(document, node, tree.children);
+    } else if (node.data !== String(tree)) {
+        node.data = String(tree);
+    }
+    return node;
+}
+
+function fill(document, parent, trees) {
+    const former = [...parent.childNodes];
+    const nodes = trees.map((tree) => {
+        const place = former.findIndex((node) => fits(node, tree));
+        return place < 0 ? build(document, tree) : change(document, former.splice(place, 1)[0], tree);
+    });
+    for (const node of former) parent.removeChild(node);
+    nodes.forEach((node, place) => {
+        if (parent.childNodes[place] !== node) parent.insertBefore(node, parent.childNodes[place] || null);
+    });
+}
+
+// Makes what stands in an element that of trees. An element that its tree still has stays: so do the focus, a caret, a
+// list that was scrolled, and a button between its press and its release.
+export function draw(document, parent, ...trees) {
+    const active = document.activeElement;
+    fill(document, parent, trees.flat(Infinity).filter(isThere));
+    if (active && active !== document.activeElement && parent.contains(active)) active.focus({ preventScroll: true });
+}
+
+// The text of a tree, as a reader sees it: for tests.
 export function textOf(tree) {
-    return typeof tree === "object" ? tree.children.map(textOf).join(" ") : String(tree);
+    if (Array.isArray(tree)) return tree.map(textOf).join(" ");
+    return typeof tree === "object" && tree !== null ? tree.children.map(textOf).join(" ") : String(tree ?? "");
 }

@@ -1,10 +1,7 @@
 // What the worker does: it builds, checks and answers, so that the page never stands still.
 import { Engine, Refused } from "./engine.js";
 import { bytesOf, unpacked } from "./packed.js";
-
-// Every roll, the higher die first.
-export const ROLLS = Array.from({ length: 6 }, (_, high) =>
-    Array.from({ length: high + 1 }, (_, low) => [high + 1, low + 1])).flat();
+import { ROLLS } from "./rolls.js";
 
 // The numbers of a position. Over the bound, or with too many checkers, only why there are none.
 export function answer(engine, points) {
@@ -67,7 +64,7 @@ export class Desk {
         return { bound: engine.bound, positions: engine.positions };
     }
 
-    async take({ kind, bound, file, points, one, other }) {
+    async take({ kind, bound, file, points, fraction }) {
         switch (kind) {
             case "build":
                 return this.build(bound);
@@ -78,8 +75,8 @@ export class Desk {
                 return answer(this.engine, points);
             case "rolls":
                 return rollsOf(this.engine, points);
-            case "add":
-                return this.engine.add(one, other);
+            case "round":
+                return this.engine.round(fraction);
             default:
                 throw new Error("no such question");
         }
@@ -99,6 +96,7 @@ export function serve(scope) {
                 scope.postMessage({ number, reply: await desk.build(question.bound) });
                 return;
             }
+            if (!desk) throw new Error("the module didn't start");
             scope.postMessage({ number, reply: await desk.take(question) });
         } catch (error) {
             const refused = error instanceof Refused;

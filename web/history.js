@@ -1,0 +1,51 @@
+// The addresses that one went through: each change is a step, and Back undoes it. What follows a change at once, as
+// under a key that is held, belongs to the same step, since browsers take only so many changes of an address in a
+// while.
+
+const ONE_STEP = 250; // milliseconds
+
+export class Past {
+    constructor(window) {
+        this.window = window;
+        this.current = window.location.hash; // the address as the page knows it
+        this.timer = null;
+        this.isStep = false; // whether what is written now is a step
+    }
+
+    // The address of a state; `isStep` where Back shall undo what led to it.
+    remember(link, isStep) {
+        if (link === this.current) return;
+        this.current = link;
+        if (this.timer === null || (isStep && !this.isStep)) {
+            this.isStep = isStep;
+            this.write(link, isStep);
+        }
+        this.window.clearTimeout(this.timer);
+        this.timer = this.window.setTimeout(() => this.settle(), ONE_STEP);
+    }
+
+    // Writes what followed the last step.
+    settle() {
+        this.window.clearTimeout(this.timer);
+        this.timer = null;
+        if (this.window.location.hash !== this.current) this.write(this.current, false);
+    }
+
+    write(link, isStep) {
+        try {
+            if (isStep) this.window.history.pushState(null, "", link);
+            else this.window.history.replaceState(null, "", link);
+        } catch {
+            // too many in a while: what comes next, or the link that is copied, writes it
+        }
+    }
+
+    // Whether the address was changed by something else than the page: by Back, Forward, or a reader who typed one.
+    isElsewhere() {
+        if (this.window.location.hash === this.current) return false;
+        this.window.clearTimeout(this.timer);
+        this.timer = null;
+        this.current = this.window.location.hash;
+        return true;
+    }
+}

@@ -1,0 +1,267 @@
+// What the page knows, and what changes it. A state is a plain object that stays as it is: each change makes a new one.
+// An answer stands under its position and is read for that one alone; so nothing of a former position can be shown.
+import { MOST_CHECKERS, MOST_KEPT, readCounts, sumOf } from "./link.js";
+import { sumOfFractions } from "./fractions.js";
+import { sameRoll } from "./rolls.js";
+
+// A digit that follows another one within so many milliseconds is its second.
+const DIGITS_APART = 1000;
+
+export const keyOf = (points) => points.join();
+
+// The state of a link, before anything is known.
+export function begin(link) {
+    return {
+        ...link, // points, kept, title, roll, guess, bound
+        shown: null, // the text of the play that was chosen, or null for the best
+        typed: null, // counts that were typed and refused, with the reason
+        digits: null, // the digits that were typed on a point, and when
+        stops: { rolls: null, plays: null }, // where Tab stops within the rolls and within the plays
+        guesses: [], // the position, the roll, the play that was guessed and the best one
+        database: null, // the open one: its bound and how many positions it has
+        loads: 0, // how many databases are being built or checked
+        trouble: "", // what went wrong, in words
+        answers: new Map(), // what the open database says of a position
+        rolls: new Map(), // and of its 21 rolls
+        decimals: new Map(), // a fraction's decimals
+        said: "", // what is read aloud
+    };
+}
+
+export const freeOf = ({ points }) => MOST_CHECKERS - sumOf(points);
+
+// The answer for a position, or undefined while it isn't known.
+export const answerOf = (state, points = state.points) => state.answers.get(keyOf(points));
+
+// The 21 rolls of the board's position, or undefined while they aren't known.
+export const rollsOf = (state) => state.rolls.get(keyOf(state.points));
+
+// Whether an answer that isn't known will come.
+export const isComing = (state) => state.loads > 0 || state.database !== null;
+
+// The best first; of plays that lose as much, as they came.
+export function byLoss(plays) {
+    const rank = (play) => (play.isRecorded ? 0 : play.isBest ? 1 : 2);
+    const order = (one, other) => (one < other ? -1 : one > other ? 1 : 0);
+    return [...plays].sort((one, other) => rank(one) - rank(other) || order(one.loss, other.loss));
+}
+
+// The plays of the chosen roll, or undefined.
+export const chosenOf = (state) => rollsOf(state)?.find(({ dice }) => sameRoll(dice, state.roll));
+
+// What was guessed of a roll in the board's position.
+export const guessOf = (state, roll = state.roll) =>
+    state.guesses.find((guess) => guess.at === keyOf(state.points) && sameRoll(guess.roll, roll));
+
+// Whether the answer for a roll is hidden, since it is to be guessed.
+export const hides = (state, roll = state.roll) => state.guess && !guessOf(state, roll);
+
+// The play that the board shows: the chosen one, or the best of the chosen roll.
+export function shownPlay(state) {
+    const chosen = chosenOf(state);
+    if (!chosen || hides(state)) return null;
+    return chosen.plays.find(({ text }) => text === state.shown) || byLoss(chosen.plays)[0];
+}
+
+// What all guesses have lost, exactly.
+export const lostOf = ({ guesses }) => sumOfFractions(guesses.map(({ play }) => play.exact));
+
+export const isKept = (state) => state.kept.some(({ points }) => keyOf(points) === keyOf(state.points));
+
+export const isFull = (state) => state.kept.length >= MOST_KEPT;
+
+// What is asked next of the open database, or null where nothing is. While another one is made ready, nothing is.
+export function wanted(state) {
+    if (!state.database || state.loads > 0) return null;
+    const { points } = state;
+    const answer = answerOf(state);
+    if (!answer) return { kind: "ask", points };
+    if (!answer.refusal && !rollsOf(state)) return { kind: "rolls", points };
+    const kept = state.kept.find((entry) => !answerOf(state, entry.points));
+    if (kept) return { kind: "ask", points: kept.points };
+    const fraction = lostOf(state);
+    return state.guesses.length > 0 && !state.decimals.has(fraction) ? { kind: "round", fraction } : null;
+}
+
+// What is said of a position, once it is known.
+function spoken(answer) {
+    if (!answer) return "";
+    if (answer.refusal) return answer.refusal;
+    const { standing, mean, effective, wastage } = answer;
+    return `${standing.pips} pips, mean ${mean.text} rolls, effective pip count ${effective.text}, `
+        + `wastage ${wastage.text}.`;
+}
+
+// What a guess lost, and all guesses so far. The sum's decimals may not be known yet.
+export function verdictOf(state) {
+    const guess = state.guess && guessOf(state);
+    if (!guess) return null;
+    const exact = lostOf(state);
+    const { play, best } = guess;
+    const decimals = state.decimals.get(exact);
+    const first = play.isBest
+        ? `${play.text} is best${play.isRecorded ? "" : `, as is ${best.text}`}.`
+        : `${play.text} loses ${play.lossText} of a roll; best is ${best.text}.`;
+    const count = state.guesses.length;
+    const all = `${count === 1 ? "One guess has" : `${count} guesses have`} lost ${decimals ?? "\u2026"} of a roll.`;
+    return { isBest: play.isBest, first, all, exact, isWhole: decimals !== undefined };
+}
+
+// The answers of positions that are still shown.
+function stillShown(answers, state) {
+    const shown = new Set([state, ...state.kept].map(({ points }) => keyOf(points)));
+    return new Map([...answers].filter(([key]) => shown.has(key)));
+}
+
+// The state with the database's reply to a question. A reply of a database that isn't open any more is none.
+export function received(state, database, question, reply) {
+    if (state.database !== database) return state;
+    if (question.kind === "round") {
+        const next = { ...state, decimals: new Map([[question.fraction, reply]]) };
+        const verdict = verdictOf(next);
+        return verdict && verdict.isWhole ? { ...next, said: `${verdict.first} ${verdict.all}` } : next;
+    }
+    const key = keyOf(question.points);
+    if (question.kind === "rolls") return { ...state, rolls: stillShown(new Map([[key, reply]]), state) };
+    const next = { ...state, answers: stillShown(new Map(state.answers).set(key, reply), state) };
+    return key === keyOf(state.points) ? { ...next, said: spoken(reply) } : next;
+}
+
+// A database begins to be built or checked.
+export function loading(state) {
+    return { ...state, loads: state.loads + 1, trouble: "" };
+}
+
+// It is open, and nothing is known of it yet.
+export function opened(state, { bound, positions }) {
+    return {
+        ...state, loads: state.loads - 1, database: { bound, positions }, bound: bound === 58 ? 58 : 44,
+        answers: new Map(), rolls: new Map(), said: "",
+    };
+}
+
+// It was refused, or something went wrong: what was open stays so.
+export function refused(state, words) {
+    return { ...state, loads: state.loads - 1, trouble: words };
+}
+
+// Nothing can be computed any more, or never could: what is known stays, and nothing else comes.
+export function ended(state, words) {
+    return { ...state, loads: 0, database: null, trouble: words };
+}
+
+// Another position on the board.
+export function setPoints(state, points) {
+    const next = { ...state, points, roll: null, shown: null, typed: null, digits: null };
+    return { ...next, said: spoken(answerOf(next)) };
+}
+
+// A point with another count: as many as there are checkers for.
+export function setCount(state, point, count) {
+    const most = state.points[point - 1] + freeOf(state);
+    const points = [...state.points];
+    points[point - 1] = Math.max(0, Math.min(most, count));
+    return keyOf(points) === keyOf(state.points) ? state : setPoints(state, points);
+}
+
+export const addCheckers = (state, point, count) => setCount(state, point, state.points[point - 1] + count);
+
+// What the keys make of a count with at most so many checkers.
+function steered(key, count, most) {
+    return {
+        ArrowUp: count + 1, "+": count + 1, ArrowDown: count - 1, "-": count - 1, Delete: 0, Backspace: 0,
+        Home: 0, End: most, PageUp: count + 5, PageDown: count - 5,
+    }[key];
+}
+
+// A key on a point, or null where the key says nothing there. Two digits soon after each other are a number.
+export function pressed(state, point, key, now) {
+    const count = state.points[point - 1];
+    if (!/^\d$/.test(key)) {
+        const value = steered(key, count, count + freeOf(state));
+        return value === undefined ? null : { ...setCount(state, point, value), digits: null };
+    }
+    const { digits } = state;
+    const isSecond = digits !== null && digits.point === point && now - digits.at < DIGITS_APART;
+    const both = isSecond ? digits.text + key : key;
+    const text = Number(both) <= MOST_CHECKERS ? both : key;
+    return { ...setCount(state, point, Number(text)), digits: { point, text, at: now } };
+}
+
+// Six counts that were typed. Refused ones stay in their field, with the reason, and the board stays.
+export function typeCounts(state, text) {
+    const { points, fault } = readCounts(text);
+    if (fault) return { ...state, typed: { text, fault } };
+    return setPoints(state, points);
+}
+
+// A roll, or none.
+export function chooseRoll(state, roll) {
+    return { ...state, roll, shown: null, stops: { ...state.stops, plays: null }, said: "" };
+}
+
+// A play of the chosen roll: a guess where it is to be guessed, and else one to look at. A roll is guessed once.
+export function choosePlay(state, text) {
+    const chosen = chosenOf(state);
+    const play = chosen?.plays.find((one) => one.text === text);
+    if (!play) return state;
+    if (!hides(state)) return { ...state, shown: text };
+    const guess = { at: keyOf(state.points), roll: state.roll, play, best: byLoss(chosen.plays)[0] };
+    const next = { ...state, shown: text, guesses: [...state.guesses, guess], said: "" };
+    const verdict = verdictOf(next);
+    return verdict.isWhole ? { ...next, said: `${verdict.first} ${verdict.all}` } : next;
+}
+
+// The position after the play that is shown.
+export function playOn(state) {
+    const play = shownPlay(state);
+    return play ? setPoints(state, play.to) : state;
+}
+
+export function setGuess(state, guess) {
+    return { ...state, guess, shown: null, said: "" };
+}
+
+// No guess was made yet.
+export function resetGuesses(state) {
+    return { ...state, guesses: [], decimals: new Map(), shown: null, said: "The guesses begin anew." };
+}
+
+// Keeps the board's position.
+export function keep(state) {
+    if (isKept(state) || isFull(state)) return state;
+    return { ...state, kept: [...state.kept, { points: state.points, caption: "" }], said: "The position is kept." };
+}
+
+export function remove(state, key) {
+    const kept = state.kept.filter(({ points }) => keyOf(points) !== key);
+    return kept.length === state.kept.length ? state : { ...state, kept, said: "The position is removed." };
+}
+
+export function setCaption(state, key, caption) {
+    return { ...state, kept: state.kept.map((entry) => (keyOf(entry.points) === key ? { ...entry, caption } : entry)) };
+}
+
+// The kept positions in the order in which they are shown: by effective pip count, what isn't known last; as they were
+// kept while a roll is to be guessed, since the order would tell.
+export function orderOf(state) {
+    if (hides(state)) return state.kept;
+    const known = ({ points }) => answerOf(state, points)?.effective?.thousandths ?? null;
+    return state.kept.map((entry, place) => ({ entry, place, count: known(entry) })).sort((one, other) => {
+        if (one.count === null || other.count === null) {
+            return (one.count === null) - (other.count === null) || one.place - other.place;
+        }
+        return one.count < other.count ? -1 : one.count > other.count ? 1 : one.place - other.place;
+    }).map(({ entry }) => entry);
+}
+
+// Where Tab stops within a group.
+export function stopAt(state, group, key) {
+    return state.stops[group] === key ? state : { ...state, stops: { ...state.stops, [group]: key } };
+}
+
+// What another address states. Its database is for whoever loads it.
+export function visit(state, { points, kept, title, roll, guess }) {
+    const next = { ...state, points, kept, title, roll, guess, shown: null, typed: null, digits: null };
+    return { ...next, said: spoken(answerOf(next)) };
+}

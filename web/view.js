@@ -1,0 +1,55 @@
+// What the page shows of a state: trees for its parts, its texts, and what is hidden. Each is what this state says, and
+// nothing of a former one.
+import { board } from "./board.js";
+import { chances, kept, numbers, plays, rolls, verdict } from "./panels.js";
+import {
+    answerOf, chosenOf, hides, isComing, isFull, isKept, orderOf, rollsOf, shownPlay, verdictOf,
+} from "./state.js";
+
+export function view(state, act) {
+    const { points, roll, guess, stops, database, typed } = state;
+    const answer = answerOf(state);
+    const list = rollsOf(state);
+    const shown = shownPlay(state);
+    const told = verdictOf(state);
+    const chosen = chosenOf(state)?.plays;
+    const isHidden = hides(state);
+    const hasRolls = answer ? !answer.refusal && answer.standing.checkers > 0 : isComing(state);
+    return {
+        trees: {
+            board: board(points, shown ? shown.moves : [], act),
+            numbers: numbers(answer, isComing(state)),
+            chances: answer && !answer.refusal ? chances(answer.distribution) : [],
+            grid: rolls(list, roll, (dice) => hides(state, dice), stops.rolls, act),
+            plays: [
+                plays({ points, dice: roll, list: chosen, shown, isHidden, stop: stops.plays }, act),
+                told && verdict(told, act),
+            ],
+            kept: kept(orderOf(state), (at) => answerOf(state, at), isHidden, act),
+        },
+        texts: {
+            lesson: state.title,
+            trouble: state.trouble,
+            said: state.said,
+            open: database ? `${database.bound} pips` : "\u2026",
+            known: database ? database.positions.toLocaleString("en") : "\u2026",
+            keep: isKept(state) ? "Kept below" : isFull(state) ? "Ten are kept" : "Keep this position",
+            why: typed ? typed.fault : "",
+            sorting: isHidden ? "Their numbers are hidden while you guess." : "Sorted by effective pip count.",
+        },
+        hidden: {
+            lesson: !state.title,
+            trouble: !state.trouble,
+            wider: !(answer?.status === 4 && answer.bound < 58 && answer.standing.pips <= 58) || state.loads > 0,
+            rolls: !hasRolls,
+            keeping: state.kept.length === 0,
+            why: !typed,
+        },
+        counts: typed ? typed.text : points.join(),
+        isRefused: Boolean(typed),
+        canKeep: !isKept(state) && !isFull(state),
+        isOpen: Boolean(roll) && hasRolls, // the sheet with the plays of a roll
+        isKnown: Boolean(answer),
+        guess,
+    };
+}
