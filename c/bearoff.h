@@ -32,6 +32,9 @@
 extern "C" {
 #endif
 
+/* The version of this header, and of the library, the program and the packages that came with it. */
+#define BEAROFF_VERSION "1.0.0"
+
 /* The statuses, in the order of the tests. */
 enum {
     BEAROFF_OK = 0,

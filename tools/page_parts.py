@@ -1,4 +1,5 @@
-"""Puts the page together: page_parts.py WEB WIDE NARROW PAGE writes one file of the parts in WEB and the two modules.
+"""Puts the page together: page_parts.py WEB WIDE NARROW VERSION PAGE writes one file of the parts in WEB, the two modules
+and the version in the file VERSION.
 
 The scripts in WEB are modules that name each other by `import` and `export`; here they become one script each for the
 page and for its worker, in the order in which they rest on each other, in a function of their own. The page's policy
@@ -52,7 +53,7 @@ def policy(code, style):
     ))
 
 
-def main(web, wide, narrow, page):
+def main(web, wide, narrow, version, page):
     web = Path(web)
     # a browser with memories of 64-bit addresses can unpack; an older one needs the other module as it is
     packed = {"wide": gzip.compress(Path(wide).read_bytes(), 9, mtime=0), "narrow": Path(narrow).read_bytes()}
@@ -64,6 +65,7 @@ def main(web, wide, narrow, page):
     for mark, part in (
         ("/*POLICY*/", policy(code, style)),
         ("/*STYLE*/", style),
+        ("<!--VERSION-->", Path(version).read_text().strip()),
         ("<!--PROMISES-->", (web / "promises.html").read_text()),
         ("/*SCRIPT*/", code),
     ):

@@ -1,0 +1,12 @@
+# Completions of bearoff for fish.
+complete -c bearoff -n __fish_use_subcommand -f -a build -d 'write the database of a pip bound into a file'
+complete -c bearoff -n __fish_use_subcommand -f -a check -d 'check a database'
+complete -c bearoff -n __fish_use_subcommand -f -a query -d 'check a database, and answer standard input'
+complete -c bearoff -n __fish_use_subcommand -f -a audit -d 'check a database, and tell its least and greatest means'
+complete -c bearoff -n __fish_use_subcommand -f -a upgrade -d 'check an old database, and write it as a smaller file'
+complete -c bearoff -n __fish_use_subcommand -f -a help -d 'print the help of a command'
+complete -c bearoff -n __fish_use_subcommand -s V -l version -d 'print the version'
+complete -c bearoff -s h -l help -d 'print help'
+complete -c bearoff -n '__fish_seen_subcommand_from build' -l pips -x -d 'the greatest pip count, 0 to 58'
+complete -c bearoff -n '__fish_seen_subcommand_from query' -l cache -x -d 'how many records are kept, 1 to 65535'
+complete -c bearoff -n '__fish_seen_subcommand_from help' -f -a 'build check query audit upgrade'
