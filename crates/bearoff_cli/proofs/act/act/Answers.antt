@@ -7,7 +7,7 @@ use Rattle.bearoff_cli.proofs.act.act.Goals.{in-Ok, in-Err, in-Err-3}
 -- no words ask for the default, so what was done is to answer the input over the built database
 pub returns-in-Ok-done-clause-answers : goal.returns-in-Ok-done-clause-answers
 returns-in-Ok-done-clause-answers g c empty zero given read =
-    let default = sym (c.read_words.ensures empty) in
+    let default = sym (c.read_words.ensures.nothing empty) in
     let old = g.O.Write.contents c.args.output.now in
     elim c.match-read_words.branch [
       | in-Ok w ↦
