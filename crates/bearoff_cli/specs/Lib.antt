@@ -1,2 +1,3 @@
 pub mod InputAnswers
 pub mod RefusedFiles
+pub mod FileAnswers

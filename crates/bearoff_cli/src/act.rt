@@ -1,5 +1,7 @@
 //! The whole program, over the files of a system, a reader and two writers.
-ghost use Rattle.std.specs.Prelude.{◌≡◌, ℕ, ◌<◌, List, length, Some, Ok, IfOk, IfErr, OnOk};
+ghost use Rattle.std.specs.Prelude.{◌≡◌, ℕ, ◌<◌, ◌≤◌, List, length, Some, Ok, IfOk, IfErr, OnOk};
+ghost use Rattle.std.specs.Io.KnownBytes.{Appends};
+ghost use Rattle.bearoff_cli.specs.FileAnswers.{AreAnsweredOverSome, SaysRight, count_line, count_text};
 ghost use Rattle.race_model.specs.RightFiles.{IsRight};
 ghost use Rattle.db_reader.specs.Telling.{WhereTold};
 ghost use Rattle.db_layout.specs.Writes.{AppendsPart};
@@ -142,7 +144,10 @@ fn answer_file<R: Files, I: Read, O: Write>(
     input: &mut I,
     output: &mut O,
 ) -> Result<(), Fault>
-    ensures { KeepsIfRefused result (O.contents output.old) (O.contents output.new) }
+    ensures refused { KeepsIfRefused result (O.contents output.old) (O.contents output.new) }
+    ensures answers { WhereTold (I.remaining input.old)
+        (λ given. IfOk result (λ _. AreAnsweredOverSome given (I.remaining input.new)
+        (O.contents output.old) (O.contents output.new))) }
 {
     let bytes = read_file(rt, alloc, path)?;
     answer_lines(alloc, Whole::new(bytes.as_slice()), input, output)
@@ -253,7 +258,8 @@ fn check_database<R: Files, O: Write>(
     path: &str,
     output: &mut O,
 ) -> Result<(), Fault>
-    ensures { KeepsIfRefused result (O.contents output.old) (O.contents output.new) }
+    ensures refused { KeepsIfRefused result (O.contents output.old) (O.contents output.new) }
+    ensures right { OnOk result (SaysRight (O.contents output.old) (O.contents output.new)) }
 {
     let bytes = read_file(rt, alloc, path)?;
     let mut told = check(Whole::new(bytes.as_slice()));
@@ -327,7 +333,20 @@ enum Done {
 
 /// Writes what was done, with the pip bound and the number of positions.
 fn write_count<O: Write>(done: Done, pips: u8, positions: u16, output: &mut O) -> Result<(), Fault>
-    ensures { IfErr result (λ fault. status_of fault ≡ 1) }
+    ensures status { IfErr result (λ fault. status_of fault ≡ 1) }
+    ensures all { OnOk result (Appends (O.contents output.old) (O.contents output.new)
+        (count_line done pips positions)) }
+{
+    let line = count_line(done, pips, positions);
+    if write_bytes(line.as_str().as_bytes(), output).is_err() {
+        return Err(Fault::Write);
+    }
+    flush(output)
+}
+
+/// The line of what was done.
+fn count_line(done: Done, pips: u8, positions: u16) -> ArrayString<64>
+    ensures { result.bytes ≡ count_line done pips positions }
 {
     let mut line: ArrayString<64> = ArrayString::new();
     match done {
@@ -339,8 +358,5 @@ fn write_count<O: Write>(done: Done, pips: u8, positions: u16, output: &mut O) -
     line.push_str(" positions ");
     line.push_str(Buffer::new().format(positions));
     line.push_str("\n");
-    if write_bytes(line.as_str().as_bytes(), output).is_err() {
-        return Err(Fault::Write);
-    }
-    flush(output)
+    line
 }

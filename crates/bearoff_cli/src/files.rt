@@ -1,5 +1,6 @@
 //! Files, read and written by blocks.
 ghost use Rattle.std.specs.Prelude.{◌≡◌, ◌≤◌, IfErr};
+ghost use Rattle.std.specs.Io.KnownBytes.{Keeps};
 ghost use Rattle.exit_status.specs.Statuses.{status_of};
 
 use crate::draft::begin;
@@ -135,7 +136,8 @@ fn upgrade_into<T: Table, O: Write>(checked: &mut Checked<T>, output: &mut O) ->
 
 /// Hands on what a writer may still hold.
 pub fn flush<O: Write>(output: &mut O) -> Result<(), Fault>
-    ensures { IfErr result (λ fault. status_of fault ≡ 1) }
+    ensures status { IfErr result (λ fault. status_of fault ≡ 1) }
+    ensures kept { Keeps (O.contents output.old) (O.contents output.new) }
 {
     match output.flush() {
         Ok(()) => Ok(()),
