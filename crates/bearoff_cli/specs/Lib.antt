@@ -1,3 +1,4 @@
+pub mod FileAnswers
 pub mod InputAnswers
 pub mod RefusedFiles
-pub mod FileAnswers
+pub mod Requests

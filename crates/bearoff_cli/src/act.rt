@@ -1,16 +1,22 @@
 //! The whole program, over the files of a system, a reader and two writers.
-ghost use Rattle.std.specs.Prelude.{◌≡◌, ℕ, ◌<◌, ◌≤◌, List, length, Some, Ok, IfOk, IfErr, OnOk};
+ghost use Rattle.std.specs.Prelude.{◌≡◌, ℕ, ◌<◌, ◌≤◌, List, map, Some, Ok, Err, IfOk, IfErr, OnOk, suc};
 ghost use Rattle.std.specs.Io.KnownBytes.{Appends};
-ghost use Rattle.bearoff_cli.specs.FileAnswers.{AreAnsweredOverSome, SaysRight, count_line, count_text};
+ghost use Rattle.race_model.specs.Files.{bound_of};
 ghost use Rattle.race_model.specs.RightFiles.{IsRight};
+ghost use Rattle.race_model.specs.Ranks.{count_to};
 ghost use Rattle.db_reader.specs.Telling.{WhereTold};
 ghost use Rattle.db_layout.specs.Writes.{AppendsPart};
 ghost use Rattle.exit_status.specs.Lines.{error_line};
 ghost use Rattle.exit_status.specs.Statuses.{status_of};
 ghost use Rattle.exit_status.specs.declared.fault.Fault.{Fault};
-ghost use Rattle.command_line.specs.declared.words.Request.TheVariants.{Default};
+ghost use Rattle.command_line.specs.declared.words.Request.{Request};
 ghost use Rattle.bearoff_cli.specs.InputAnswers.{AreAnswered, AreAnsweredOver};
-ghost use Rattle.bearoff_cli.specs.RefusedFiles.{KeepsIfRefused};
+ghost use Rattle.bearoff_cli.specs.FileAnswers.{AreAnsweredFrom, SaysRight, SaysUpgraded, SaysLevels};
+ghost use Rattle.bearoff_cli.specs.FileAnswers.{WritesLevels, count_line, count_text};
+ghost use Rattle.bearoff_cli.specs.RefusedFiles.{KeepsIfRefused, KeepsIfTold};
+ghost use Rattle.bearoff_cli.specs.Requests.{Asks, IsDone};
+ghost use Rattle.bearoff_cli.specs.declared.act.Done.TheVariants.{Built};
+ghost use Rattle.bearoff_cli.specs.declared.act.Refusal.TheVariants.{Failed};
 
 use crate::files::{
     affordable, build_file, flush, probe_stack, read_file, stack_room, upgrade_file,
@@ -22,6 +28,7 @@ use clap::error::ErrorKind;
 use command_line::{Request, read_words};
 use db_layout::{COMPACT_VERSION, write_bytes};
 use db_reader::{FileSource, Paged, Table, Whole};
+use epc_query::laws::law_level_text;
 use epc_query::{audit_level, run, write_level};
 use exit_status::{Fault, write_fault};
 use home_board::MAX_BOUND;
@@ -45,7 +52,7 @@ const TURNS: u64 = 1 << 40;
 /// which it builds. 0: done; 1: a file, the input, an output or memory failed; 2: the words are
 /// wrong, or the bound is over the greatest one; 3: the database was refused, or is to be upgraded
 /// and is no old one. At 1 and 3, and for a bound over the greatest one, one line is written to
-/// `errors`; for words that are wrong it is the text of `clap`. At 3 nothing was written to
+/// `errors`; for words that are wrong it is the text of `clap`. At 2 and 3 nothing was written to
 /// `output`. (The words, the statuses and the lines are this project's profile.)
 pub fn act<R: Files, S: AsStr, I: Read, O: Write, E: Write>(
     rt: &R,
@@ -58,27 +65,64 @@ pub fn act<R: Files, S: AsStr, I: Read, O: Write, E: Write>(
     ensures silent { result ≡ 0 → E.contents errors.new ≡ E.contents errors.old }
     ensures told { 0 < result → ¬ (result ≡ 2) → (fault : Fault) × ((result ≡ status_of fault)
         × AppendsPart (E.contents errors.old) (E.contents errors.new) (error_line fault)) }
-    ensures refused { result ≡ 3 → O.contents output.new ≡ O.contents output.old }
-    ensures answers { length words.now ≡ 0 → result ≡ 0 → WhereTold (I.remaining input.old)
-        (λ given. AreAnsweredOver 8 given (I.remaining input.new)
-        (O.contents output.old) (O.contents output.new)) }
+    ensures refused { 1 < result → O.contents output.new ≡ O.contents output.old }
+    ensures done { (request : Request) → Asks (map S.text words.entry.now) request → result ≡ 0
+        → IsDone R.File.remaining request (I.remaining input.old) (I.remaining input.new)
+        (O.contents output.old) (O.contents output.new) }
 {
-    let done = match read_words(alloc, words) {
-        Ok(request) => fulfil(rt, alloc, request, input, output),
-        Err(error) if error.kind() == ErrorKind::OutOfMemory => Err(Fault::Memory),
-        Err(error) if error.use_stderr() => {
-            let _ = write!(errors, "{error}");
-            return 2;
-        }
-        Err(error) => write_help(&error, output),
-    };
-    match done {
+    match perform(rt, alloc, words, input, output) {
         Ok(()) => 0,
-        Err(fault) => {
+        Err(Refusal::Words(error)) => {
+            let _ = write!(errors, "{error}");
+            2
+        }
+        Err(Refusal::Failed(fault)) => {
             let _ = write_fault(&fault, errors);
             fault.status()
         }
     }
+}
+
+/// Why the program ends with another status than 0.
+#[derive(Drop)]
+enum Refusal {
+    /// The words are wrong.
+    Words(Error),
+
+    /// What they ask for failed.
+    Failed(Fault),
+}
+
+impl From<Fault> for Refusal {
+    ghost from_gives = { λ fault refusal. refusal ≡ Failed fault };
+
+    fn from(fault: Fault) -> Self {
+        Refusal::Failed(fault)
+    }
+}
+
+/// Does what the words ask for. A help text that they ask for is written to the output.
+fn perform<R: Files, S: AsStr, I: Read, O: Write>(
+    rt: &R,
+    alloc: Global,
+    words: &[S],
+    input: &mut I,
+    output: &mut O,
+) -> Result<(), Refusal>
+    ensures refused { KeepsIfTold result (O.contents output.old) (O.contents output.new) }
+    ensures done { (request : Request) → Asks (map S.text words.entry.now) request
+        → OnOk result (IsDone R.File.remaining request (I.remaining input.old) (I.remaining input.new)
+        (O.contents output.old) (O.contents output.new)) }
+{
+    match read_words(alloc, words) {
+        Ok(request) => fulfil(rt, alloc, request, input, output)?,
+        Err(error) if error.kind() == ErrorKind::OutOfMemory => {
+            return Err(Refusal::Failed(Fault::Memory));
+        }
+        Err(error) if error.use_stderr() => return Err(Refusal::Words(error)),
+        Err(error) => write_help(&error, output)?,
+    }
+    Ok(())
 }
 
 /// Writes a help text or the version.
@@ -100,9 +144,8 @@ fn fulfil<R: Files, I: Read, O: Write>(
     output: &mut O,
 ) -> Result<(), Fault>
     ensures refused { KeepsIfRefused result (O.contents output.old) (O.contents output.new) }
-    ensures answers { request.entry ≡ Default → WhereTold (I.remaining input.old)
-        (λ given. IfOk result (λ _. AreAnsweredOver 8 given (I.remaining input.new)
-        (O.contents output.old) (O.contents output.new))) }
+    ensures done { OnOk result (IsDone R.File.remaining request.entry (I.remaining input.old)
+        (I.remaining input.new) (O.contents output.old) (O.contents output.new)) }
 {
     match request {
         Request::Default => answer_default(alloc, input, output),
@@ -146,7 +189,7 @@ fn answer_file<R: Files, I: Read, O: Write>(
 ) -> Result<(), Fault>
     ensures refused { KeepsIfRefused result (O.contents output.old) (O.contents output.new) }
     ensures answers { WhereTold (I.remaining input.old)
-        (λ given. IfOk result (λ _. AreAnsweredOverSome given (I.remaining input.new)
+        (λ given. IfOk result (λ _. AreAnsweredFrom R.File.remaining given (I.remaining input.new)
         (O.contents output.old) (O.contents output.new))) }
 {
     let bytes = read_file(rt, alloc, path)?;
@@ -241,7 +284,10 @@ fn write_database<R: Files, O: Write>(
     path: &str,
     output: &mut O,
 ) -> Result<(), Fault>
-    ensures { KeepsIfRefused result (O.contents output.old) (O.contents output.new) }
+    ensures refused { KeepsIfRefused result (O.contents output.old) (O.contents output.new) }
+    ensures over { 58 < pips → result ≡ Err Fault.OverBound }
+    ensures built { OnOk result (Appends (O.contents output.old) (O.contents output.new)
+        (count_line Built pips (count_to pips))) }
 {
     if pips > MAX_BOUND {
         return Err(Fault::OverBound);
@@ -259,11 +305,11 @@ fn check_database<R: Files, O: Write>(
     output: &mut O,
 ) -> Result<(), Fault>
     ensures refused { KeepsIfRefused result (O.contents output.old) (O.contents output.new) }
-    ensures right { OnOk result (SaysRight (O.contents output.old) (O.contents output.new)) }
+    ensures right { OnOk result (SaysRight R.File.remaining (O.contents output.old) (O.contents output.new)) }
 {
     let bytes = read_file(rt, alloc, path)?;
-    let mut told = check(Whole::new(bytes.as_slice()));
-    let checked = accepted(&mut told)?;
+    let mut found = check(Whole::new(bytes.as_slice()));
+    let checked = accepted(&mut found)?;
     write_count(Done::Checked, checked.bound(), checked.positions(), output)
 }
 
@@ -275,7 +321,9 @@ fn audit_database<R: Files, O: Write>(
     path: &str,
     output: &mut O,
 ) -> Result<(), Fault>
-    ensures { KeepsIfRefused result (O.contents output.old) (O.contents output.new) }
+    ensures refused { KeepsIfRefused result (O.contents output.old) (O.contents output.new) }
+    ensures levels { OnOk result
+        (SaysLevels R.File.remaining (O.contents output.old) (O.contents output.new)) }
 {
     let bytes = read_file(rt, alloc, path)?;
     write_levels(check(Whole::new(bytes.as_slice())), output)
@@ -288,10 +336,27 @@ fn write_levels<T: Table + Drop, O: Write>(
     mut told: Result<Checked<T>, (T, CheckFault)>,
     output: &mut O,
 ) -> Result<(), Fault>
-    ensures { KeepsIfRefused result (O.contents output.old) (O.contents output.new) }
+    ensures refused { KeepsIfRefused result (O.contents output.old) (O.contents output.new) }
+    ensures levels { (file : List ℕ) → OnOk told (IsRight file)
+        → IfOk told (λ checked. checked.told ≡ Some file)
+        → OnOk result (IsRight file × WritesLevels file (suc (bound_of file))
+        (O.contents output.old) (O.contents output.new)) }
 {
-    let checked = accepted(&mut told)?;
-    for pips in 0..=checked.bound() {
+    write_each_level(accepted(&mut told)?, output)?;
+    flush(output)
+}
+
+/// Writes a line for each pip count of an accepted database.
+fn write_each_level<T: Table, O: Write>(
+    checked: &mut Checked<T>,
+    output: &mut O,
+) -> Result<(), Fault>
+    ensures status { IfErr result (λ fault. status_of fault ≡ 1) }
+    ensures levels { WhereTold checked.old.told (λ file. OnOk result
+        (WritesLevels file (suc (bound_of file)) (O.contents output.old) (O.contents output.new))) }
+{
+    law_level_text();
+    for pips in 0..checked.bound() + 1 {
         let Ok(level) = audit_level(checked, pips) else {
             return Err(Fault::File);
         };
@@ -299,7 +364,7 @@ fn write_levels<T: Table + Drop, O: Write>(
             return Err(Fault::Write);
         }
     }
-    flush(output)
+    Ok(())
 }
 
 /// Checks the database in an old file, writes it into a new one as a file of version 2, and says
@@ -312,7 +377,9 @@ fn upgrade_database<R: Files, O: Write>(
     new: &str,
     output: &mut O,
 ) -> Result<(), Fault>
-    ensures { KeepsIfRefused result (O.contents output.old) (O.contents output.new) }
+    ensures refused { KeepsIfRefused result (O.contents output.old) (O.contents output.new) }
+    ensures upgraded { OnOk result
+        (SaysUpgraded R.File.remaining (O.contents output.old) (O.contents output.new)) }
 {
     let bytes = read_file(rt, alloc, old)?;
     let mut told = check(Whole::new(bytes.as_slice()));

@@ -1,0 +1,3 @@
+mod Levels
+mod OpenedFiles
+mod Requests
