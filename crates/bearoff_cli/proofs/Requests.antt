@@ -72,7 +72,7 @@ abbrev IsMemory : ErrorKind → Type 0
 IsMemory OutOfMemory = Unit {0}
 IsMemory _ = ⊥
 
-abbrev IsNot : Bool → Type 0
+abbrev pub IsNot : Bool → Type 0
 IsNot false = Unit {0}
 IsNot true = ⊥
 

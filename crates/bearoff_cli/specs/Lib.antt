@@ -1,3 +1,4 @@
+pub mod Faults
 pub mod FileAnswers
 pub mod InputAnswers
 pub mod RefusedFiles

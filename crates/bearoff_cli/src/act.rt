@@ -10,6 +10,8 @@ ghost use Rattle.exit_status.specs.Lines.{error_line};
 ghost use Rattle.exit_status.specs.Statuses.{status_of};
 ghost use Rattle.exit_status.specs.declared.fault.Fault.{Fault};
 ghost use Rattle.command_line.specs.declared.words.Request.{Request};
+ghost use Rattle.certificate.specs.CheckFaults.{IsFirst};
+ghost use Rattle.bearoff_cli.specs.Faults.{IsFaultIn, IsFaultOf, IsOwnFault, IsRefusalOf};
 ghost use Rattle.bearoff_cli.specs.InputAnswers.{AreAnswered, AreAnsweredOver};
 ghost use Rattle.bearoff_cli.specs.FileAnswers.{AreAnsweredFrom, SaysRight, SaysUpgraded, SaysLevels};
 ghost use Rattle.bearoff_cli.specs.FileAnswers.{WritesLevels, count_line, count_text};
@@ -66,6 +68,10 @@ pub fn act<R: Files, S: AsStr, I: Read, O: Write, E: Write>(
     ensures told { 0 < result → ¬ (result ≡ 2) → (fault : Fault) × ((result ≡ status_of fault)
         × AppendsPart (E.contents errors.old) (E.contents errors.new) (error_line fault)) }
     ensures refused { 1 < result → O.contents output.new ≡ O.contents output.old }
+    ensures fault { (request : Request) → Asks (map S.text words.entry.now) request → 0 < result
+        → (fault : Fault) × ((result ≡ status_of fault)
+        × AppendsPart (E.contents errors.old) (E.contents errors.new) (error_line fault)
+        × IsFaultOf R.File.remaining request fault) }
     ensures done { (request : Request) → Asks (map S.text words.entry.now) request → result ≡ 0
         → IsDone R.File.remaining request (I.remaining input.old) (I.remaining input.new)
         (O.contents output.old) (O.contents output.new) }
@@ -110,6 +116,8 @@ fn perform<R: Files, S: AsStr, I: Read, O: Write>(
     output: &mut O,
 ) -> Result<(), Refusal>
     ensures refused { KeepsIfTold result (O.contents output.old) (O.contents output.new) }
+    ensures fault { (request : Request) → Asks (map S.text words.entry.now) request
+        → IfErr result (λ refusal. IsRefusalOf R.File.remaining request refusal) }
     ensures done { (request : Request) → Asks (map S.text words.entry.now) request
         → OnOk result (IsDone R.File.remaining request (I.remaining input.old) (I.remaining input.new)
         (O.contents output.old) (O.contents output.new)) }
@@ -144,6 +152,8 @@ fn fulfil<R: Files, I: Read, O: Write>(
     output: &mut O,
 ) -> Result<(), Fault>
     ensures refused { KeepsIfRefused result (O.contents output.old) (O.contents output.new) }
+    ensures fault { IfErr result
+        (λ fault. IsFaultOf R.File.remaining request.entry fault) }
     ensures done { OnOk result (IsDone R.File.remaining request.entry (I.remaining input.old)
         (I.remaining input.new) (O.contents output.old) (O.contents output.new)) }
 {
@@ -188,12 +198,13 @@ fn answer_file<R: Files, I: Read, O: Write>(
     output: &mut O,
 ) -> Result<(), Fault>
     ensures refused { KeepsIfRefused result (O.contents output.old) (O.contents output.new) }
+    ensures fault { IfErr result (λ fault. IsOwnFault R.File.remaining fault) }
     ensures answers { WhereTold (I.remaining input.old)
         (λ given. IfOk result (λ _. AreAnsweredFrom R.File.remaining given (I.remaining input.new)
         (O.contents output.old) (O.contents output.new))) }
 {
-    let bytes = read_file(rt, alloc, path)?;
-    answer_lines(alloc, Whole::new(bytes.as_slice()), input, output)
+    let file = read_file(rt, alloc, path)?;
+    answer_lines(alloc, Whole::new(file.as_slice()), input, output)
 }
 
 /// Answers each line of the input over the database in a file, of which at most so many records
@@ -232,6 +243,8 @@ fn answer_lines<T: Table + Drop, I: Read, O: Write>(
     output: &mut O,
 ) -> Result<(), Fault>
     ensures refused { KeepsIfRefused result (O.contents output.old) (O.contents output.new) }
+    ensures fault { WhereTold (T.tells table)
+        (λ file. IfErr result (λ fault. IsFaultIn file fault)) }
     ensures answers { WhereTold (T.tells table) (λ file. WhereTold (I.remaining input.old)
         (λ given. IfOk result (λ _. AreAnswered file given (I.remaining input.new)
         (O.contents output.old) (O.contents output.new)))) }
@@ -249,6 +262,8 @@ fn reply<T: Table + Drop, I: Read, O: Write>(
     output: &mut O,
 ) -> Result<(), Fault>
     ensures refused { KeepsIfRefused result (O.contents output.old) (O.contents output.new) }
+    ensures fault { (file : List ℕ) → IfErr told (λ refused. IsFirst file refused.1)
+        → IfErr result (λ fault. IsFaultIn file fault) }
     ensures answers { (file : List ℕ) → OnOk told (IsRight file)
         → IfOk told (λ checked. checked.told ≡ Some file) → WhereTold (I.remaining input.old)
         (λ given. IfOk result (λ _. AreAnswered file given (I.remaining input.new)
@@ -267,11 +282,13 @@ fn reply<T: Table + Drop, I: Read, O: Write>(
 fn accepted<T: Table>(
     told: &mut Result<Checked<T>, (T, CheckFault)>,
 ) -> Result<&mut Checked<T>, Fault>
-    ensures { IfOk result (λ checked. told.old ≡ Ok checked.now) }
+    ensures checked { IfOk result (λ checked. told.old ≡ Ok checked.now) }
+    ensures fault { (file : List ℕ) → IfErr told.old (λ refused. IsFirst file refused.1)
+        → IfErr result (λ fault. IsFaultIn file fault) }
 {
     match told {
         Ok(checked) => Ok(checked),
-        Err((_, fault)) => Err(Fault::from(*fault)),
+        Err((_, refused)) => Err(Fault::from(*refused)),
     }
 }
 
@@ -305,6 +322,7 @@ fn check_database<R: Files, O: Write>(
     output: &mut O,
 ) -> Result<(), Fault>
     ensures refused { KeepsIfRefused result (O.contents output.old) (O.contents output.new) }
+    ensures fault { IfErr result (λ fault. IsOwnFault R.File.remaining fault) }
     ensures right { OnOk result (SaysRight R.File.remaining (O.contents output.old) (O.contents output.new)) }
 {
     let bytes = read_file(rt, alloc, path)?;
@@ -322,6 +340,7 @@ fn audit_database<R: Files, O: Write>(
     output: &mut O,
 ) -> Result<(), Fault>
     ensures refused { KeepsIfRefused result (O.contents output.old) (O.contents output.new) }
+    ensures fault { IfErr result (λ fault. IsOwnFault R.File.remaining fault) }
     ensures levels { OnOk result
         (SaysLevels R.File.remaining (O.contents output.old) (O.contents output.new)) }
 {
@@ -337,6 +356,8 @@ fn write_levels<T: Table + Drop, O: Write>(
     output: &mut O,
 ) -> Result<(), Fault>
     ensures refused { KeepsIfRefused result (O.contents output.old) (O.contents output.new) }
+    ensures fault { (file : List ℕ) → IfErr told (λ refused. IsFirst file refused.1)
+        → IfErr result (λ fault. IsFaultIn file fault) }
     ensures levels { (file : List ℕ) → OnOk told (IsRight file)
         → IfOk told (λ checked. checked.told ≡ Some file)
         → OnOk result (IsRight file × WritesLevels file (suc (bound_of file))
@@ -378,6 +399,7 @@ fn upgrade_database<R: Files, O: Write>(
     output: &mut O,
 ) -> Result<(), Fault>
     ensures refused { KeepsIfRefused result (O.contents output.old) (O.contents output.new) }
+    ensures fault { IfErr result (λ fault. IsOwnFault R.File.remaining fault) }
     ensures upgraded { OnOk result
         (SaysUpgraded R.File.remaining (O.contents output.old) (O.contents output.new)) }
 {

@@ -4,6 +4,7 @@ ghost use Rattle.std.specs.Io.KnownBytes.{Consumes, IsAtEnd, Keeps};
 ghost use Rattle.exit_status.specs.Statuses.{status_of};
 ghost use Rattle.exit_status.specs.declared.fault.Fault.TheVariants.{File};
 ghost use Rattle.bearoff_cli.specs.FileAnswers.{IsReadFrom};
+ghost use Rattle.race_model.specs.Versions.{full};
 ghost use Rattle.db_reader.specs.Telling.{WhereTold};
 ghost use Rattle.retrograde.specs.BuiltBytes.{WritesBuilt};
 ghost use Rattle.retrograde.specs.UsualVersion.{usual_version};
@@ -146,6 +147,7 @@ pub fn upgrade_file<R: Files, T: Table>(
     checked: &mut Checked<T>,
     path: &str,
 ) -> Result<(), Fault>
+    ensures fault { checked.old.version ≡ full → IfErr result (λ fault. status_of fault ≡ 1) }
     ensures stays { (checked.new.told ≡ checked.old.told)
         × (checked.new.bound ≡ checked.old.bound) }
 {
@@ -158,6 +160,7 @@ pub fn upgrade_file<R: Files, T: Table>(
 fn upgrade_into<T: Table, O: Write>(checked: &mut Checked<T>, output: &mut O) -> Result<(), Fault>
     ensures upgraded { WhereTold checked.old.told (λ file. OnOk result
         (WritesUpgrade file (O.contents output.old) (O.contents output.new))) }
+    ensures fault { checked.old.version ≡ full → IfErr result (λ fault. status_of fault ≡ 1) }
     ensures stays { (checked.new.told ≡ checked.old.told)
         × (checked.new.bound ≡ checked.old.bound) }
 {

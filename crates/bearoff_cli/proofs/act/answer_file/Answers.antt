@@ -16,6 +16,6 @@ over_read remaining file given left old new (Err e) read is = tt
 pub returns-clause-answers : goal.returns-clause-answers
 returns-clause-answers g c given left =
     let read = subst (λ bytes. IsReadFrom g.R.File.Read.remaining bytes)
-    (sym c.as_slice.ensures.value) c.in_ok-bytes.ensures.read in
+    (sym c.as_slice.ensures.value) c.in_ok-file.ensures.read in
     over_read g.R.File.Read.remaining c.as_slice.result.now given _ _ _ c.answer_lines.result read
     (c.answer_lines.ensures.answers _ c.new.ensures.tells given left)

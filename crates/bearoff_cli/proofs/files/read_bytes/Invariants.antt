@@ -1,4 +1,4 @@
-use Rattle.std.proofs.Common.{◌≡◌, ◌<◌, ◌≤◌, List, length, Some}
+use Rattle.std.proofs.Common.{◌<◌, ◌≤◌, length, Some}
 use Rattle.std.specs.Io.KnownBytes.{Consumes}
 use Rattle.db_reader.specs.Telling.{WhereTold}
 use Rattle.bearoff_cli.proofs.files.read_bytes.Given as goal
