@@ -1,2 +1,5 @@
+pub mod Faults
+pub mod FileAnswers
 pub mod InputAnswers
 pub mod RefusedFiles
+pub mod Requests

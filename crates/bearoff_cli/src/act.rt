@@ -1,14 +1,24 @@
 //! The whole program, over the files of a system, a reader and two writers.
-ghost use Rattle.std.specs.Prelude.{◌≡◌, ℕ, ◌<◌, List, length, Some, Ok, IfOk, IfErr, OnOk};
+ghost use Rattle.std.specs.Prelude.{◌≡◌, ℕ, ◌<◌, ◌≤◌, List, map, Some, Ok, Err, IfOk, IfErr, OnOk, suc};
+ghost use Rattle.std.specs.Io.KnownBytes.{Appends};
+ghost use Rattle.race_model.specs.Files.{bound_of};
 ghost use Rattle.race_model.specs.RightFiles.{IsRight};
+ghost use Rattle.race_model.specs.Ranks.{count_to};
 ghost use Rattle.db_reader.specs.Telling.{WhereTold};
 ghost use Rattle.db_layout.specs.Writes.{AppendsPart};
 ghost use Rattle.exit_status.specs.Lines.{error_line};
 ghost use Rattle.exit_status.specs.Statuses.{status_of};
 ghost use Rattle.exit_status.specs.declared.fault.Fault.{Fault};
-ghost use Rattle.command_line.specs.declared.words.Request.TheVariants.{Default};
+ghost use Rattle.command_line.specs.declared.words.Request.{Request};
+ghost use Rattle.certificate.specs.CheckFaults.{IsFirst};
+ghost use Rattle.bearoff_cli.specs.Faults.{IsFaultIn, IsFaultOf, IsOwnFault, IsRefusalOf};
 ghost use Rattle.bearoff_cli.specs.InputAnswers.{AreAnswered, AreAnsweredOver};
-ghost use Rattle.bearoff_cli.specs.RefusedFiles.{KeepsIfRefused};
+ghost use Rattle.bearoff_cli.specs.FileAnswers.{AreAnsweredFrom, SaysRight, SaysUpgraded, SaysLevels};
+ghost use Rattle.bearoff_cli.specs.FileAnswers.{WritesLevels, count_line, count_text};
+ghost use Rattle.bearoff_cli.specs.RefusedFiles.{KeepsIfRefused, KeepsIfTold};
+ghost use Rattle.bearoff_cli.specs.Requests.{Asks, IsDone};
+ghost use Rattle.bearoff_cli.specs.declared.act.Done.TheVariants.{Built};
+ghost use Rattle.bearoff_cli.specs.declared.act.Refusal.TheVariants.{Failed};
 
 use crate::files::{
     affordable, build_file, flush, probe_stack, read_file, stack_room, upgrade_file,
@@ -20,6 +30,7 @@ use clap::error::ErrorKind;
 use command_line::{Request, read_words};
 use db_layout::{COMPACT_VERSION, write_bytes};
 use db_reader::{FileSource, Paged, Table, Whole};
+use epc_query::laws::law_level_text;
 use epc_query::{audit_level, run, write_level};
 use exit_status::{Fault, write_fault};
 use home_board::MAX_BOUND;
@@ -43,7 +54,7 @@ const TURNS: u64 = 1 << 40;
 /// which it builds. 0: done; 1: a file, the input, an output or memory failed; 2: the words are
 /// wrong, or the bound is over the greatest one; 3: the database was refused, or is to be upgraded
 /// and is no old one. At 1 and 3, and for a bound over the greatest one, one line is written to
-/// `errors`; for words that are wrong it is the text of `clap`. At 3 nothing was written to
+/// `errors`; for words that are wrong it is the text of `clap`. At 2 and 3 nothing was written to
 /// `output`. (The words, the statuses and the lines are this project's profile.)
 pub fn act<R: Files, S: AsStr, I: Read, O: Write, E: Write>(
     rt: &R,
@@ -56,27 +67,70 @@ pub fn act<R: Files, S: AsStr, I: Read, O: Write, E: Write>(
     ensures silent { result ≡ 0 → E.contents errors.new ≡ E.contents errors.old }
     ensures told { 0 < result → ¬ (result ≡ 2) → (fault : Fault) × ((result ≡ status_of fault)
         × AppendsPart (E.contents errors.old) (E.contents errors.new) (error_line fault)) }
-    ensures refused { result ≡ 3 → O.contents output.new ≡ O.contents output.old }
-    ensures answers { length words.now ≡ 0 → result ≡ 0 → WhereTold (I.remaining input.old)
-        (λ given. AreAnsweredOver 8 given (I.remaining input.new)
-        (O.contents output.old) (O.contents output.new)) }
+    ensures refused { 1 < result → O.contents output.new ≡ O.contents output.old }
+    ensures fault { (request : Request) → Asks (map S.text words.entry.now) request → 0 < result
+        → (fault : Fault) × ((result ≡ status_of fault)
+        × AppendsPart (E.contents errors.old) (E.contents errors.new) (error_line fault)
+        × IsFaultOf R.File.remaining request fault) }
+    ensures done { (request : Request) → Asks (map S.text words.entry.now) request → result ≡ 0
+        → IsDone R.File.remaining request (I.remaining input.old) (I.remaining input.new)
+        (O.contents output.old) (O.contents output.new) }
 {
-    let done = match read_words(alloc, words) {
-        Ok(request) => fulfil(rt, alloc, request, input, output),
-        Err(error) if error.kind() == ErrorKind::OutOfMemory => Err(Fault::Memory),
-        Err(error) if error.use_stderr() => {
-            let _ = write!(errors, "{error}");
-            return 2;
-        }
-        Err(error) => write_help(&error, output),
-    };
-    match done {
+    match perform(rt, alloc, words, input, output) {
         Ok(()) => 0,
-        Err(fault) => {
+        Err(Refusal::Words(error)) => {
+            let _ = write!(errors, "{error}");
+            2
+        }
+        Err(Refusal::Failed(fault)) => {
             let _ = write_fault(&fault, errors);
             fault.status()
         }
     }
+}
+
+/// Why the program ends with another status than 0.
+#[derive(Drop)]
+enum Refusal {
+    /// The words are wrong.
+    Words(Error),
+
+    /// What they ask for failed.
+    Failed(Fault),
+}
+
+impl From<Fault> for Refusal {
+    ghost from_gives = { λ fault refusal. refusal ≡ Failed fault };
+
+    fn from(fault: Fault) -> Self {
+        Refusal::Failed(fault)
+    }
+}
+
+/// Does what the words ask for. A help text that they ask for is written to the output.
+fn perform<R: Files, S: AsStr, I: Read, O: Write>(
+    rt: &R,
+    alloc: Global,
+    words: &[S],
+    input: &mut I,
+    output: &mut O,
+) -> Result<(), Refusal>
+    ensures refused { KeepsIfTold result (O.contents output.old) (O.contents output.new) }
+    ensures fault { (request : Request) → Asks (map S.text words.entry.now) request
+        → IfErr result (λ refusal. IsRefusalOf R.File.remaining request refusal) }
+    ensures done { (request : Request) → Asks (map S.text words.entry.now) request
+        → OnOk result (IsDone R.File.remaining request (I.remaining input.old) (I.remaining input.new)
+        (O.contents output.old) (O.contents output.new)) }
+{
+    match read_words(alloc, words) {
+        Ok(request) => fulfil(rt, alloc, request, input, output)?,
+        Err(error) if error.kind() == ErrorKind::OutOfMemory => {
+            return Err(Refusal::Failed(Fault::Memory));
+        }
+        Err(error) if error.use_stderr() => return Err(Refusal::Words(error)),
+        Err(error) => write_help(&error, output)?,
+    }
+    Ok(())
 }
 
 /// Writes a help text or the version.
@@ -98,9 +152,10 @@ fn fulfil<R: Files, I: Read, O: Write>(
     output: &mut O,
 ) -> Result<(), Fault>
     ensures refused { KeepsIfRefused result (O.contents output.old) (O.contents output.new) }
-    ensures answers { request.entry ≡ Default → WhereTold (I.remaining input.old)
-        (λ given. IfOk result (λ _. AreAnsweredOver 8 given (I.remaining input.new)
-        (O.contents output.old) (O.contents output.new))) }
+    ensures fault { IfErr result
+        (λ fault. IsFaultOf R.File.remaining request.entry fault) }
+    ensures done { OnOk result (IsDone R.File.remaining request.entry (I.remaining input.old)
+        (I.remaining input.new) (O.contents output.old) (O.contents output.new)) }
 {
     match request {
         Request::Default => answer_default(alloc, input, output),
@@ -142,10 +197,14 @@ fn answer_file<R: Files, I: Read, O: Write>(
     input: &mut I,
     output: &mut O,
 ) -> Result<(), Fault>
-    ensures { KeepsIfRefused result (O.contents output.old) (O.contents output.new) }
+    ensures refused { KeepsIfRefused result (O.contents output.old) (O.contents output.new) }
+    ensures fault { IfErr result (λ fault. IsOwnFault R.File.remaining fault) }
+    ensures answers { WhereTold (I.remaining input.old)
+        (λ given. IfOk result (λ _. AreAnsweredFrom R.File.remaining given (I.remaining input.new)
+        (O.contents output.old) (O.contents output.new))) }
 {
-    let bytes = read_file(rt, alloc, path)?;
-    answer_lines(alloc, Whole::new(bytes.as_slice()), input, output)
+    let file = read_file(rt, alloc, path)?;
+    answer_lines(alloc, Whole::new(file.as_slice()), input, output)
 }
 
 /// Answers each line of the input over the database in a file, of which at most so many records
@@ -184,6 +243,8 @@ fn answer_lines<T: Table + Drop, I: Read, O: Write>(
     output: &mut O,
 ) -> Result<(), Fault>
     ensures refused { KeepsIfRefused result (O.contents output.old) (O.contents output.new) }
+    ensures fault { WhereTold (T.tells table)
+        (λ file. IfErr result (λ fault. IsFaultIn file fault)) }
     ensures answers { WhereTold (T.tells table) (λ file. WhereTold (I.remaining input.old)
         (λ given. IfOk result (λ _. AreAnswered file given (I.remaining input.new)
         (O.contents output.old) (O.contents output.new)))) }
@@ -201,6 +262,8 @@ fn reply<T: Table + Drop, I: Read, O: Write>(
     output: &mut O,
 ) -> Result<(), Fault>
     ensures refused { KeepsIfRefused result (O.contents output.old) (O.contents output.new) }
+    ensures fault { (file : List ℕ) → IfErr told (λ refused. IsFirst file refused.1)
+        → IfErr result (λ fault. IsFaultIn file fault) }
     ensures answers { (file : List ℕ) → OnOk told (IsRight file)
         → IfOk told (λ checked. checked.told ≡ Some file) → WhereTold (I.remaining input.old)
         (λ given. IfOk result (λ _. AreAnswered file given (I.remaining input.new)
@@ -219,11 +282,13 @@ fn reply<T: Table + Drop, I: Read, O: Write>(
 fn accepted<T: Table>(
     told: &mut Result<Checked<T>, (T, CheckFault)>,
 ) -> Result<&mut Checked<T>, Fault>
-    ensures { IfOk result (λ checked. told.old ≡ Ok checked.now) }
+    ensures checked { IfOk result (λ checked. told.old ≡ Ok checked.now) }
+    ensures fault { (file : List ℕ) → IfErr told.old (λ refused. IsFirst file refused.1)
+        → IfErr result (λ fault. IsFaultIn file fault) }
 {
     match told {
         Ok(checked) => Ok(checked),
-        Err((_, fault)) => Err(Fault::from(*fault)),
+        Err((_, refused)) => Err(Fault::from(*refused)),
     }
 }
 
@@ -236,7 +301,10 @@ fn write_database<R: Files, O: Write>(
     path: &str,
     output: &mut O,
 ) -> Result<(), Fault>
-    ensures { KeepsIfRefused result (O.contents output.old) (O.contents output.new) }
+    ensures refused { KeepsIfRefused result (O.contents output.old) (O.contents output.new) }
+    ensures over { 58 < pips → result ≡ Err Fault.OverBound }
+    ensures built { OnOk result (Appends (O.contents output.old) (O.contents output.new)
+        (count_line Built pips (count_to pips))) }
 {
     if pips > MAX_BOUND {
         return Err(Fault::OverBound);
@@ -253,11 +321,13 @@ fn check_database<R: Files, O: Write>(
     path: &str,
     output: &mut O,
 ) -> Result<(), Fault>
-    ensures { KeepsIfRefused result (O.contents output.old) (O.contents output.new) }
+    ensures refused { KeepsIfRefused result (O.contents output.old) (O.contents output.new) }
+    ensures fault { IfErr result (λ fault. IsOwnFault R.File.remaining fault) }
+    ensures right { OnOk result (SaysRight R.File.remaining (O.contents output.old) (O.contents output.new)) }
 {
     let bytes = read_file(rt, alloc, path)?;
-    let mut told = check(Whole::new(bytes.as_slice()));
-    let checked = accepted(&mut told)?;
+    let mut found = check(Whole::new(bytes.as_slice()));
+    let checked = accepted(&mut found)?;
     write_count(Done::Checked, checked.bound(), checked.positions(), output)
 }
 
@@ -269,7 +339,10 @@ fn audit_database<R: Files, O: Write>(
     path: &str,
     output: &mut O,
 ) -> Result<(), Fault>
-    ensures { KeepsIfRefused result (O.contents output.old) (O.contents output.new) }
+    ensures refused { KeepsIfRefused result (O.contents output.old) (O.contents output.new) }
+    ensures fault { IfErr result (λ fault. IsOwnFault R.File.remaining fault) }
+    ensures levels { OnOk result
+        (SaysLevels R.File.remaining (O.contents output.old) (O.contents output.new)) }
 {
     let bytes = read_file(rt, alloc, path)?;
     write_levels(check(Whole::new(bytes.as_slice())), output)
@@ -282,10 +355,29 @@ fn write_levels<T: Table + Drop, O: Write>(
     mut told: Result<Checked<T>, (T, CheckFault)>,
     output: &mut O,
 ) -> Result<(), Fault>
-    ensures { KeepsIfRefused result (O.contents output.old) (O.contents output.new) }
+    ensures refused { KeepsIfRefused result (O.contents output.old) (O.contents output.new) }
+    ensures fault { (file : List ℕ) → IfErr told (λ refused. IsFirst file refused.1)
+        → IfErr result (λ fault. IsFaultIn file fault) }
+    ensures levels { (file : List ℕ) → OnOk told (IsRight file)
+        → IfOk told (λ checked. checked.told ≡ Some file)
+        → OnOk result (IsRight file × WritesLevels file (suc (bound_of file))
+        (O.contents output.old) (O.contents output.new)) }
 {
-    let checked = accepted(&mut told)?;
-    for pips in 0..=checked.bound() {
+    write_each_level(accepted(&mut told)?, output)?;
+    flush(output)
+}
+
+/// Writes a line for each pip count of an accepted database.
+fn write_each_level<T: Table, O: Write>(
+    checked: &mut Checked<T>,
+    output: &mut O,
+) -> Result<(), Fault>
+    ensures status { IfErr result (λ fault. status_of fault ≡ 1) }
+    ensures levels { WhereTold checked.old.told (λ file. OnOk result
+        (WritesLevels file (suc (bound_of file)) (O.contents output.old) (O.contents output.new))) }
+{
+    law_level_text();
+    for pips in 0..checked.bound() + 1 {
         let Ok(level) = audit_level(checked, pips) else {
             return Err(Fault::File);
         };
@@ -293,7 +385,7 @@ fn write_levels<T: Table + Drop, O: Write>(
             return Err(Fault::Write);
         }
     }
-    flush(output)
+    Ok(())
 }
 
 /// Checks the database in an old file, writes it into a new one as a file of version 2, and says
@@ -306,7 +398,10 @@ fn upgrade_database<R: Files, O: Write>(
     new: &str,
     output: &mut O,
 ) -> Result<(), Fault>
-    ensures { KeepsIfRefused result (O.contents output.old) (O.contents output.new) }
+    ensures refused { KeepsIfRefused result (O.contents output.old) (O.contents output.new) }
+    ensures fault { IfErr result (λ fault. IsOwnFault R.File.remaining fault) }
+    ensures upgraded { OnOk result
+        (SaysUpgraded R.File.remaining (O.contents output.old) (O.contents output.new)) }
 {
     let bytes = read_file(rt, alloc, old)?;
     let mut told = check(Whole::new(bytes.as_slice()));
@@ -327,7 +422,20 @@ enum Done {
 
 /// Writes what was done, with the pip bound and the number of positions.
 fn write_count<O: Write>(done: Done, pips: u8, positions: u16, output: &mut O) -> Result<(), Fault>
-    ensures { IfErr result (λ fault. status_of fault ≡ 1) }
+    ensures status { IfErr result (λ fault. status_of fault ≡ 1) }
+    ensures all { OnOk result (Appends (O.contents output.old) (O.contents output.new)
+        (count_line done pips positions)) }
+{
+    let line = count_line(done, pips, positions);
+    if write_bytes(line.as_str().as_bytes(), output).is_err() {
+        return Err(Fault::Write);
+    }
+    flush(output)
+}
+
+/// The line of what was done.
+fn count_line(done: Done, pips: u8, positions: u16) -> ArrayString<64>
+    ensures { result.bytes ≡ count_line done pips positions }
 {
     let mut line: ArrayString<64> = ArrayString::new();
     match done {
@@ -339,8 +447,5 @@ fn write_count<O: Write>(done: Done, pips: u8, positions: u16, output: &mut O) -
     line.push_str(" positions ");
     line.push_str(Buffer::new().format(positions));
     line.push_str("\n");
-    if write_bytes(line.as_str().as_bytes(), output).is_err() {
-        return Err(Fault::Write);
-    }
-    flush(output)
+    line
 }

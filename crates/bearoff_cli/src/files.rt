@@ -1,6 +1,14 @@
 //! Files, read and written by blocks.
-ghost use Rattle.std.specs.Prelude.{◌≡◌, ◌≤◌, IfErr};
+ghost use Rattle.std.specs.Prelude.{◌≡◌, ◌≤◌, length, take, IfOk, IfErr, OnOk};
+ghost use Rattle.std.specs.Io.KnownBytes.{Consumes, IsAtEnd, Keeps};
 ghost use Rattle.exit_status.specs.Statuses.{status_of};
+ghost use Rattle.exit_status.specs.declared.fault.Fault.TheVariants.{File};
+ghost use Rattle.bearoff_cli.specs.FileAnswers.{IsReadFrom};
+ghost use Rattle.race_model.specs.Versions.{full};
+ghost use Rattle.db_reader.specs.Telling.{WhereTold};
+ghost use Rattle.retrograde.specs.BuiltBytes.{WritesBuilt};
+ghost use Rattle.retrograde.specs.UsualVersion.{usual_version};
+ghost use Rattle.certificate.specs.Upgrades.{WritesUpgrade};
 
 use crate::draft::begin;
 use certificate::Checked;
@@ -30,24 +38,35 @@ const MOST_BYTES: usize = 20_000_001;
 /// The bytes of a file, at most 20,000,001 of them. `Open` where it can't be opened, `File` where
 /// a read fails, `Memory` where there is no room.
 pub fn read_file<R: Files>(rt: &R, alloc: Global, path: &str) -> Result<Vec<u8>, Fault>
-    ensures { IfErr result (λ fault. status_of fault ≡ 1) }
+    ensures status { IfErr result (λ fault. status_of fault ≡ 1) }
+    ensures read { IfOk result (λ bytes. IsReadFrom R.File.remaining bytes.items) }
 {
     let Ok(mut file) = fs::open(rt, path) else {
         return Err(Fault::Open);
     };
     let _room = stack_room(alloc)?;
+    read_bytes(alloc, &mut file)
+}
+
+/// The bytes that a reader has left, at most 20,000,001 of them.
+fn read_bytes<F: Read>(alloc: Global, file: &mut F) -> Result<Vec<u8>, Fault>
+    ensures status { IfErr result (λ fault. status_of fault ≡ 1) }
+    ensures read { WhereTold (F.remaining file.old)
+        (λ left. IfOk result (λ bytes. bytes.items ≡ take 20000001 left)) }
+{
     let mut bytes = Vec::new(alloc);
     let mut block = [0; BLOCK];
-    for _ in 0..MOST_BYTES {
-        match read_block(&mut file, &mut block)? {
-            [] => break,
-            read => bytes.extend_from_slice(read)?,
+    for _turn in 0..MOST_BYTES {
+        let read = read_block(file, &mut block)?;
+        if read.is_empty() {
+            return Ok(bytes);
         }
+        bytes.extend_from_slice(read)?;
         if bytes.len() >= MOST_BYTES {
-            break;
+            bytes.truncate(MOST_BYTES);
+            return Ok(bytes);
         }
     }
-    bytes.truncate(MOST_BYTES);
     Ok(bytes)
 }
 
@@ -90,7 +109,10 @@ fn has_room(alloc: Global, bytes: usize) -> bool {
 
 /// What one read gives; nothing at the end of the file.
 fn read_block<'a, F: Read>(file: &mut F, block: &'a mut [u8; BLOCK]) -> Result<&'a [u8], Fault>
-    ensures { IfErr result (λ fault. status_of fault ≡ 1) }
+    ensures fault { IfErr result (λ fault. fault ≡ File) }
+    ensures read { IfOk result
+        (λ bytes. Consumes (F.remaining file.old) (F.remaining file.new) bytes.now) }
+    ensures end { IfOk result (λ bytes. length bytes.now ≡ 0 → IsAtEnd (F.remaining file.new)) }
 {
     match file.read(block) {
         Ok(count) => Ok(&block[..count]),
@@ -108,7 +130,10 @@ pub fn build_file<R: Files>(rt: &R, alloc: Global, pips: u8, path: &str) -> Resu
 }
 
 /// Writes the database of a pip bound, to its last byte.
-fn build_into<O: Write>(alloc: Global, pips: u8, output: &mut O) -> Result<(), Fault> {
+fn build_into<O: Write>(alloc: Global, pips: u8, output: &mut O) -> Result<(), Fault>
+    ensures built { OnOk result (WritesBuilt (usual_version pips) pips (O.contents output.old)
+        (O.contents output.new)) }
+{
     probe_stack(alloc)?;
     build(alloc, pips, output)?;
     flush(output)
@@ -121,21 +146,32 @@ pub fn upgrade_file<R: Files, T: Table>(
     alloc: Global,
     checked: &mut Checked<T>,
     path: &str,
-) -> Result<(), Fault> {
+) -> Result<(), Fault>
+    ensures fault { checked.old.version ≡ full → IfErr result (λ fault. status_of fault ≡ 1) }
+    ensures stays { (checked.new.told ≡ checked.old.told)
+        × (checked.new.bound ≡ checked.old.bound) }
+{
     let mut draft = begin(rt, alloc, path)?;
     let written = upgrade_into(checked, &mut draft.writer);
     draft.finish(rt, written)
 }
 
 /// Writes a checked database of version 1 as one of version 2, to its last byte.
-fn upgrade_into<T: Table, O: Write>(checked: &mut Checked<T>, output: &mut O) -> Result<(), Fault> {
+fn upgrade_into<T: Table, O: Write>(checked: &mut Checked<T>, output: &mut O) -> Result<(), Fault>
+    ensures upgraded { WhereTold checked.old.told (λ file. OnOk result
+        (WritesUpgrade file (O.contents output.old) (O.contents output.new))) }
+    ensures fault { checked.old.version ≡ full → IfErr result (λ fault. status_of fault ≡ 1) }
+    ensures stays { (checked.new.told ≡ checked.old.told)
+        × (checked.new.bound ≡ checked.old.bound) }
+{
     checked.upgrade(output)?;
     flush(output)
 }
 
 /// Hands on what a writer may still hold.
 pub fn flush<O: Write>(output: &mut O) -> Result<(), Fault>
-    ensures { IfErr result (λ fault. status_of fault ≡ 1) }
+    ensures status { IfErr result (λ fault. status_of fault ≡ 1) }
+    ensures kept { Keeps (O.contents output.old) (O.contents output.new) }
 {
     match output.flush() {
         Ok(()) => Ok(()),

@@ -1,9 +1,13 @@
 //! The words of the command line, and its help.
-ghost use Rattle.std.specs.Prelude.{◌≡◌, length, Ok};
+ghost use Rattle.std.specs.Prelude.{◌≡◌, ◌∷◌, [], ℕ, List, length, map, codes, Ok, IfOk, IsOk, IsErr, Some, None, ◌<◌, ◌≤◌};
+ghost use Rattle.std.specs.List.{Contains};
+ghost use Rattle.clap.specs.Words.{app_of, first_value, found_of};
 ghost use Rattle.command_line.specs.declared.words.Request.TheVariants.{Default};
+ghost use Rattle.command_line.specs.Asked.{Follows, Gives, IsAskedBy, IsPlain, Writes, asks_audit, asks_build, asks_query, asks_check, asks_upgrade};
+ghost use Rattle.command_line.specs.Commands.{IsFileApp, bare_app, build_app, file_app, query_app, upgrade_app};
 
 use clap::error::ErrorKind;
-use clap::{Arg, Command, Error, value_parser};
+use clap::{Arg, ArgMatches, Command, Error, value_parser};
 use std::alloc::{AllocError, Global};
 use std::convert::AsStr;
 
@@ -68,45 +72,146 @@ const UPGRADE_STATUSES: &str =
     "Exit status: 0 NEW was written; 1 a file, the output or memory failed (NEW is the old file, or
 the whole new one); 2 the words are wrong; 3 OLD was refused, or is new already.";
 
+const CHECK: &str = "Checks that every mean in FILE is the least over all strategies";
+
+const AUDIT: &str = "Checks FILE, then tells the least and the greatest mean of each pip count";
+
 /// What the words after the program's own name ask for, where there is none `Default`. An error of
 /// `clap`'s is a mistake in the words, a help text that they ask for, or want of memory.
 // so that its room is not on the stack while the request is fulfilled
 #[inline(never)]
 pub fn read_words<'a, S: AsStr>(alloc: Global, words: &'a [S]) -> Result<Request<'a>, Error>
-    ensures { length words.now ≡ 0 → result ≡ Ok Default }
+    ensures nothing { length words.now ≡ 0 → result ≡ Ok Default }
+    ensures asked { IfOk result (IsAskedBy (map S.text words.entry.now)) }
+    ensures build { (n : ℕ) (digits path : List ℕ) → Writes n digits → n < 256 → IsPlain path
+        → map S.text words.entry.now ≡ codes "build" ∷ codes "--pips" ∷ digits ∷ path ∷ []
+        → Gives result (asks_build n path) }
+    ensures query { (path : List ℕ) → IsPlain path
+        → map S.text words.entry.now ≡ codes "query" ∷ path ∷ []
+        → Gives result (asks_query path None) }
+    ensures query_by { (n : ℕ) (digits path : List ℕ) → Writes n digits → 1 ≤ n → n < 65536
+        → IsPlain path
+        → map S.text words.entry.now ≡ codes "query" ∷ codes "--cache" ∷ digits ∷ path ∷ []
+        → Gives result (asks_query path (Some n)) }
+    ensures check { (path : List ℕ) → IsPlain path
+        → map S.text words.entry.now ≡ codes "check" ∷ path ∷ [] → Gives result (asks_check path) }
+    ensures audit { (path : List ℕ) → IsPlain path
+        → map S.text words.entry.now ≡ codes "audit" ∷ path ∷ [] → Gives result (asks_audit path) }
+    ensures upgrade { (old new : List ℕ) → IsPlain old → IsPlain new
+        → map S.text words.entry.now ≡ codes "upgrade" ∷ old ∷ new ∷ []
+        → Gives result (asks_upgrade old new) }
 {
-    if words.is_empty() {
-        return Ok(Request::Default);
-    }
-    let matches = command(alloc)?.try_get_matches_from(words)?;
-    let Some((name, chosen)) = matches.subcommand() else {
+    let Some((first, rest)) = words.split_first() else {
         return Ok(Request::Default);
     };
-    if name == "upgrade" {
-        return match (chosen.get_str("OLD"), chosen.get_str("NEW")) {
-            (Some(old), Some(new)) => Ok(Request::Upgrade { old, new }),
-            _ => missing(alloc, "OLD or NEW is missing"),
-        };
+    match first.as_str() {
+        "build" => read_build(alloc, rest),
+        "check" => read_check(alloc, rest),
+        "query" => read_query(alloc, rest),
+        "audit" => read_audit(alloc, rest),
+        "upgrade" => read_upgrade(alloc, rest),
+        _ => {
+            command(alloc)?.try_get_matches_from(words)?;
+            Ok(Request::Default)
+        }
     }
-    let Some(path) = chosen.get_str("FILE") else {
-        return missing(alloc, "FILE is missing");
-    };
-    match name {
-        "build" => match chosen.get_one::<u8>("pips") {
-            Some(pips) => Ok(Request::Build { pips, path }),
-            None => missing(alloc, "--pips is missing"),
-        },
-        "check" => Ok(Request::Check { path }),
-        "query" => Ok(Request::Query {
-            path,
-            cache: chosen.get_one::<u16>("cache"),
-        }),
-        _ => Ok(Request::Audit { path }),
+}
+
+/// What the words after `check` ask for.
+fn read_check<'a, S: AsStr>(alloc: Global, words: &'a [S]) -> Result<Request<'a>, Error>
+    ensures asked { IfOk result (IsAskedBy (codes "check" ∷ map S.text words.entry.now)) }
+    ensures given { (path : List ℕ) → IsPlain path → map S.text words.entry.now ≡ path ∷ []
+        → Gives result (asks_check path) }
+{
+    let path = read_file(alloc, file_command(alloc, "check", CHECK)?, words)?;
+    Ok(Request::Check { path })
+}
+
+/// What the words after `audit` ask for.
+fn read_audit<'a, S: AsStr>(alloc: Global, words: &'a [S]) -> Result<Request<'a>, Error>
+    ensures asked { IfOk result (IsAskedBy (codes "audit" ∷ map S.text words.entry.now)) }
+    ensures given { (path : List ℕ) → IsPlain path → map S.text words.entry.now ≡ path ∷ []
+        → Gives result (asks_audit path) }
+{
+    let path = read_file(alloc, file_command(alloc, "audit", AUDIT)?, words)?;
+    Ok(Request::Audit { path })
+}
+
+/// What the words of a command ask for whose only word is a file.
+fn read_file<'a, S: AsStr>(
+    alloc: Global,
+    command: Command<'a>,
+    words: &'a [S],
+) -> Result<&'a str, Error>
+    requires { IsFileApp (app_of command) }
+    ensures asked { IfOk result (λ path. Contains (map S.text words.entry.now) path.now) }
+    ensures given { (path : List ℕ) → IsPlain path → map S.text words.entry.now ≡ path ∷ []
+        → Gives result (λ r. r.now ≡ path) }
+{
+    let matches = command.try_get_matches_from(words)?;
+    value_of(alloc, &matches, "FILE")
+}
+
+/// What the words after `upgrade` ask for.
+fn read_upgrade<'a, S: AsStr>(alloc: Global, words: &'a [S]) -> Result<Request<'a>, Error>
+    ensures asked { IfOk result (IsAskedBy (codes "upgrade" ∷ map S.text words.entry.now)) }
+    ensures given { (old new : List ℕ) → IsPlain old → IsPlain new
+        → map S.text words.entry.now ≡ old ∷ new ∷ [] → Gives result (asks_upgrade old new) }
+{
+    let matches = upgrade_command(alloc)?.try_get_matches_from(words)?;
+    let old = value_of(alloc, &matches, "OLD")?;
+    let new = value_of(alloc, &matches, "NEW")?;
+    Ok(Request::Upgrade { old, new })
+}
+
+/// What the words after `build` ask for.
+fn read_build<'a, S: AsStr>(alloc: Global, words: &'a [S]) -> Result<Request<'a>, Error>
+    ensures asked { IfOk result (IsAskedBy (codes "build" ∷ map S.text words.entry.now)) }
+    ensures given { (n : ℕ) (digits path : List ℕ) → Writes n digits → n < 256 → IsPlain path
+        → map S.text words.entry.now ≡ codes "--pips" ∷ digits ∷ path ∷ []
+        → Gives result (asks_build n path) }
+{
+    let matches = build_command(alloc)?.try_get_matches_from(words)?;
+    let path = value_of(alloc, &matches, "FILE")?;
+    match matches.get_one::<u8>("pips") {
+        Some(pips) => Ok(Request::Build { pips, path }),
+        None => missing(alloc, "--pips is missing"),
+    }
+}
+
+/// What the words after `query` ask for.
+fn read_query<'a, S: AsStr>(alloc: Global, words: &'a [S]) -> Result<Request<'a>, Error>
+    ensures asked { IfOk result (IsAskedBy (codes "query" ∷ map S.text words.entry.now)) }
+    ensures file { (path : List ℕ) → IsPlain path → map S.text words.entry.now ≡ path ∷ []
+        → Gives result (asks_query path None) }
+    ensures cache { (n : ℕ) (digits path : List ℕ) → Writes n digits → 1 ≤ n → n < 65536
+        → IsPlain path → map S.text words.entry.now ≡ codes "--cache" ∷ digits ∷ path ∷ []
+        → Gives result (asks_query path (Some n)) }
+{
+    let matches = query_command(alloc)?.try_get_matches_from(words)?;
+    let path = value_of(alloc, &matches, "FILE")?;
+    Ok(Request::Query {
+        path,
+        cache: matches.get_one::<u16>("cache"),
+    })
+}
+
+/// The first value of an argument.
+fn value_of<'a>(alloc: Global, matches: &ArgMatches<'a>, id: &str) -> Result<&'a str, Error>
+    ensures read { IfOk result (λ text. first_value (found_of matches.now) id.now ≡ Some text.now) }
+    ensures some { (text : List ℕ) → first_value (found_of matches.now) id.now ≡ Some text
+        → IfOk result (λ r. r.now ≡ text) × IsOk result }
+{
+    match matches.get_str(id) {
+        Some(text) => Ok(text),
+        None => missing(alloc, "a word is missing"),
     }
 }
 
 /// The mistake of words that leave something out.
-fn missing<'a>(alloc: Global, message: &str) -> Result<Request<'a>, Error> {
+fn missing<'a, T>(alloc: Global, message: &str) -> Result<T, Error>
+    ensures { IsErr result }
+{
     Err(command(alloc)?.error(ErrorKind::MissingRequiredArgument, message)?)
 }
 
@@ -119,22 +224,16 @@ fn command<'a>(alloc: Global) -> Result<Command<'a>, AllocError> {
         .about(ABOUT)
         .after_help(EXAMPLES)
         .subcommand(build_command(alloc)?)?
-        .subcommand(file_command(
-            alloc,
-            "check",
-            "Checks that every mean in FILE is the least over all strategies",
-        )?)?
+        .subcommand(file_command(alloc, "check", CHECK)?)?
         .subcommand(query_command(alloc)?)?
-        .subcommand(file_command(
-            alloc,
-            "audit",
-            "Checks FILE, then tells the least and the greatest mean of each pip count",
-        )?)?
+        .subcommand(file_command(alloc, "audit", AUDIT)?)?
         .subcommand(upgrade_command(alloc)?)
 }
 
 /// `build --pips N FILE`.
-fn build_command<'a>(alloc: Global) -> Result<Command<'a>, AllocError> {
+fn build_command<'a>(alloc: Global) -> Result<Command<'a>, AllocError>
+    ensures { IfOk result (λ c. app_of c ≡ build_app) }
+{
     let pips = Arg::new(alloc, "pips")
         .long("pips")
         .value_name("N")
@@ -144,15 +243,20 @@ fn build_command<'a>(alloc: Global) -> Result<Command<'a>, AllocError> {
     let file = Arg::new(alloc, "FILE").required(true).help(
         "Where the database is written; a file that stands there is replaced",
     );
-    Command::new(alloc, "build")
-        .about("Writes the database of all positions of at most N pips into FILE")
-        .after_help(BUILD_STATUSES)
-        .arg(pips)?
-        .arg(file)
+    bare_command(
+        alloc,
+        "build",
+        "Writes the database of all positions of at most N pips into FILE",
+        BUILD_STATUSES,
+    )?
+    .arg(pips)?
+    .arg(file)
 }
 
 /// `query --cache N FILE`.
-fn query_command<'a>(alloc: Global) -> Result<Command<'a>, AllocError> {
+fn query_command<'a>(alloc: Global) -> Result<Command<'a>, AllocError>
+    ensures { IfOk result (λ c. app_of c ≡ query_app) }
+{
     let cache = Arg::new(alloc, "cache")
         .long("cache")
         .value_name("N")
@@ -167,29 +271,49 @@ fn query_command<'a>(alloc: Global) -> Result<Command<'a>, AllocError> {
 }
 
 /// `upgrade OLD NEW`.
-fn upgrade_command<'a>(alloc: Global) -> Result<Command<'a>, AllocError> {
+fn upgrade_command<'a>(alloc: Global) -> Result<Command<'a>, AllocError>
+    ensures { IfOk result (λ c. app_of c ≡ upgrade_app) }
+{
     let old = Arg::new(alloc, "OLD").required(true).help(
         "A database file of version 1, as `bearoff build` writes it up to 44 pips",
     );
     let new = Arg::new(alloc, "NEW").required(true).help(
         "Where it is written as version 2; a file that stands there is replaced, also OLD itself",
     );
-    Command::new(alloc, "upgrade")
-        .about("Checks OLD, then writes the same database into NEW as a smaller file of version 2")
-        .after_help(UPGRADE_STATUSES)
-        .arg(old)?
-        .arg(new)
+    bare_command(
+        alloc,
+        "upgrade",
+        "Checks OLD, then writes the same database into NEW as a smaller file of version 2",
+        UPGRADE_STATUSES,
+    )?
+    .arg(old)?
+    .arg(new)
 }
 
 /// A command whose only word is a file.
-fn file_command<'a>(
+fn file_command<'a>(alloc: Global, name: &'a str, about: &'a str) -> Result<Command<'a>, AllocError>
+    ensures { IfOk result (λ c. app_of c ≡ file_app name.entry.now) }
+{
+    let file = Arg::new(alloc, "FILE").required(true).help(FILE_HELP);
+    bare_command(alloc, name, about, STATUSES)?.arg(file)
+}
+
+/// A command with no arguments yet, which reads the words after its name.
+fn bare_command<'a>(
     alloc: Global,
     name: &'a str,
     about: &'a str,
-) -> Result<Command<'a>, AllocError> {
-    let file = Arg::new(alloc, "FILE").required(true).help(FILE_HELP);
-    Command::new(alloc, name)
-        .about(about)
-        .after_help(STATUSES)
-        .arg(file)
+    statuses: &'a str,
+) -> Result<Command<'a>, AllocError>
+    ensures { IfOk result (λ c. app_of c ≡ bare_app name.entry.now) }
+{
+    let mut usage = String::from_str(alloc, "bearoff ")?;
+    usage.push_str(name)?;
+    Ok(
+        Command::new(alloc, name)
+            .bin_name(usage.as_str())?
+            .no_binary_name(true)
+            .about(about)
+            .after_help(statuses),
+    )
 }

@@ -1,0 +1,37 @@
+-- The lines of the pip counts of a file, one after another.
+use Rattle.std.proofs.Common.{ℕ, suc, List, [], ◌∷◌, ◌++◌, Option, refl, subst}
+use Rattle.std.proofs.lemmas.List.{append-nil}
+use Rattle.std.specs.Io.KnownBytes.{Appends, Keeps}
+use Rattle.race_model.specs.Levels.{IsLevelLine}
+use Rattle.db_layout.proofs.Known.{appends_none, appends_kept, appends_twice}
+use Rattle.bearoff_cli.specs.FileAnswers.{WritesLevels}
+
+-- of no pip counts there is none
+pub no_levels : (file : List ℕ) (old : Option (List ℕ)) → WritesLevels file 0 old old
+no_levels file old = record { lines = []; levels = refl; written = appends_none old }
+
+-- the line of the next pip count
+pub next_level : (file : List ℕ) (p : ℕ) (old mid new : Option (List ℕ)) (line : List ℕ)
+    → WritesLevels file p old mid → IsLevelLine file p line → Appends mid new (line ++ 10 ∷ [])
+    → WritesLevels file (suc p) old new
+next_level file p old mid new line before is written = record {
+  lines = before.lines ++ (line ++ 10 ∷ []);
+  levels = (before.lines, line, before.levels, is, refl);
+  written = appends_twice old mid new before.lines (line ++ 10 ∷ []) before.written written;
+}
+
+-- known bytes that have grown, and then stay
+pub appends_then_kept : (old mid new : Option (List ℕ)) (bytes : List ℕ) → Appends old mid bytes
+    → Keeps mid new → Appends old new bytes
+appends_then_kept old mid new bytes grown kept =
+    subst (λ bs. Appends old new bs) (append-nil bytes)
+    (appends_twice old mid new bytes [] grown (appends_kept mid new kept))
+
+-- lines were written, and then nothing
+pub levels_then_kept : (file : List ℕ) (count : ℕ) (old mid new : Option (List ℕ))
+    → WritesLevels file count old mid → Keeps mid new → WritesLevels file count old new
+levels_then_kept file count old mid new written kept = record {
+  lines = written.lines;
+  levels = written.levels;
+  written = appends_then_kept old mid new written.lines written.written kept;
+}

@@ -1,0 +1,4 @@
+mod Levels
+mod OpenedFiles
+mod Requests
+mod ToldFaults

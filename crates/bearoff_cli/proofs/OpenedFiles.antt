@@ -1,0 +1,73 @@
+-- What was read of a reader that tells what it has left.
+use Rattle.std.proofs.Common.{◌≡◌, ℕ, suc, ◌≤◌, List, [], ◌∷◌, take, length, Option, Some, Result, Ok, Err, IfOk, refl, subst, sym, arith}
+use Rattle.std.proofs.lemmas.List.{take_all, take-append-le}
+use Rattle.std.specs.Io.KnownBytes.{Appends, Consumes, IsAtEnd}
+use Rattle.std.specs.Prelude.{OnOk}
+use Rattle.race_model.specs.Ranks.{count_to}
+use Rattle.race_model.specs.Versions.{Version, full, compact, version_number}
+use Rattle.race_model.specs.Files.{version_of, bound_of}
+use Rattle.race_model.specs.RightFiles.{IsRight}
+use Rattle.db_reader.specs.Telling.{WhereTold}
+use Rattle.epc_query.proofs.Runs.{read_all, read_front}
+use Rattle.bearoff_cli.specs.FileAnswers.{IsReadFrom, SaysLevels, SaysUpgraded, WritesLevels, count_line}
+use Rattle.bearoff_cli.specs.declared.act.Done.TheVariants.{Upgraded}
+
+-- a list of no length is none
+pub no_bytes : (bytes : List ℕ) → length bytes ≡ 0 → bytes ≡ []
+no_bytes [] none = refl
+no_bytes (x ∷ xs) none = absurd (omega (arith, none))
+
+-- at its end all was read
+pub all_read : (left : List ℕ) (mid new : Option (List ℕ)) (done : List ℕ) (most : ℕ)
+    → Consumes (Some left) mid done → Consumes mid new [] → IsAtEnd new → length done ≤ most
+    → done ≡ take most left
+all_read left mid new done most read more end short =
+    subst (λ xs. done ≡ take most xs) (sym (read_all left mid new done read more end))
+    (sym (take_all most done short))
+
+-- else its first bytes
+pub first_read : (left : List ℕ) (new : Option (List ℕ)) (done : List ℕ) (most : ℕ)
+    → Consumes (Some left) new done → most ≤ length done → take most done ≡ take most left
+first_read left new done most read long =
+    let front = read_front left new done read in
+    subst (λ xs. take most done ≡ take most xs) front.1
+    (sym (take-append-le most done front.0 long))
+
+-- what was read of a file that was opened
+pub read_of : {F V E : Type 0} (remaining : F → Option (List ℕ)) (file : F) (items : V → List ℕ)
+    (r : Result V E)
+    → WhereTold (remaining file) (λ left. IfOk r (λ v. items v ≡ take 20000001 left))
+    → IfOk r (λ v. IsReadFrom remaining (items v))
+read_of remaining file items (Ok v) read = (file, read)
+read_of remaining file items (Err e) read = tt
+
+-- the levels of what was read
+pub levels_read : {A E F : Type 0} (remaining : F → Option (List ℕ)) (file : List ℕ)
+    (old new : Option (List ℕ)) (r : Result A E) → IsReadFrom remaining file
+    → OnOk r (IsRight file × WritesLevels file (suc (bound_of file)) old new)
+    → OnOk r (SaysLevels remaining old new)
+levels_read remaining file old new (Ok x) read h =
+    record { file = file; read = read; right = h.0; levels = h.1 }
+levels_read remaining file old new (Err e) read h = tt
+
+-- a version that is not the second is the first
+pub is_full : (v : Version) → ¬ (version_number v ≡ 2) → v ≡ full
+is_full full other = refl
+is_full compact other = absurd (other refl)
+
+-- the line of what was read and upgraded
+pub upgrade_read : {A E F : Type 0} (remaining : F → Option (List ℕ)) (file : List ℕ)
+    (old new : Option (List ℕ)) (r : Result A E) (pips positions : ℕ) → IsReadFrom remaining file
+    → IsRight file → version_of file ≡ full → pips ≡ bound_of file
+    → positions ≡ count_to (bound_of file)
+    → OnOk r (Appends old new (count_line Upgraded pips positions))
+    → OnOk r (SaysUpgraded remaining old new)
+upgrade_read remaining file old new (Ok x) pips positions read right version p q h = record {
+  file = file;
+  read = read;
+  right = right;
+  version_is = version;
+  written = subst (λ n. Appends old new (count_line Upgraded (bound_of file) n)) q
+      (subst (λ n. Appends old new (count_line Upgraded n positions)) p h);
+}
+upgrade_read remaining file old new (Err e) pips positions read right version p q h = tt

@@ -1,0 +1,137 @@
+-- What was read of words that ask for a request, and what is then done.
+use Rattle.std.proofs.Common.{◌≡◌, ℕ, ◌<◌, ◌≤◌, List, [], ◌∷◌, Option, Some, None, Result, Ok, Err, IfOk, IfErr, map, length, codes, refl, subst, sym, ◌∙◌}
+use Rattle.std.specs.Prelude.{OnOk, IsTrue, Bool, true, false, ◌↔◌, ◌≢◌}
+use Rattle.clap.specs.Words.{kind_of}
+use Rattle.clap.specs.declared.error.Error.{Error}
+use Rattle.clap.specs.declared.error.kind.ErrorKind.{ErrorKind}
+use Rattle.clap.specs.declared.error.kind.ErrorKind.TheVariants.{OutOfMemory, DisplayHelp, DisplayVersion}
+use Rattle.command_line.specs.Asked.{Gives, IsPlain, Writes, asks_audit, asks_build, asks_check, asks_query, asks_upgrade}
+use Rattle.command_line.specs.declared.words.Request.{Request}
+use Rattle.command_line.specs.declared.words.Request.TheVariants.{Default, Build, Check, Query, Audit, Upgrade}
+use Rattle.db_reader.specs.Telling.{WhereTold}
+use Rattle.bearoff_cli.specs.Requests.{Asks, IsDone}
+
+-- the request that was read is this one, but for where its texts lie
+abbrev pub IsSame : Request → Request → Type 0
+IsSame Default given = Default ≡ given
+IsSame (Build pips path) given = asks_build pips path.now given
+IsSame (Check path) given = asks_check path.now given
+IsSame (Query path records) given = asks_query path.now records given
+IsSame (Audit path) given = asks_audit path.now given
+IsSame (Upgrade before after) given = asks_upgrade before.now after.now given
+
+abbrev IsNoList : {T : Type 0} → List T → Type 0
+IsNoList [] = Unit {0}
+IsNoList (x ∷ xs) = ⊥
+
+abbrev IsNone : {T : Type 0} → Option T → Type 0
+IsNone None = Unit {0}
+IsNone (Some x) = ⊥
+
+no_texts : {S T : Type 0} (f : S → T) (xs : List S) → map f xs ≡ [] → length xs ≡ 0
+no_texts f [] none = refl
+no_texts f (x ∷ xs) none = absurd (subst (λ ys. IsNoList ys) (sym none) tt)
+
+-- words that ask for a request have it read, or memory was wanting
+pub read_as : {S : Type 0} (text : S → List ℕ) (given : List S) (result : Result Request Error)
+    → (length given ≡ 0 → result ≡ Ok Default)
+    → ((n : ℕ) (digits path : List ℕ) → Writes n digits → n < 256 → IsPlain path
+    → map text given ≡ codes "build" ∷ codes "--pips" ∷ digits ∷ path ∷ []
+    → Gives result (asks_build n path))
+    → ((path : List ℕ) → IsPlain path → map text given ≡ codes "query" ∷ path ∷ []
+    → Gives result (asks_query path None))
+    → ((n : ℕ) (digits path : List ℕ) → Writes n digits → 1 ≤ n → n < 65536 → IsPlain path
+    → map text given ≡ codes "query" ∷ codes "--cache" ∷ digits ∷ path ∷ []
+    → Gives result (asks_query path (Some n)))
+    → ((path : List ℕ) → IsPlain path → map text given ≡ codes "check" ∷ path ∷ []
+    → Gives result (asks_check path))
+    → ((path : List ℕ) → IsPlain path → map text given ≡ codes "audit" ∷ path ∷ []
+    → Gives result (asks_audit path))
+    → ((old new : List ℕ) → IsPlain old → IsPlain new
+    → map text given ≡ codes "upgrade" ∷ old ∷ new ∷ [] → Gives result (asks_upgrade old new))
+    → (request : Request) → Asks (map text given) request → Gives result (IsSame request)
+read_as text given result nothing build query query_by check audit upgrade Default is =
+    let default = sym (nothing (no_texts text given is)) in (
+      subst (λ r. IfOk r (λ g. Default ≡ g)) default refl,
+      subst (λ r. IfErr r (λ e. kind_of e ≡ OutOfMemory)) default tt,
+    )
+read_as text given result nothing build query query_by check audit upgrade (Build pips path) is =
+    build pips is.0 path.now is.1 is.2 is.3 is.4
+read_as text given result nothing build query query_by check audit upgrade (Check path) is =
+    check path.now is.0 is.1
+read_as text given result nothing build query query_by check audit upgrade (Query path None) is =
+    query path.now is.0 is.1
+read_as text given result nothing build query query_by check audit upgrade (Query path (Some records)) is =
+    query_by records is.0 path.now is.1 is.2 is.3 is.4 is.5
+read_as text given result nothing build query query_by check audit upgrade (Audit path) is =
+    audit path.now is.0 is.1
+read_as text given result nothing build query query_by check audit upgrade (Upgrade before after) is =
+    upgrade before.now after.now is.0 is.1 is.2
+
+abbrev IsMemory : ErrorKind → Type 0
+IsMemory OutOfMemory = Unit {0}
+IsMemory _ = ⊥
+
+abbrev pub IsNot : Bool → Type 0
+IsNot false = Unit {0}
+IsNot true = ⊥
+
+-- want of memory is no help text
+pub no_help : (kind : ErrorKind) (refused : Bool)
+    → (IsTrue refused ↔ ((kind ≢ DisplayHelp) × (kind ≢ DisplayVersion))) → kind ≡ OutOfMemory
+    → refused ≡ false → ⊥
+no_help kind refused says memory shown =
+    let refuses = says.1 (
+      λ help. subst (λ k. IsMemory k) (sym memory ∙ help) tt,
+      λ version. subst (λ k. IsMemory k) (sym memory ∙ version) tt,
+    ) in
+    subst (λ b. IsNot b) (sym shown ∙ refuses) tt
+
+-- what is done for the request that was read is done for this one
+pub same_done : {F : Type 0} (remaining : F → Option (List ℕ)) (request given : Request)
+    (input left old new : Option (List ℕ)) → IsSame request given
+    → IsDone remaining given input left old new → IsDone remaining request input left old new
+same_done remaining Default given input left old new is h = subst (λ r. IsDone remaining r input left old new) (sym is) h
+same_done remaining (Build pips path) Default input left old new is h = absurd is
+same_done remaining (Build pips path) (Build q other) input left old new is h = subst (λ p. IsDone remaining (Build p path) input left old new) is.0 h
+same_done remaining (Build pips path) (Check other) input left old new is h = absurd is
+same_done remaining (Build pips path) (Query other some) input left old new is h = absurd is
+same_done remaining (Build pips path) (Audit other) input left old new is h = absurd is
+same_done remaining (Build pips path) (Upgrade b a) input left old new is h = absurd is
+same_done remaining (Check path) Default input left old new is h = absurd is
+same_done remaining (Check path) (Build q other) input left old new is h = absurd is
+same_done remaining (Check path) (Check other) input left old new is h = h
+same_done remaining (Check path) (Query other some) input left old new is h = absurd is
+same_done remaining (Check path) (Audit other) input left old new is h = absurd is
+same_done remaining (Check path) (Upgrade b a) input left old new is h = absurd is
+same_done remaining (Query path None) Default input left old new is h = absurd is
+same_done remaining (Query path None) (Build q other) input left old new is h = absurd is
+same_done remaining (Query path None) (Check other) input left old new is h = absurd is
+same_done remaining (Query path None) (Query other None) input left old new is h = h
+same_done remaining (Query path None) (Query other (Some records)) input left old new is h = absurd (subst (λ r. IsNone r) (sym is.1) tt)
+same_done remaining (Query path None) (Audit other) input left old new is h = absurd is
+same_done remaining (Query path None) (Upgrade b a) input left old new is h = absurd is
+same_done remaining (Query path (Some records)) Default input left old new is h = absurd is
+same_done remaining (Query path (Some records)) (Build q other) input left old new is h = absurd is
+same_done remaining (Query path (Some records)) (Check other) input left old new is h = absurd is
+same_done remaining (Query path (Some records)) (Query other some) input left old new is h = tt
+same_done remaining (Query path (Some records)) (Audit other) input left old new is h = absurd is
+same_done remaining (Query path (Some records)) (Upgrade b a) input left old new is h = absurd is
+same_done remaining (Audit path) Default input left old new is h = absurd is
+same_done remaining (Audit path) (Build q other) input left old new is h = absurd is
+same_done remaining (Audit path) (Check other) input left old new is h = absurd is
+same_done remaining (Audit path) (Query other some) input left old new is h = absurd is
+same_done remaining (Audit path) (Audit other) input left old new is h = h
+same_done remaining (Audit path) (Upgrade b a) input left old new is h = absurd is
+same_done remaining (Upgrade before after) Default input left old new is h = absurd is
+same_done remaining (Upgrade before after) (Build q other) input left old new is h = absurd is
+same_done remaining (Upgrade before after) (Check other) input left old new is h = absurd is
+same_done remaining (Upgrade before after) (Query other some) input left old new is h = absurd is
+same_done remaining (Upgrade before after) (Audit other) input left old new is h = absurd is
+same_done remaining (Upgrade before after) (Upgrade b a) input left old new is h = h
+
+-- what holds of each input that is told, at Ok
+pub told_done : {A E : Type 0} (r : Result A E) (input : Option (List ℕ)) (P : List ℕ → Type 0)
+    → WhereTold input (λ given. IfOk r (λ _. P given)) → OnOk r (WhereTold input P)
+told_done (Ok x) input P h = h
+told_done (Err e) input P h = tt

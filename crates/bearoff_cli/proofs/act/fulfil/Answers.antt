@@ -1,0 +1,21 @@
+-- What is done for a request is what its function did.
+use Rattle.std.proofs.Common.{◌≡◌, None, ap, ◌∙◌, subst, sym}
+use Rattle.std.specs.Prelude.{OnOk}
+use Rattle.command_line.specs.declared.words.Request.TheVariants.{Query}
+use Rattle.bearoff_cli.specs.Requests.{IsDone}
+use Rattle.bearoff_cli.proofs.Requests.{told_done}
+use Rattle.bearoff_cli.proofs.act.fulfil.Goals as goal
+
+pub returns-in-Default-clause-done : goal.returns-in-Default-clause-done
+returns-in-Default-clause-done g c =
+    rw c.in-Default.is (told_done c.answer_default.result _ _ c.answer_default.ensures.answers)
+
+pub returns-in-Query-default-None-clause-done : goal.returns-in-Query-default-None-clause-done
+returns-in-Query-default-None-clause-done g c =
+    let here = c.in-Query-default-None in
+    let none : here.cache ≡ None = rw here.is at here.cache-is in
+    subst (λ request. OnOk c.answer_file.result (IsDone g.R.File.Read.remaining request
+    (g.I.Read.remaining c.args.input.now) (g.I.Read.remaining c.answer_file.new.input)
+    (g.O.Write.contents c.args.output.now) (g.O.Write.contents c.answer_file.new.output)))
+    (sym (here.is ∙ ap (λ cache. Query here.path cache) none))
+    (told_done c.answer_file.result _ _ c.answer_file.ensures.answers)

@@ -1,0 +1,51 @@
+-- The line of the bytes that were read, which are a right database of version 1.
+use Rattle.std.proofs.Common.{◌≡◌, Some, Err, IfOk, inl, inr, rules, ap, ◌∙◌, subst, sym}
+use Rattle.std.specs.Prelude.{OnOk}
+use Rattle.std.proofs.lemmas.Result.{IfOk-weaker}
+use Rattle.race_model.specs.Ranks.{count_to}
+use Rattle.race_model.specs.Files.{version_of}
+use Rattle.race_model.specs.RightFiles.{IsRight}
+use Rattle.bearoff_cli.specs.FileAnswers.{IsReadFrom}
+use Rattle.bearoff_cli.proofs.OpenedFiles.{is_full, upgrade_read}
+use Rattle.bearoff_cli.proofs.act.upgrade_database.Goals as goal
+
+pub returns-clause-upgraded : goal.returns-clause-upgraded
+returns-clause-upgraded g c =
+    let file = c.as_slice.result.now in
+    let read = subst (λ bytes. IsReadFrom g.R.File.Read.remaining bytes)
+    (sym c.as_slice.ensures.value) c.in_ok-bytes.ensures.read in
+    let accepted = c.in_ok-checked.ensures.checked in
+    let told = subst (λ r. IfOk r (λ checked. checked.told ≡ Some file)) accepted
+    (IfOk-weaker c.check-told.result _ _ (λ checked is. is ∙ c.new.ensures.tells)
+    c.check-told.ensures.told) in
+    let right = subst (λ r. OnOk r (IsRight file)) accepted
+    (c.check-told.ensures.right file c.new.ensures.tells) in
+    let version = c.version.ensures.version file told in
+    let old = is_full (version_of file) (λ e. c.if-version-eq-COMPACT_VERSION.false (version ∙ e)) in
+    let bound = c.bound.ensures.bound ∙ (c.bound.ensures.right file
+    (c.in_ok-upgrade_file.ensures.stays.0 ∙ told)).1 in
+    upgrade_read g.R.File.Read.remaining file _ _ c.write_count.result _ _ read right old bound
+    (c.positions.ensures ∙ ap count_to (sym c.bound.ensures.bound ∙ bound))
+    c.write_count.ensures.all
+
+pub returns-in_err-checked-clause-fault : goal.returns-in_err-checked-clause-fault
+returns-in_err-checked-clause-fault g c =
+    let file = c.as_slice.result.now in
+    let read = subst (λ bytes. IsReadFrom g.R.File.Read.remaining bytes)
+    (sym c.as_slice.ensures.value) c.in_ok-bytes.ensures.read in
+    let same : c.from_residual-in_err-checked.result ≡ Err c.in_err-checked.field-0.0 =
+    search rules in
+    rw same (inr (
+      file,
+      read,
+      c.in_err-checked.ensures.fault file
+          (c.check-told.ensures.first file c.new.ensures.tells),
+    ))
+
+pub returns-in_err-upgrade_file-clause-fault : goal.returns-in_err-upgrade_file-clause-fault
+returns-in_err-upgrade_file-clause-fault g c =
+    let old = is_full c.in_ok-checked.checked.now.version
+    (λ e. c.if-version-eq-COMPACT_VERSION.false (c.version.ensures.accepted ∙ e)) in
+    let same : c.from_residual-in_err-upgrade_file.result ≡ Err c.in_err-upgrade_file.field-0.0 =
+    search rules in
+    rw same (inl (c.in_err-upgrade_file.ensures.fault old))

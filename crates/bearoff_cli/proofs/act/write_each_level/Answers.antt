@@ -1,0 +1,35 @@
+use Rattle.std.proofs.Common.{◌≡◌, ◌+◌, suc, [], ◌∷◌, ◌++◌, add-one, arith, rules, subst, ◌∙◌}
+use Rattle.std.specs.Io.KnownBytes.{Appends}
+use Rattle.race_model.specs.Files.{bound_of}
+use Rattle.epc_query.specs.Texts.{level_text}
+use Rattle.bearoff_cli.specs.FileAnswers.{WritesLevels}
+use Rattle.bearoff_cli.proofs.Levels.{next_level}
+use Rattle.bearoff_cli.proofs.act.write_each_level.Goals as goal
+
+pub loop-pips-preserved : goal.loop-pips-preserved
+loop-pips-preserved g c =
+    let old = g.O.Write.contents c.args.output.now in
+    let mid = g.O.Write.contents c.loop-pips.output in
+    let new = g.O.Write.contents c.write_level.new.writer in
+    let p = c.loop-pips.pips in
+    let line = level_text c.in-Ok.level in
+    let written : Appends mid new (line ++ 10 ∷ []) = search rules in
+    let stays = c.in-Ok.ensures.stays in
+    record {
+      told = stays.told ∙ c.loop-pips.invariant.told;
+      bound = stays.bound ∙ c.loop-pips.invariant.bound;
+      levels = λ file told.
+          let level = c.in-Ok.ensures.level file (c.loop-pips.invariant.told ∙ told) in
+          let next : WritesLevels file (p + 1) old new =
+          rw add-one (next_level file p old mid new line (c.loop-pips.invariant.levels file told)
+          (c.law_level_text.ensures file p c.in-Ok.level level) written) in
+          next;
+    }
+
+pub returns-clause-levels : goal.returns-clause-levels
+returns-clause-levels g c file told =
+    let right = c.bound-pips-end.ensures.right file told in
+    let all : c.loop-pips.pips ≡ suc (bound_of file) =
+    omega (arith, right.1, c.bound-pips-end.ensures.bound, c.loop-pips-test.false, c.loop-pips.auto.pips-end) in
+    subst (λ n. WritesLevels file n (g.O.Write.contents c.args.output.now)
+    (g.O.Write.contents c.loop-pips.output)) all (c.loop-pips.invariant.levels file told)

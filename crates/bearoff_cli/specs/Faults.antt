@@ -1,0 +1,49 @@
+-- Which fault is told where a command fails. Source: this project's profile.
+use Rattle.std.specs.Prelude.{◌≡◌, ℕ, ◌⊎◌, List, Option, Some, None}
+use Rattle.race_model.specs.Versions.{compact}
+use Rattle.race_model.specs.Files.{version_of}
+use Rattle.race_model.specs.RightFiles.{IsRight}
+use Rattle.certificate.specs.CheckFaults.{IsFirst}
+use Rattle.command_line.specs.declared.words.Request.{Request}
+use Rattle.command_line.specs.declared.words.Request.TheVariants.{Default, Build, Check, Query, Audit, Upgrade}
+use Rattle.exit_status.specs.Statuses.{status_of}
+use Rattle.exit_status.specs.declared.fault.Fault.{Fault}
+use Rattle.exit_status.specs.declared.fault.Fault.TheVariants.{Open, File, Read, Write, Memory, Turns, OverBound}
+use Rattle.exit_status.specs.declared.fault.Fault.TheVariants.{Refused, NotOld}
+use Rattle.bearoff_cli.specs.FileAnswers.{IsReadFrom}
+use Rattle.bearoff_cli.specs.declared.act.Refusal.{Refusal}
+use Rattle.bearoff_cli.specs.declared.act.Refusal.TheVariants.{Words, Failed}
+
+-- what a fault says of a file: a refused one has this first fault, and one that is no old one is
+-- right and of version 2
+abbrev pub IsFaultIn : List ℕ → Fault → Type 0
+IsFaultIn file Open = Unit {0}
+IsFaultIn file File = Unit {0}
+IsFaultIn file Read = Unit {0}
+IsFaultIn file Write = Unit {0}
+IsFaultIn file Memory = Unit {0}
+IsFaultIn file Turns = Unit {0}
+IsFaultIn file OverBound = ⊥
+IsFaultIn file (Refused cause) = IsFirst file cause
+IsFaultIn file NotOld = IsRight file × (version_of file ≡ compact)
+
+-- what failed is no database, or the fault is that of the database in some opened file
+abbrev pub IsOwnFault : {F : Type 0} → (F → Option (List ℕ)) → Fault → Type 0
+IsOwnFault remaining fault = (status_of fault ≡ 1)
+    ⊎ ((file : List ℕ) × IsReadFrom remaining file × IsFaultIn file fault)
+
+-- the fault of a request that failed. Nothing is said of the answers by pages, nor where no file is
+-- read
+abbrev pub IsFaultOf : {F : Type 0} → (F → Option (List ℕ)) → Request → Fault → Type 0
+IsFaultOf remaining Default fault = Unit {0}
+IsFaultOf remaining (Build pips path) fault = Unit {0}
+IsFaultOf remaining (Check path) fault = IsOwnFault remaining fault
+IsFaultOf remaining (Query path None) fault = IsOwnFault remaining fault
+IsFaultOf remaining (Query path (Some records)) fault = Unit {0}
+IsFaultOf remaining (Audit path) fault = IsOwnFault remaining fault
+IsFaultOf remaining (Upgrade before after) fault = IsOwnFault remaining fault
+
+-- .. where its words are not wrong
+abbrev pub IsRefusalOf : {F : Type 0} → (F → Option (List ℕ)) → Request → Refusal → Type 0
+IsRefusalOf remaining request (Words error) = ⊥
+IsRefusalOf remaining request (Failed fault) = IsFaultOf remaining request fault

@@ -1,0 +1,73 @@
+-- What the program writes of a database in a file. Source: this project's profile.
+use Rattle.std.specs.Prelude.{◌≡◌, ℕ, zero, suc, List, [], ◌∷◌, ◌++◌, take, Option, codes, decimal}
+use Rattle.std.specs.Io.KnownBytes.{Appends}
+use Rattle.race_model.specs.Ranks.{count_to}
+use Rattle.race_model.specs.Versions.{full}
+use Rattle.race_model.specs.Files.{version_of, bound_of}
+use Rattle.race_model.specs.RightFiles.{IsRight}
+use Rattle.race_model.specs.Levels.{IsLevelLine}
+use Rattle.db_reader.specs.Telling.{WhereTold}
+use Rattle.bearoff_cli.specs.InputAnswers.{AreAnswered}
+use Rattle.bearoff_cli.specs.declared.act.Done.{Done}
+use Rattle.bearoff_cli.specs.declared.act.Done.TheVariants.{Built, Checked, Upgraded}
+
+-- the bytes are the first 20,000,001 of what some opened file had left, where it tells them
+abbrev pub IsReadFrom : {F : Type 0} → (F → Option (List ℕ)) → List ℕ → Type 0
+IsReadFrom {F} remaining bytes =
+    (opened : F) × WhereTold (remaining opened) (λ left. bytes ≡ take 20000001 left)
+
+-- the replies over the database in some opened file were written
+pub record AreAnsweredFrom {F : Type 0} (remaining : F → Option (List ℕ)) (given : List ℕ)
+    (left old new : Option (List ℕ)) : Type 0 where
+  pub file : List ℕ
+  pub read : IsReadFrom remaining file
+  pub answered : AreAnswered file given left old new
+
+-- the words for what was done
+abbrev pub count_text : Done → List ℕ
+count_text Built = codes "built pips "
+count_text Checked = codes "ok pips "
+count_text Upgraded = codes "upgraded pips "
+
+-- the line of what was done
+abbrev pub count_line : Done → ℕ → ℕ → List ℕ
+count_line done pips positions =
+    count_text done ++ decimal pips ++ codes " positions " ++ decimal positions ++ codes "\n"
+
+-- the line of an accepted database was written: an opened file is right, and has this bound
+pub record SaysRight {F : Type 0} (remaining : F → Option (List ℕ))
+    (old new : Option (List ℕ)) : Type 0 where
+  pub file : List ℕ
+  pub read : IsReadFrom remaining file
+  pub right : IsRight file
+  pub written : Appends old new (count_line Checked (bound_of file) (count_to (bound_of file)))
+
+-- the line of an upgraded database was written: an opened file is right and of version 1, and has
+-- this bound
+pub record SaysUpgraded {F : Type 0} (remaining : F → Option (List ℕ))
+    (old new : Option (List ℕ)) : Type 0 where
+  pub file : List ℕ
+  pub read : IsReadFrom remaining file
+  pub right : IsRight file
+  pub version_is : version_of file ≡ full
+  pub written : Appends old new (count_line Upgraded (bound_of file) (count_to (bound_of file)))
+
+-- the bytes are the lines of the first so many pip counts of a file, from 0 on
+abbrev pub AreLevelLines : List ℕ → ℕ → List ℕ → Type 0
+AreLevelLines file zero bytes = bytes ≡ []
+AreLevelLines file (suc p) bytes = (before line : List ℕ) × AreLevelLines file p before
+    × IsLevelLine file p line × (bytes ≡ before ++ (line ++ 10 ∷ []))
+
+-- the lines of the first so many pip counts of a file were written
+pub record WritesLevels (file : List ℕ) (count : ℕ) (old new : Option (List ℕ)) : Type 0 where
+  pub lines : List ℕ
+  pub levels : AreLevelLines file count lines
+  pub written : Appends old new lines
+
+-- the lines of all pip counts of the database in some opened file were written
+pub record SaysLevels {F : Type 0} (remaining : F → Option (List ℕ))
+    (old new : Option (List ℕ)) : Type 0 where
+  pub file : List ℕ
+  pub read : IsReadFrom remaining file
+  pub right : IsRight file
+  pub levels : WritesLevels file (suc (bound_of file)) old new

@@ -1,0 +1,43 @@
+-- Which words ask for what, and what a command has done where it ends without a fault. Source:
+-- this project's profile.
+use Rattle.std.specs.Prelude.{◌≡◌, ℕ, ◌<◌, ◌≤◌, List, [], ◌∷◌, Option, Some, None, codes}
+use Rattle.std.specs.Io.KnownBytes.{Appends}
+use Rattle.race_model.specs.Ranks.{count_to}
+use Rattle.command_line.specs.Asked.{IsPlain, Writes}
+use Rattle.command_line.specs.declared.words.Request.{Request}
+use Rattle.command_line.specs.declared.words.Request.TheVariants.{Default, Build, Check, Query, Audit, Upgrade}
+use Rattle.db_reader.specs.Telling.{WhereTold}
+use Rattle.bearoff_cli.specs.InputAnswers.{AreAnsweredOver}
+use Rattle.bearoff_cli.specs.FileAnswers.{AreAnsweredFrom, SaysRight, SaysUpgraded, SaysLevels, count_line}
+use Rattle.bearoff_cli.specs.declared.act.Done.TheVariants.{Built}
+
+-- the words are these of the request: the name of the command, an option with its number before the
+-- file, and files whose names don't begin with a hyphen
+abbrev pub Asks : List (List ℕ) → Request → Type 0
+Asks words Default = words ≡ []
+Asks words (Build pips path) = (digits : List ℕ) × Writes pips digits × (pips < 256)
+    × IsPlain path.now × (words ≡ codes "build" ∷ codes "--pips" ∷ digits ∷ path.now ∷ [])
+Asks words (Check path) = IsPlain path.now × (words ≡ codes "check" ∷ path.now ∷ [])
+Asks words (Query path None) = IsPlain path.now × (words ≡ codes "query" ∷ path.now ∷ [])
+Asks words (Query path (Some records)) = (digits : List ℕ) × Writes records digits
+    × (1 ≤ records) × (records < 65536) × IsPlain path.now
+    × (words ≡ codes "query" ∷ codes "--cache" ∷ digits ∷ path.now ∷ [])
+Asks words (Audit path) = IsPlain path.now × (words ≡ codes "audit" ∷ path.now ∷ [])
+Asks words (Upgrade before after) = IsPlain before.now × IsPlain after.now
+    × (words ≡ codes "upgrade" ∷ before.now ∷ after.now ∷ [])
+
+-- what was read of the input and of an opened file and written to the output, where the request was
+-- fulfilled. Nothing is said of the answers by pages: what a seek and a read give, no contract of the
+-- library says together
+abbrev pub IsDone : {F : Type 0} → (F → Option (List ℕ)) → Request → Option (List ℕ)
+    → Option (List ℕ) → Option (List ℕ) → Option (List ℕ) → Type 0
+IsDone remaining Default input left old new =
+    WhereTold input (λ given. AreAnsweredOver 8 given left old new)
+IsDone remaining (Build pips path) input left old new =
+    (pips ≤ 58) × Appends old new (count_line Built pips (count_to pips))
+IsDone remaining (Check path) input left old new = SaysRight remaining old new
+IsDone remaining (Query path None) input left old new =
+    WhereTold input (λ given. AreAnsweredFrom remaining given left old new)
+IsDone remaining (Query path (Some records)) input left old new = Unit {0}
+IsDone remaining (Audit path) input left old new = SaysLevels remaining old new
+IsDone remaining (Upgrade before after) input left old new = SaysUpgraded remaining old new

@@ -1,0 +1,4 @@
+mod WalkValues
+mod PlainWords
+mod Numbers
+mod OptionWords

@@ -1,0 +1,207 @@
+-- The commands, on words that do not begin with a hyphen.
+use Rattle.std.proofs.Common.{◌≡◌, ◌∙◌, ◌==◌, ◌&&◌, ◌||◌, cond, is_some, not, ℕ, Bool, true, false, suc, refl, sym, ap, ap₂, arith, true≢false, List, [], ◌∷◌, Some, None, Result, Ok, Err, IfErr, IsOk, codes}
+use Rattle.std.specs.List.{Contains}
+use Rattle.std.specs.Str.{bytes_eq}
+use Rattle.clap.specs.Lexer.{long_of, long_of_rest, short_of, short_of_rest, strip_byte}
+use Rattle.clap.specs.Words.{Text, one_of, one_text, first_of, first_value, found_of, is_simple, matches_of, takes, HasMatchesOf, App, built}
+use Rattle.clap.specs.Simple.{Shape, entered, names_of}
+use Rattle.std.specs.Prelude.{option_and_then}
+use Rattle.std.specs.Option.{option_map_or}
+use Rattle.std.specs.List.{list_all}
+use Rattle.clap.specs.Walk.{Held, Rule, Step, Walk, idle, value, trailing, after_step, arg_by_index, finished, long_or_other, nothing_held, short_or_plain, to_positional, walk, walk_from, walked, word_met}
+use Rattle.clap.specs.Takes.{bundle_passes, default_passes, entered_passes, flag_word_passes, is_valid, settle_passes, step_passes, turn_passes, walk_passes, word_passes}
+use Rattle.clap.specs.declared.parser.matches.ArgMatches.{ArgMatches}
+use Rattle.clap.proofs.WalkLemmas.{first_value-rows, one_text-rows}
+use Rattle.command_line.specs.Asked.{IsPlain, begins_with_name}
+use Rattle.std.proofs.lemmas.Slice.Eq.{bytes_eq-Decides}
+use Rattle.command_line.specs.Commands.{build_app, file_app, query_app, upgrade_app}
+use Rattle.command_line.proofs.WalkValues.{Each, first_is_word}
+
+pub each_contains : {X : Type 0} (xs : List X) (P : X → Type 0) → ((x : X) → Contains xs x → P x) → Each P xs
+each_contains [] P h = tt
+each_contains (x ∷ xs) P h = (h x (0, omega arith, refl), each_contains xs P (λ y c. h y (suc c.0, omega (arith, c.1), c.2)))
+
+pub ok_no_err : {X E : Type 0} (r : Result X E) (P : E → Type 0) → IsOk r → IfErr r P
+ok_no_err (Ok x) P h = tt
+ok_no_err (Err e) P h = absurd (true≢false (sym h))
+
+is_false : (b : Bool) → not b ≡ true → b ≡ false
+is_false true e = sym e
+is_false false e = refl
+
+-- ---- a word that does not begin with a hyphen
+
+pub no_dashes : (word : Text) → IsPlain word → bytes_eq word (45 ∷ 45 ∷ []) ≡ false
+no_dashes [] e = refl
+no_dashes (x ∷ xs) e = ap (λ b. b && bytes_eq xs (45 ∷ [])) (is_false (x == 45) e)
+
+pub no_long : (word : Text) → IsPlain word → long_of word ≡ None
+no_long [] e = refl
+no_long (x ∷ xs) e = ap (λ b. option_and_then long_of_rest (option_and_then (strip_byte 45) (cond b (Some xs) None))) (is_false (x == 45) e)
+
+pub no_short : (word : Text) → IsPlain word → short_of word ≡ None
+no_short [] e = refl
+no_short (x ∷ xs) e = ap (λ b. option_and_then short_of_rest (cond b (Some xs) None)) (is_false (x == 45) e)
+
+-- a walk that waits for the positional at a place
+abbrev pub walk_at : Held → ℕ → Walk
+walk_at h n = record { held = h; waiting = idle; position = n; is_trailing = false; stopped = None }
+
+module _ (word : Text) (plain : IsPlain word) where
+  pub plain_met : (c : List Rule) (n : ℕ) (h : Held) → word_met c [] false idle n word h ≡ (h, value)
+  plain_met c n h =
+      ap (λ b. cond b (h, trailing n) (long_or_other c idle word (long_of word) h)) (no_dashes word plain)
+      ∙ ap (λ o. long_or_other c idle word o h) (no_long word plain)
+      ∙ ap (λ o. short_or_plain c idle word o h) (no_short word plain)
+
+  pub plain_walked : (c : List Rule) (n : ℕ) (h : Held) → walked c [] (walk_at h n) word ≡ to_positional c (arg_by_index c n) word (walk_at h n) h
+  unfolding walked
+  plain_walked c n h = ap (λ (met : Held × Step). after_step c word (walk_at h n) met.0 met.1) (plain_met c n h)
+
+  plain_passes : (s : Shape) (h : Held) → word_passes s [] false idle word h ≡ true
+  plain_passes s h =
+      ap (λ b. b || flag_word_passes s.rules s.args_override_self (long_of word) word h) (no_dashes word plain)
+      ∙ ap (λ o. flag_word_passes s.rules s.args_override_self o word h) (no_long word plain)
+      ∙ ap (λ o. option_map_or (λ flags. bundle_passes s.rules s.args_override_self flags h) o true) (no_short word plain)
+
+  pub plain_turn : (s : Shape) (n : ℕ) (h : Held) → turn_passes s [] (walk_at h n) word ≡ step_passes s n h value
+  plain_turn s n h = ap₂ (λ b (met : Held × Step). b && step_passes s n met.0 met.1) (plain_passes s h) (plain_met s.rules n h)
+
+-- `takes` of a simple command, by its walk
+abbrev pub taken : App → Bool → Walk → Bool
+taken a passes w = entered_passes a w.stopped && (passes
+    && (settle_passes a.top.rules a.top.args_override_self w.held && (list_all default_passes a.top.rules
+    && is_valid a.top (finished a.top.rules w.held) (is_some (entered a w.stopped)))))
+
+-- ---- one file
+
+module _ (name path : Text) (plain : IsPlain path) where
+  abbrev file_built : App
+  file_built = built (file_app name)
+
+  abbrev file_walk : Walk
+  file_walk = to_positional file_built.top.rules (arg_by_index file_built.top.rules 1) path (walk_at nothing_held 1) nothing_held
+
+  file_walked : walk file_built.top.rules [] nothing_held (path ∷ []) ≡ file_walk
+  file_walked = plain_walked path plain file_built.top.rules 1 nothing_held
+
+  file_passes : walk_passes file_built.top [] (walk_from nothing_held) (path ∷ []) ≡ true
+  unfolding walk_passes
+  file_passes = ap (λ b. b && true) (plain_turn path plain file_built.top 1 nothing_held)
+
+  pub file_takes : takes (file_app name) (path ∷ []) ≡ true
+  file_takes = ap₂ (taken file_built) file_passes file_walked
+
+  pub file_first : first_of (codes "FILE") (matches_of (file_app name) (path ∷ [])) ≡ Some path
+  file_first = ap (λ (w : Walk). first_of (codes "FILE") (finished file_built.top.rules w.held)) file_walked
+
+pub file_is_word : (name : Text) (words : List Text) (text : Text) → first_of (codes "FILE") (matches_of (file_app name) words) ≡ Some text → Contains words text
+file_is_word name words text e = first_is_word (codes "FILE") (Contains words) (built (file_app name)).top.rules (names_of (built (file_app name)))
+    words text ((λ _. (refl, refl, refl, refl)), ((λ same. absurd (true≢false (sym same))), tt)) (each_contains words (Contains words) (λ x c. c)) e
+
+-- ---- a file and no `--cache`
+
+module _ (path : Text) (plain : IsPlain path) where
+  abbrev bare_built : App
+  bare_built = built query_app
+
+  abbrev bare_walk : Walk
+  bare_walk = to_positional bare_built.top.rules (arg_by_index bare_built.top.rules 1) path (walk_at nothing_held 1) nothing_held
+
+  bare_walked : walk bare_built.top.rules [] nothing_held (path ∷ []) ≡ bare_walk
+  bare_walked = plain_walked path plain bare_built.top.rules 1 nothing_held
+
+  bare_passes : walk_passes bare_built.top [] (walk_from nothing_held) (path ∷ []) ≡ true
+  unfolding walk_passes
+  bare_passes = ap (λ b. b && true) (plain_turn path plain bare_built.top 1 nothing_held)
+
+  pub bare_takes : takes query_app (path ∷ []) ≡ true
+  bare_takes = ap₂ (taken bare_built) bare_passes bare_walked
+
+  pub bare_first : first_of (codes "FILE") (matches_of query_app (path ∷ [])) ≡ Some path
+  bare_first = ap (λ (w : Walk). first_of (codes "FILE") (finished bare_built.top.rules w.held)) bare_walked
+
+  pub bare_none : one_of (codes "cache") (matches_of query_app (path ∷ [])) ≡ None
+  bare_none = ap (λ (w : Walk). one_of (codes "cache") (finished bare_built.top.rules w.held)) bare_walked
+
+-- ---- two files
+
+module _ (old new : Text) (old_plain : IsPlain old) (new_plain : IsPlain new) where
+  abbrev upgrade_built : App
+  upgrade_built = built upgrade_app
+
+  abbrev rules : List Rule
+  rules = upgrade_built.top.rules
+
+  abbrev old_held : Held
+  old_held = record { rows = []; pending = Some (codes "OLD", old ∷ []); skip = 0 }
+
+  old_walked : walked rules [] (walk_from nothing_held) old ≡ walk_at old_held 2
+  old_walked = plain_walked old old_plain rules 1 nothing_held
+
+  abbrev upgrade_walk : Walk
+  upgrade_walk = to_positional rules (arg_by_index rules 2) new (walk_at old_held 2) old_held
+
+  upgrade_walked : walk rules [] nothing_held (old ∷ new ∷ []) ≡ upgrade_walk
+  upgrade_walked = ap (λ w. walked rules [] w new) old_walked ∙ plain_walked new new_plain rules 2 old_held
+
+  upgrade_passes : walk_passes upgrade_built.top [] (walk_from nothing_held) (old ∷ new ∷ []) ≡ true
+  unfolding walk_passes
+  upgrade_passes = ap₂ (λ a b. a && (b && true)) (plain_turn old old_plain upgrade_built.top 1 nothing_held)
+      (ap (λ w. turn_passes upgrade_built.top [] w new) old_walked ∙ plain_turn new new_plain upgrade_built.top 2 old_held)
+
+  pub upgrade_takes : takes upgrade_app (old ∷ new ∷ []) ≡ true
+  upgrade_takes = ap₂ (taken upgrade_built) upgrade_passes upgrade_walked
+
+  pub old_first : first_of (codes "OLD") (matches_of upgrade_app (old ∷ new ∷ [])) ≡ Some old
+  old_first = ap (λ (w : Walk). first_of (codes "OLD") (finished rules w.held)) upgrade_walked
+
+  pub new_first : first_of (codes "NEW") (matches_of upgrade_app (old ∷ new ∷ [])) ≡ Some new
+  new_first = ap (λ (w : Walk). first_of (codes "NEW") (finished rules w.held)) upgrade_walked
+
+-- ---- the values of positionals
+
+pub old_is_word : (words : List Text) (text : Text) → first_of (codes "OLD") (matches_of upgrade_app words) ≡ Some text → Contains words text
+old_is_word words text e = first_is_word (codes "OLD") (Contains words) (built upgrade_app).top.rules [] words text
+    ((λ _. (refl, refl, refl, refl)), ((λ same. absurd (true≢false (sym same))), ((λ same. absurd (true≢false (sym same))), tt)))
+    (each_contains words (Contains words) (λ x c. c)) e
+
+pub new_is_word : (words : List Text) (text : Text) → first_of (codes "NEW") (matches_of upgrade_app words) ≡ Some text → Contains words text
+new_is_word words text e = first_is_word (codes "NEW") (Contains words) (built upgrade_app).top.rules [] words text
+    ((λ same. absurd (true≢false (sym same))), ((λ _. (refl, refl, refl, refl)), ((λ same. absurd (true≢false (sym same))), tt)))
+    (each_contains words (Contains words) (λ x c. c)) e
+
+pub build_is_word : (words : List Text) (text : Text) → first_of (codes "FILE") (matches_of build_app words) ≡ Some text → Contains words text
+build_is_word words text e = first_is_word (codes "FILE") (Contains words) (built build_app).top.rules [] words text
+    ((λ same. absurd (true≢false (sym same))), ((λ _. (refl, refl, refl, refl)), ((λ same. absurd (true≢false (sym same))), tt)))
+    (each_contains words (Contains words) (λ x c. c)) e
+
+pub query_is_word : (words : List Text) (text : Text) → first_of (codes "FILE") (matches_of query_app words) ≡ Some text → Contains words text
+query_is_word words text e = first_is_word (codes "FILE") (Contains words) (built query_app).top.rules [] words text
+    ((λ _. (refl, refl, refl, refl)), ((λ same. absurd (true≢false (sym same))), ((λ same. absurd (true≢false (sym same))), tt)))
+    (each_contains words (Contains words) (λ x c. c)) e
+
+-- ---- from the matches to the getters
+
+pub first_read : (a b : App) (words : List Text) (m : ArgMatches) (id : Text) → a ≡ b → is_simple b ≡ true → HasMatchesOf a words m
+    → first_value (found_of m) id ≡ first_of id (matches_of b words)
+first_read a b words m id same simple has = first_value-rows (found_of m) id
+    ∙ ap (first_of id) ((has (ap is_simple same ∙ simple)).0 ∙ ap (λ (x : App). matches_of x words) same)
+
+pub one_read : (a b : App) (words : List Text) (m : ArgMatches) (id : Text) → a ≡ b → is_simple b ≡ true → HasMatchesOf a words m
+    → one_text (found_of m) id ≡ one_of id (matches_of b words)
+one_read a b words m id same simple has = one_text-rows (found_of m) id
+    ∙ ap (one_of id) ((has (ap is_simple same ∙ simple)).0 ∙ ap (λ (x : App). matches_of x words) same)
+
+-- ---- no command
+
+differ : (a b : Text) → (a ≡ b → ⊥) → bytes_eq a b ≡ false
+differ a b h = go (bytes_eq a b) refl
+  where
+    go : (t : Bool) → bytes_eq a b ≡ t → bytes_eq a b ≡ false
+    go true e = absurd (h ((bytes_eq-Decides a b).0 e))
+    go false e = e
+
+pub no_name : (words : List Text) (first : Text) (rest : List Text) → words ≡ first ∷ rest → (first ≡ codes "build" → ⊥) → (first ≡ codes "check" → ⊥)
+    → (first ≡ codes "query" → ⊥) → (first ≡ codes "audit" → ⊥) → (first ≡ codes "upgrade" → ⊥) → begins_with_name words ≡ false
+no_name words first rest is b c q a u = rw (is, differ _ _ b, differ _ _ c, differ _ _ q, differ _ _ a, differ _ _ u) refl

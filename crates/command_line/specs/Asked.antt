@@ -1,0 +1,69 @@
+-- What words ask for.
+use Rattle.std.specs.Prelude.{◌≡◌, ◌==◌, ℕ, Bool, true, false, not, List, [], ◌∷◌}
+use Rattle.std.specs.Str.Parse.{IsNumeral, digits_value}
+use Rattle.std.specs.Prelude.{Option, Result, IfOk, IfErr, codes}
+use Rattle.std.specs.List.{Contains, list_any}
+use Rattle.std.specs.Str.{bytes_eq}
+use Rattle.clap.specs.Words.{Text, kind_of}
+use Rattle.clap.specs.declared.error.Error.{Error}
+use Rattle.clap.specs.declared.error.kind.ErrorKind.TheVariants.{OutOfMemory}
+use Rattle.command_line.specs.declared.words.Request.{Request}
+use Rattle.command_line.specs.declared.words.Request.TheVariants as request
+
+-- the text does not begin with a hyphen (45)
+abbrev pub is_plain : Text → Bool
+is_plain [] = true
+is_plain (x ∷ xs) = not (x == 45)
+
+abbrev pub IsPlain : Text → Type 0
+IsPlain text = is_plain text ≡ true
+
+-- the result is an `Ok` of which P holds, or memory was wanting
+abbrev pub Gives : {X : Type 0} → Result X Error → (X → Type 0) → Type 0
+Gives result P = IfOk result P × IfErr result (λ e. kind_of e ≡ OutOfMemory)
+
+abbrev pub asks_check : Text → Request → Type 0
+asks_check path (request.Check given) = given.now ≡ path
+asks_check path _ = ⊥
+
+abbrev pub asks_audit : Text → Request → Type 0
+asks_audit path (request.Audit given) = given.now ≡ path
+asks_audit path _ = ⊥
+
+abbrev pub asks_upgrade : Text → Text → Request → Type 0
+asks_upgrade old new (request.Upgrade o n) = (o.now ≡ old) × (n.now ≡ new)
+asks_upgrade old new _ = ⊥
+
+abbrev pub asks_build : ℕ → Text → Request → Type 0
+asks_build n path (request.Build pips given) = (pips ≡ n) × (given.now ≡ path)
+asks_build n path _ = ⊥
+
+abbrev pub asks_query : Text → Option ℕ → Request → Type 0
+asks_query path records (request.Query given cache) = (given.now ≡ path) × (cache ≡ records)
+asks_query path records _ = ⊥
+
+-- the text is one digit or more, which write n
+abbrev pub Writes : ℕ → Text → Type 0
+Writes n text = IsNumeral 10 text × (digits_value 10 text ≡ n)
+
+-- the words begin with the name, and the text is one of the others
+abbrev pub Follows : Text → List Text → Text → Type 0
+Follows name words text = (rest : List Text) × (words ≡ name ∷ rest) × Contains rest text
+
+-- the names of the commands
+abbrev pub names : List Text
+names = codes "build" ∷ codes "check" ∷ codes "query" ∷ codes "audit" ∷ codes "upgrade" ∷ []
+
+abbrev pub begins_with_name : List Text → Bool
+begins_with_name [] = false
+begins_with_name (word ∷ rest) = list_any (bytes_eq word) names
+
+-- the command is the first word, and each path is one of the others
+abbrev pub IsAskedBy : List Text → Request → Type 0
+IsAskedBy words request.Default = begins_with_name words ≡ false
+IsAskedBy words (request.Build pips path) = Follows (codes "build") words path.now
+IsAskedBy words (request.Check path) = Follows (codes "check") words path.now
+IsAskedBy words (request.Query path cache) = Follows (codes "query") words path.now
+IsAskedBy words (request.Audit path) = Follows (codes "audit") words path.now
+IsAskedBy words (request.Upgrade old new) =
+    Follows (codes "upgrade") words old.now × Follows (codes "upgrade") words new.now

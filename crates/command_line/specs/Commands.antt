@@ -1,0 +1,46 @@
+-- What `clap` reads of the commands.
+use Rattle.std.specs.Prelude.{◌≡◌, true, codes, Some, pos}
+use Rattle.clap.specs.Words.{App, Rule, Text, new_app, new_rule, with_rule}
+use Rattle.clap.specs.Simple.{on_top}
+use Rattle.clap.specs.declared.builder.value_parser.ValueParser.TheVariants as vp
+
+-- a required word
+abbrev pub word_rule : Text → Rule
+word_rule id = record (new_rule id) { required = true }
+
+abbrev pub bare_app : Text → App
+bare_app name = on_top (λ s. record s { no_binary_name = true }) (new_app name)
+
+-- `NAME FILE`
+abbrev pub file_app : Text → App
+file_app name = with_rule (bare_app name) (word_rule (codes "FILE"))
+
+abbrev pub IsFileApp : App → Type 0
+IsFileApp a = (name : Text) × (a ≡ file_app name)
+
+-- `upgrade OLD NEW`
+abbrev pub upgrade_app : App
+upgrade_app = with_rule (with_rule (bare_app (codes "upgrade")) (word_rule (codes "OLD")))
+    (word_rule (codes "NEW"))
+
+abbrev pub pips_rule : Rule
+pips_rule = record (word_rule (codes "pips")) {
+  long = Some (codes "pips");
+  value_names = 1;
+  parser = Some (vp.Signed (pos 0) (pos 255));
+}
+
+-- `build --pips N FILE`
+abbrev pub build_app : App
+build_app = with_rule (with_rule (bare_app (codes "build")) pips_rule) (word_rule (codes "FILE"))
+
+abbrev pub cache_rule : Rule
+cache_rule = record (new_rule (codes "cache")) {
+  long = Some (codes "cache");
+  value_names = 1;
+  parser = Some (vp.Signed (pos 1) (pos 65535));
+}
+
+-- `query --cache N FILE`
+abbrev pub query_app : App
+query_app = with_rule (file_app (codes "query")) cache_rule
