@@ -32,7 +32,7 @@
 extern "C" {
 #endif
 
-/* The version of this header, and of the library, the program and the packages that came with it. */
+/* The version of this header and of what came with it; bearoff_library_version is the library's. */
 #define BEAROFF_VERSION "1.0.0"
 
 /* The statuses, in the order of the tests. */
@@ -146,6 +146,12 @@ typedef struct bearoff_database {
 
 /* The most bytes that the reply to a line has. */
 #define BEAROFF_REPLY 123125
+
+/*
+ * The version of the library that is linked or loaded, 1.2.3 as 1, 2 and 3. It is BEAROFF_VERSION
+ * where the header is of the same release. BEAROFF_OK.
+ */
+uint32_t bearoff_library_version(uint16_t *major, uint16_t *minor, uint16_t *patch);
 
 /*
  * Checks `length` bytes and opens a database over them. 0.2 s for 44 pips; needs 1.5 MB of stack.

@@ -169,6 +169,13 @@ int main(int count, char **words) {
     expect(length == 32 + 426 * 64, "the file", (long)length);
     bearoff_database *database = (bearoff_database *)guarded(sizeof *database);
 
+    /* the library is of the header's version */
+    uint16_t major = MARK, minor = MARK, patch = MARK;
+    char release[24];
+    expect(bearoff_library_version(&major, &minor, &patch) == BEAROFF_OK, "the library's version", 0);
+    snprintf(release, sizeof release, "%u.%u.%u", major, minor, patch);
+    expect(strcmp(release, BEAROFF_VERSION) == 0, release, 0);
+
     /* a struct of zeros is not open */
     uint8_t bound = MARK;
     uint16_t version = MARK;

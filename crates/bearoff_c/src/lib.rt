@@ -17,6 +17,7 @@ mod database;
 mod distribution;
 mod leading;
 mod lent;
+mod library;
 mod listing;
 mod losses;
 mod means;
