@@ -190,7 +190,8 @@ async function compareRefusals(file) {
     refused("the die 7", 2, () => engine.plays([1, 0, 0, 0, 0, 0], 7, 1));
     refused("no checker", 5, () => engine.plays([0, 0, 0, 0, 0, 0], 2, 1));
     refused("a play that isn't one", 6, () => engine.call("bearoff_play_to", 256, engine.put([0, 0, 0, 0, 0, 1]), 2, 1, engine.put([1, 0, 0, 0, 0, 0], 16)));
-    for (const fraction of ["0/1", "1/6", "1/2000", "999/2000000", "31/2", `${7n ** 45n}/${36n ** 22n}`]) {
+    refused("a sum over 180 rolls", 7, () => engine.round("181/1"));
+    for (const fraction of ["0/1", "1/6", "1/2000", "999/2000000", "31/2", `${7n ** 40n}/${36n ** 22n}`, `${7n ** 43n}/${36n ** 22n}`, "180/1"]) {
         equal(`${fraction} in decimals`, engine.round(fraction), decimal(nearest(...over(fraction))));
     }
 }

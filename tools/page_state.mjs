@@ -596,6 +596,12 @@ async function addresses() {
     equal("the title is text", [open.text("lesson"), open.at("lesson").all.length, open.at("lesson").hidden], ["<b>T</b>", 0, false]);
     equal("twice the same", readLink("#p=1,0,0,0,0,0&c=a&p=2,0,0,0,0,0&p=1,0,0,0,0,0&c=b&p=9,9,0,0,0,0&c=x").kept.map(({ points, caption }) => `${points[0]} ${caption}`), ["1 a", "2 "]);
 
+    const same = await Used.open();
+    same.window.pass(1000);
+    same.window.type("#at=2,2,2,2,2,2&pips=58");
+    await settled();
+    equal("58 pips for the position that is there, once", same.worker.asked.map(({ question }) => question.kind), ["build"]);
+
     part = "a browser that takes no more addresses";
     const full = await Used.open("", { before: (window) => { window.history.pushState = () => { throw new Error("too many"); }; } });
     full.window.pass(1000);
