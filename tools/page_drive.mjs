@@ -158,6 +158,7 @@ async function driveBoard(browser) {
     if (browser.name === "Chromium") equal("with a mouse", isMouse, true);
     await compare(page, "the first position", "2,2,2,2,2,2");
     await compareBars(page);
+    await compareRolls(page, "2,2,2,2,2,2");
     await page.click('[data-key="clear"]');
     await page.until('document.getElementById("counts").value === "0,0,0,0,0,0"');
     for (const point of [6, 6, 4]) await page.click(`[data-key="point ${point}"]`);
