@@ -1,5 +1,6 @@
 -- What was read of words that ask for a request, and what is then done.
-use Rattle.std.proofs.Common.{◌≡◌, ℕ, ◌<◌, ◌≤◌, List, [], ◌∷◌, Option, Some, None, Result, Ok, Err, IfOk, IfErr, map, length, codes, refl, subst, sym, ◌∙◌}
+use Rattle.std.proofs.Common.{◌≡◌, ℕ, ◌<◌, ◌≤◌, List, [], ◌∷◌, Option, Some, None, Result, Ok, Err, IfOk, IfErr}
+use Rattle.std.proofs.Common.{map, length, codes, refl, subst, sym, ◌∙◌}
 use Rattle.std.specs.Prelude.{OnOk, IsTrue, Bool, true, false, ◌↔◌, ◌≢◌}
 use Rattle.clap.specs.Words.{kind_of}
 use Rattle.clap.specs.declared.error.Error.{Error}
@@ -61,11 +62,13 @@ read_as text given result nothing build query query_by check audit upgrade (Chec
     check path.now is.0 is.1
 read_as text given result nothing build query query_by check audit upgrade (Query path None) is =
     query path.now is.0 is.1
-read_as text given result nothing build query query_by check audit upgrade (Query path (Some records)) is =
+read_as text given result nothing build query query_by check audit upgrade (Query path (Some records))
+    is =
     query_by records is.0 path.now is.1 is.2 is.3 is.4 is.5
 read_as text given result nothing build query query_by check audit upgrade (Audit path) is =
     audit path.now is.0 is.1
-read_as text given result nothing build query query_by check audit upgrade (Upgrade before after) is =
+read_as text given result nothing build query query_by check audit upgrade (Upgrade before after)
+    is =
     upgrade before.now after.now is.0 is.1 is.2
 
 abbrev IsMemory : ErrorKind → Type 0
@@ -91,9 +94,11 @@ no_help kind refused says memory shown =
 pub same_done : {F : Type 0} (remaining : F → Option (List ℕ)) (request given : Request)
     (input left old new : Option (List ℕ)) → IsSame request given
     → IsDone remaining given input left old new → IsDone remaining request input left old new
-same_done remaining Default given input left old new is h = subst (λ r. IsDone remaining r input left old new) (sym is) h
+same_done remaining Default given input left old new is h =
+    subst (λ r. IsDone remaining r input left old new) (sym is) h
 same_done remaining (Build pips path) Default input left old new is h = absurd is
-same_done remaining (Build pips path) (Build q other) input left old new is h = subst (λ p. IsDone remaining (Build p path) input left old new) is.0 h
+same_done remaining (Build pips path) (Build q other) input left old new is h =
+    subst (λ p. IsDone remaining (Build p path) input left old new) is.0 h
 same_done remaining (Build pips path) (Check other) input left old new is h = absurd is
 same_done remaining (Build pips path) (Query other some) input left old new is h = absurd is
 same_done remaining (Build pips path) (Audit other) input left old new is h = absurd is
@@ -108,7 +113,8 @@ same_done remaining (Query path None) Default input left old new is h = absurd i
 same_done remaining (Query path None) (Build q other) input left old new is h = absurd is
 same_done remaining (Query path None) (Check other) input left old new is h = absurd is
 same_done remaining (Query path None) (Query other None) input left old new is h = h
-same_done remaining (Query path None) (Query other (Some records)) input left old new is h = absurd (subst (λ r. IsNone r) (sym is.1) tt)
+same_done remaining (Query path None) (Query other (Some records)) input left old new is h =
+    absurd (subst (λ r. IsNone r) (sym is.1) tt)
 same_done remaining (Query path None) (Audit other) input left old new is h = absurd is
 same_done remaining (Query path None) (Upgrade b a) input left old new is h = absurd is
 same_done remaining (Query path (Some records)) Default input left old new is h = absurd is

@@ -27,8 +27,8 @@ Asks words (Upgrade before after) = IsPlain before.now × IsPlain after.now
     × (words ≡ codes "upgrade" ∷ before.now ∷ after.now ∷ [])
 
 -- what was read of the input and of an opened file and written to the output, where the request was
--- fulfilled. Nothing is said of the answers by pages: what a seek and a read give, no contract of the
--- library says together
+-- fulfilled. Nothing is said of the answers by pages: what a seek and a read give, no contract of
+-- the library says together
 abbrev pub IsDone : {F : Type 0} → (F → Option (List ℕ)) → Request → Option (List ℕ)
     → Option (List ℕ) → Option (List ℕ) → Option (List ℕ) → Type 0
 IsDone remaining Default input left old new =

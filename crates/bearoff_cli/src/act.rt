@@ -119,7 +119,8 @@ fn perform<R: Files, S: AsStr, I: Read, O: Write>(
     ensures fault { (request : Request) → Asks (map S.text words.entry.now) request
         → IfErr result (λ refusal. IsRefusalOf R.File.remaining request refusal) }
     ensures done { (request : Request) → Asks (map S.text words.entry.now) request
-        → OnOk result (IsDone R.File.remaining request (I.remaining input.old) (I.remaining input.new)
+        → OnOk result (IsDone R.File.remaining request
+        (I.remaining input.old) (I.remaining input.new)
         (O.contents output.old) (O.contents output.new)) }
 {
     match read_words(alloc, words) {
@@ -323,7 +324,8 @@ fn check_database<R: Files, O: Write>(
 ) -> Result<(), Fault>
     ensures refused { KeepsIfRefused result (O.contents output.old) (O.contents output.new) }
     ensures fault { IfErr result (λ fault. IsOwnFault R.File.remaining fault) }
-    ensures right { OnOk result (SaysRight R.File.remaining (O.contents output.old) (O.contents output.new)) }
+    ensures right { OnOk result
+        (SaysRight R.File.remaining (O.contents output.old) (O.contents output.new)) }
 {
     let bytes = read_file(rt, alloc, path)?;
     let mut found = check(Whole::new(bytes.as_slice()));

@@ -125,7 +125,8 @@ fn begin_beside<R: Files>(
 }
 
 /// The name whose place a new file takes: the given one, or the one to which links lead from there,
-/// also where no file has it. None for the name of an open file, and where a link can't be followed.
+/// also where no file has it. None for the name of an open file, and where a link can't be
+/// followed.
 fn place_of<R: Files>(rt: &R, alloc: Global, path: &str) -> Result<Option<String>, Fault>
     ensures { IfErr result (λ fault. status_of fault ≡ 1) }
 {
@@ -302,8 +303,8 @@ impl<R: Files> Draft<R> {
     }
 }
 
-/// Puts a new file that was brought to the disk in its place; removes it where that fails, and where
-/// a fault came before.
+/// Puts a new file that was brought to the disk in its place; removes it where that fails, and
+/// where a fault came before.
 fn put<R: Files>(rt: &R, names: &Names, synced: Result<(), Fault>) -> Result<(), Fault>
     ensures fault { IfErr synced (λ fault. result ≡ Err fault) }
     ensures closing { IfOk synced (λ _. IfErr result (λ fault. fault ≡ Write)) }

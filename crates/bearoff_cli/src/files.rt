@@ -23,8 +23,8 @@ use std::rt::Files;
 /// How many bytes one read moves.
 const BLOCK: usize = 65536;
 
-/// How many bytes of stack a check or a build needs at most, beside the 128 KB that the system gives
-/// a program at its start.
+/// How many bytes of stack a check or a build needs at most, beside the 128 KB that the system
+/// gives a program at its start.
 const STACK: usize = 896 << 10;
 
 /// How many bytes a record that is kept takes at most, with its part of the tables of the cache.

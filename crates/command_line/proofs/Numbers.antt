@@ -1,5 +1,6 @@
 -- Numbers that words write.
-use Rattle.std.proofs.Common.{◌≡◌, ◌∙◌, ◌==◌, ◌<◌, ◌≤◌, ◌^◌, not, ℕ, Bool, cond, true, false, refl, sym, ap, subst, arith, rules, List, [], ◌∷◌, drop, Option, Some, None, Result, Ok, Err}
+use Rattle.std.proofs.Common.{◌≡◌, ◌∙◌, ◌==◌, ◌<◌, ◌≤◌, ◌^◌, not, ℕ, Bool, cond, true, false, refl, sym, ap, subst}
+use Rattle.std.proofs.Common.{arith, rules, List, [], ◌∷◌, drop, Option, Some, None, Result, Ok, Err}
 use Rattle.std.specs.Prelude.{pos}
 use Rattle.std.specs.Option.{unwrap_or}
 use Rattle.std.specs.Str.Parse.{IsNumeral, ParsesUnsigned, digits_value, without_leading_plus}
@@ -30,7 +31,8 @@ pub without_no_minus : (ds : List ℕ) → IsNumeral 10 ds → without_minus ds 
 without_no_minus [] h = refl
 without_no_minus (d ∷ ds) h = ap (λ b. unwrap_or (cond b (Some ds) None) (d ∷ ds)) (no_minus d ds h)
 
-pub numeral_in : (low high n : ℕ) (ds : List ℕ) → Writes n ds → low ≤ n → n ≤ high → n < 2 ^ 63 → IsSignedIn (pos low) (pos high) ds
+pub numeral_in : (low high n : ℕ) (ds : List ℕ) → Writes n ds → low ≤ n → n ≤ high → n < 2 ^ 63
+    → IsSignedIn (pos low) (pos high) ds
 numeral_in low high n [] w l h fits = absurd (omega (arith, w.0.0))
 numeral_in low high n (d ∷ ds) w l h fits =
     let minus : (d == 45) ≡ false = no_minus d ds w.0 in
@@ -38,14 +40,22 @@ numeral_in low high n (d ∷ ds) w l h fits =
     rw (minus, plus, w.1) (w.0, search rules, search rules, search rules)
 
 -- a typed getter reads the number
-pub numeral_reads : (E : Type 0) (G : List ℕ → Result ℕ E → Type 0) (k n : ℕ) (ds : List ℕ) (r : Option ℕ) → ReadsOne G ds r
-    → ((u : List ℕ) (x : Result ℕ E) → G u x → ParsesUnsigned k 10 u x) → Writes n ds → n < 2 ^ k → r ≡ Some n
+pub numeral_reads : (E : Type 0) (G : List ℕ → Result ℕ E → Type 0) (k n : ℕ) (ds : List ℕ)
+    (r : Option ℕ) → ReadsOne G ds r
+    → ((u : List ℕ) (x : Result ℕ E) → G u x → ParsesUnsigned k 10 u x) → Writes n ds → n < 2 ^ k
+    → r ≡ Some n
 numeral_reads E G k n ds (Some v) read only w fits =
     let parsed = only ds (Ok v) read in
     ap Some (parsed.1 ∙ ap (digits_value 10) (no_plus ds w.0) ∙ w.1)
 numeral_reads E G k n ds None read only w fits =
     let same = no_plus ds w.0 in
-    absurd (only ds (Err read.0) read.1 (subst (IsNumeral 10) (sym same) w.0, subst (λ t. digits_value 10 t < 2 ^ k) (sym same) (subst (λ m. m < 2 ^ k) (sym w.1) fits)))
+    absurd (only ds (Err read.0) read.1 (
+      subst (IsNumeral 10) (sym same) w.0,
+      subst (λ t. digits_value 10 t < 2 ^ k) (sym same)
+          (subst (λ m. m < 2 ^ k) (sym w.1) fits),
+    ))
 
-pub numeral_accepted : (low high n : ℕ) (ds : List ℕ) → Writes n ds → low ≤ n → n ≤ high → n < 2 ^ 63 → accepts false (vp.Signed (pos low) (pos high)) ds ≡ true
-numeral_accepted low high n ds w l h fits = Accepts-accepts false (vp.Signed (pos low) (pos high)) ds (numeral_in low high n ds w l h fits)
+pub numeral_accepted : (low high n : ℕ) (ds : List ℕ) → Writes n ds → low ≤ n → n ≤ high
+    → n < 2 ^ 63 → accepts false (vp.Signed (pos low) (pos high)) ds ≡ true
+numeral_accepted low high n ds w l h fits =
+    Accepts-accepts false (vp.Signed (pos low) (pos high)) ds (numeral_in low high n ds w l h fits)

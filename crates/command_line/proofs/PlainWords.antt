@@ -1,15 +1,21 @@
 -- The commands, on words that do not begin with a hyphen.
-use Rattle.std.proofs.Common.{◌≡◌, ◌∙◌, ◌==◌, ◌&&◌, ◌||◌, cond, is_some, not, ℕ, Bool, true, false, suc, refl, sym, ap, ap₂, arith, true≢false, List, [], ◌∷◌, Some, None, Result, Ok, Err, IfErr, IsOk, codes}
+use Rattle.std.proofs.Common.{◌≡◌, ◌∙◌, ◌==◌, ◌&&◌, ◌||◌, cond, is_some, not, ℕ, Bool, true, false, suc, refl, sym}
+use Rattle.std.proofs.Common.{ap, ap₂, arith, true≢false, List, [], ◌∷◌, Option, Some, None, Result, Ok, Err, IfErr}
+use Rattle.std.proofs.Common.{IsOk, codes}
 use Rattle.std.specs.List.{Contains}
 use Rattle.std.specs.Str.{bytes_eq}
 use Rattle.clap.specs.Lexer.{long_of, long_of_rest, short_of, short_of_rest, strip_byte}
-use Rattle.clap.specs.Words.{Text, one_of, one_text, first_of, first_value, found_of, is_simple, matches_of, takes, HasMatchesOf, App, built}
+use Rattle.clap.specs.Words.{Text, one_of, one_text, first_of, first_value, found_of, is_simple, matches_of, takes}
+use Rattle.clap.specs.Words.{HasMatchesOf, App, built}
 use Rattle.clap.specs.Simple.{Shape, entered, names_of}
 use Rattle.std.specs.Prelude.{option_and_then}
 use Rattle.std.specs.Option.{option_map_or}
 use Rattle.std.specs.List.{list_all}
-use Rattle.clap.specs.Walk.{Held, Rule, Step, Walk, idle, value, trailing, after_step, arg_by_index, finished, long_or_other, nothing_held, short_or_plain, to_positional, walk, walk_from, walked, word_met}
-use Rattle.clap.specs.Takes.{bundle_passes, default_passes, entered_passes, flag_word_passes, is_valid, settle_passes, step_passes, turn_passes, walk_passes, word_passes}
+use Rattle.clap.specs.Walk.{Held, Rule, Step, Walk, idle, value, trailing, after_step, arg_by_index, finished}
+use Rattle.clap.specs.Walk.{long_or_other, nothing_held, short_or_plain, to_positional, walk, walk_from, walked}
+use Rattle.clap.specs.Walk.{word_met}
+use Rattle.clap.specs.Takes.{bundle_passes, default_passes, entered_passes, flag_word_passes, is_valid, settle_passes}
+use Rattle.clap.specs.Takes.{step_passes, turn_passes, walk_passes, word_passes}
 use Rattle.clap.specs.declared.parser.matches.ArgMatches.{ArgMatches}
 use Rattle.clap.proofs.WalkLemmas.{first_value-rows, one_text-rows}
 use Rattle.command_line.specs.Asked.{IsPlain, begins_with_name}
@@ -17,9 +23,13 @@ use Rattle.std.proofs.lemmas.Slice.Eq.{bytes_eq-Decides}
 use Rattle.command_line.specs.Commands.{build_app, file_app, query_app, upgrade_app}
 use Rattle.command_line.proofs.WalkValues.{Each, first_is_word}
 
-pub each_contains : {X : Type 0} (xs : List X) (P : X → Type 0) → ((x : X) → Contains xs x → P x) → Each P xs
+pub each_contains : {X : Type 0} (xs : List X) (P : X → Type 0) → ((x : X) → Contains xs x → P x)
+    → Each P xs
 each_contains [] P h = tt
-each_contains (x ∷ xs) P h = (h x (0, omega arith, refl), each_contains xs P (λ y c. h y (suc c.0, omega (arith, c.1), c.2)))
+each_contains (x ∷ xs) P h = (
+  h x (0, omega arith, refl),
+  each_contains xs P (λ y c. h y (suc c.0, omega (arith, c.1), c.2)),
+)
 
 pub ok_no_err : {X E : Type 0} (r : Result X E) (P : E → Type 0) → IsOk r → IfErr r P
 ok_no_err (Ok x) P h = tt
@@ -37,41 +47,78 @@ no_dashes (x ∷ xs) e = ap (λ b. b && bytes_eq xs (45 ∷ [])) (is_false (x ==
 
 pub no_long : (word : Text) → IsPlain word → long_of word ≡ None
 no_long [] e = refl
-no_long (x ∷ xs) e = ap (λ b. option_and_then long_of_rest (option_and_then (strip_byte 45) (cond b (Some xs) None))) (is_false (x == 45) e)
+no_long (x ∷ xs) e =
+    ap (λ b. option_and_then long_of_rest
+    (option_and_then (strip_byte 45) (cond b (Some xs) None))) (is_false (x == 45) e)
 
 pub no_short : (word : Text) → IsPlain word → short_of word ≡ None
 no_short [] e = refl
-no_short (x ∷ xs) e = ap (λ b. option_and_then short_of_rest (cond b (Some xs) None)) (is_false (x == 45) e)
+no_short (x ∷ xs) e =
+    ap (λ b. option_and_then short_of_rest (cond b (Some xs) None)) (is_false (x == 45) e)
 
 -- a walk that waits for the positional at a place
 abbrev pub walk_at : Held → ℕ → Walk
 walk_at h n = record { held = h; waiting = idle; position = n; is_trailing = false; stopped = None }
 
 module _ (word : Text) (plain : IsPlain word) where
-  pub plain_met : (c : List Rule) (n : ℕ) (h : Held) → word_met c [] false idle n word h ≡ (h, value)
+  pub plain_met : (c : List Rule) (n : ℕ) (h : Held) → word_met c [] false idle n word h
+      ≡ (h, value)
   plain_met c n h =
-      ap (λ b. cond b (h, trailing n) (long_or_other c idle word (long_of word) h)) (no_dashes word plain)
+      ap (λ b. cond b (h, trailing n) (long_or_other c idle word (long_of word) h))
+      (no_dashes word plain)
       ∙ ap (λ o. long_or_other c idle word o h) (no_long word plain)
       ∙ ap (λ o. short_or_plain c idle word o h) (no_short word plain)
 
-  pub plain_walked : (c : List Rule) (n : ℕ) (h : Held) → walked c [] (walk_at h n) word ≡ to_positional c (arg_by_index c n) word (walk_at h n) h
+  pub plain_walked : (c : List Rule) (n : ℕ) (h : Held) → walked c [] (walk_at h n) word
+      ≡ to_positional c (arg_by_index c n) word (walk_at h n) h
   unfolding walked
-  plain_walked c n h = ap (λ (met : Held × Step). after_step c word (walk_at h n) met.0 met.1) (plain_met c n h)
+  plain_walked c n h =
+      ap (λ (met : Held × Step). after_step c word (walk_at h n) met.0 met.1) (plain_met c n h)
 
   plain_passes : (s : Shape) (h : Held) → word_passes s [] false idle word h ≡ true
   plain_passes s h =
-      ap (λ b. b || flag_word_passes s.rules s.args_override_self (long_of word) word h) (no_dashes word plain)
+      ap (λ b. b || flag_word_passes s.rules s.args_override_self (long_of word) word h)
+      (no_dashes word plain)
       ∙ ap (λ o. flag_word_passes s.rules s.args_override_self o word h) (no_long word plain)
-      ∙ ap (λ o. option_map_or (λ flags. bundle_passes s.rules s.args_override_self flags h) o true) (no_short word plain)
+      ∙ ap (λ o. option_map_or (λ flags. bundle_passes s.rules s.args_override_self flags h) o
+      true) (no_short word plain)
 
-  pub plain_turn : (s : Shape) (n : ℕ) (h : Held) → turn_passes s [] (walk_at h n) word ≡ step_passes s n h value
-  plain_turn s n h = ap₂ (λ b (met : Held × Step). b && step_passes s n met.0 met.1) (plain_passes s h) (plain_met s.rules n h)
+  pub plain_turn : (s : Shape) (n : ℕ) (h : Held) → turn_passes s [] (walk_at h n) word
+      ≡ step_passes s n h value
+  plain_turn s n h =
+      ap₂ (λ b (met : Held × Step). b && step_passes s n met.0 met.1) (plain_passes s h)
+      (plain_met s.rules n h)
 
 -- `takes` of a simple command, by its walk
 abbrev pub taken : App → Bool → Walk → Bool
 taken a passes w = entered_passes a w.stopped && (passes
-    && (settle_passes a.top.rules a.top.args_override_self w.held && (list_all default_passes a.top.rules
+    && (settle_passes a.top.rules a.top.args_override_self w.held
+    && (list_all default_passes a.top.rules
     && is_valid a.top (finished a.top.rules w.held) (is_some (entered a w.stopped)))))
+
+-- ---- three words
+
+module _ (app : App) (x y z : Text) (after_x after_y after_z : Walk)
+    (at_x : walked (built app).top.rules [] (walk_from nothing_held) x ≡ after_x)
+    (at_y : walked (built app).top.rules [] after_x y ≡ after_y)
+    (at_z : walked (built app).top.rules [] after_y z ≡ after_z) where
+  -- the walk over them ends where their steps lead
+  pub three_walked : walk (built app).top.rules [] nothing_held (x ∷ y ∷ z ∷ []) ≡ after_z
+  three_walked =
+      ap (λ w. walked (built app).top.rules [] (walked (built app).top.rules [] w y) z) at_x
+      ∙ ap (λ w. walked (built app).top.rules [] w z) at_y
+      ∙ at_z
+
+  -- .. and passes where they do
+  pub three_passes : turn_passes (built app).top [] (walk_from nothing_held) x ≡ true
+      → turn_passes (built app).top [] after_x y ≡ true
+      → turn_passes (built app).top [] after_y z ≡ true
+      → walk_passes (built app).top [] (walk_from nothing_held) (x ∷ y ∷ z ∷ []) ≡ true
+  unfolding walk_passes
+  three_passes p q r = ap₂ (λ a b. a && b) p
+      (ap₂ (λ a b. a && b) (ap (λ w. turn_passes (built app).top [] w y) at_x ∙ q)
+      (ap (λ w. turn_passes (built app).top [] w z && true)
+      (ap (λ w. walked (built app).top.rules [] w y) at_x ∙ at_y) ∙ ap (λ b. b && true) r))
 
 -- ---- one file
 
@@ -80,7 +127,8 @@ module _ (name path : Text) (plain : IsPlain path) where
   file_built = built (file_app name)
 
   abbrev file_walk : Walk
-  file_walk = to_positional file_built.top.rules (arg_by_index file_built.top.rules 1) path (walk_at nothing_held 1) nothing_held
+  file_walk = to_positional file_built.top.rules (arg_by_index file_built.top.rules 1) path
+      (walk_at nothing_held 1) nothing_held
 
   file_walked : walk file_built.top.rules [] nothing_held (path ∷ []) ≡ file_walk
   file_walked = plain_walked path plain file_built.top.rules 1 nothing_held
@@ -93,11 +141,16 @@ module _ (name path : Text) (plain : IsPlain path) where
   file_takes = ap₂ (taken file_built) file_passes file_walked
 
   pub file_first : first_of (codes "FILE") (matches_of (file_app name) (path ∷ [])) ≡ Some path
-  file_first = ap (λ (w : Walk). first_of (codes "FILE") (finished file_built.top.rules w.held)) file_walked
+  file_first = ap (λ (w : Walk). first_of (codes "FILE") (finished file_built.top.rules w.held))
+      file_walked
 
-pub file_is_word : (name : Text) (words : List Text) (text : Text) → first_of (codes "FILE") (matches_of (file_app name) words) ≡ Some text → Contains words text
-file_is_word name words text e = first_is_word (codes "FILE") (Contains words) (built (file_app name)).top.rules (names_of (built (file_app name)))
-    words text ((λ _. (refl, refl, refl, refl)), ((λ same. absurd (true≢false (sym same))), tt)) (each_contains words (Contains words) (λ x c. c)) e
+pub file_is_word : (name : Text) (words : List Text) (text : Text)
+    → first_of (codes "FILE") (matches_of (file_app name) words) ≡ Some text → Contains words text
+file_is_word name words text e =
+    first_is_word (codes "FILE") (Contains words) (built (file_app name)).top.rules
+    (names_of (built (file_app name)))
+    words text ((λ _. (refl, refl, refl, refl)), ((λ same. absurd (true≢false (sym same))), tt))
+    (each_contains words (Contains words) (λ x c. c)) e
 
 -- ---- a file and no `--cache`
 
@@ -106,7 +159,8 @@ module _ (path : Text) (plain : IsPlain path) where
   bare_built = built query_app
 
   abbrev bare_walk : Walk
-  bare_walk = to_positional bare_built.top.rules (arg_by_index bare_built.top.rules 1) path (walk_at nothing_held 1) nothing_held
+  bare_walk = to_positional bare_built.top.rules (arg_by_index bare_built.top.rules 1) path
+      (walk_at nothing_held 1) nothing_held
 
   bare_walked : walk bare_built.top.rules [] nothing_held (path ∷ []) ≡ bare_walk
   bare_walked = plain_walked path plain bare_built.top.rules 1 nothing_held
@@ -119,10 +173,12 @@ module _ (path : Text) (plain : IsPlain path) where
   bare_takes = ap₂ (taken bare_built) bare_passes bare_walked
 
   pub bare_first : first_of (codes "FILE") (matches_of query_app (path ∷ [])) ≡ Some path
-  bare_first = ap (λ (w : Walk). first_of (codes "FILE") (finished bare_built.top.rules w.held)) bare_walked
+  bare_first = ap (λ (w : Walk). first_of (codes "FILE") (finished bare_built.top.rules w.held))
+      bare_walked
 
   pub bare_none : one_of (codes "cache") (matches_of query_app (path ∷ [])) ≡ None
-  bare_none = ap (λ (w : Walk). one_of (codes "cache") (finished bare_built.top.rules w.held)) bare_walked
+  bare_none = ap (λ (w : Walk). one_of (codes "cache") (finished bare_built.top.rules w.held))
+      bare_walked
 
 -- ---- two files
 
@@ -143,12 +199,15 @@ module _ (old new : Text) (old_plain : IsPlain old) (new_plain : IsPlain new) wh
   upgrade_walk = to_positional rules (arg_by_index rules 2) new (walk_at old_held 2) old_held
 
   upgrade_walked : walk rules [] nothing_held (old ∷ new ∷ []) ≡ upgrade_walk
-  upgrade_walked = ap (λ w. walked rules [] w new) old_walked ∙ plain_walked new new_plain rules 2 old_held
+  upgrade_walked =
+      ap (λ w. walked rules [] w new) old_walked ∙ plain_walked new new_plain rules 2 old_held
 
   upgrade_passes : walk_passes upgrade_built.top [] (walk_from nothing_held) (old ∷ new ∷ []) ≡ true
   unfolding walk_passes
-  upgrade_passes = ap₂ (λ a b. a && (b && true)) (plain_turn old old_plain upgrade_built.top 1 nothing_held)
-      (ap (λ w. turn_passes upgrade_built.top [] w new) old_walked ∙ plain_turn new new_plain upgrade_built.top 2 old_held)
+  upgrade_passes =
+      ap₂ (λ a b. a && (b && true)) (plain_turn old old_plain upgrade_built.top 1 nothing_held)
+      (ap (λ w. turn_passes upgrade_built.top [] w new) old_walked
+      ∙ plain_turn new new_plain upgrade_built.top 2 old_held)
 
   pub upgrade_takes : takes upgrade_app (old ∷ new ∷ []) ≡ true
   upgrade_takes = ap₂ (taken upgrade_built) upgrade_passes upgrade_walked
@@ -161,37 +220,70 @@ module _ (old new : Text) (old_plain : IsPlain old) (new_plain : IsPlain new) wh
 
 -- ---- the values of positionals
 
-pub old_is_word : (words : List Text) (text : Text) → first_of (codes "OLD") (matches_of upgrade_app words) ≡ Some text → Contains words text
-old_is_word words text e = first_is_word (codes "OLD") (Contains words) (built upgrade_app).top.rules [] words text
-    ((λ _. (refl, refl, refl, refl)), ((λ same. absurd (true≢false (sym same))), ((λ same. absurd (true≢false (sym same))), tt)))
+pub old_is_word : (words : List Text) (text : Text)
+    → first_of (codes "OLD") (matches_of upgrade_app words) ≡ Some text → Contains words text
+old_is_word words text e =
+    first_is_word (codes "OLD") (Contains words) (built upgrade_app).top.rules [] words text (
+      (λ _. (refl, refl, refl, refl)),
+      ((λ same. absurd (true≢false (sym same))), ((λ same. absurd (true≢false (sym same))), tt)),
+    )
     (each_contains words (Contains words) (λ x c. c)) e
 
-pub new_is_word : (words : List Text) (text : Text) → first_of (codes "NEW") (matches_of upgrade_app words) ≡ Some text → Contains words text
-new_is_word words text e = first_is_word (codes "NEW") (Contains words) (built upgrade_app).top.rules [] words text
-    ((λ same. absurd (true≢false (sym same))), ((λ _. (refl, refl, refl, refl)), ((λ same. absurd (true≢false (sym same))), tt)))
+pub new_is_word : (words : List Text) (text : Text)
+    → first_of (codes "NEW") (matches_of upgrade_app words) ≡ Some text → Contains words text
+new_is_word words text e =
+    first_is_word (codes "NEW") (Contains words) (built upgrade_app).top.rules [] words text (
+      (λ same. absurd (true≢false (sym same))),
+      ((λ _. (refl, refl, refl, refl)), ((λ same. absurd (true≢false (sym same))), tt)),
+    )
     (each_contains words (Contains words) (λ x c. c)) e
 
-pub build_is_word : (words : List Text) (text : Text) → first_of (codes "FILE") (matches_of build_app words) ≡ Some text → Contains words text
-build_is_word words text e = first_is_word (codes "FILE") (Contains words) (built build_app).top.rules [] words text
-    ((λ same. absurd (true≢false (sym same))), ((λ _. (refl, refl, refl, refl)), ((λ same. absurd (true≢false (sym same))), tt)))
+pub build_is_word : (words : List Text) (text : Text)
+    → first_of (codes "FILE") (matches_of build_app words) ≡ Some text → Contains words text
+build_is_word words text e =
+    first_is_word (codes "FILE") (Contains words) (built build_app).top.rules [] words text (
+      (λ same. absurd (true≢false (sym same))),
+      ((λ _. (refl, refl, refl, refl)), ((λ same. absurd (true≢false (sym same))), tt)),
+    )
     (each_contains words (Contains words) (λ x c. c)) e
 
-pub query_is_word : (words : List Text) (text : Text) → first_of (codes "FILE") (matches_of query_app words) ≡ Some text → Contains words text
-query_is_word words text e = first_is_word (codes "FILE") (Contains words) (built query_app).top.rules [] words text
-    ((λ _. (refl, refl, refl, refl)), ((λ same. absurd (true≢false (sym same))), ((λ same. absurd (true≢false (sym same))), tt)))
+pub query_is_word : (words : List Text) (text : Text)
+    → first_of (codes "FILE") (matches_of query_app words) ≡ Some text → Contains words text
+query_is_word words text e =
+    first_is_word (codes "FILE") (Contains words) (built query_app).top.rules [] words text (
+      (λ _. (refl, refl, refl, refl)),
+      ((λ same. absurd (true≢false (sym same))), ((λ same. absurd (true≢false (sym same))), tt)),
+    )
     (each_contains words (Contains words) (λ x c. c)) e
 
 -- ---- from the matches to the getters
 
-pub first_read : (a b : App) (words : List Text) (m : ArgMatches) (id : Text) → a ≡ b → is_simple b ≡ true → HasMatchesOf a words m
+pub first_read : (a b : App) (words : List Text) (m : ArgMatches) (id : Text) → a ≡ b
+    → is_simple b ≡ true → HasMatchesOf a words m
     → first_value (found_of m) id ≡ first_of id (matches_of b words)
 first_read a b words m id same simple has = first_value-rows (found_of m) id
-    ∙ ap (first_of id) ((has (ap is_simple same ∙ simple)).0 ∙ ap (λ (x : App). matches_of x words) same)
+    ∙ ap (first_of id)
+    ((has (ap is_simple same ∙ simple)).0 ∙ ap (λ (x : App). matches_of x words) same)
 
-pub one_read : (a b : App) (words : List Text) (m : ArgMatches) (id : Text) → a ≡ b → is_simple b ≡ true → HasMatchesOf a words m
+pub one_read : (a b : App) (words : List Text) (m : ArgMatches) (id : Text) → a ≡ b → is_simple b
+    ≡ true → HasMatchesOf a words m
     → one_text (found_of m) id ≡ one_of id (matches_of b words)
 one_read a b words m id same simple has = one_text-rows (found_of m) id
-    ∙ ap (one_of id) ((has (ap is_simple same ∙ simple)).0 ∙ ap (λ (x : App). matches_of x words) same)
+    ∙ ap (one_of id)
+    ((has (ap is_simple same ∙ simple)).0 ∙ ap (λ (x : App). matches_of x words) same)
+
+-- .. of words that are given
+pub first_from : (a b : App) (words given : List Text) (m : ArgMatches) (id text : Text) → a ≡ b
+    → is_simple b ≡ true → HasMatchesOf a words m → words ≡ given
+    → first_of id (matches_of b given) ≡ Some text → first_value (found_of m) id ≡ Some text
+first_from a b words given m id text same simple has are is =
+    first_read a b words m id same simple has ∙ ap (λ ws. first_of id (matches_of b ws)) are ∙ is
+
+pub one_from : (a b : App) (words given : List Text) (m : ArgMatches) (id : Text)
+    (one : Option Text) → a ≡ b → is_simple b ≡ true → HasMatchesOf a words m → words ≡ given
+    → one_of id (matches_of b given) ≡ one → one_text (found_of m) id ≡ one
+one_from a b words given m id one same simple has are is =
+    one_read a b words m id same simple has ∙ ap (λ ws. one_of id (matches_of b ws)) are ∙ is
 
 -- ---- no command
 
@@ -202,6 +294,9 @@ differ a b h = go (bytes_eq a b) refl
     go true e = absurd (h ((bytes_eq-Decides a b).0 e))
     go false e = e
 
-pub no_name : (words : List Text) (first : Text) (rest : List Text) → words ≡ first ∷ rest → (first ≡ codes "build" → ⊥) → (first ≡ codes "check" → ⊥)
-    → (first ≡ codes "query" → ⊥) → (first ≡ codes "audit" → ⊥) → (first ≡ codes "upgrade" → ⊥) → begins_with_name words ≡ false
-no_name words first rest is b c q a u = rw (is, differ _ _ b, differ _ _ c, differ _ _ q, differ _ _ a, differ _ _ u) refl
+pub no_name : (words : List Text) (first : Text) (rest : List Text) → words ≡ first ∷ rest
+    → (first ≡ codes "build" → ⊥) → (first ≡ codes "check" → ⊥)
+    → (first ≡ codes "query" → ⊥) → (first ≡ codes "audit" → ⊥) → (first ≡ codes "upgrade" → ⊥)
+    → begins_with_name words ≡ false
+no_name words first rest is b c q a u =
+    rw (is, differ _ _ b, differ _ _ c, differ _ _ q, differ _ _ a, differ _ _ u) refl

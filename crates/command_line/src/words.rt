@@ -1,9 +1,11 @@
 //! The words of the command line, and its help.
-ghost use Rattle.std.specs.Prelude.{◌≡◌, ◌∷◌, [], ℕ, List, length, map, codes, Ok, IfOk, IsOk, IsErr, Some, None, ◌<◌, ◌≤◌};
+ghost use Rattle.std.specs.Prelude.{◌≡◌, ◌∷◌, [], ℕ, List, length, map, codes, Ok, IfOk, IsOk, IsErr, Some, None, ◌<◌};
+ghost use Rattle.std.specs.Prelude.{◌≤◌};
 ghost use Rattle.std.specs.List.{Contains};
 ghost use Rattle.clap.specs.Words.{app_of, first_value, found_of};
 ghost use Rattle.command_line.specs.declared.words.Request.TheVariants.{Default};
-ghost use Rattle.command_line.specs.Asked.{Follows, Gives, IsAskedBy, IsPlain, Writes, asks_audit, asks_build, asks_query, asks_check, asks_upgrade};
+ghost use Rattle.command_line.specs.Asked.{Follows, Gives, IsAskedBy, IsPlain, Writes, asks_audit, asks_build};
+ghost use Rattle.command_line.specs.Asked.{asks_query, asks_check, asks_upgrade};
 ghost use Rattle.command_line.specs.Commands.{IsFileApp, bare_app, build_app, file_app, query_app, upgrade_app};
 
 use clap::error::ErrorKind;

@@ -13,8 +13,8 @@ returns-clause-done g c request asks =
     let given = g.I.Read.remaining c.args.input.now in
     let old = g.O.Write.contents c.args.output.now in
     let words = c.read_words.ensures in
-    let gives = read_as g.S.AsStr.text c.args.words.now c.read_words.result words.nothing words.build
-    words.query words.query_by words.check words.audit words.upgrade request asks in
+    let gives = read_as g.S.AsStr.text c.args.words.now c.read_words.result words.nothing
+    words.build words.query words.query_by words.check words.audit words.upgrade request asks in
     elim c.match-read_words.branch [
       | in-Ok+in_ok-fulfil-in-Ok w ↦
           let same = subst (λ r. IfOk r (λ read. IsSame request read)) w.in-Ok.is gives.0 in
@@ -27,7 +27,8 @@ returns-clause-done g c request asks =
           (subst (λ output. IsDone remaining request given (g.I.Read.remaining left) old
           (g.O.Write.contents output)) (sym w.output-is) done)
       | in-Err-3+in_ok-write_help-in-Err-3 w ↦
-          let memory = subst (λ r. IfErr r (λ error. kind_of error ≡ OutOfMemory)) w.in-Err.is gives.1 in
+          let memory =
+          subst (λ r. IfErr r (λ error. kind_of error ≡ OutOfMemory)) w.in-Err.is gives.1 in
           absurd (no_help _ w.use_stderr.result w.use_stderr.ensures memory w.if-use_stderr.false)
     ]
 
@@ -35,8 +36,8 @@ returns-clause-done g c request asks =
 pub returns-in-Err-2-clause-fault : goal.returns-in-Err-2-clause-fault
 returns-in-Err-2-clause-fault g c request asks =
     let words = c.read_words.ensures in
-    let gives = read_as g.S.AsStr.text c.args.words.now c.read_words.result words.nothing words.build
-    words.query words.query_by words.check words.audit words.upgrade request asks in
+    let gives = read_as g.S.AsStr.text c.args.words.now c.read_words.result words.nothing
+    words.build words.query words.query_by words.check words.audit words.upgrade request asks in
     let memory = subst (λ r. IfErr r (λ error. kind_of error ≡ OutOfMemory)) c.in-Err.is gives.1 in
     let kind : c.kind.result ≡ OutOfMemory = c.kind.ensures ∙ memory in
     let equal : c.eq.result ≡ true = rw kind at c.eq.ensures in

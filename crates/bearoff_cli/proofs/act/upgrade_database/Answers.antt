@@ -21,7 +21,8 @@ returns-clause-upgraded g c =
     let right = subst (λ r. OnOk r (IsRight file)) accepted
     (c.check-told.ensures.right file c.new.ensures.tells) in
     let version = c.version.ensures.version file told in
-    let old = is_full (version_of file) (λ e. c.if-version-eq-COMPACT_VERSION.false (version ∙ e)) in
+    let old =
+    is_full (version_of file) (λ e. c.if-version-eq-COMPACT_VERSION.false (version ∙ e)) in
     let bound = c.bound.ensures.bound ∙ (c.bound.ensures.right file
     (c.in_ok-upgrade_file.ensures.stays.0 ∙ told)).1 in
     upgrade_read g.R.File.Read.remaining file _ _ c.write_count.result _ _ read right old bound

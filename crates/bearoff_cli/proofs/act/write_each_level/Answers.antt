@@ -30,6 +30,12 @@ pub returns-clause-levels : goal.returns-clause-levels
 returns-clause-levels g c file told =
     let right = c.bound-pips-end.ensures.right file told in
     let all : c.loop-pips.pips ≡ suc (bound_of file) =
-    omega (arith, right.1, c.bound-pips-end.ensures.bound, c.loop-pips-test.false, c.loop-pips.auto.pips-end) in
+    omega (
+      arith,
+      right.1,
+      c.bound-pips-end.ensures.bound,
+      c.loop-pips-test.false,
+      c.loop-pips.auto.pips-end,
+    ) in
     subst (λ n. WritesLevels file n (g.O.Write.contents c.args.output.now)
     (g.O.Write.contents c.loop-pips.output)) all (c.loop-pips.invariant.levels file told)

@@ -10,4 +10,5 @@ returns c =
     let pips_is : rule_of c.help-pips.result ≡ pips_rule = search rules in
     let file_is : rule_of c.help-file.result ≡ word_rule (codes "FILE") = search rules in
     IfOk-weaker c.arg-2.result _ _ (λ r h. h.shape (search rules)
-    ∙ ap₂ with_rule (c.in_ok-arg.ensures.shape (search rules) ∙ ap₂ with_rule c.in_ok-bare_command.ensures pips_is) file_is) c.arg-2.ensures
+    ∙ ap₂ with_rule (c.in_ok-arg.ensures.shape (search rules)
+    ∙ ap₂ with_rule c.in_ok-bare_command.ensures pips_is) file_is) c.arg-2.ensures

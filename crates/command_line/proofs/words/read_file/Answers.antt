@@ -8,7 +8,8 @@ use Rattle.command_line.proofs.words.read_file.Goals as goal
 pub returns-in_err-matches-clause-given : goal.returns-in_err-matches-clause-given
 returns-in_err-matches-clause-given g c path plain words_are =
     let name = c.requires.0 in
-    let kind = c.in_err-matches.ensures.passes (ap₂ takes c.requires.1 words_are ∙ file_takes name path plain) in
+    let kind = c.in_err-matches.ensures.passes
+    (ap₂ takes c.requires.1 words_are ∙ file_takes name path plain) in
     search rules
 
 pub returns-clause-asked : goal.returns-clause-asked
@@ -17,8 +18,10 @@ returns-clause-asked g c =
     let words = map g.S.AsStr.text c.args.words.now in
     let m = c.in_ok-matches.matches in
     let rows = (c.in_ok-matches.ensures.matches (ap is_simple c.requires.1)).0 in
-    let same = first_value-rows (found_of m) (codes "FILE") ∙ ap (first_of (codes "FILE")) (rows ∙ ap (λ (a : App). matches_of a words) c.requires.1) in
-    IfOk-weaker c.value_of.result _ _ (λ r h. file_is_word name words r.now (sym same ∙ h)) c.value_of.ensures.read
+    let same = first_value-rows (found_of m) (codes "FILE")
+    ∙ ap (first_of (codes "FILE")) (rows ∙ ap (λ (a : App). matches_of a words) c.requires.1) in
+    IfOk-weaker c.value_of.result _ _ (λ r h. file_is_word name words r.now (sym same ∙ h))
+    c.value_of.ensures.read
 
 pub returns-clause-given : goal.returns-clause-given
 returns-clause-given g c path plain words_are =
@@ -26,6 +29,8 @@ returns-clause-given g c path plain words_are =
     let words = map g.S.AsStr.text c.args.words.now in
     let m = c.in_ok-matches.matches in
     let rows = (c.in_ok-matches.ensures.matches (ap is_simple c.requires.1)).0 in
-    let same = first_value-rows (found_of m) (codes "FILE") ∙ ap (first_of (codes "FILE")) (rows ∙ ap₂ matches_of c.requires.1 words_are) ∙ file_first name path plain in
+    let same = first_value-rows (found_of m) (codes "FILE")
+    ∙ ap (first_of (codes "FILE")) (rows ∙ ap₂ matches_of c.requires.1 words_are)
+    ∙ file_first name path plain in
     let read = c.value_of.ensures.some path same in
     (read.0, ok_no_err c.value_of.result _ read.1)

@@ -1,20 +1,24 @@
-use Rattle.std.proofs.Common.{rules, ap, ap₂, sym, ◌∙◌, map, codes, refl}
-use Rattle.clap.specs.Words.{Text, first_of, matches_of, takes}
+use Rattle.std.proofs.Common.{rules, ap₂, sym, ◌∙◌, map, codes, refl}
+use Rattle.clap.specs.Words.{Text, takes}
 use Rattle.command_line.specs.Commands.{upgrade_app}
-use Rattle.command_line.proofs.PlainWords.{first_read, new_first, new_is_word, old_first, old_is_word, upgrade_takes}
+use Rattle.command_line.proofs.PlainWords.{first_from, first_read, new_first, new_is_word, old_first, old_is_word}
+use Rattle.command_line.proofs.PlainWords.{upgrade_takes}
 use Rattle.command_line.proofs.words.read_upgrade.Goals as goal
 
 pub returns-in_err-matches-clause-given : goal.returns-in_err-matches-clause-given
 returns-in_err-matches-clause-given g c old new old_plain new_plain words_are =
-    let kind = c.in_err-matches.ensures.passes (ap₂ takes c.in_ok-upgrade_command.ensures words_are ∙ upgrade_takes old new old_plain new_plain) in
+    let kind = c.in_err-matches.ensures.passes
+    (ap₂ takes c.in_ok-upgrade_command.ensures words_are
+    ∙ upgrade_takes old new old_plain new_plain) in
     search rules
 
 pub returns-in_err-old-clause-given : goal.returns-in_err-old-clause-given
 returns-in_err-old-clause-given g c old new old_plain new_plain words_are =
     let words = map g.S.AsStr.text c.args.words.now in
     let m = c.in_ok-matches.matches in
-    let same = first_read _ upgrade_app words m (codes "OLD") c.in_ok-upgrade_command.ensures refl c.in_ok-matches.ensures.matches
-    ∙ ap (λ ws. first_of (codes "OLD") (matches_of upgrade_app ws)) words_are ∙ old_first old new old_plain new_plain in
+    let same = first_from _ upgrade_app words _ m (codes "OLD") old
+    c.in_ok-upgrade_command.ensures refl
+    c.in_ok-matches.ensures.matches words_are (old_first old new old_plain new_plain) in
     let read = c.value_of.ensures.some old same in
     search rules
 
@@ -22,8 +26,9 @@ pub returns-in_err-new-clause-given : goal.returns-in_err-new-clause-given
 returns-in_err-new-clause-given g c old new old_plain new_plain words_are =
     let words = map g.S.AsStr.text c.args.words.now in
     let m = c.in_ok-matches.matches in
-    let same = first_read _ upgrade_app words m (codes "NEW") c.in_ok-upgrade_command.ensures refl c.in_ok-matches.ensures.matches
-    ∙ ap (λ ws. first_of (codes "NEW") (matches_of upgrade_app ws)) words_are ∙ new_first old new old_plain new_plain in
+    let same = first_from _ upgrade_app words _ m (codes "NEW") new
+    c.in_ok-upgrade_command.ensures refl
+    c.in_ok-matches.ensures.matches words_are (new_first old new old_plain new_plain) in
     let read = c.value_of-2.ensures.some new same in
     search rules
 
@@ -31,18 +36,24 @@ pub returns-clause-asked : goal.returns-clause-asked
 returns-clause-asked g c =
     let words = map g.S.AsStr.text c.args.words.now in
     let m = c.in_ok-matches.matches in
-    let read = λ (id : Text). first_read _ upgrade_app words m id c.in_ok-upgrade_command.ensures refl c.in_ok-matches.ensures.matches in
-    let old = old_is_word words c.in_ok-old.old.now (sym (read (codes "OLD")) ∙ c.in_ok-old.ensures.read) in
-    let new = new_is_word words c.in_ok-new.new.now (sym (read (codes "NEW")) ∙ c.in_ok-new.ensures.read) in
+    let read = λ (id : Text). first_read _ upgrade_app words m id c.in_ok-upgrade_command.ensures
+    refl c.in_ok-matches.ensures.matches in
+    let old = old_is_word words c.in_ok-old.old.now
+    (sym (read (codes "OLD")) ∙ c.in_ok-old.ensures.read) in
+    let new = new_is_word words c.in_ok-new.new.now
+    (sym (read (codes "NEW")) ∙ c.in_ok-new.ensures.read) in
     ((words, refl, old), (words, refl, new))
 
 pub returns-clause-given : goal.returns-clause-given
 returns-clause-given g c old new old_plain new_plain words_are =
     let words = map g.S.AsStr.text c.args.words.now in
     let m = c.in_ok-matches.matches in
-    let read = λ (id : Text). first_read _ upgrade_app words m id c.in_ok-upgrade_command.ensures refl c.in_ok-matches.ensures.matches in
-    let old_same = read (codes "OLD") ∙ ap (λ ws. first_of (codes "OLD") (matches_of upgrade_app ws)) words_are ∙ old_first old new old_plain new_plain in
-    let new_same = read (codes "NEW") ∙ ap (λ ws. first_of (codes "NEW") (matches_of upgrade_app ws)) words_are ∙ new_first old new old_plain new_plain in
+    let old_same = first_from _ upgrade_app words _ m (codes "OLD") old
+    c.in_ok-upgrade_command.ensures refl
+    c.in_ok-matches.ensures.matches words_are (old_first old new old_plain new_plain) in
+    let new_same = first_from _ upgrade_app words _ m (codes "NEW") new
+    c.in_ok-upgrade_command.ensures refl
+    c.in_ok-matches.ensures.matches words_are (new_first old new old_plain new_plain) in
     let o = c.in_ok-old.ensures.some old old_same in
     let n = c.in_ok-new.ensures.some new new_same in
     ((o.0, n.0), tt)

@@ -6,15 +6,18 @@ pub returns-in_ok-try_get_matches_from-in_default-as_str-clause-asked :
     goal.returns-in_ok-try_get_matches_from-in_default-as_str-clause-asked
 returns-in_ok-try_get_matches_from-in_default-as_str-clause-asked g c =
     let o = c.in_default-as_str in
-    no_name (map g.S.AsStr.text c.args.words.now) c.as_str.result.now (map g.S.AsStr.text c.in-Some.rest.now) (search rules)
+    no_name (map g.S.AsStr.text c.args.words.now) c.as_str.result.now
+    (map g.S.AsStr.text c.in-Some.rest.now) (search rules)
     o.not-build o.not-check o.not-query o.not-audit o.not-upgrade
 
 pub returns-in-build-clause-build : goal.returns-in-build-clause-build
 returns-in-build-clause-build g c n digits path w lt plain words_are =
-    let parts : map g.S.AsStr.text c.args.words.now ≡ c.as_str.result.now ∷ map g.S.AsStr.text c.in-Some.rest.now = search rules in
+    let parts : map g.S.AsStr.text c.args.words.now ≡ c.as_str.result.now
+    ∷ map g.S.AsStr.text c.in-Some.rest.now = search rules in
     c.read_build.ensures.given n digits path w lt plain (ap (drop 1) (sym parts ∙ words_are))
 
 pub returns-in-query-clause-query_by : goal.returns-in-query-clause-query_by
 returns-in-query-clause-query_by g c n digits path w more lt plain words_are =
-    let parts : map g.S.AsStr.text c.args.words.now ≡ c.as_str.result.now ∷ map g.S.AsStr.text c.in-Some.rest.now = search rules in
+    let parts : map g.S.AsStr.text c.args.words.now ≡ c.as_str.result.now
+    ∷ map g.S.AsStr.text c.in-Some.rest.now = search rules in
     c.read_query.ensures.cache n digits path w more lt plain (ap (drop 1) (sym parts ∙ words_are))
