@@ -24,6 +24,7 @@ mod means;
 mod opening;
 mod playing;
 mod plays;
+mod ranks;
 mod refusal;
 mod room;
 mod rounded;
