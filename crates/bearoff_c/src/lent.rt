@@ -1,7 +1,7 @@
 //! Bytes that a caller lends, and where the records in them stand. All that is known of them here
 //! is how many they are: each place is found by the version, the bound and the table that are kept
 //! beside them, so no place depends on what the bytes are.
-ghost use Rattle.std.specs.Prelude.{◌≡◌, ◌+◌, ◌*◌, ◌≤◌, length};
+ghost use Rattle.std.specs.Prelude.{◌≡◌, ◌+◌, ◌*◌, ◌<◌, ◌≤◌, length};
 ghost use Rattle.race_model.specs.Positions.{IsPosition, pips};
 ghost use Rattle.race_model.specs.Ranks.{rank as rank_of, first_of, count_to};
 ghost use Rattle.race_model.specs.Versions.{version_by, record_length as length_of};
@@ -56,6 +56,24 @@ impl<'a> Lent<'a> {
         let first = place.offset as usize;
         let bytes = &self.bytes[first..first + place.length as usize];
         RecordView::of_version(bytes, self.version, place.pips).unwrap()
+    }
+
+    /// The pip count, from one on, of the position of a rank; the bound for one beyond the last.
+    pub fn level_of(&self, lowest: u8, rank: u16) -> u8
+        requires low { lowest ≤ self.now.bound }
+        requires reached { first_of lowest ≤ rank }
+        requires within { rank ≤ count_to self.now.bound }
+        ensures from { first_of result ≤ rank }
+        ensures beyond { rank ≤ first_of (result + 1) }
+        ensures under { rank < count_to self.now.bound → rank < first_of (result + 1) }
+        ensures bound { result ≤ self.now.bound }
+    {
+        for level in lowest..self.bound {
+            if rank < self.ranks.first_of(level + 1) {
+                return level;
+            }
+        }
+        self.bound
     }
 
     /// Where the record of a position of at most the bound stands: within the bytes, whatever they
