@@ -223,16 +223,21 @@ uint32_t bearoff_distribution(const bearoff_database *database, const bearoff_po
 
 /*
  * Whole tables in one call: the positions of the `count` ranks from `first` on, by rising rank, and
- * their means, each as that of bearoff_mean. Each element from the first on is that of the next
- * rank; `count` may be 0. BEAROFF_OK or BEAROFF_NOT_OPEN; BEAROFF_NO_RANK where `first` + `count`
- * is over what bearoff_positions tells; and BEAROFF_CHANGED, not for the positions, for which no
- * byte is read, where a mean that now stands there is over 22 rolls. All that refuses is found out
- * before the first element is written.
+ * their means, effective pip counts and shares, each as that of bearoff_mean, bearoff_epc and
+ * bearoff_distribution. `count` may be 0. BEAROFF_OK or BEAROFF_NOT_OPEN; BEAROFF_NO_RANK where
+ * `first` + `count` is over what bearoff_positions tells; and, for means and effective pip counts,
+ * BEAROFF_CHANGED where a mean that now stands there is over 22 rolls. All that refuses is found
+ * out before the first element is written; only where the bytes change while the call runs may a
+ * refusal of bearoff_listed_epcs come later. The positions are told without a byte being read.
  */
 uint32_t bearoff_listed_positions(const bearoff_database *database, uint16_t first,
                                   bearoff_position *positions, size_t count);
 uint32_t bearoff_listed_means(const bearoff_database *database, uint16_t first,
                               bearoff_wide *means, size_t count);
+uint32_t bearoff_listed_epcs(const bearoff_database *database, uint16_t first,
+                             bearoff_pips *epcs, size_t count);
+uint32_t bearoff_listed_distributions(const bearoff_database *database, uint16_t first,
+                                      bearoff_shares *shares, size_t count);
 
 /*
  * The recorded play of a roll, whose two dice, 1 to 6 each, come in either order. No play has a

@@ -1,15 +1,20 @@
 //! Whole tables in one call: what a database says of each position, from a rank on.
-ghost use Rattle.std.specs.Prelude.{◌≡◌, ◌+◌, ◌≤◌, IsTrue, OnOk, length};
+ghost use Rattle.std.specs.Prelude.{◌≡◌, ℕ, ◌+◌, ◌≤◌, IsTrue, OnOk, length, map, slice_index};
 ghost use Rattle.race_model.specs.Ranks.{count_to};
-ghost use Rattle.race_model.specs.Files.{mean as mean_of};
-ghost use Rattle.race_model.specs.Strategies.{IsLeast};
+ghost use Rattle.race_model.specs.Files.{mean as mean_of, spread as spread_of};
+ghost use Rattle.race_model.specs.Fractions.{IsEffectivePips, IsThousandths};
+ghost use Rattle.race_model.specs.RightFiles.{follow};
+ghost use Rattle.race_model.specs.Strategies.{IsLeast, count_of};
 ghost use Rattle.bearoff_c.specs.Listed.{SaysByRank};
 ghost use Rattle.bearoff_c.specs.Refusals.{rank_refusal, refusal_in, status_of};
 ghost use Rattle.bearoff_c.specs.Wides.{number_of};
 
 use crate::database::{Counts, Database};
+use crate::distribution::{Distribution, shares_in};
 use crate::refusal::{OK, Refusal};
+use crate::rounded::Rounded;
 use crate::wide::Wide;
+use fixed_fraction::epc;
 
 /// The positions of as many ranks from one on as `positions` has room for, by rising rank. Refused
 /// as `NotOpen`, and as `NoRank` exactly where the database has fewer from there on; then
@@ -62,6 +67,62 @@ pub extern "C" fn bearoff_listed_means(
     }
 }
 
+/// The effective pip counts of the positions of as many ranks from one on as `epcs` has room for,
+/// by rising rank, each as that of `bearoff_epc`. Refused as `bearoff_listed_means` is; then `epcs`
+/// stays as it was.
+#[unsafe(no_mangle)]
+pub extern "C" fn bearoff_listed_epcs(
+    database: &Database<'_>,
+    first: u16,
+    epcs: &mut [Rounded],
+) -> u32
+    ensures status { result ≡ status_of
+        (rank_refusal database.now.is_open database.now.bound first (length epcs.old)) }
+    ensures least { result ≡ 0 → SaysByRank first epcs.new
+        (λ x pips. ∥ IsLeast x (mean_of database.now.bytes.now x) ∥₁) }
+    ensures pips { result ≡ 0 → SaysByRank first epcs.new
+        (λ x pips. IsEffectivePips (mean_of database.now.bytes.now x)
+        (number_of pips.exact.numerator) (number_of pips.exact.denominator)) }
+    ensures rounded { result ≡ 0 → SaysByRank first epcs.new
+        (λ x pips. IsThousandths
+        (number_of pips.exact.numerator) (number_of pips.exact.denominator) pips.thousandths) }
+    ensures left { ¬ (result ≡ 0) → epcs.new ≡ epcs.old }
+{
+    match database.find_means(first, epcs.len()) {
+        Ok(()) if database.put_epcs(first, epcs) => OK,
+        Ok(()) => Refusal::Changed.status(),
+        Err(refusal) => refusal.status(),
+    }
+}
+
+/// How the numbers of rolls are spread for the positions of as many ranks from one on as
+/// `distributions` has room for, by rising rank, each as that of `bearoff_distribution`. Refused as
+/// `bearoff_listed_positions` is; then `distributions` stays as it was.
+#[unsafe(no_mangle)]
+pub extern "C" fn bearoff_listed_distributions(
+    database: &Database<'_>,
+    first: u16,
+    distributions: &mut [Distribution],
+) -> u32
+    ensures status { result ≡ status_of (rank_refusal
+        database.now.is_open database.now.bound first (length distributions.old)) }
+    ensures shares { result ≡ 0 → SaysByRank first distributions.new
+        (λ x spread. (k : ℕ) → k ≤ 22 → slice_index (map number_of spread.shares) k
+        ≡ count_of (follow database.now.bytes.now 22 x) k) }
+    ensures recorded { result ≡ 0 → SaysByRank first distributions.new
+        (λ x spread. (k : ℕ) → k ≤ 22 → slice_index (map number_of spread.shares) k
+        ≡ spread_of database.now.bytes.now x k) }
+    ensures left { ¬ (result ≡ 0) → distributions.new ≡ distributions.old }
+{
+    match database.find_ranks(first, distributions.len()) {
+        Ok(()) => {
+            database.put_distributions(first, distributions);
+            OK
+        }
+        Err(refusal) => refusal.status(),
+    }
+}
+
 impl<'a> Database<'a> {
     /// Whether the database has the means of so many positions from a rank on. Refused exactly as
     /// `rank_refusal` says, and as `Changed` only where the bytes were changed since they were
@@ -102,6 +163,45 @@ impl<'a> Database<'a> {
         let mut records = self.records_from(first);
         for index in 0..means.len() {
             means[index] = Wide::of(records.next_record().mean());
+        }
+    }
+    /// Writes the effective pip counts of the positions of the ranks from one on. Whether it could
+    /// be done, which is so unless the bytes are changed meanwhile.
+    fn put_epcs(&self, first: u16, epcs: &mut [Rounded]) -> bool
+        requires opened { IsTrue self.now.is_open }
+        requires within { first + length epcs.old ≤ count_to self.now.bound }
+        ensures done { IsTrue result }
+        ensures pips { SaysByRank first epcs.new
+            (λ x pips. IsEffectivePips (mean_of self.now.bytes.now x)
+            (number_of pips.exact.numerator) (number_of pips.exact.denominator)) }
+        ensures rounded { SaysByRank first epcs.new
+            (λ x pips. IsThousandths
+            (number_of pips.exact.numerator) (number_of pips.exact.denominator)
+            pips.thousandths) }
+    {
+        let mut records = self.records_from(first);
+        for index in 0..epcs.len() {
+            let Some(rolls) = records.next_mean() else {
+                return false;
+            };
+            epcs[index] = Rounded::of(epc(rolls));
+        }
+        true
+    }
+
+    /// Writes what stands for the shares of the positions of the ranks from one on.
+    fn put_distributions(&self, first: u16, distributions: &mut [Distribution])
+        requires opened { IsTrue self.now.is_open }
+        requires within { first + length distributions.old ≤ count_to self.now.bound }
+        ensures { SaysByRank first distributions.new
+            (λ x spread. (k : ℕ) → k ≤ 22 → slice_index (map number_of spread.shares) k
+            ≡ spread_of self.now.bytes.now x k) }
+    {
+        let mut records = self.records_from(first);
+        for index in 0..distributions.len() {
+            distributions[index] = Distribution {
+                shares: shares_in(&records.next_record()),
+            };
         }
     }
 }
