@@ -16,8 +16,9 @@
  *
  * Threads. Each call may be made from any thread; calls that only read a database may share it.
  *
- * Stack. bearoff_open needs about 1.5 MB of stack, every other call less than 128 KB. Threads
- * whose stack is smaller have to be given more before they open a database.
+ * Stack. bearoff_open and bearoff_upgrade need less than BEAROFF_OPEN_STACK bytes of stack,
+ * bearoff_build less than BEAROFF_BUILD_STACK, every other call less than 128 KB. Threads whose
+ * stack is smaller have to be given more before they make such a call.
  *
  * Refusals. Each call returns a status; where it isn't BEAROFF_OK nothing that the caller lends
  * was changed, except for what the call's comment says.
@@ -47,6 +48,7 @@ enum {
     BEAROFF_CHANGED = 7,    /* the bytes were changed since they were checked */
     BEAROFF_SHORT = 8,      /* the room that was lent is too small */
     BEAROFF_NOT_OLD = 9,    /* the file that is to be upgraded is of version 2 already */
+    BEAROFF_NO_RANK = 10,   /* the database has no position of that rank, or fewer than asked from there on */
 
     /* bearoff_open alone: the first fault of the bytes */
     BEAROFF_TOO_SHORT = 16,        /* fewer than 32 bytes */
@@ -138,6 +140,13 @@ typedef struct bearoff_database {
 /* bearoff_database database = BEAROFF_CLOSED; */
 #define BEAROFF_CLOSED {(const uint8_t *)"", 0, 0, 0, 0, {0}}
 
+/* How many bytes of stack bearoff_open and bearoff_upgrade want, and bearoff_build. */
+#define BEAROFF_OPEN_STACK 1572864
+#define BEAROFF_BUILD_STACK 20971520
+
+/* How many bytes a file that bearoff_build makes has at most: that of 58 pips. */
+#define BEAROFF_FILE 15060844
+
 /* The most bytes that the line of a fault has. */
 #define BEAROFF_LINE 32
 
@@ -178,6 +187,21 @@ uint32_t bearoff_bound(const bearoff_database *database, uint8_t *bound);
 uint32_t bearoff_positions(const bearoff_database *database, uint32_t *positions);
 
 /*
+ * The rank of a position: how many positions are before it, which are those of fewer pips, and of
+ * as many pips those with the smaller counts, the ace point's first. It is 0 to 46,061. The
+ * statuses of bearoff_mean, without BEAROFF_CHANGED: this call and the next read no byte.
+ */
+uint32_t bearoff_rank(const bearoff_database *database, const bearoff_position *position,
+                      uint16_t *rank);
+
+/*
+ * The position of a rank. BEAROFF_OK or BEAROFF_NOT_OPEN, and BEAROFF_NO_RANK exactly where the
+ * rank is not below what bearoff_positions tells.
+ */
+uint32_t bearoff_position_of(const bearoff_database *database, uint16_t rank,
+                             bearoff_position *position);
+
+/*
  * The least mean number of rolls until all checkers are off, over all strategies, as a numerator
  * over 36^22 (at most 22 * 36^22). BEAROFF_OK, BEAROFF_NOT_OPEN, BEAROFF_TOO_MANY or
  * BEAROFF_OVER_BOUND, and BEAROFF_CHANGED, which comes only where the bytes were changed after
@@ -196,6 +220,24 @@ uint32_t bearoff_epc(const bearoff_database *database, const bearoff_position *p
  */
 uint32_t bearoff_distribution(const bearoff_database *database, const bearoff_position *position,
                               bearoff_shares *shares);
+
+/*
+ * Whole tables in one call: the positions of the `count` ranks from `first` on, by rising rank, and
+ * their means, effective pip counts and shares, each as that of bearoff_mean, bearoff_epc and
+ * bearoff_distribution. `count` may be 0. BEAROFF_OK or BEAROFF_NOT_OPEN; BEAROFF_NO_RANK where
+ * `first` + `count` is over what bearoff_positions tells; and, for means and effective pip counts,
+ * BEAROFF_CHANGED where a mean that now stands there is over 22 rolls. All that refuses is found
+ * out before the first element is written; only where the bytes change while the call runs may a
+ * refusal of bearoff_listed_epcs come later. The positions are told without a byte being read.
+ */
+uint32_t bearoff_listed_positions(const bearoff_database *database, uint16_t first,
+                                  bearoff_position *positions, size_t count);
+uint32_t bearoff_listed_means(const bearoff_database *database, uint16_t first,
+                              bearoff_wide *means, size_t count);
+uint32_t bearoff_listed_epcs(const bearoff_database *database, uint16_t first,
+                             bearoff_pips *epcs, size_t count);
+uint32_t bearoff_listed_distributions(const bearoff_database *database, uint16_t first,
+                                      bearoff_shares *shares, size_t count);
 
 /*
  * The recorded play of a roll, whose two dice, 1 to 6 each, come in either order. No play has a
@@ -258,6 +300,26 @@ uint32_t bearoff_answer_line(const bearoff_database *database, const uint8_t *li
  */
 uint32_t bearoff_upgrade(const uint8_t *bytes, size_t length, uint8_t *work, size_t work_length,
                          uint8_t *room, size_t room_length, size_t *filled);
+
+/*
+ * Builds the database of a pip bound into the front of `room`; `*filled` is how many bytes it has:
+ * 11,209,796 for 44 pips, and BEAROFF_FILE for 58. `work` is a room of at least as many bytes,
+ * which the call uses as it likes. It needs BEAROFF_BUILD_STACK bytes of stack. BEAROFF_OK;
+ * BEAROFF_OVER_BOUND where the bound is over 58; BEAROFF_SHORT where a room is too small. Where the
+ * status is not BEAROFF_OK `room` and `*filled` stay as they were.
+ */
+uint32_t bearoff_build(uint8_t bound, uint8_t *work, size_t work_length, uint8_t *room,
+                       size_t room_length, size_t *filled);
+
+/* The pips, 0 to 90, and the checkers of a position, and how many of 15 are borne off. */
+typedef struct bearoff_stand {
+    uint8_t pips;
+    uint8_t checkers;
+    uint8_t off;
+} bearoff_stand;
+
+/* What a position stands at, without a database. BEAROFF_OK or BEAROFF_TOO_MANY. */
+uint32_t bearoff_standing(const bearoff_position *position, bearoff_stand *standing);
 
 #ifdef __cplusplus
 }

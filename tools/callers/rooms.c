@@ -12,11 +12,7 @@
 
 #include "bearoff.h"
 
-/* what only the page for a browser uses */
-uint32_t bearoff_build(uint8_t bound, uint8_t *work, size_t work_length, uint8_t *room, size_t room_length,
-                       size_t *filled);
-
-enum { GUARD = 64, MARK = 0xA5, MOST = 15060844, OVER_BOUND = 59, STACK = 64 << 20 };
+enum { GUARD = 64, MARK = 0xA5, MOST = BEAROFF_FILE, OVER_BOUND = 59, STACK = 64 << 20 };
 
 static uint8_t work_block[GUARD + MOST + GUARD], room_block[GUARD + MOST + GUARD], built[MOST], upgraded[MOST];
 static uint8_t *const work = work_block + GUARD, *const room = room_block + GUARD;

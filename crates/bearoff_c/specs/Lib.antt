@@ -7,3 +7,4 @@ pub mod PlayLists
 pub mod ResultLists
 pub mod RoundedPips
 pub mod Places
+pub mod Listed

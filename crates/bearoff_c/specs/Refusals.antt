@@ -1,10 +1,11 @@
 -- Why a call gives no answer, and the status of that.
-use Rattle.std.specs.Prelude.{ℕ, ◌==◌, nat_lt, nat_le, ◌&&◌, Bool, true, false, if◌then◌else◌}
+use Rattle.std.specs.Prelude.{ℕ, ◌+◌, ◌==◌, nat_lt, nat_le, ◌&&◌, Bool, true, false, if◌then◌else◌}
 use Rattle.std.specs.Prelude.{Option, Some, None, Result, Ok, Err}
 use Rattle.race_model.specs.Positions.{Board, checkers, pips}
+use Rattle.race_model.specs.Ranks.{count_to}
 use Rattle.bearoff_c.specs.declared.refusal.Refusal.{Refusal}
 use Rattle.bearoff_c.specs.declared.refusal.Refusal.TheVariants.{NotOpen, BadRoll, TooMany, OverBound, Finished}
-use Rattle.bearoff_c.specs.declared.refusal.Refusal.TheVariants.{NotLegal, Changed}
+use Rattle.bearoff_c.specs.declared.refusal.Refusal.TheVariants.{NotLegal, Changed, NoRank}
 
 -- the status: 0 where nothing was refused
 abbrev pub status_of : Option Refusal → ℕ
@@ -16,6 +17,7 @@ status_of (Some OverBound) = 4
 status_of (Some Finished) = 5
 status_of (Some NotLegal) = 6
 status_of (Some Changed) = 7
+status_of (Some NoRank) = 10
 
 -- why a call gave no answer, if it gave none
 abbrev pub refusal_in : {T : Type 0} → Result T Refusal → Option Refusal
@@ -34,6 +36,12 @@ position_refusal true bound x =
 abbrev pub open_refusal : Bool → Option Refusal
 open_refusal false = Some NotOpen
 open_refusal true = None
+
+-- why a database of this bound, which is open or not, lists nothing of so many ranks from one on
+abbrev pub rank_refusal : Bool → ℕ → ℕ → ℕ → Option Refusal
+rank_refusal false bound first n = Some NotOpen
+rank_refusal true bound first n =
+    if nat_lt (count_to bound) (first + n) then Some NoRank else None
 
 -- the first of two tests that refuses
 abbrev pub or_else : Option Refusal → Option Refusal → Option Refusal

@@ -1,5 +1,5 @@
 ghost use Rattle.std.specs.Prelude.{◌≡◌, ◌≤◌, IsTrue, IfOk, OnOk, length};
-ghost use Rattle.race_model.specs.Positions.{pips};
+ghost use Rattle.race_model.specs.Positions.{IsPosition, pips};
 ghost use Rattle.race_model.specs.Ranks.{rank as rank_of, count_to};
 ghost use Rattle.race_model.specs.Versions.{version_number};
 ghost use Rattle.race_model.specs.Files.{IsFile, version_of, bound_of, record_at, mean as mean_of};
@@ -85,6 +85,20 @@ impl<'a> Database<'a> {
             found.1 ≡ record_at self.now.bytes.now (rank_of counts.now.points)) }
         ensures known { OnOk result (∥ IsKnown self.now.bytes.now counts.now.points ∥₁) }
     {
+        let position = self.placed(counts)?;
+        let view = self.record(&position);
+        Ok((position, view))
+    }
+
+    /// The position that the counts state, where it has a record. Refused as `find` is.
+    pub fn placed(&self, counts: &Counts) -> Result<Position, Refusal>
+        ensures refusal { refusal_in result
+            ≡ position_refusal self.now.is_open self.now.bound counts.now.points }
+        ensures position { IfOk result (λ position. position ≡ counts.now.points) }
+        ensures within { IfOk result (λ position. pips position ≤ self.now.bound) }
+        ensures is { OnOk result (IsPosition counts.now.points) }
+        ensures opened { OnOk result (IsTrue self.now.is_open) }
+    {
         if !self.is_open {
             return Err(Refusal::NotOpen);
         }
@@ -94,8 +108,7 @@ impl<'a> Database<'a> {
         if position.pips() > self.bound {
             return Err(Refusal::OverBound);
         }
-        let view = self.record(&position);
-        Ok((position, view))
+        Ok(position)
     }
 
     /// How many positions the database has.
@@ -117,7 +130,7 @@ impl<'a> Database<'a> {
     }
 
     /// The bytes of an open database, and by what a place in them is found.
-    fn lent(&self) -> Lent<'_>
+    pub fn lent(&self) -> Lent<'_>
         requires { IsTrue self.now.is_open }
         ensures bytes { result.bytes.now ≡ self.now.bytes.now }
         ensures version { result.version ≡ self.now.version }

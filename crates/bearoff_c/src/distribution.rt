@@ -47,7 +47,7 @@ pub extern "C" fn bearoff_distribution(
 }
 
 /// What stands in a record for the shares of 0 to 22 rolls.
-fn shares_in(view: &RecordView<'_>) -> [Wide; 23]
+pub fn shares_in(view: &RecordView<'_>) -> [Wide; 23]
     ensures { (k : ℕ) → k ≤ 22 →
         slice_index (map number_of result) k ≡ share_of view.now k }
 {

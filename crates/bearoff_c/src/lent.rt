@@ -1,7 +1,7 @@
 //! Bytes that a caller lends, and where the records in them stand. All that is known of them here
 //! is how many they are: each place is found by the version, the bound and the table that are kept
 //! beside them, so no place depends on what the bytes are.
-ghost use Rattle.std.specs.Prelude.{◌≡◌, ◌+◌, ◌*◌, ◌≤◌, length};
+ghost use Rattle.std.specs.Prelude.{◌≡◌, ◌+◌, ◌*◌, ◌<◌, ◌≤◌, length};
 ghost use Rattle.race_model.specs.Positions.{IsPosition, pips};
 ghost use Rattle.race_model.specs.Ranks.{rank as rank_of, first_of, count_to};
 ghost use Rattle.race_model.specs.Versions.{version_by, record_length as length_of};
@@ -42,10 +42,38 @@ impl<'a> Lent<'a> {
             (record_place (version_by self.now.version) (rank_of position.now))
             (length_of (version_by self.now.version) (pips position.now))) }
     {
-        let place = self.place(position);
+        self.at(self.place(position))
+    }
+
+    /// What stands for a record at a place within the bytes, whatever they are.
+    pub fn at(&self, place: Place) -> RecordView<'a>
+        requires low { place.pips ≤ 58 }
+        requires length { place.length ≡ length_of (version_by self.now.version) place.pips }
+        requires inside { place.offset + place.length ≤ length self.now.bytes.now }
+        ensures { result ≡ told_record (version_by self.now.version) place.pips
+            (bytes_at self.now.bytes.now place.offset place.length) }
+    {
         let first = place.offset as usize;
         let bytes = &self.bytes[first..first + place.length as usize];
         RecordView::of_version(bytes, self.version, place.pips).unwrap()
+    }
+
+    /// The pip count, from one on, of the position of a rank; the bound for one beyond the last.
+    pub fn level_of(&self, lowest: u8, rank: u16) -> u8
+        requires low { lowest ≤ self.now.bound }
+        requires reached { first_of lowest ≤ rank }
+        requires within { rank ≤ count_to self.now.bound }
+        ensures from { first_of result ≤ rank }
+        ensures beyond { rank ≤ first_of (result + 1) }
+        ensures under { rank < count_to self.now.bound → rank < first_of (result + 1) }
+        ensures bound { result ≤ self.now.bound }
+    {
+        for level in lowest..self.bound {
+            if rank < self.ranks.first_of(level + 1) {
+                return level;
+            }
+        }
+        self.bound
     }
 
     /// Where the record of a position of at most the bound stands: within the bytes, whatever they
@@ -62,13 +90,23 @@ impl<'a> Lent<'a> {
         ensures position { IsPosition position.now }
     {
         let pips = position.pips();
-        let earlier = u64::from(self.ranks.rank(position) - self.ranks.first_of(pips));
-        let length = record_length(self.version, pips);
         Place {
-            offset: self.start_of(pips) + earlier * u64::from(length),
-            length,
+            offset: self.start_from(pips, self.ranks.rank(position)),
+            length: record_length(self.version, pips),
             pips,
         }
+    }
+
+    /// Where the records from a rank on begin, which is that of a position of so many pips, or the
+    /// next one.
+    pub fn start_from(&self, pips: u8, rank: u16) -> u64
+        requires low { pips ≤ 58 }
+        requires from { first_of pips ≤ rank }
+        requires beyond { rank ≤ first_of (pips + 1) }
+        ensures { result ≡ record_place (version_by self.now.version) rank }
+    {
+        let earlier = u64::from(rank - self.ranks.first_of(pips));
+        self.start_of(pips) + earlier * u64::from(record_length(self.version, pips))
     }
 
     /// Where the records of the positions of a pip count begin.

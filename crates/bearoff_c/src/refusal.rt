@@ -30,10 +30,13 @@ pub enum Refusal {
 
     /// A record holds what no accepted record can hold: the bytes were changed since the check.
     Changed,
+
+    /// The database has no position of the rank, or fewer than asked from there on.
+    NoRank,
 }
 
 impl Refusal {
-    /// The status of the refusal, 1 to 7.
+    /// The status of the refusal, 1 to 7 or 10.
     pub fn status(self) -> u32
         ensures value { result ≡ status_of (Some self) }
         ensures positive { 0 < result }
@@ -46,6 +49,7 @@ impl Refusal {
             Refusal::Finished => 5,
             Refusal::NotLegal => 6,
             Refusal::Changed => 7,
+            Refusal::NoRank => 10,
         }
     }
 }

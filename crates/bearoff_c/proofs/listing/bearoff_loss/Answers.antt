@@ -2,7 +2,7 @@ use Rattle.std.proofs.Common.{◌≡◌, Some, Err, refl, ap, sym, ◌∙◌, ar
 use Rattle.bearoff_c.specs.Refusals.{status_of}
 use Rattle.bearoff_c.specs.declared.refusal.Refusal.{Refusal}
 use Rattle.bearoff_c.specs.declared.refusal.Refusal.TheVariants.{NotOpen, BadRoll, TooMany, OverBound, Finished}
-use Rattle.bearoff_c.specs.declared.refusal.Refusal.TheVariants.{NotLegal, Changed}
+use Rattle.bearoff_c.specs.declared.refusal.Refusal.TheVariants.{NotLegal, Changed, NoRank}
 use Rattle.bearoff_c.proofs.listing.bearoff_loss.Goals as goal
 
 -- the status of a play that is not legal is that of no other refusal
@@ -14,6 +14,7 @@ not_legal_alone OverBound e = absurd (omega (arith, e))
 not_legal_alone Finished e = absurd (omega (arith, e))
 not_legal_alone NotLegal e = refl
 not_legal_alone Changed e = absurd (omega (arith, e))
+not_legal_alone NoRank e = absurd (omega (arith, e))
 
 pub returns-in-Err-clause-not_legal : goal.returns-in-Err-clause-not_legal
 returns-in-Err-clause-not_legal c =

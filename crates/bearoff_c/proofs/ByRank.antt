@@ -1,0 +1,38 @@
+-- What is listed by rank, item after item.
+use Rattle.std.proofs.Common.{◌≡◌, ℕ, ◌+◌, ◌<◌, ◌≤◌, ◌⊎◌, inl, inr, List, length, get_or, set, sym, ap, subst, ◌∙◌, arith}
+use Rattle.std.proofs.lemmas.Bool.{cases_lt}
+use Rattle.std.proofs.lemmas.List.{get_or-set_other}
+use Rattle.std.proofs.lemmas.Grind.{get_or-set_at}
+use Rattle.race_model.specs.Positions.{Board, IsPosition}
+use Rattle.race_model.specs.Ranks.{rank, count_to}
+use Rattle.race_model.proofs.Ranks.RankOrder.{rank_bound}
+use Rattle.bearoff_c.specs.Databases.{IsOpened, IsKnown}
+use Rattle.bearoff_c.proofs.Known.{opened_knows}
+
+-- the first n items of a list say so of their positions
+abbrev pub SaysTo : {T : Type 0} → ℕ → ℕ → List T → (Board → T → Type 0) → Type 0
+SaysTo n first items Says =
+    (x : Board) (i : ℕ) (d : _) → IsPosition x → rank x ≡ first + i → i < n
+    → Says x (get_or items i d)
+
+-- one item more
+pub says_more : {T : Type 0} (n first : ℕ) (items : List T) (item : T)
+    (Says : Board → T → Type 0) → n < length items → SaysTo n first items Says
+    → ((x : Board) → IsPosition x → rank x ≡ first + n → Says x item)
+    → SaysTo (n + 1) first (set items n item) Says
+says_more n first items item Says low was is x i d at ranked under = by_cases (cases_lt i n) where
+  by_cases : (i < n) ⊎ (n ≤ i) → Says x (get_or (set items n item) i d)
+  by_cases (inl less) =
+      let other : i ≡ n → ⊥ = λ e. let never : ⊥ = omega (arith, e, less) in never in
+      subst (Says x) (sym (get_or-set_other items n i item d other)) (was x i d at ranked less)
+  by_cases (inr most) =
+      let same : i ≡ n = omega (arith, most, under) in
+      subst (Says x) (sym (get_or-set_at items n i item d same low))
+      (is x at (ranked ∙ ap (λ k. first + k) same))
+
+-- an open database knows the positions of its ranks
+pub ranked_known : (f : List ℕ) (bound first n i : ℕ) (x : Board) → IsOpened f bound
+    → IsPosition x → rank x ≡ first + i → i < n → first + n ≤ count_to bound → IsKnown f x
+ranked_known f bound first n i x opened at ranked under within =
+    opened_knows f bound x opened at
+    ((rank_bound x bound at).0 (omega (arith, ranked, under, within)))

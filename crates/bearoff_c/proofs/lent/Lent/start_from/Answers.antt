@@ -1,0 +1,41 @@
+use Rattle.std.proofs.Common.{◌≡◌, ◌+◌, ◌*◌, ◌≤◌, sym, ap, ◌∙◌, w64, arith}
+use Rattle.std.proofs.Math.Facts.{Fits-of_lt}
+use Rattle.race_model.specs.Ranks.{first_of, count_to}
+use Rattle.race_model.specs.Versions.{version_by, record_length}
+use Rattle.race_model.specs.Files.{record_place}
+use Rattle.race_model.proofs.Ranks.RankOrder.{count_to-rises}
+use Rattle.race_model.proofs.Ranks.PositionTotals.{count_to-most}
+use Rattle.race_model.proofs.RightFiles.Places.{record_place-most}
+use Rattle.db_layout.proofs.RecordPlaces.{first_of-next, place_of_rank}
+use Rattle.bearoff_c.proofs.lent.Lent.start_from.Goals as goal
+
+-- where the records from the rank on stand, by that version
+offset : (c : goal.After-from) →
+    c.start_of.result + c.from-earlier.result * c.from.result
+    ≡ record_place (version_by c.args.self.now.version) c.args.rank
+offset c =
+    place_of_rank (version_by c.args.self.now.version) c.args.pips c.args.rank
+    c.start_of.result c.from-earlier.result c.from.result c.requires.from c.requires.beyond
+    c.start_of.ensures
+    (omega (arith, c.from-earlier.ensures, c.first_of.ensures))
+    (c.from.ensures ∙ c.record_length.ensures)
+
+pub overflow_add-result : goal.overflow_add-result
+overflow_add-result c =
+    let low : c.args.rank ≤ count_to 58 = omega (
+      arith,
+      c.requires.beyond,
+      first_of-next c.args.pips,
+      count_to-rises c.args.pips 58 c.requires.low,
+    ) in
+    Fits-of_lt {w = w64}
+    (omega (
+      arith,
+      offset c,
+      low,
+      count_to-most 58,
+      record_place-most (version_by c.args.self.now.version) c.args.rank low,
+    ))
+
+pub returns : goal.returns
+returns c = offset c

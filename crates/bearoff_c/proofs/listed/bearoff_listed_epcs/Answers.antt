@@ -1,0 +1,16 @@
+use Rattle.std.proofs.Common.{◌+◌, ◌≤◌, length, arith}
+use mathlib.Core.Logic.{∥∥₁_map}
+use Rattle.race_model.specs.Ranks.{count_to}
+use Rattle.bearoff_c.proofs.ByRank.{ranked_known}
+use Rattle.bearoff_c.proofs.Known.{known_least}
+use Rattle.bearoff_c.proofs.listed.bearoff_listed_epcs.Goals as goal
+
+pub returns-in-Ok-clause-least : goal.returns-in-Ok-clause-least
+returns-in-Ok-clause-least c = λ ok x i d at ranked under.
+    let database = c.args.database.now in
+    let f = database.bytes.now in
+    let n = length c.put_epcs.new.epcs in
+    let told = c.in-Ok.ensures {u = tt} in
+    let within : c.args.first + n ≤ count_to database.bound = omega (arith, told.within) in
+    ∥∥₁_map database.accepted (λ held. known_least f x
+    (ranked_known f database.bound c.args.first n i x (held told.opened) at ranked under within))
