@@ -95,14 +95,19 @@ export function estimateTold(state) {
         + `The mean error so far is ${decimal(mean)}.`);
 }
 
-// The ace-stack rule, where it speaks of a position: 7 pips for each checker and one more.
+// The ace-stack rule, where it speaks of a position: without doubles n checkers take half as many rolls, rounded up, and
+// each is worth 7 pips, with one more for all. What it is off over the 15 stacks is compared with the program.
+const OVER_ALL = { most: "0.167", mean: "0.027" };
+
 export function thumb(points, answer) {
     const [count] = points;
     if (!answer || answer.refusal || count < 1 || points.slice(1).some((other) => other > 0)) return null;
-    const rule = BigInt(7 * count + 1) * 1000n;
+    const rule = 7 * Math.ceil(count / 2) + 1;
     const exact = answer.effective.thousandths;
-    const off = rule > exact ? rule - exact : exact - rule;
-    return h("p", { class: "hint thumb" }, `Ace-stack rule, 7n + 1: ${7 * count + 1} EPC, ${decimal(off)} off here.`);
+    const off = 1000n * BigInt(rule) - exact;
+    return h("p", { class: "hint thumb" }, `Ace-stack rule, 7n + 1 for n rolls without a double: ${rule} EPC, `
+        + `${decimal(off < 0n ? -off : off)} off here; over the 15 stacks at most ${OVER_ALL.most}, `
+        + `and ${OVER_ALL.mean} on average.`);
 }
 
 const choice = (key, name, options) => h("label", {}, `${name} `, h("select", { "data-key": key },
