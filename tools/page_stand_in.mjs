@@ -2,7 +2,7 @@
 // address and its history, and a worker that answers when the test lets it. Its numbers are made up, each from its
 // position alone, so that a test sees of which position a number is.
 import { ROLLS } from "../web/rolls.js";
-import { draw } from "../web/trainer.js";
+import { drawQuestions } from "../web/trainer.js";
 import { decimal, percent } from "../web/engine.js";
 
 class Node {
@@ -257,4 +257,4 @@ export function rollsFrom(points) {
 }
 
 // A drill whose rolls all have a play that loses something, and none as good as the best.
-export const drawFrom = (drill) => draw(drill, ROLLS, () => [{ isBest: true }, { isBest: false }]);
+export const drawFrom = (drill) => drawQuestions(drill, ROLLS, () => [{ isBest: true }, { isBest: false }]);

@@ -74,14 +74,13 @@ export function* numbersFrom(seed) {
 
 // The questions of a drill: `playsOf` says the plays of a roll, the best first. A roll is asked only where there is
 // something to decide: more than one play, and the next best loses something.
-export function draw({ theme, seed, ask }, rolls, playsOf) {
+export function drawQuestions({ theme, seed, ask }, rolls, playsOf) {
     const themed = positions().filter(THEMES.find(({ name }) => name === theme).has);
     const numbers = numbersFrom(seed);
     const drawn = new Map();
     for (let tries = 0; drawn.size < Math.min(QUESTIONS, themed.length) && tries < 5000; tries += 1) {
         const points = themed[numbers.next().value % themed.length];
         const roll = rolls[numbers.next().value % rolls.length];
-        if (drawn.has(points.join())) continue;
         if (ask !== "play") {
             drawn.set(points.join(), { points, roll: null });
             continue;

@@ -1,13 +1,11 @@
 // What is shown of a lesson, of a drill, of an estimate, and of what can be begun.
 import { decimal } from "./engine.js";
+import { COMING } from "./panels.js";
 import { h } from "./tree.js";
-import { ASKED, ESTIMATED, THEMES } from "./trainer.js";
+import { ASKED, ESTIMATED, meanOf, THEMES } from "./trainer.js";
 import {
     answeredOf, drillErrors, estimated, estimateOf, lessonOf, meanError, mistakesOf, questionOf, scoreOf, stepOf,
 } from "./state.js";
-import { meanOf } from "./trainer.js";
-
-const COMING = "\u2026"; // what isn't known yet
 
 const button = (key, text, click, more = {}) => h("button", { type: "button", "data-key": key, click, ...more }, text);
 

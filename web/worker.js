@@ -2,7 +2,7 @@
 import { Engine, Refused } from "./engine.js";
 import { bytesOf, unpacked } from "./packed.js";
 import { ROLLS } from "./rolls.js";
-import { draw, MOST_PIPS } from "./trainer.js";
+import { drawQuestions, MOST_PIPS } from "./trainer.js";
 
 // The numbers of a position. Over the bound, or with too many checkers, only why there are none.
 export function answer(engine, points) {
@@ -34,7 +34,7 @@ export function rollsOf(engine, points) {
 export function drawn(engine, drill) {
     const isBest = (play) => (play.isBest ? 0 : 1);
     const bestFirst = (plays) => plays.sort((one, other) => isBest(one) - isBest(other));
-    return engine.bound < MOST_PIPS ? [] : draw(drill, ROLLS, (points, roll) => bestFirst(engine.plays(points, ...roll)));
+    return engine.bound < MOST_PIPS ? [] : drawQuestions(drill, ROLLS, (points, roll) => bestFirst(engine.plays(points, ...roll)));
 }
 
 // One desk of the worker: the compiled module, and the engine of the open database.
