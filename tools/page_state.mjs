@@ -753,7 +753,8 @@ async function drills() {
     equal("below", String(used.session.state.estimates[1].error), String(other + 999000n));
     const small = { ...begin(readLink("#at=1,0,0,0,0,0&estimate=effective")), answers: new Map([["1,0,0,0,0,0", { ...answerTo([1, 0, 0, 0, 0, 0]), effective: { text: "8.167", thousandths: 8167n } }]]) };
     equal("above", ["9", "7.167"].map((word) => String(giveEstimate({ ...small, decimals: new Map() }, word).estimates[0].error)), ["833", "1000"]);
-    await used.clicked("estimate off");
+    used.find("estimated").tell("change", { target: { value: "" } });
+    await used.worker.answerAll();
     equal("off", [used.session.state.estimate, used.figures.length], [null, 4]);
     const { document } = used;
     document.querySelector('[data-key="theme"]').value = "ace";

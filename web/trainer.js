@@ -53,7 +53,7 @@ export const THEMES = [
 ];
 
 // What a drill asks: the name in a link, and the words.
-export const ASKED = { play: "A play", pips: "Pip count", effective: "EPC", wastage: "Wastage" };
+export const ASKED = { play: "Play", pips: "Pip count", effective: "EPC", wastage: "Wastage" };
 export const ESTIMATED = ["pips", "effective", "wastage"];
 
 // The drill of these words of a link, or null.

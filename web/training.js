@@ -123,10 +123,10 @@ export const training = (state, act) => [
         h("label", {}, "Seed ", h("input", { type: "text", "data-key": "seed", inputmode: "numeric", value: "1" })),
         button("begin drill", "Begin", () => act.drill())),
     h("h3", {}, "Estimate first"),
-    h("p", { class: "choices" }, [["", "Off"], ...ESTIMATED.map((kind) => [kind, ASKED[kind]])].map(([kind, text]) =>
-        button(`estimate ${kind || "off"}`, text, () => act.estimate(kind), {
-            "aria-pressed": String((state.estimate || "") === kind),
-        }))),
+    h("p", { class: "choices" }, h("label", {}, "Hide the numbers until you have estimated ", h("select", {
+        "data-key": "estimated", value: state.estimate || "", change: ({ target }) => act.estimate(target.value),
+    }, [["", "nothing"], ...ESTIMATED.map((kind) => [kind, `the ${NAMES[kind]}`])].map(([value, text]) =>
+        h("option", { value, selected: value === (state.estimate || "") }, text))))),
     h("p", { class: "how" }, "Scored by proved numbers. Nothing is said of winning chances: the play of least mean isn't always "
         + "the one that wins most often."),
 ];
