@@ -524,13 +524,16 @@ async function driveLessons(browser) {
         await page.click(`[data-key="lesson ${number}"]`);
         await page.until(`document.querySelector("#coach h2")?.textContent === ${JSON.stringify(title)}`);
         for (let step = 1, last = false; !last; step += 1) {
-            await page.until(`document.querySelector("#coach .how").textContent.startsWith("Step ${step} of") && (${KNOWN})`);
+            await page.until(`document.querySelector("#coach .how").textContent.startsWith("Step ${step} of")`);
             const position = await page.value('document.getElementById("counts").value');
             equal(`${title}, step ${step}`, (await page.value(SHOWN)).values, position);
+            const isNumber = await page.value(`document.querySelectorAll(".figure").length === 0`);
             if (await page.value('Boolean(document.querySelector(\'[data-key="answer"]\'))')) {
                 equal(`${title}, step ${step}: closed`, await page.value('Boolean(document.querySelector(".answers"))'), false);
                 await page.click('[data-key="answer"]');
                 await page.until('document.querySelector(".answers").textContent.length > 0');
+                await page.until('document.querySelector(".figure")');
+                if (isNumber) equal(`${title}, step ${step}: its number`, (await page.value(SHOWN)).figures[2], ask(`mean ${position}`).split(" ")[4]);
             }
             last = !(await page.value('Boolean(document.querySelector(\'[data-key="next step"]\'))'));
             if (!last) await page.click('[data-key="next step"]');

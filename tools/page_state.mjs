@@ -785,6 +785,10 @@ async function lessons() {
     used.document.tell("drop", { dataTransfer: { files: [{ name: "bad.txt", text: async () => "hello" }] } });
     await settled();
     equal("a refused one", [used.text("trouble"), used.text("coach").includes("mine")], ["The lesson can't be read. Line 1: no such word", true]);
+    const number = await Used.open(`#text=${encodeURIComponent("lesson: One\nstep: 1,0,0,0,0,0\nask: How many?\nanswer: One.")}`);
+    equal("a number that is asked is hidden", [number.figures, number.text("chances"), number.text("said")], [[], "", ""]);
+    await number.clicked("answer");
+    equal("and comes with the answer", [number.figures.length, number.text("coach").includes("One.")], [4, true]);
     equal("compact", (await Used.open("#view=board")).document.body.classList.contains("compact"), true);
 }
 

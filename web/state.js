@@ -91,9 +91,15 @@ export const estimated = ({ drill, estimate }) => (drill ? (drill.ask === "play"
 export const estimateOf = (state, points = state.points) =>
     state.estimates.find(({ at, kind }) => at === keyOf(points) && kind === estimated(state));
 
-// Whether the numbers of the board's position are hidden, since one of them is to be estimated.
+// Whether a lesson asks for a number of the board's position, and its answer isn't open yet.
+export function asksNumber(state) {
+    const step = stepOf(state);
+    return Boolean(step && step.answer && !step.roll && !state.isAnswered) && keyOf(step.points) === keyOf(state.points);
+}
+
+// Whether the numbers of the board's position are hidden, since one of them is to be estimated or is asked.
 export const hidesNumbers = (state) =>
-    Boolean(estimated(state)) && !answerOf(state)?.refusal && !estimateOf(state);
+    asksNumber(state) || (Boolean(estimated(state)) && !answerOf(state)?.refusal && !estimateOf(state));
 
 // The play that the board shows: the chosen one, or the best of the chosen roll.
 export function shownPlay(state) {
@@ -342,7 +348,7 @@ export function setEstimate(state, kind) {
 export function giveEstimate(state, text) {
     const told = readEstimate(text);
     const answer = answerOf(state);
-    if (!hidesNumbers(state) || !answer || told === null) return state;
+    if (!hidesNumbers(state) || !estimated(state) || !answer || told === null) return state;
     const kind = estimated(state);
     const exact = thousandthsOf(answer, kind);
     const error = told > exact ? told - exact : exact - told;

@@ -1,11 +1,15 @@
 // What the page shows of a state: trees for its parts, its texts, and what is hidden. Each is what this state says, and
 // nothing of a former one.
+import { h } from "./tree.js";
 import { board } from "./board.js";
 import { chances, kept, numbers, plays, rolls, verdict } from "./panels.js";
 import { coach, estimateField, estimateTold, thumb, training } from "./training.js";
 import {
-    answerOf, chosenOf, hides, hidesNumbers, isComing, isFull, isKept, lessonOf, orderOf, rollsOf, shownPlay, verdictOf,
+    answerOf, asksNumber, chosenOf, hides, hidesNumbers, isComing, isFull, isKept, lessonOf, orderOf, rollsOf, shownPlay, verdictOf,
 } from "./state.js";
+
+// What stands in the place of numbers that a lesson asks for.
+const asked = h("p", { class: "hint" }, "The numbers come with the answer.");
 
 export function view(state, act) {
     const { points, roll, guess, stops, database, typed } = state;
@@ -22,7 +26,7 @@ export function view(state, act) {
             board: board(points, shown ? shown.moves : [], act),
             coach: coach(state, act),
             training: training(state, act),
-            numbers: isEstimated ? estimateField(state, act)
+            numbers: asksNumber(state) ? asked : isEstimated ? estimateField(state, act)
                 : [numbers(answer, isComing(state)), thumb(points, answer), estimateTold(state)],
             chances: answer && !answer.refusal && !isEstimated ? chances(answer.distribution) : [],
             grid: rolls(list, roll, (dice) => hides(state, dice), stops.rolls, act),
