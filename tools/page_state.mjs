@@ -789,6 +789,9 @@ async function lessons() {
     equal("a number that is asked is hidden", [number.figures, number.text("chances"), number.text("said")], [[], "", ""]);
     await number.clicked("answer");
     equal("and comes with the answer", [number.figures.length, number.text("coach").includes("One.")], [4, true]);
+    number.click("copy-text");
+    await settled();
+    equal("as text", [number.window.copied, number.text("copied")], ["1,0,0,0,0,0\n\n. . . . . O\n6 5 4 3 2 1", "The position is copied as text."]);
     equal("compact", (await Used.open("#view=board")).document.body.classList.contains("compact"), true);
 }
 

@@ -4,7 +4,7 @@ import { Past } from "./history.js";
 import { readLink, writeLink } from "./link.js";
 import { Bar } from "./progress.js";
 import { Session } from "./session.js";
-import { readDrill, readLessons } from "./trainer.js";
+import { asText, readDrill, readLessons } from "./trainer.js";
 import {
     addCheckers, askNext, beginDrill, choosePlay, chooseRoll, endTraining, giveEstimate, giveLesson, goToStep, keep,
     openAnswer, orderOf, playOn, pressed, remove, resetGuesses, setCaption, setEstimate, setGuess, setPoints, stopAt,
@@ -128,6 +128,18 @@ export async function copyLink(document, window, href) {
     }
 }
 
+// Copies the board's position as text, or says that it can't be, and where the text stands.
+export async function copyPosition(document, window, points) {
+    const at = (name) => document.getElementById(name);
+    const text = asText(points);
+    try {
+        await window.navigator.clipboard.writeText(text);
+        at("copied").textContent = "The position is copied as text.";
+    } catch {
+        at("copied").textContent = `The browser lets this page copy nothing. The position is ${points.join()}.`;
+    }
+}
+
 // Starts the page: `parts` are the worker's script and the two modules in base 64.
 export function start(document, window, parts) {
     const at = (name) => document.getElementById(name);
@@ -176,6 +188,7 @@ export function start(document, window, parts) {
         at("rolls").addEventListener("keydown", ({ key }) => { if (key === "Escape") act.close(); });
         at("wider").addEventListener("click", () => build(58));
         at("print").addEventListener("click", () => window.print());
+        at("copy-text").addEventListener("click", () => copyPosition(document, window, session.state.points));
         at("copy").addEventListener("click", () => {
             past.settle();
             copyLink(document, window, window.location.href.replace(/#.*/, "") + past.current);
