@@ -1,16 +1,18 @@
-"""Compares docs/lessons.md with the program: lessons.py PAGE PROGRAM DATABASE [--fill].
+"""Compares the lessons with the program: lessons.py LESSONS PROGRAM DATABASE [PAGE].
 
-Each row of a position has its pips, its mean and its effective pip count in thousandths, and its wastage; each line that
-is said to be answered is answered so; each link keeps positions of the table below it, as the page reads it. With --fill
-the numbers of the rows are written anew.
+Each number in a lesson that has three decimals or is a fraction has to be one of the step's own: the mean, the effective
+pip count or the wastage of its position, a number of the program's replies to the lines that stand behind `from:` in the
+step, or one that an earlier step of the lesson had. A roll that is asked has to have more than one play. The
+page, docs/lessons.md, has to name the lessons in their order. What the ace-stack rule is off over all stacks is compared
+too.
 """
 import re
 import subprocess
 import sys
 from fractions import Fraction
-from urllib.parse import parse_qsl
+from pathlib import Path
 
-page, program, database = sys.argv[1:4]
+path, program, database = sys.argv[1:4]
 wrong = []
 
 
@@ -27,43 +29,59 @@ def nearest(number):
 
 
 def numbers(position):
-    """Pips, mean, effective pip count and wastage of a position."""
+    """The mean and the effective pip count of a position, exactly, and all its numbers as they may be told."""
     _, mean, _, exact, told = replies([f"mean {position}"])[0].split()
     pips = sum(point * int(count) for point, count in enumerate(position.split(","), 1))
     if nearest(Fraction(exact)) != told:
         wrong.append(f"{position}: {told} isn't {exact}")
-    return [str(pips), nearest(Fraction(mean)), told, nearest(Fraction(exact) - pips)]
+    return Fraction(exact), {mean, exact, nearest(Fraction(mean)), told, nearest(Fraction(exact) - pips)}
 
 
-lines = open(page, encoding="utf-8").read().split("\n")
-linked, listed, lessons = set(), set(), 0
-for place, line in enumerate(lines):
-    if line.startswith("## ") or place + 1 == len(lines):
-        if linked != listed:
-            wrong.append(f"above line {place + 1}: the link has {sorted(linked)}, and the table {sorted(listed)}")
-        linked, listed = set(), set()
-    link = re.search(r'href="[^"#]*bearoff\.html#([^"]*)"', line)
-    if link:
-        lessons += 1
-        words = parse_qsl(link.group(1), keep_blank_values=True)
-        linked = {value for name, value in words if name == "p"}
-        if dict(words).get("at") not in linked:
-            wrong.append(f"line {place + 1}: the board's position isn't kept")
-    row = re.match(r"\| `([\d,]+)` \| ([^|]*) \| (.*) \|$", line)
-    if row:
-        listed.add(row.group(1))
-        told, wanted = row.group(3).split(" | "), numbers(row.group(1))
-        if "--fill" in sys.argv:
-            lines[place] = f"| `{row.group(1)}` | {row.group(2)} | {' | '.join(wanted)} |"
-        elif told != wanted:
-            wrong.append(f"line {place + 1}: {told}, and not {wanted}")
-    for asked, answer in re.findall(r"`([a-z]+ [\d, ]+)` answers `([^`]+)`", line):
-        if replies([asked]) != [answer]:
-            wrong.append(f"line {place + 1}: `{asked}` is answered {replies([asked])}")
-if lessons != 5:
-    wrong.append(f"there are {lessons} lessons, and not 5")
-if "--fill" in sys.argv:
-    open(page, "w", encoding="utf-8").write("\n".join(lines))
+def steps_of(text):
+    """Each lesson's title and its steps: the position, the roll, the lines of `from:`, and the words."""
+    lessons = []
+    for line in text.splitlines():
+        word, _, value = line.partition(": ")
+        if word == "lesson":
+            lessons.append((value, []))
+        elif word == "step":
+            lessons[-1][1].append({"at": value, "from": [], "words": ""})
+        elif word == "from":
+            lessons[-1][1][-1]["from"].append(value)
+        elif word == "roll":
+            lessons[-1][1][-1]["roll"] = value
+        elif line:
+            lessons[-1][1][-1]["words"] += f" {line}"
+    return lessons
+
+
+# what is no fraction but a move
+MOVE = re.compile("6/[1-5]|5/[1-4]|4/[1-3]|3/[12]|2/1")
+
+lessons = steps_of(Path(path).read_text(encoding="utf-8"))
+for title, steps in lessons:
+    known = {"49/6"}
+    for number, step in enumerate(steps, 1):
+        known |= numbers(step["at"])[1]
+        for reply in replies(step["from"]):
+            told = re.findall(r"\d+/\d+|\d+\.\d{3}", reply)
+            known |= {*told, *(nearest(Fraction(one)) for one in told if "/" in one)}
+        words = step["words"]
+        fractions = [one for one in re.findall(r"\b\d+/\d+\b", words) if one not in known and not MOVE.fullmatch(one)]
+        for one in fractions + [one for one in re.findall(r"\b\d+\.\d{3}\b", words) if one not in known]:
+            wrong.append(f"{title}, step {number}: {one} is none of the program's")
+        if "roll" in step:
+            if len(replies([f"moves {step['at']} {step['roll']}"])[0].split()) < 3:
+                wrong.append(f"{title}, step {number}: {step['roll']} has nothing to decide")
+
+errors = [abs(numbers(f"{count},0,0,0,0,0")[0] - (7 * ((count + 1) // 2) + 1)) for count in range(1, 16)]
+told = re.search(r'OVER_ALL = \{ most: "([\d.]+)", mean: "([\d.]+)" \}', Path(path).with_name("training.js").read_text())
+if told.groups() != (nearest(max(errors)), nearest(sum(errors) / 15)):
+    wrong.append(f"the ace-stack rule: {told.groups()}, and not {nearest(max(errors))} and {nearest(sum(errors) / 15)}")
+if len(sys.argv) > 4:
+    named = re.findall(r"^\d+\. .*bearoff\.html#lesson=\d+\">([^<]*)</a>", Path(sys.argv[4]).read_text(), re.M)
+    if named != [title for title, _ in lessons]:
+        wrong.append(f"the page names {named}")
 for text in wrong:
     print(f"lessons: {text}")
 sys.exit(1 if wrong else 0)

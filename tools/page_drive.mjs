@@ -8,6 +8,7 @@ import { createServer } from "node:http";
 import { join, resolve } from "node:path";
 import { pathToFileURL } from "node:url";
 import { started } from "./browser.mjs";
+import { positions } from "../web/trainer.js";
 import { audit } from "./page_audit.mjs";
 
 const [, , pagePath, program, folder, pictures, ...parts] = process.argv;
@@ -474,6 +475,84 @@ async function driveHosted(browser) {
     }
 }
 
+// A drill of twenty by its seed: each question's best play, or another one, is chosen; the score is that of the program.
+async function driveDrill(browser) {
+    const page = await browser.open(`${address}#drill=middle&seed=2026&ask=play`);
+    await page.until(`${READY} && document.querySelector('[data-key="next question"]')`);
+    let sum = [0n, 1n];
+    for (let place = 0; place < 20; place += 1) {
+        await page.until(`document.querySelector("#coach .asks").textContent.startsWith("Question ${place + 1} of 20.") && document.querySelector(".plays")`);
+        const [position, roll, texts] = await page.value(`[document.getElementById("counts").value, document.querySelector('.rolls [aria-pressed="true"]').dataset.key.slice(5),
+            [...document.querySelectorAll(".plays .moves")].map((node) => node.textContent)]`);
+        const losses = ask(`moves ${position} ${roll}`).split(" ").slice(1).map((word) => word.split(":")[1]);
+        if (losses.length < 2 || losses.filter((loss) => loss.startsWith("0/")).length !== 1) wrong(`${position} ${roll} has nothing to decide`);
+        equal(`question ${place + 1} tells no loss`, await page.value('document.querySelectorAll("#plays .cost").length'), 0);
+        const text = texts[(7 * place) % texts.length];
+        await page.click(`[data-key="play ${text}"]`);
+        await page.until('document.querySelector("#plays .cost")');
+        const loss = await page.value(`document.querySelector('[data-key="play ${text}"] .cost').title.split(" ")[0]`);
+        if (!losses.includes(loss)) wrong(`${text} of ${position} ${roll} loses ${loss}, and the program knows ${losses.join(" ")}`);
+        const best = ask(`play ${position} ${roll}`).split(" to ")[0].slice(5);
+        equal(`${text} of ${position} ${roll}`, loss.startsWith("0/"), text === best);
+        const [above, below] = loss.split("/").map(BigInt);
+        sum = [sum[0] * below + above * sum[1], sum[1] * below];
+        await page.click('[data-key="next question"]');
+    }
+    await page.until('document.querySelector(".score") && !document.querySelector(".score").textContent.includes("\u2026")');
+    const told = await page.value('document.querySelector(".score").textContent');
+    const nearest = ([above, below]) => (Number((2000n * above + below) / (2n * below)) / 1000).toFixed(3);
+    const exact = told.match(/Exactly: (\d+)\/(\d+) of/).slice(1).map(BigInt);
+    equal("the score, exactly", exact[0] * sum[1] === sum[0] * exact[1], true);
+    equal("the score", told.split(" Exactly")[0], `20 of 20 were played. They lost ${nearest(sum)} rolls, or ${nearest([49n * sum[0], 6n * sum[1]])} of EPC.`);
+    await page.click('[data-key="mistakes"]');
+    await page.until('document.querySelector("#coach h2").textContent === "Mistakes of a drill"');
+    for (const position of ["0,0,0,0,4,4", "3,0,0,0,0,0", "7,4,2,0,0,0"]) {
+        const rank = Number(ask(`rank ${position}`).split(" ")[1]);
+        equal(`the rank of ${position}`, positions()[rank].join(), position);
+    }
+    equal("nothing went wrong", page.troubles(), []);
+}
+
+// Each lesson that comes with the page, step by step: its text, its board, and its answer, which opens; and an estimate.
+async function driveLessons(browser) {
+    const page = await browser.open(address);
+    await page.until(READY);
+    const count = await page.value('document.querySelectorAll(".lessons a").length');
+    equal("how many lessons", count, 12);
+    for (let number = 1; number <= count; number += 1) {
+        const title = await page.value(`document.querySelector('[data-key="lesson ${number}"]').textContent`);
+        await page.click(`[data-key="lesson ${number}"]`);
+        await page.until(`document.querySelector("#coach h2")?.textContent === ${JSON.stringify(title)}`);
+        for (let step = 1, last = false; !last; step += 1) {
+            await page.until(`document.querySelector("#coach .how").textContent.startsWith("Step ${step} of")`);
+            const position = await page.value('document.getElementById("counts").value');
+            equal(`${title}, step ${step}`, (await page.value(SHOWN)).values, position);
+            const isNumber = await page.value(`document.querySelectorAll(".figure").length === 0`);
+            if (await page.value('Boolean(document.querySelector(\'[data-key="answer"]\'))')) {
+                equal(`${title}, step ${step}: closed`, await page.value('Boolean(document.querySelector(".answers"))'), false);
+                await page.click('[data-key="answer"]');
+                await page.until('document.querySelector(".answers").textContent.length > 0');
+                await page.until('document.querySelector(".figure")');
+                if (isNumber) equal(`${title}, step ${step}: its number`, (await page.value(SHOWN)).figures[2], ask(`mean ${position}`).split(" ")[4]);
+            }
+            last = !(await page.value('Boolean(document.querySelector(\'[data-key="next step"]\'))'));
+            if (!last) await page.click('[data-key="next step"]');
+        }
+    }
+    const guess = await browser.open(`${address}#at=7,4,2,0,0,0&estimate=effective`);
+    await guess.until('document.body.dataset.ready && document.querySelector(".estimate input")');
+    equal("no number before the estimate", await guess.value('document.querySelectorAll(".figure").length + document.querySelectorAll(".chances").length'), 0);
+    await guess.click(".estimate input");
+    for (const key of ["5", "1", "Enter"]) await guess.key(key);
+    await guess.until('document.querySelector("#numbers .verdict")');
+    const off = Math.abs(51 - Number(ask("mean 7,4,2,0,0,0").split(" ")[4])).toFixed(3);
+    equal("how far off", await guess.value('document.querySelector("#numbers .verdict").textContent'), `You said 51.000: ${off} off. The mean error so far is ${off}.`);
+    const small = await browser.open(`${address}#view=board&at=7,4,2,0,0,0`, { width: 480, height: 320 });
+    await small.until(`${READY} && ${KNOWN}`);
+    equal("a compact board fits", await small.value("[document.documentElement.scrollWidth <= 480, document.documentElement.scrollHeight <= 320]"), [true, true]);
+    equal("nothing went wrong", page.troubles(), []);
+}
+
 const TEACHING = encodeURI("#t=What wastage is&at=0,0,0,4,4,1&roll=31&p=0,0,0,4,4,1&c=Nine on the high points&p=2,2,2,2,2,2&c=Two on each point&p=15,0,0,0,0,0&c=Fifteen on the ace point");
 
 // A telephone and a tablet: the plays of a tapped roll are in sight with a board, and so is what they lose exactly.
@@ -570,7 +649,7 @@ const OWN = {
         await driveFiles(page);
     },
     moments: driveMoments, older: driveOlder, hosted: driveHosted, touch: driveTouch, print: drivePrint,
-    audit: driveAudit, pictures: takePictures,
+    audit: driveAudit, pictures: takePictures, drill: driveDrill, lessons: driveLessons,
 };
 
 // Those in which each browser is.

@@ -6,7 +6,7 @@ import { readFileSync, writeFileSync } from "node:fs";
 import { join } from "node:path";
 import { Desk } from "../web/worker.js";
 import { decimal, Engine, FAULTS, Refused } from "../web/engine.js";
-import { readPoints } from "../web/link.js";
+import { readPoints } from "../web/points.js";
 
 const [, , modulePath, program, folder] = process.argv;
 const module = await WebAssembly.compile(readFileSync(modulePath));
@@ -196,7 +196,7 @@ async function compareRefusals(file) {
     }
 }
 
-if (readPoints("0,0,0,0,0,1") === null) wrong("link.js reads no position");
+if (readPoints("0,0,0,0,0,1") === null) wrong("points.js reads no position");
 execFileSync(program, ["--version"]);
 const eight = await compareBuilt(8, "eight");
 await compareBuilt(44, "race.db");

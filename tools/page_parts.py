@@ -13,7 +13,7 @@ import re
 import sys
 from pathlib import Path
 
-MOST_BYTES = 300_000
+MOST_BYTES = 400_000
 IMPORT = re.compile(r'^import \{[^}]*\} from "\./(\w+)\.js";\n', re.MULTILINE)
 
 
@@ -58,7 +58,9 @@ def main(web, wide, narrow, version, page):
     # a browser with memories of 64-bit addresses can unpack; an older one needs the other module as it is
     packed = {"wide": gzip.compress(Path(wide).read_bytes(), 9, mtime=0), "narrow": Path(narrow).read_bytes()}
     modules = {name: base64.b64encode(module).decode() for name, module in packed.items()}
-    parts = json.dumps({"worker": script(web, "worker", "serve(self);"), **modules}).replace("</", "<\\/")
+    worker = script(web, "worker", "serve(self);")
+    lessons = "".join(line for line in (web / "lessons.txt").read_text().splitlines(True) if not line.startswith("from:"))
+    parts = json.dumps({"worker": worker, "lessons": lessons, **modules}).replace("</", "<\\/")
     code = script(web, "app", f"start(document, window, {parts});")
     style = (web / "style.css").read_text()
     text = (web / "index.html").read_text()

@@ -2,6 +2,7 @@
 // address and its history, and a worker that answers when the test lets it. Its numbers are made up, each from its
 // position alone, so that a test sees of which position a number is.
 import { ROLLS } from "../web/rolls.js";
+import { drawQuestions } from "../web/trainer.js";
 import { decimal, percent } from "../web/engine.js";
 
 class Node {
@@ -202,8 +203,8 @@ export class Worker {
     async answerAll(bound = 44) {
         await settled();
         while (this.asked.length > 0) {
-            const { kind, points, fraction } = this.asked[0].question;
-            await this.answer({ ask: answerTo, rolls: rollsFrom, round: () => inThousandths(fraction) }[kind](points, bound));
+            const { kind, points, fraction, drill } = this.asked[0].question;
+            await this.answer({ ask: answerTo, rolls: rollsFrom, round: () => inThousandths(fraction), draw: () => drawFrom(drill) }[kind](points, bound));
         }
     }
 }
@@ -254,3 +255,6 @@ export function rollsFrom(points) {
         }),
     }));
 }
+
+// A drill whose rolls all have a play that loses something, and none as good as the best.
+export const drawFrom = (drill) => drawQuestions(drill, ROLLS, () => [{ isBest: true }, { isBest: false }]);

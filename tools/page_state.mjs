@@ -6,8 +6,12 @@ import { sumOfFractions } from "../web/fractions.js";
 import { readCounts, readLink, writeLink } from "../web/link.js";
 import { ROLLS } from "../web/rolls.js";
 import { moved } from "../web/panels.js";
-import { begin, pressed, received, wanted } from "../web/state.js";
-import { answerTo, Document, pipsOf, rollsFrom, settled, Window, Worker } from "./page_stand_in.mjs";
+import { begin, giveEstimate, pressed, received, wanted } from "../web/state.js";
+import { drawQuestions, meanOf, numbersFrom, positions, readEstimate, readLessons, THEMES, writeLesson } from "../web/trainer.js";
+import { drawn } from "../web/worker.js";
+import { thumb } from "../web/training.js";
+import { textOf } from "../web/tree.js";
+import { answerTo, Document, drawFrom, pipsOf, rollsFrom, settled, Window, Worker } from "./page_stand_in.mjs";
 
 globalThis.Worker = Worker;
 let failed = 0;
@@ -656,7 +660,142 @@ async function older() {
     equal("pips", pipsOf([1, 1, 1, 1, 1, 1]), 21);
 }
 
-for (const what of [moments, clicks, keys, typed, plays, guesses, keeping, addresses, older]) {
+// What is drawn, and what a lesson's text says.
+function trained() {
+    part = "what is drawn";
+    const all = positions();
+    equal("positions in the order of their ranks", [all.length, all.slice(0, 7).map(String)], [26314, ["0,0,0,0,0,0", "1,0,0,0,0,0", "0,1,0,0,0,0", "2,0,0,0,0,0", "0,0,1,0,0,0", "1,1,0,0,0,0", "3,0,0,0,0,0"]]);
+    const numbers = numbersFrom(1);
+    equal("numbers", [1, 2, 3].map(() => numbers.next().value), [48271, 182605794, 1291394886]);
+    const two = () => [{ isBest: true }, { isBest: false }];
+    const text = (drill) => JSON.stringify(drawQuestions(drill, ROLLS, two));
+    const drill = { theme: "gaps", seed: 7, ask: "play" };
+    equal("a seed draws the same", text(drill) === text({ ...drill }), true);
+    equal("another seed another", text(drill) === text({ ...drill, seed: 8 }), false);
+    for (const { name, has } of THEMES) {
+        const questions = drawQuestions({ ...drill, theme: name, ask: "effective" }, ROLLS, two);
+        equal(`${name}: of its theme`, [questions.length, questions.every(({ points, roll }) => has(points) && roll === null), new Set(questions.map(({ points }) => points.join())).size], [Math.min(20, all.filter(has).length), true, questions.length]);
+    }
+    const has = (name, points) => THEMES.find((theme) => theme.name === name).has(points);
+    equal("themes", [has("low", [4, 0, 1, 0, 0, 0]), has("low", [4, 0, 0, 1, 0, 0]), has("gaps", [2, 0, 3, 0, 0, 0]), has("gaps", [0, 2, 3, 0, 0, 0]), has("middle", [5, 0, 0, 0, 0, 0]), has("middle", [10, 0, 0, 0, 0, 0]), has("high", [0, 0, 0, 1, 1, 1]), has("high", [0, 0, 1, 1, 1, 1]), has("ace", [3, 0, 0, 0, 0, 0]), has("few", [0, 0, 0, 0, 0, 5])], [true, false, true, false, true, false, true, false, true, false]);
+    equal("one play is not asked", drawQuestions(drill, ROLLS, () => [{ isBest: true }]).length, 0);
+    equal("nor a tie", drawQuestions(drill, ROLLS, () => [{ isBest: true }, { isBest: true }, { isBest: false }]).length, 0);
+    const tied = { bound: 44, plays: () => [{ isBest: true }, { isBest: false }, { isBest: true }] };
+    equal("nor one that comes later", drawn(tied, drill).length, 0);
+    equal("a small database has none", drawn({ bound: 8 }, drill).length, 0);
+    equal("links", [readLink("#drill=gaps&seed=7").drill, readLink("#drill=ace&seed=7&ask=play").drill, readLink("#drill=gaps&seed=0").drill, readLink("#drill=x&seed=1").drill], [drill, null, null, null]);
+    part = "texts";
+    const lesson = { title: "A <b>lesson</b>", steps: [{ points: [0, 0, 0, 1, 0, 1], roll: [5, 2], text: "One & <i>two</i>", ask: "Which?", answer: "This." }, { points: [1, 0, 0, 0, 0, 0], roll: null, text: "Last", ask: "", answer: "" }] };
+    equal("a lesson comes back", readLessons(writeLesson(lesson)), { lessons: [lesson], fault: "" });
+    equal("lines go on", readLessons("lesson: x\nstep: 1,0,0,0,0,0\ntext: a\nb\n\n# c\nfrom: d\nask: e").lessons[0].steps[0], { points: [1, 0, 0, 0, 0, 0], roll: null, text: "a b", ask: "e", answer: "" });
+    for (const [given, fault] of [["", "There is no lesson in it."], ["lesson: x", "A lesson has no step."], ["step: 1,0,0,0,0,0", "Line 1: a lesson begins with its title"], ["lesson: x\nstep: 1,2", "Line 2: a step is six counts with commas between them"], ["lesson: x\nstep: 1,0,0,0,0,0\nroll: 7", "Line 3: a roll is two digits from 1 to 6"], ["hello", "Line 1: no such word"], ["lesson: x\ntext: y", "Line 2: a step comes first"]]) equal(`refused: ${given}`, readLessons(given), { lessons: [], fault });
+    equal("estimates", ["7", "7.5", "-0,25", "7.1234", "x", "1e3"].map((word) => String(readEstimate(word))), ["7000", "7500", "-250", "null", "null", "null"]);
+    equal("a mean", [meanOf([1n, 2n]), meanOf([1n, 1n, 2n])].map(String), ["2", "1"]);
+    const ace = textOf(thumb([5, 0, 0, 0, 0, 0], { effective: { thousandths: 22005n } }));
+    equal("the rule", [ace.includes("22 EPC, 0.005 off here"), thumb([5, 1, 0, 0, 0, 0], { effective: {} })], [true, null]);
+}
+
+async function drills() {
+    part = "a drill of plays";
+    let used = await Used.open("#drill=gaps&seed=7&ask=play");
+    const asked = drawFrom({ theme: "gaps", seed: 7, ask: "play" });
+    equal("the first question", [used.board.join(), used.session.state.roll.join(), used.at("coach").hidden], [asked[0].points.join(), asked[0].roll.join(), false]);
+    equal("its best play is hidden", [used.text("plays").includes("Which play is best?"), used.text("grid").includes("/")], [true, false]);
+    equal("no score yet", used.text("coach").includes("lost"), false);
+    for (const [place, { points, roll: [high, low] }] of asked.entries()) {
+        equal(`question ${place + 1}`, [used.board.join(), used.text("coach").includes(`Question ${place + 1} of 20`)], [points.join(), true]);
+        if (place < 7) await used.clicked(`play ${high}/1 ${low}/2`);
+        else if (place < 19) await used.clicked(`play ${high}/off ${low}/1`);
+        await used.clicked("next question");
+    }
+    equal("the score", used.text("coach").includes("19 of 20 were played. They lost 0.389 rolls, or 3.176 of EPC. Exactly: 7/18 of a roll."), true);
+    const mistakes = used.find("mistakes").getAttribute("href");
+    equal("the mistakes", readLessons(readLink(mistakes).text).lessons[0].steps.map(({ points }) => points.join()), asked.slice(0, 7).map(({ points }) => points.join()));
+    used.window.pass(1000);
+    equal("the seed is in the link", readLink(used.window.location.hash).drill, { theme: "gaps", seed: 7, ask: "play" });
+    await used.clicked("Add 1");
+    equal("over a changed board it stays", used.text("coach").includes("19 of 20"), true);
+    await used.clicked("end training");
+    equal("it ends", [used.at("coach").hidden, used.session.state.guess], [true, false]);
+
+    part = "a drill of estimates";
+    used = await Used.open("#drill=ace&seed=3&ask=effective");
+    equal("fifteen stacks", used.session.state.questions.length, 15);
+    equal("hidden", [used.figures, used.text("chances"), used.text("said").includes("effective")], [[], "", false]);
+    const [first, second] = used.session.state.questions.map(({ points }) => answerTo(points).effective.thousandths);
+    const tell = async (thousandths) => {
+        used.find("estimate").value = `${thousandths / 1000n}.${String(thousandths % 1000n).padStart(3, "0")}`;
+        await used.clicked("tell");
+    };
+    await tell(first % 1000000n);
+    const off = first - (first % 1000000n);
+    equal("told", [used.figures.length, used.text("numbers").includes(`${(Number(off) / 1000).toFixed(3)} off`)], [4, true]);
+    await used.clicked("next question");
+    equal("hidden again", used.figures, []);
+    await tell(1n);
+    equal("the mean of both", used.session.state.estimates.map(({ error }) => String(error)), [off, second - 1n].map(String));
+    equal("seen", used.text("numbers").includes("The mean error so far is"), true);
+
+    part = "estimates";
+    used = await Used.open("#at=1,0,0,0,0,0&p=1,0,0,0,0,0&estimate=wastage");
+    equal("the kept is hidden too", used.row("1,0,0,0,0,0"), ["\u2026", "\u2026", "\u2026", "\u2026"]);
+    used.find("estimate").value = "x";
+    await used.clicked("tell");
+    equal("no number is no estimate", used.session.state.estimates.length, 0);
+    used.find("estimate").tell("keydown", { key: "Enter", target: { value: "7" } });
+    equal("Enter", used.session.state.estimates.length, 1);
+    const made = answerTo([1, 0, 0, 0, 0, 0]).effective.thousandths - 1000n;
+    equal("how far off", String(used.session.state.estimates[0].error), String(made > 7000n ? made - 7000n : 7000n - made));
+    await used.clicked("Remove 1");
+    await used.clicked("Add 2");
+    const other = answerTo([0, 1, 0, 0, 0, 0]).effective.thousandths - 2000n;
+    used.find("estimate").tell("keydown", { key: "Enter", target: { value: "-999" } });
+    equal("below", String(used.session.state.estimates[1].error), String(other + 999000n));
+    const small = { ...begin(readLink("#at=1,0,0,0,0,0&estimate=effective")), answers: new Map([["1,0,0,0,0,0", { ...answerTo([1, 0, 0, 0, 0, 0]), effective: { text: "8.167", thousandths: 8167n } }]]) };
+    equal("above", ["9", "7.167"].map((word) => String(giveEstimate({ ...small, decimals: new Map() }, word).estimates[0].error)), ["833", "1000"]);
+    used.find("estimated").tell("change", { target: { value: "" } });
+    await used.worker.answerAll();
+    equal("off", [used.session.state.estimate, used.figures.length], [null, 4]);
+    const { document } = used;
+    document.querySelector('[data-key="theme"]').value = "ace";
+    document.querySelector('[data-key="asked"]').value = "play";
+    document.querySelector('[data-key="seed"]').value = "5";
+    await used.clicked("begin drill");
+    equal("an ace point has nothing to play", used.session.state.drill, { theme: "ace", seed: 5, ask: "effective" });
+}
+
+async function lessons() {
+    part = "a lesson";
+    const text = "lesson: <b>One</b>\nstep: 0,0,0,1,0,1\nroll: 52\ntext: <i>first</i>\nask: Which?\nanswer: That one.\nstep: 1,0,0,0,0,0\ntext: second";
+    const used = await Used.open(`#text=${encodeURIComponent(text)}`);
+    equal("its first step", [used.board, used.session.state.roll, used.text("coach").includes("<i>first</i>"), used.at("coach").all.some(({ localName }) => localName === "i" || localName === "b")], [[0, 0, 0, 1, 0, 1], [5, 2], true, false]);
+    equal("the answer is closed", used.text("coach").includes("That one."), false);
+    await used.clicked("answer");
+    equal("and opens", [used.text("coach").includes("That one."), used.text("said")], [true, "That one."]);
+    await used.clicked("next step");
+    equal("the second", [used.board, used.find("next step"), used.text("coach").includes("That one.")], [[1, 0, 0, 0, 0, 0], null, false]);
+    used.window.pass(1000);
+    equal("its link", [readLink(used.window.location.hash).step, readLessons(readLink(used.window.location.hash).text).lessons[0].title], [2, "<b>One</b>"]);
+    await used.clicked("previous step");
+    equal("closed again", [used.text("coach").includes("That one."), used.text("coach").includes("Step 1 of 2")], [false, true]);
+    used.document.tell("drop", { dataTransfer: { files: [{ name: "own.txt", text: async () => "lesson: Own\nstep: 2,0,0,0,0,0\ntext: mine" }] } });
+    await settled();
+    await used.worker.answerAll();
+    equal("a file", [used.board, used.text("coach").includes("mine")], [[2, 0, 0, 0, 0, 0], true]);
+    used.document.tell("drop", { dataTransfer: { files: [{ name: "bad.txt", text: async () => "hello" }] } });
+    await settled();
+    equal("a refused one", [used.text("trouble"), used.text("coach").includes("mine")], ["The lesson can't be read. Line 1: no such word", true]);
+    const number = await Used.open(`#text=${encodeURIComponent("lesson: One\nstep: 1,0,0,0,0,0\nask: How many?\nanswer: One.")}`);
+    equal("a number that is asked is hidden", [number.figures, number.text("chances"), number.text("said")], [[], "", ""]);
+    await number.clicked("answer");
+    equal("and comes with the answer", [number.figures.length, number.text("coach").includes("One.")], [4, true]);
+    number.click("copy-text");
+    await settled();
+    equal("as text", [number.window.copied, number.text("copied")], ["1,0,0,0,0,0\n\n. . . . . O\n6 5 4 3 2 1", "The position is copied as text."]);
+    equal("compact", (await Used.open("#view=board")).document.body.classList.contains("compact"), true);
+}
+
+for (const what of [trained, drills, lessons, moments, clicks, keys, typed, plays, guesses, keeping, addresses, older]) {
     try {
         await what();
     } catch (error) {

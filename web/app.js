@@ -4,9 +4,11 @@ import { Past } from "./history.js";
 import { readLink, writeLink } from "./link.js";
 import { Bar } from "./progress.js";
 import { Session } from "./session.js";
+import { asText, readDrill, readLessons } from "./trainer.js";
 import {
-    addCheckers, choosePlay, chooseRoll, keep, orderOf, playOn, pressed, remove, resetGuesses, setCaption, setGuess,
-    setPoints, stopAt, typeCounts, visit,
+    addCheckers, askNext, beginDrill, choosePlay, chooseRoll, endTraining, giveEstimate, giveLesson, goToStep, keep,
+    openAnswer, orderOf, playOn, pressed, remove, resetGuesses, setCaption, setEstimate, setGuess, setPoints, stopAt,
+    typeCounts, visit,
 } from "./state.js";
 import { draw } from "./tree.js";
 import { view } from "./view.js";
@@ -31,6 +33,7 @@ export function put(document, shown) {
     at("keep").setAttribute("aria-disabled", String(!shown.canKeep));
     at("guess").checked = shown.guess;
     at("rolls").classList.toggle("opened", shown.isOpen);
+    document.body.classList.toggle("compact", shown.isCompact);
 }
 
 // What the parts of the page do with a session.
@@ -68,6 +71,20 @@ export function actionsOf(session, document, window) {
             if (wasWithin && roll) focus(`roll ${roll.join("")}`);
         },
         guess: (isOn) => change(setGuess, isOn),
+        answer: () => change(openAnswer),
+        step: (step) => change(goToStep, step),
+        question: (place) => change(askNext, place),
+        estimate: (kind) => change(setEstimate, kind),
+        guessNumber: (text = document.querySelector('[data-key="estimate"]').value) => change(giveEstimate, text),
+        end: () => change(endTraining),
+        give: (text) => change(giveLesson, text),
+        drill() {
+            const [theme, ask, seed] = ["theme", "asked", "seed"].map((key) =>
+                document.querySelector(`[data-key="${key}"]`).value);
+            const drill = readDrill({ theme, ask, seed: seed.trim() })
+                || readDrill({ theme, ask: "effective", seed: seed.trim() });
+            if (drill) change(beginDrill, drill);
+        },
         reset() {
             const { roll } = session.state;
             change(resetGuesses);
@@ -111,6 +128,18 @@ export async function copyLink(document, window, href) {
     }
 }
 
+// Copies the board's position as text, or says that it can't be, and where the text stands.
+export async function copyPosition(document, window, points) {
+    const at = (name) => document.getElementById(name);
+    const text = asText(points);
+    try {
+        await window.navigator.clipboard.writeText(text);
+        at("copied").textContent = "The position is copied as text.";
+    } catch {
+        at("copied").textContent = `The browser lets this page copy nothing. The position is ${points.join()}.`;
+    }
+}
+
 // Starts the page: `parts` are the worker's script and the two modules in base 64.
 export function start(document, window, parts) {
     const at = (name) => document.getElementById(name);
@@ -123,7 +152,7 @@ export function start(document, window, parts) {
         if (state.database) document.body.dataset.ready = String(state.database.bound);
         if (state.loads === 0) bar.show(null);
         past.remember(writeLink(state), isStep);
-    });
+    }, readLessons(parts.lessons || "").lessons);
     act = actionsOf(session, document, window);
 
     const load = (text, question, lent) => {
@@ -136,6 +165,10 @@ export function start(document, window, parts) {
 
     const take = (file) => {
         if (!file) return;
+        if (/\.txt$/i.test(file.name || "")) {
+            file.text().then((text) => act.give(text));
+            return;
+        }
         const read = file.arrayBuffer().then((bytes) => ({ kind: "open", file: new Uint8Array(bytes) }));
         load("Reading the file\u2026", read, ({ file: bytes }) => [bytes.buffer]);
     };
@@ -155,6 +188,7 @@ export function start(document, window, parts) {
         at("rolls").addEventListener("keydown", ({ key }) => { if (key === "Escape") act.close(); });
         at("wider").addEventListener("click", () => build(58));
         at("print").addEventListener("click", () => window.print());
+        at("copy-text").addEventListener("click", () => copyPosition(document, window, session.state.points));
         at("copy").addEventListener("click", () => {
             past.settle();
             copyLink(document, window, window.location.href.replace(/#.*/, "") + past.current);

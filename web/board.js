@@ -1,6 +1,6 @@
 // The board: six points, the checkers on them, those that are borne off, and the moves of a play.
 import { h } from "./tree.js";
-import { MOST_CHECKERS, sumOf } from "./link.js";
+import { MOST_CHECKERS, sumOf } from "./points.js";
 
 const WIDTH = 100; // of a point
 const FLOOR = 330;

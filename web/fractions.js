@@ -1,11 +1,21 @@
-// The sum of fractions, exactly: the one number that the page's script works out itself.
+// Sums and multiples of fractions, exactly: the numbers that the page's script works out itself.
 
 const divisor = (one, other) => (other === 0n ? one : divisor(other, one % other));
+
+function lowest(above, below) {
+    const common = divisor(above, below);
+    return `${above / common}/${below / common}`;
+}
 
 // The sum of texts like "1/18", in lowest terms.
 export function sumOfFractions(fractions) {
     const [above, below] = fractions.map((text) => text.split("/").map(BigInt)).reduce(
         ([one, under], [other, over]) => [one * over + other * under, under * over], [0n, 1n]);
-    const common = divisor(above, below);
-    return `${above / common}/${below / common}`;
+    return lowest(above, below);
+}
+
+// A text like "1/18" so many times.
+export function timesFraction(text, above, below) {
+    const [one, under] = text.split("/").map(BigInt);
+    return lowest(one * above, under * below);
 }

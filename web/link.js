@@ -1,19 +1,10 @@
 // What the address keeps: the positions, their captions, and how the page stands. Captions are text.
+import { MOST_CHECKERS, readPoints, sumOf } from "./points.js";
+import { ESTIMATED, readDrill, readLessons } from "./trainer.js";
 
 export const MOST_KEPT = 10;
-export const MOST_CHECKERS = 15;
 const LONGEST_CAPTION = 200;
 export const START = [2, 2, 2, 2, 2, 2];
-
-export const sumOf = (counts) => counts.reduce((sum, count) => sum + count, 0);
-
-// Six counts of at most 15 checkers in all, or null.
-export function readPoints(text) {
-    const counts = text.split(",");
-    if (counts.length !== 6 || !counts.every((count) => /^\d{1,2}$/.test(count))) return null;
-    const points = counts.map(Number);
-    return sumOf(points) <= MOST_CHECKERS ? points : null;
-}
 
 // Six counts as a reader types them, with commas, spaces or full stops between them; or, in words, why they are none.
 export function readCounts(typed) {
@@ -57,12 +48,30 @@ export function readLink(hash) {
         roll: roll && roll.sort((one, other) => other - one),
         guess: words.get("guess") === "1",
         bound: words.get("pips") === "58" ? 58 : 44,
+        isPlaced: words.has("at"),
+        isCompact: words.get("view") === "board",
+        drill: readDrill({ theme: words.get("drill"), seed: words.get("seed"), ask: words.get("ask") }),
+        estimate: ESTIMATED.includes(words.get("estimate")) ? words.get("estimate") : null,
+        lesson: /^\d{1,2}$/.test(words.get("lesson") || "") ? Number(words.get("lesson")) : null,
+        text: readLessons(words.get("text") || "").lessons[0] ? words.get("text") : "",
+        step: /^[1-9]\d?$/.test(words.get("step") || "") ? Number(words.get("step")) : 1,
     };
 }
 
 // The address of a state.
-export function writeLink({ points, kept, title, roll, guess, bound }) {
+export function writeLink({ points, kept, title, roll, guess, bound, ...more }) {
     const words = new URLSearchParams();
+    const { isCompact, drill, estimate, lesson, text: written, step } = more;
+    if (isCompact) words.append("view", "board");
+    if (drill) {
+        for (const [name, value] of [["drill", drill.theme], ["seed", drill.seed], ["ask", drill.ask]]) {
+            words.append(name, value);
+        }
+    }
+    if (estimate) words.append("estimate", estimate);
+    if (lesson) words.append("lesson", lesson);
+    else if (written) words.append("text", written);
+    if (step > 1) words.append("step", step);
     if (title) words.append("t", title);
     words.append("at", points.join());
     if (roll) words.append("roll", roll.join(""));

@@ -6,7 +6,7 @@ import { byLoss } from "./state.js";
 
 const FACES = { 1: [5], 2: [1, 9], 3: [1, 5, 9], 4: [1, 3, 7, 9], 5: [1, 3, 5, 7, 9], 6: [1, 3, 4, 6, 7, 9] };
 
-const COMING = "\u2026"; // what isn't known yet
+export const COMING = "\u2026"; // what isn't known yet
 
 const heard = (text) => h("span", { class: "heard" }, text);
 

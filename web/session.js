@@ -12,14 +12,14 @@ function whyNot(failure) {
 
 // What stands for the reply to a question that failed.
 function noReply({ kind, fraction }, { bound }, refusal) {
-    return { ask: { refusal, status: 0, standing: null, bound }, rolls: [], round: fraction }[kind];
+    return { ask: { refusal, status: 0, standing: null, bound }, rolls: [], draw: [], round: fraction }[kind];
 }
 
 export class Session {
     // A session that starts with a link's state; `changed` is called with each state that follows, and with whether
     // the reader made it.
-    constructor(link, changed) {
-        this.state = begin(link);
+    constructor(link, changed, lessons) {
+        this.state = begin(link, lessons);
         this.changed = changed;
         this.client = null;
         this.isAsking = false;

@@ -1,18 +1,26 @@
 // What the page knows, and what changes it. A state is a plain object that stays as it is: each change makes a new one.
 // An answer stands under its position and is read for that one alone; so nothing of a former position can be shown.
-import { MOST_CHECKERS, MOST_KEPT, readCounts, sumOf } from "./link.js";
-import { sumOfFractions } from "./fractions.js";
+import { MOST_KEPT, readCounts } from "./link.js";
+import { MOST_CHECKERS, sumOf } from "./points.js";
+import { sumOfFractions, timesFraction } from "./fractions.js";
 import { sameRoll } from "./rolls.js";
+import { ESTIMATED, meanOf, readEstimate, readLessons, thousandthsOf, writeLesson } from "./trainer.js";
 
 // A digit that follows another one within so many milliseconds is its second.
 const DIGITS_APART = 1000;
 
 export const keyOf = (points) => points.join();
 
-// The state of a link, before anything is known.
-export function begin(link) {
-    return {
-        ...link, // points, kept, title, roll, guess, bound
+// The state of a link, before anything is known, on a page with these lessons.
+export function begin(link, lessons = []) {
+    return placed({
+        ...link, // points, kept, title, roll, guess, bound, and what is trained
+        lessons, // those that come with the page
+        given: null, // the one of the link or of a file, read
+        isAnswered: false, // whether the answer of a lesson's step is open
+        questions: null, // of the drill, once they are drawn
+        place: 0, // which of them is asked
+        estimates: [], // the position, what was estimated of it, and how far that was off
         shown: null, // the text of the play that was chosen, or null for the best
         typed: null, // counts that were typed and refused, with the reason
         digits: null, // the digits that were typed on a point, and when
@@ -25,7 +33,27 @@ export function begin(link) {
         rolls: new Map(), // and of its 21 rolls
         decimals: new Map(), // a fraction's decimals
         said: "", // what is read aloud
-    };
+    }, link);
+}
+
+// The lesson that is on, or null.
+export const lessonOf = ({ lesson, lessons, given }) => (lesson ? lessons[lesson - 1] : given) || null;
+
+// The step of the lesson that is on, or null.
+export const stepOf = (state) => lessonOf(state)?.steps[state.step - 1] || null;
+
+// The question of the drill that is asked, or null where there is none or all were.
+export const questionOf = ({ questions, place }) => questions?.[place] || null;
+
+// The state with the lesson of its link, at the position of the step where the link has no other.
+function placed(state, { isPlaced }) {
+    const given = state.text ? readLessons(state.text).lessons[0] || null : null;
+    const read = { ...state, given, isAnswered: false };
+    const lesson = lessonOf(read);
+    if (!lesson) return { ...read, lesson: null, step: 1 };
+    const step = Math.min(state.step, lesson.steps.length);
+    const { points, roll } = lesson.steps[step - 1];
+    return { ...read, step, ...(isPlaced ? {} : { points, roll, guess: Boolean(roll) }) };
 }
 
 export const freeOf = ({ points }) => MOST_CHECKERS - sumOf(points);
@@ -56,6 +84,23 @@ export const guessOf = (state, roll = state.roll) =>
 // Whether the answer for a roll is hidden, since it is to be guessed.
 export const hides = (state, roll = state.roll) => state.guess && !guessOf(state, roll);
 
+// What is to be estimated: the pip count, the effective one or the wastage; or null.
+export const estimated = ({ drill, estimate }) => (drill ? (drill.ask === "play" ? null : drill.ask) : estimate);
+
+// What was estimated of a position, by what is asked now.
+export const estimateOf = (state, points = state.points) =>
+    state.estimates.find(({ at, kind }) => at === keyOf(points) && kind === estimated(state));
+
+// Whether a lesson asks for a number of the board's position, and its answer isn't open yet.
+export function asksNumber(state) {
+    const step = stepOf(state);
+    return Boolean(step && step.answer && !step.roll && !state.isAnswered) && keyOf(step.points) === keyOf(state.points);
+}
+
+// Whether the numbers of the board's position are hidden, since one of them is to be estimated or is asked.
+export const hidesNumbers = (state) =>
+    asksNumber(state) || (Boolean(estimated(state)) && !answerOf(state)?.refusal && !estimateOf(state));
+
 // The play that the board shows: the chosen one, or the best of the chosen roll.
 export function shownPlay(state) {
     const chosen = chosenOf(state);
@@ -79,13 +124,42 @@ export function wanted(state) {
     if (!answer.refusal && !rollsOf(state)) return { kind: "rolls", points };
     const kept = state.kept.find((entry) => !answerOf(state, entry.points));
     if (kept) return { kind: "ask", points: kept.points };
-    const fraction = lostOf(state);
-    return state.guesses.length > 0 && !state.decimals.has(fraction) ? { kind: "round", fraction } : null;
+    if (state.drill && !state.questions) return { kind: "draw", drill: state.drill };
+    const fraction = state.guesses.length > 0 && [lostOf(state), ...scoreOf(state)].find((one) => !state.decimals.has(one));
+    return fraction ? { kind: "round", fraction } : null;
 }
 
-// What is said of a position, once it is known.
-function spoken(answer) {
-    if (!answer) return "";
+// The guesses of a drill's questions, in the order of these.
+export const drillGuesses = ({ questions, guesses }) => (questions || []).flatMap(({ points, roll }) =>
+    guesses.filter((guess) => guess.at === keyOf(points) && sameRoll(guess.roll, roll)));
+
+// What a drill's plays have lost, exactly: in rolls, and in pips of the effective count, 49/6 for each.
+export function scoreOf(state) {
+    const rolls = sumOfFractions(drillGuesses(state).map(({ play }) => play.exact));
+    return state.drill?.ask === "play" ? [rolls, timesFraction(rolls, 49n, 6n)] : [];
+}
+
+// What a drill's estimates were off.
+export const drillErrors = ({ questions, estimates, drill }) => (questions || []).flatMap(({ points }) =>
+    estimates.filter(({ at, kind }) => at === keyOf(points) && kind === drill.ask).map(({ error }) => error));
+
+// How many of a drill's questions were answered.
+export const answeredOf = (state) =>
+    (state.drill.ask === "play" ? drillGuesses(state) : drillErrors(state)).length;
+
+// The mistakes of a drill as the text of a lesson, or "" where there are none.
+export function mistakesOf(state) {
+    const steps = drillGuesses(state).filter(({ play }) => !play.isBest).map(({ at, roll, play, best }) => ({
+        points: at.split(",").map(Number), roll, text: "", ask: "Which play is best?",
+        answer: `${best.text}; ${play.text} loses ${play.exact} of a roll.`,
+    }));
+    return steps.length > 0 ? writeLesson({ title: "Mistakes of a drill", steps }) : "";
+}
+
+// What is said of a position, once it is known and not to be estimated.
+function spoken(state) {
+    const answer = answerOf(state);
+    if (!answer || hidesNumbers(state)) return "";
     if (answer.refusal) return answer.refusal;
     const { standing, mean, effective, wastage } = answer;
     return `${standing.pips} pips, mean ${mean.text} rolls, effective pip count ${effective.text}, `
@@ -117,14 +191,17 @@ function stillShown(answers, state) {
 export function received(state, database, question, reply) {
     if (state.database !== database) return state;
     if (question.kind === "round") {
-        const next = { ...state, decimals: new Map([[question.fraction, reply]]) };
+        const next = { ...state, decimals: new Map(state.decimals).set(question.fraction, reply) };
         const verdict = verdictOf(next);
         return verdict && verdict.isWhole ? { ...next, said: `${verdict.first} ${verdict.all}` } : next;
+    }
+    if (question.kind === "draw") {
+        return question.drill === state.drill ? askNext({ ...state, questions: reply }, 0) : state;
     }
     const key = keyOf(question.points);
     if (question.kind === "rolls") return { ...state, rolls: stillShown(new Map([[key, reply]]), state) };
     const next = { ...state, answers: stillShown(new Map(state.answers).set(key, reply), state) };
-    return key === keyOf(state.points) ? { ...next, said: spoken(reply) } : next;
+    return key === keyOf(state.points) ? { ...next, said: spoken(next) } : next;
 }
 
 // A database begins to be built or checked.
@@ -153,7 +230,7 @@ export function ended(state, words) {
 // Another position on the board.
 export function setPoints(state, points) {
     const next = { ...state, points, roll: null, shown: null, typed: null, digits: null };
-    return { ...next, said: spoken(answerOf(next)) };
+    return { ...next, said: spoken(next) };
 }
 
 // A point with another count: as many as there are checkers for.
@@ -218,6 +295,73 @@ export function playOn(state) {
     return play ? setPoints(state, play.to) : state;
 }
 
+// A question of the drill, by its place.
+export function askNext(state, place) {
+    const question = state.questions?.[place];
+    if (!question) return { ...state, place, said: "The drill is over." };
+    const next = { ...setPoints(state, question.points), roll: question.roll, guess: state.drill.ask === "play", place };
+    return { ...next, said: `Question ${place + 1} of ${state.questions.length}.` };
+}
+
+// A drill begins: its questions are drawn anew, and nothing was answered.
+export function beginDrill(state, drill) {
+    return {
+        ...state, drill, lesson: null, text: "", given: null, questions: null, place: 0, guesses: [], estimates: [],
+        decimals: new Map(), estimate: null,
+    };
+}
+
+// No drill and no lesson.
+export function endTraining(state) {
+    return { ...beginDrill(state, null), guess: false, roll: null, shown: null, step: 1, said: "It is over." };
+}
+
+// Another step of the lesson.
+export function goToStep(state, step) {
+    const next = lessonOf(state)?.steps[step - 1];
+    if (!next) return state;
+    return {
+        ...setPoints(state, next.points), roll: next.roll, guess: Boolean(next.roll), step, isAnswered: false,
+        said: `Step ${step} of ${lessonOf(state).steps.length}. ${next.text} ${next.ask}`.trim(),
+    };
+}
+
+export function openAnswer(state) {
+    return { ...state, isAnswered: true, said: stepOf(state)?.answer || "" };
+}
+
+// A lesson that was given as a text, as by a file.
+export function giveLesson(state, text) {
+    const { lessons, fault } = readLessons(text);
+    if (fault) return { ...state, trouble: `The lesson can't be read. ${fault}` };
+    const next = { ...beginDrill(state, null), given: lessons[0], text: writeLesson(lessons[0]), trouble: "" };
+    return goToStep(next, 1);
+}
+
+// What is to be estimated from now on, or null.
+export function setEstimate(state, kind) {
+    const next = { ...state, estimate: ESTIMATED.includes(kind) ? kind : null };
+    return { ...next, said: spoken(next) };
+}
+
+// An estimate of the board's position, which is taken once. What is no number is no estimate.
+export function giveEstimate(state, text) {
+    const told = readEstimate(text);
+    const answer = answerOf(state);
+    if (!hidesNumbers(state) || !estimated(state) || !answer || told === null) return state;
+    const kind = estimated(state);
+    const exact = thousandthsOf(answer, kind);
+    const error = told > exact ? told - exact : exact - told;
+    const next = { ...state, estimates: [...state.estimates, { at: keyOf(state.points), kind, told, exact, error }] };
+    return { ...next, said: spoken(next) };
+}
+
+// The mean of all errors of what is estimated now, in thousandths, or null where there are none.
+export function meanError(state) {
+    const errors = state.estimates.filter(({ kind }) => kind === estimated(state)).map(({ error }) => error);
+    return errors.length > 0 ? meanOf(errors) : null;
+}
+
 export function setGuess(state, guess) {
     return { ...state, guess, shown: null, said: "" };
 }
@@ -261,7 +405,11 @@ export function stopAt(state, group, key) {
 }
 
 // What another address states. Its database is for whoever loads it.
-export function visit(state, { points, kept, title, roll, guess }) {
-    const next = { ...state, points, kept, title, roll, guess, shown: null, typed: null, digits: null };
-    return { ...next, said: spoken(answerOf(next)) };
+export function visit(state, link) {
+    const { points, kept, title, roll, guess, drill, estimate, lesson, text, step } = link;
+    const isSame = JSON.stringify(drill) === JSON.stringify(state.drill);
+    const begun = isSame ? state : beginDrill(state, drill);
+    const stated = { ...begun, points, kept, title, roll, guess, shown: null, typed: null, digits: null };
+    const next = placed({ ...stated, estimate, lesson, text, step }, link);
+    return { ...next, said: spoken(next) };
 }

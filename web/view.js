@@ -1,10 +1,15 @@
 // What the page shows of a state: trees for its parts, its texts, and what is hidden. Each is what this state says, and
 // nothing of a former one.
+import { h } from "./tree.js";
 import { board } from "./board.js";
 import { chances, kept, numbers, plays, rolls, verdict } from "./panels.js";
+import { coach, estimateField, estimateTold, thumb, training } from "./training.js";
 import {
-    answerOf, chosenOf, hides, isComing, isFull, isKept, orderOf, rollsOf, shownPlay, verdictOf,
+    answerOf, asksNumber, chosenOf, hides, hidesNumbers, isComing, isFull, isKept, lessonOf, orderOf, rollsOf, shownPlay, verdictOf,
 } from "./state.js";
+
+// What stands in the place of numbers that a lesson asks for.
+const asked = h("p", { class: "hint" }, "The numbers come with the answer.");
 
 export function view(state, act) {
     const { points, roll, guess, stops, database, typed } = state;
@@ -13,16 +18,20 @@ export function view(state, act) {
     const shown = shownPlay(state);
     const told = verdictOf(state);
     const chosen = chosenOf(state)?.plays;
-    const isHidden = hides(state);
+    const isHidden = hides(state) || hidesNumbers(state);
+    const isEstimated = hidesNumbers(state);
     const hasRolls = answer ? !answer.refusal && answer.standing.checkers > 0 : isComing(state);
     return {
         trees: {
             board: board(points, shown ? shown.moves : [], act),
-            numbers: numbers(answer, isComing(state)),
-            chances: answer && !answer.refusal ? chances(answer.distribution) : [],
+            coach: coach(state, act),
+            training: training(state, act),
+            numbers: asksNumber(state) ? asked : isEstimated ? estimateField(state, act)
+                : [numbers(answer, isComing(state)), thumb(points, answer), estimateTold(state)],
+            chances: answer && !answer.refusal && !isEstimated ? chances(answer.distribution) : [],
             grid: rolls(list, roll, (dice) => hides(state, dice), stops.rolls, act),
             plays: [
-                plays({ points, dice: roll, list: chosen, shown, isHidden, stop: stops.plays }, act),
+                plays({ points, dice: roll, list: chosen, shown, isHidden: hides(state), stop: stops.plays }, act),
                 told && verdict(told, act),
             ],
             kept: kept(orderOf(state), (at) => answerOf(state, at), isHidden, act),
@@ -38,6 +47,7 @@ export function view(state, act) {
             sorting: isHidden ? "Their numbers are hidden while you guess." : "Sorted by effective pip count.",
         },
         hidden: {
+            coach: !state.drill && !lessonOf(state),
             lesson: !state.title,
             trouble: !state.trouble,
             wider: !(answer?.status === 4 && answer.bound < 58 && answer.standing.pips <= 58) || state.loads > 0,
@@ -51,5 +61,6 @@ export function view(state, act) {
         isOpen: Boolean(roll) && hasRolls, // the sheet with the plays of a roll
         isKnown: Boolean(answer),
         guess,
+        isCompact: state.isCompact,
     };
 }

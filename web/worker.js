@@ -2,6 +2,7 @@
 import { Engine, Refused } from "./engine.js";
 import { bytesOf, unpacked } from "./packed.js";
 import { ROLLS } from "./rolls.js";
+import { drawQuestions, MOST_PIPS } from "./trainer.js";
 
 // The numbers of a position. Over the bound, or with too many checkers, only why there are none.
 export function answer(engine, points) {
@@ -27,6 +28,13 @@ export function answer(engine, points) {
 export function rollsOf(engine, points) {
     if (engine.standing(points).checkers === 0) return [];
     return ROLLS.map(([one, other]) => ({ dice: [one, other], plays: engine.plays(points, one, other) }));
+}
+
+// The questions of a drill; none where the database has fewer pips than they can have.
+export function drawn(engine, drill) {
+    const isBest = (play) => (play.isBest ? 0 : 1);
+    const bestFirst = (plays) => plays.sort((one, other) => isBest(one) - isBest(other));
+    return engine.bound < MOST_PIPS ? [] : drawQuestions(drill, ROLLS, (points, roll) => bestFirst(engine.plays(points, ...roll)));
 }
 
 // One desk of the worker: the compiled module, and the engine of the open database.
@@ -64,7 +72,7 @@ export class Desk {
         return { bound: engine.bound, positions: engine.positions };
     }
 
-    async take({ kind, bound, file, points, fraction }) {
+    async take({ kind, bound, file, points, fraction, drill }) {
         switch (kind) {
             case "build":
                 return this.build(bound);
@@ -75,6 +83,8 @@ export class Desk {
                 return answer(this.engine, points);
             case "rolls":
                 return rollsOf(this.engine, points);
+            case "draw":
+                return drawn(this.engine, drill);
             case "round":
                 return this.engine.round(fraction);
             default:

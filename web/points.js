@@ -1,0 +1,13 @@
+// A position as six counts.
+
+export const MOST_CHECKERS = 15;
+
+export const sumOf = (counts) => counts.reduce((sum, count) => sum + count, 0);
+
+// Six counts of at most 15 checkers in all, or null.
+export function readPoints(text) {
+    const counts = text.split(",");
+    if (counts.length !== 6 || !counts.every((count) => /^\d{1,2}$/.test(count))) return null;
+    const points = counts.map(Number);
+    return sumOf(points) <= MOST_CHECKERS ? points : null;
+}

@@ -1,0 +1,165 @@
+// Drills and lessons: what is asked, drawn by a seed that stands in the link, and lessons that say their text. Texts are
+// texts, and nothing here computes a number of a position.
+import { MOST_CHECKERS, readPoints, sumOf } from "./points.js";
+
+export const QUESTIONS = 20; // of a drill
+export const MOST_PIPS = 44;
+const MOST_STEPS = 60;
+const LONGEST_TEXT = 1200;
+const MODULUS = 2147483647;
+
+// The positions of at most so many pips, in the order of their ranks: by pips, and then as words in a dictionary.
+export function positions(most = MOST_PIPS) {
+    const found = [];
+    const fill = (points, pips, checkers) => {
+        const point = points.length + 1;
+        if (point > 6) {
+            found.push({ points, pips: most - pips });
+            return;
+        }
+        for (let count = 0; count <= checkers && count * point <= pips; count += 1) {
+            fill([...points, count], pips - count * point, checkers - count);
+        }
+    };
+    fill([], most, MOST_CHECKERS);
+    return found.sort((one, other) => one.pips - other.pips).map(({ points }) => points);
+}
+
+const isWithin = (low, high) => (points) =>
+    points.every((count, place) => count === 0 || (place + 1 >= low && place + 1 <= high));
+
+// An empty point with checkers on both sides of it.
+const hasGap = (points) => points.some((count, place) =>
+    count === 0 && sumOf(points.slice(0, place)) > 0 && sumOf(points.slice(place)) > 0);
+
+// The themes: the name in a link, the words, the positions, and whether a roll can have something to decide there.
+export const THEMES = [
+    { name: "all", words: "All positions", has: (points) => sumOf(points) > 1, isPlayed: true },
+    {
+        name: "low", words: "Low stacks", isPlayed: true,
+        has: (points) => isWithin(1, 3)(points) && points.some((count) => count > 3),
+    },
+    { name: "gaps", words: "Gaps", has: (points) => hasGap(points) && sumOf(points) > 4, isPlayed: true },
+    {
+        name: "middle", words: "Five to nine checkers", isPlayed: true,
+        has: (points) => sumOf(points) > 4 && sumOf(points) < 10,
+    },
+    { name: "high", words: "6-5-4 shapes", has: (points) => isWithin(4, 6)(points) && sumOf(points) > 2, isPlayed: true },
+    { name: "ace", words: "Ace point alone", has: (points) => points[0] === sumOf(points) && points[0] > 0, isPlayed: false },
+    {
+        name: "few", words: "Two to four checkers", isPlayed: true,
+        has: (points) => sumOf(points) > 1 && sumOf(points) < 5,
+    },
+];
+
+// What a drill asks: the name in a link, and the words.
+export const ASKED = { play: "Play", pips: "Pip count", effective: "EPC", wastage: "Wastage" };
+export const ESTIMATED = ["pips", "effective", "wastage"];
+
+// The drill of these words of a link, or null.
+export function readDrill({ theme, seed, ask }) {
+    const known = THEMES.find(({ name }) => name === theme);
+    if (!known || !/^\d{1,9}$/.test(seed || "") || Number(seed) < 1) return null;
+    const kind = Object.hasOwn(ASKED, ask) ? ask : "play";
+    return kind === "play" && !known.isPlayed ? null : { theme, seed: Number(seed), ask: kind };
+}
+
+// Numbers that look random: each is 48271 times the one before it, modulo 2^31 - 1; the first comes from the seed.
+export function* numbersFrom(seed) {
+    for (let number = seed % MODULUS; ;) {
+        number = (48271 * number) % MODULUS;
+        yield number;
+    }
+}
+
+// The questions of a drill: `playsOf` says the plays of a roll, the best first. A roll is asked only where there is
+// something to decide: more than one play, and the next best loses something.
+export function drawQuestions({ theme, seed, ask }, rolls, playsOf) {
+    const themed = positions().filter(THEMES.find(({ name }) => name === theme).has);
+    const numbers = numbersFrom(seed);
+    const drawn = new Map();
+    for (let tries = 0; drawn.size < Math.min(QUESTIONS, themed.length) && tries < 5000; tries += 1) {
+        const points = themed[numbers.next().value % themed.length];
+        const roll = rolls[numbers.next().value % rolls.length];
+        if (ask !== "play") {
+            drawn.set(points.join(), { points, roll: null });
+            continue;
+        }
+        const plays = playsOf(points, roll);
+        if (plays.length > 1 && !plays[1].isBest) drawn.set(points.join(), { points, roll });
+    }
+    return [...drawn.values()];
+}
+
+const LINE = /^(lesson|step|roll|text|ask|answer):[ \t]*(.*)$/;
+const clean = (text) => text.replace(/\s+/g, " ").trim().slice(0, LONGEST_TEXT);
+
+// The lessons that a text has: lines with a word, a colon and what it says. A line without such a word goes on with the
+// one before it, an empty line ends it. Why it is refused, where it is: the first line that can't be read.
+export function readLessons(text) {
+    const lessons = [];
+    let [step, last, fault] = [null, null, ""];
+    for (const [place, line] of text.replace(/^\ufeff/, "").split(/\r?\n/).entries()) {
+        const refuse = (why) => { fault = fault || `Line ${place + 1}: ${why}`; };
+        const [, word, value] = LINE.exec(line) || [];
+        if (line.trim() === "") last = null;
+        else if (/^(#|from:)/.test(line)) continue;
+        else if (!word && step && last) step[last] = clean(`${step[last]} ${line}`);
+        else if (word === "lesson") {
+            lessons.push({ title: clean(value), steps: [] });
+            step = null;
+        } else if (word === "step") {
+            const points = readPoints(value.replaceAll(" ", ""));
+            if (!points) refuse("a step is six counts with commas between them");
+            else if (lessons.length === 0) refuse("a lesson begins with its title");
+            else if (lessons.at(-1).steps.length >= MOST_STEPS) refuse(`a lesson has at most ${MOST_STEPS} steps`);
+            else {
+                step = { points, roll: null, text: "", ask: "", answer: "" };
+                lessons.at(-1).steps.push(step);
+            }
+        } else if (!word || !step) refuse(word ? "a step comes first" : "no such word");
+        else if (word === "roll") {
+            if (/^[1-6]{2}$/.test(value)) step.roll = [...value].map(Number).sort((one, other) => other - one);
+            else refuse("a roll is two digits from 1 to 6");
+        } else {
+            step[word] = clean(value);
+            last = word;
+        }
+    }
+    if (!fault && lessons.length === 0) fault = "There is no lesson in it.";
+    if (!fault && lessons.some(({ steps }) => steps.length === 0)) fault = "A lesson has no step.";
+    return fault ? { lessons: [], fault } : { lessons, fault: "" };
+}
+
+// A lesson as such a text.
+export function writeLesson({ title, steps }) {
+    return [`lesson: ${title}`, ...steps.flatMap(({ points, roll, text, ask, answer }) => [
+        `step: ${points.join()}`, roll && `roll: ${roll.join("")}`, text && `text: ${text}`,
+        ask && `ask: ${ask}`, answer && `answer: ${answer}`,
+    ])].filter(Boolean).join("\n");
+}
+
+// What was estimated, in thousandths, or null where it is no number of at most three decimals.
+export function readEstimate(text) {
+    const [, sign, whole, part] = /^\s*([-\u2212]?)(\d{1,3})(?:[.,](\d{1,3}))?\s*$/.exec(text) || [];
+    if (whole === undefined) return null;
+    const thousandths = BigInt(whole) * 1000n + BigInt((part || "").padEnd(3, "0"));
+    return sign ? -thousandths : thousandths;
+}
+
+// What a position has, in thousandths, of what can be estimated.
+export function thousandthsOf({ standing, effective }, kind) {
+    const pips = 1000n * BigInt(standing.pips);
+    return { pips, effective: effective.thousandths, wastage: effective.thousandths - pips }[kind];
+}
+
+// The mean of so many thousandths, to the nearest.
+export const meanOf = (errors) =>
+    (2n * errors.reduce((sum, error) => sum + error, 0n) + BigInt(errors.length)) / (2n * BigInt(errors.length));
+
+// A position as text: its counts, and a small board of letters.
+export function asText(points) {
+    const rows = Array.from({ length: Math.max(1, ...points) }, (_, row) =>
+        [...points].reverse().map((count) => (count > row ? "O" : ".")).join(" ")).reverse();
+    return [points.join(), "", ...rows, "6 5 4 3 2 1"].join("\n");
+}
