@@ -6,6 +6,7 @@ import { decimal, notation, percent } from "../web/engine.js";
 import { MOST_KEPT, readLink, START, writeLink } from "../web/link.js";
 import { readPoints } from "../web/points.js";
 import { chances, kept, numbers } from "../web/panels.js";
+import { asSvg, linesOf } from "../web/picture.js";
 import { Bar, reached } from "../web/progress.js";
 import { byLoss } from "../web/state.js";
 import { build, draw, h, textOf } from "../web/tree.js";
@@ -73,6 +74,16 @@ for (const view of [board([15, 0, 0, 0, 0, 0], [], act), lookedAt([15, 0, 0, 0, 
 equal("how many stand in a stack", classed(build(document, board([5, 4, 0, 0, 0, 0], [], act)), "text", "tally").map((text) => text.textContent), ["5"]);
 equal("a miniature", all(build(document, miniature([1, 2, 3, 4, 5, 0])), "circle").map((disc) => disc.getAttribute("cx")).filter((x) => x === "88").length, 1);
 equal("in a miniature", all(build(document, miniature([1, 2, 3, 4, 5, 0])), "circle").length, 15);
+
+// pictures as files
+const picture = asSvg([0, 0, 0, 2, 0, 3], caption);
+equal("checkers in a picture", [picture.match(/<circle /g).length, picture.match(/<rect [^>]*height="18"/g).length], [5, 10]);
+equal("each shape has its colours", (picture.match(/<(circle|rect|polygon|text) /g) || []).length, (picture.match(/ fill="#/g) || []).length);
+equal("no markup in a caption", [picture.includes("<img"), picture.includes("&#60;img src=x onerror=&#34;")], [false, true]);
+equal("the counts below", picture.includes(">0,0,0,2,0,3</text></svg>"), true);
+equal("half a letter", asSvg([1, 0, 0, 0, 0, 0], "\ud83d\u0007").includes(">\ufffd\ufffd<"), true);
+equal("the lines of a caption", linesOf(`${"ab ".repeat(20)}${"c".repeat(60)}`).map((line) => line.length), [50, 8, 52, 8]);
+equal("no line", linesOf(""), []);
 
 // panels
 const play = (text, loss, exact, isRecorded = false) => ({ text, loss, exact, isRecorded, isBest: exact.startsWith("0/") });

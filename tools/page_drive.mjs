@@ -138,6 +138,10 @@ async function compareRolls(page, position) {
     equal("arcs on the board", await page.value('document.querySelectorAll("#board .arc").length'), 2);
     await page.click(".plays button:last-child");
     equal("exactly", await page.value('document.querySelector(".loss").textContent.includes(" loses " + document.querySelector(".plays button:last-child .cost").title)'), true);
+    await page.until('!document.querySelector(".loss").textContent.includes("\u2026")');
+    const [above, below] = costs.at(-1).split("/").map(BigInt);
+    const lost = (Number((2n * 49000n * above + 6n * below) / (12n * below)) / 1000).toFixed(3);
+    equal("in EPC", (await page.value('document.querySelector(".loss").textContent')).split(", ")[1] ?? "nothing", above === 0n ? "nothing" : `${lost} of EPC.`);
 }
 
 // The bars are as long as the chances beside them.
@@ -360,7 +364,7 @@ async function driveMoments(browser) {
 }
 
 // Each of three kept positions has its numbers.
-const SORTED = `${READY} && document.querySelectorAll(".kept [data-head=Effective]").length === 3 && !document.querySelector(".kept").textContent.includes("\\u2026")`;
+const SORTED = `${READY} && document.querySelectorAll(".kept [data-head=EPC]").length === 3 && !document.querySelector(".kept").textContent.includes("\\u2026")`;
 const LESSON = new URLSearchParams([["t", "<b>A lesson</b>"], ["p", "0,0,0,4,4,1"], ["c", '<img src=x onerror="document.title=1"> & "quotes"'], ["p", "15,0,0,0,0,0"], ["c", "'fifteen'"], ["p", "2,2,2,2,2,2"]]);
 
 async function driveLesson(browser) {
@@ -371,7 +375,7 @@ async function driveLesson(browser) {
     equal("no markup was read", await page.value('document.querySelectorAll("img, b:not(dialog b)").length'), 0);
     equal("the title is text", await page.value('document.getElementById("lesson").textContent'), "<b>A lesson</b>");
     equal("the title of the page", await page.value("document.title"), "Bearing off, proved");
-    equal("sorted", await page.value('[...document.querySelectorAll(".kept [data-head=Effective]")].map((cell) => cell.textContent)'),
+    equal("sorted", await page.value('[...document.querySelectorAll(".kept [data-head=EPC]")].map((cell) => cell.textContent)'),
         ["0,0,0,4,4,1", "2,2,2,2,2,2", "15,0,0,0,0,0"].map((position) => ask(`mean ${position}`).split(" ").pop()));
     equal("wastage", await page.value('[...document.querySelectorAll(".kept [data-head=Wastage]")].map((cell) => cell.textContent)'),
         ["0,0,0,4,4,1", "2,2,2,2,2,2", "15,0,0,0,0,0"].map((position) => (Number(ask(`mean ${position}`).split(" ").pop()) - pipsOf(position)).toFixed(3)));
@@ -415,6 +419,41 @@ async function driveCopy(browser) {
     equal("the address is as it is now", await page.value('location.hash'), "#at=1,0,0,1,0,0");
     const field = await page.value('[document.getElementById("link").hidden, document.getElementById("link").value === location.href, document.getElementById("copy").textContent]');
     (field[0] && field[2] === "Copied") || (!field[0] && field[1]) || wrong(`the link: ${field.join(" ")}`);
+}
+
+// The pictures that the page saves, kept for the test.
+const SAVED = `(() => {
+    window.saved = [];
+    URL.createObjectURL = (file) => { saved.push({ file }); return "blob:kept"; };
+    HTMLAnchorElement.prototype.click = function () { saved.at(-1).name = this.download; };
+})()`;
+
+// An SVG file that is well-formed, and a PNG one with a checker where one stands.
+async function driveSaved(browser) {
+    const words = new URLSearchParams([["at", "1,0,0,2,0,0"], ["p", "1,0,0,2,0,0"], ["c", "<b>Three</b> & more"]]);
+    const page = await browser.open(`${address}#${words}`);
+    await page.value(SAVED);
+    await page.click("#save-svg");
+    await page.until("saved[0]?.name");
+    const svg = await page.value(`saved[0].file.text().then((text) => {
+        const whole = new DOMParser().parseFromString(text, "image/svg+xml");
+        return [whole.documentElement.localName, whole.querySelectorAll("circle").length, whole.querySelectorAll("b").length,
+            [...whole.querySelectorAll("text")].slice(-2).map((line) => line.textContent)];
+    })`);
+    equal("an SVG file", svg, ["svg", 3, 0, ["<b>Three</b> & more", "1,0,0,2,0,0"]]);
+    await page.click("#save-png");
+    await page.until("saved[1]?.name");
+    const png = await page.value(`createImageBitmap(saved[1].file).then((picture) => {
+        const canvas = document.createElement("canvas");
+        [canvas.width, canvas.height] = [picture.width, picture.height];
+        const context = canvas.getContext("2d");
+        context.drawImage(picture, 0, 0);
+        const isChecker = (x, y) => [...context.getImageData(2 * x, 2 * y, 1, 1).data].join() === "38,65,58,255";
+        const counts = [550, 450, 350, 250, 150, 50].map((x) => [300, 240, 180].filter((y) => isChecker(x, y)).length);
+        return [picture.width, picture.height, counts.join(), saved[1].file.type, saved.map(({ name }) => name)];
+    })`);
+    equal("a PNG file", png, [1400, 914, "1,0,0,2,0,0", "image/png", ["bearoff-1-0-0-2-0-0.svg", "bearoff-1-0-0-2-0-0.png"]]);
+    equal("nothing went wrong", page.troubles(), []);
 }
 
 // A browser without memories of 64-bit addresses gets the narrowed module; one without WebAssembly, without workers or
@@ -496,7 +535,7 @@ async function driveDrill(browser) {
         equal(`${text} of ${position} ${roll}`, loss.startsWith("0/"), text === best);
         const [above, below] = loss.split("/").map(BigInt);
         sum = [sum[0] * below + above * sum[1], sum[1] * below];
-        await page.click('[data-key="next question"]');
+        await page.click(`[data-key="${place % 2 === 0 ? "next question" : "question after"}"]`);
     }
     await page.until('document.querySelector(".score") && !document.querySelector(".score").textContent.includes("\u2026")');
     const told = await page.value('document.querySelector(".score").textContent');
@@ -654,7 +693,7 @@ const OWN = {
 
 // Those in which each browser is.
 const ALL = {
-    board: driveBoard, keyboard: driveKeyboard, sum: driveSum, lesson: driveLesson, history: driveHistory, copy: driveCopy,
+    board: driveBoard, keyboard: driveKeyboard, sum: driveSum, lesson: driveLesson, history: driveHistory, copy: driveCopy, saved: driveSaved,
 };
 
 async function drive(browser) {

@@ -66,6 +66,9 @@ class Node {
 
     select() { this.isSelected = true; }
 
+    // A link that is clicked saves what it leads to.
+    click() { this.document.saved.push(this); }
+
     showModal() { this.isShown = true; }
 
     scrollIntoView() { this.scrolled += 1; }
@@ -89,6 +92,7 @@ export class Document extends Node {
         this.appendChild(this.body);
         this.activeElement = this.body;
         this.named = new Map();
+        this.saved = []; // the links that saved a file
     }
 
     createElement(name) { return new Node(this, 1, name); }
@@ -120,6 +124,17 @@ export class Window {
         this.WebAssembly = { validate: () => true };
         this.Worker = Worker;
         this.performance = { now: () => this.time };
+        this.files = new Map(); // by their addresses
+        this.Blob = class { constructor(parts, { type }) { Object.assign(this, { text: parts.join(""), type }); } };
+        this.Image = class { async decode() { throw new Error("it can't"); } };
+        this.URL = {
+            createObjectURL: (file) => {
+                const address = `blob:${this.files.size}`;
+                this.files.set(address, file);
+                return address;
+            },
+            revokeObjectURL: (address) => { this.files.delete(address); },
+        };
         this.navigator = { clipboard: { writeText: async (text) => { this.copied = text; } } };
         const self = this;
         this.location = {

@@ -6,6 +6,7 @@ import { sumOfFractions } from "../web/fractions.js";
 import { readCounts, readLink, writeLink } from "../web/link.js";
 import { ROLLS } from "../web/rolls.js";
 import { moved } from "../web/panels.js";
+import { asSvg } from "../web/picture.js";
 import { begin, giveEstimate, pressed, received, wanted } from "../web/state.js";
 import { drawQuestions, meanOf, numbersFrom, positions, readEstimate, readLessons, THEMES, writeLesson } from "../web/trainer.js";
 import { drawn } from "../web/worker.js";
@@ -413,7 +414,9 @@ async function plays() {
     equal("arcs with their halos", paths(), 4);
     equal("what is lost", used.text("plays").includes("3/off 1/0 loses nothing."), true);
     used.click("play 3/1 1/2");
-    equal("exactly", used.text("plays").includes("3/1 1/2 loses 1/18 of a roll."), true);
+    equal("what isn't known yet", used.text("plays").includes("3/1 1/2 loses 1/18 of a roll, \u2026 of EPC."), true);
+    await used.worker.answerAll();
+    equal("exactly", used.text("plays").includes("3/1 1/2 loses 1/18 of a roll, 0.454 of EPC."), true);
     equal("as decimals", used.find("play 3/1 1/2").textContent, "3/1 1/2 \u22120.056");
     equal("exactly, for a mouse that is held over it", used.find("play 3/1 1/2").all.map((node) => node.getAttribute("title")).filter(Boolean), ["1/18 of a roll"]);
     equal("it is chosen", used.find("play 3/1 1/2").getAttribute("aria-pressed"), "true");
@@ -700,13 +703,17 @@ async function drills() {
     let used = await Used.open("#drill=gaps&seed=7&ask=play");
     const asked = drawFrom({ theme: "gaps", seed: 7, ask: "play" });
     equal("the first question", [used.board.join(), used.session.state.roll.join(), used.at("coach").hidden], [asked[0].points.join(), asked[0].roll.join(), false]);
+    used.click("to the plays");
+    equal("to the plays", [used.document.activeElement === used.at("plays"), used.at("plays").scrolled], [true, 1]);
     equal("its best play is hidden", [used.text("plays").includes("Which play is best?"), used.text("grid").includes("/")], [true, false]);
     equal("no score yet", used.text("coach").includes("lost"), false);
     for (const [place, { points, roll: [high, low] }] of asked.entries()) {
         equal(`question ${place + 1}`, [used.board.join(), used.text("coach").includes(`Question ${place + 1} of 20`)], [points.join(), true]);
         if (place < 7) await used.clicked(`play ${high}/1 ${low}/2`);
         else if (place < 19) await used.clicked(`play ${high}/off ${low}/1`);
-        await used.clicked("next question");
+        const isBelow = place % 2 === 1 && place < 19;
+        await used.clicked(isBelow ? "question after" : "next question");
+        if (isBelow) equal("the plays of the next question", [used.document.activeElement === used.at("plays"), used.find("question after")], [true, null]);
     }
     equal("the score", used.text("coach").includes("19 of 20 were played. They lost 0.389 rolls, or 3.176 of EPC. Exactly: 7/18 of a roll."), true);
     const mistakes = used.find("mistakes").getAttribute("href");
@@ -792,7 +799,27 @@ async function lessons() {
     number.click("copy-text");
     await settled();
     equal("as text", [number.window.copied, number.text("copied")], ["1,0,0,0,0,0\n\n. . . . . O\n6 5 4 3 2 1", "The position is copied as text."]);
+    await pictures();
     equal("compact", (await Used.open("#view=board")).document.body.classList.contains("compact"), true);
+}
+
+// A picture is saved as a file of its position and of its caption, where it is kept with one.
+async function pictures() {
+    for (const [hash, caption] of [["#at=0,0,0,0,4,1", ""], ["#at=0,0,0,0,4,1&p=1,0,0,0,0,0&c=other&p=0,0,0,0,4,1&c=Five", "Five"]]) {
+        const used = await Used.open(hash);
+        used.click("save-svg");
+        await settled();
+        const [[address, { text, type }]] = used.window.files;
+        const [link] = used.document.saved;
+        equal("a file", [type, link.href, link.download, used.text("copied")],
+            ["image/svg+xml", address, "bearoff-0-0-0-0-4-1.svg", "The picture is saved as bearoff-0-0-0-0-4-1.svg."]);
+        equal("its picture", text, asSvg([0, 0, 0, 0, 4, 1], caption));
+        used.window.pass(60000);
+        equal("and then the file is gone", used.window.files.size, 0);
+        used.click("save-png");
+        await settled();
+        equal("where no picture is drawn", [used.document.saved.length, used.text("copied")], [1, "The browser makes no such picture: it can't."]);
+    }
 }
 
 for (const what of [trained, drills, lessons, moments, clicks, keys, typed, plays, guesses, keeping, addresses, older]) {

@@ -2,11 +2,12 @@
 import { abilities, Client } from "./client.js";
 import { Past } from "./history.js";
 import { readLink, writeLink } from "./link.js";
+import { asPng, asSvg } from "./picture.js";
 import { Bar } from "./progress.js";
 import { Session } from "./session.js";
 import { asText, readDrill, readLessons } from "./trainer.js";
 import {
-    addCheckers, askNext, beginDrill, choosePlay, chooseRoll, endTraining, giveEstimate, giveLesson, goToStep, keep,
+    addCheckers, askNext, beginDrill, captionOf, choosePlay, chooseRoll, endTraining, giveEstimate, giveLesson, goToStep, keep,
     openAnswer, orderOf, playOn, pressed, remove, resetGuesses, setCaption, setEstimate, setGuess, setPoints, stopAt,
     typeCounts, visit,
 } from "./state.js";
@@ -14,6 +15,7 @@ import { draw } from "./tree.js";
 import { view } from "./view.js";
 
 const LONG = 1500; // milliseconds that a button says what it did
+const SAVING = 60000; // milliseconds that a picture is there for the browser to save
 
 // Puts what is shown into the page.
 export function put(document, shown) {
@@ -74,6 +76,10 @@ export function actionsOf(session, document, window) {
         answer: () => change(openAnswer),
         step: (step) => change(goToStep, step),
         question: (place) => change(askNext, place),
+        lookAt(name) {
+            document.getElementById(name).scrollIntoView({ block: "start" });
+            document.getElementById(name).focus({ preventScroll: true });
+        },
         estimate: (kind) => change(setEstimate, kind),
         guessNumber: (text = document.querySelector('[data-key="estimate"]').value) => change(giveEstimate, text),
         end: () => change(endTraining),
@@ -140,6 +146,23 @@ export async function copyPosition(document, window, points) {
     }
 }
 
+// Saves a picture of a position as a file, or says why it can't be.
+export async function savePicture(document, window, kind, points, caption) {
+    const told = document.getElementById("copied");
+    try {
+        const picture = kind === "png" ? await asPng(document, window, points, caption)
+            : new window.Blob([asSvg(points, caption)], { type: "image/svg+xml" });
+        const link = document.createElement("a");
+        link.href = window.URL.createObjectURL(picture);
+        link.download = `bearoff-${points.join("-")}.${kind}`;
+        link.click();
+        window.setTimeout(() => window.URL.revokeObjectURL(link.href), SAVING);
+        told.textContent = `The picture is saved as ${link.download}.`;
+    } catch (error) {
+        told.textContent = `The browser makes no such picture: ${error.message}.`;
+    }
+}
+
 // Starts the page: `parts` are the worker's script and the two modules in base 64.
 export function start(document, window, parts) {
     const at = (name) => document.getElementById(name);
@@ -189,6 +212,10 @@ export function start(document, window, parts) {
         at("wider").addEventListener("click", () => build(58));
         at("print").addEventListener("click", () => window.print());
         at("copy-text").addEventListener("click", () => copyPosition(document, window, session.state.points));
+        for (const kind of ["svg", "png"]) {
+            at(`save-${kind}`).addEventListener("click", () =>
+                savePicture(document, window, kind, session.state.points, captionOf(session.state)));
+        }
         at("copy").addEventListener("click", () => {
             past.settle();
             copyLink(document, window, window.location.href.replace(/#.*/, "") + past.current);

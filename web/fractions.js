@@ -1,4 +1,4 @@
-// Sums and multiples of fractions, exactly: the numbers that the page's script works out itself.
+// Sums of fractions, and rolls in pips, exactly: the numbers that the page's script works out itself.
 
 const divisor = (one, other) => (other === 0n ? one : divisor(other, one % other));
 
@@ -14,8 +14,8 @@ export function sumOfFractions(fractions) {
     return lowest(above, below);
 }
 
-// A text like "1/18" so many times.
-export function timesFraction(text, above, below) {
-    const [one, under] = text.split("/").map(BigInt);
-    return lowest(one * above, under * below);
+// So many rolls, as a text like "1/18", in pips of the effective count: 49/6 for each.
+export function inPips(rolls) {
+    const [above, below] = rolls.split("/").map(BigInt);
+    return lowest(49n * above, 6n * below);
 }

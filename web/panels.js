@@ -25,7 +25,7 @@ const figure = (name, value, unit, explained) =>
 const figures = (pips, mean, effective, wastage) => h("dl", { class: "figures" },
     figure("Pips", pips, "", "What is left to move"),
     figure("Mean", mean, "rolls", "The least mean number of rolls until all are off"),
-    figure("Effective", effective, "pips", "49/6 pips for each roll of the mean"),
+    figure("EPC", effective, "pips", "Effective pip count: 49/6 pips for each roll of the mean"),
     figure("Wastage", wastage, "pips", "The effective pip count less the pip count"));
 
 // Pip count, mean, effective pip count and wastage. Without an answer, whether one comes.
@@ -131,9 +131,9 @@ const cost = (play) => (play.isRecorded ? "best" : play.isBest ? "as good" : `\u
 // What the plays of a roll are before they are known, and where no roll was chosen.
 const NO_ROLL = h("p", { class: "hint" }, "Choose a roll to see its plays here and on the board.");
 
-// The plays of the chosen roll on a small board, and what each loses; in a guess they stand in the order of their
-// texts.
-export function plays({ points, dice, list, shown, isHidden, stop }, act) {
+// The plays of the chosen roll on a small board, and what each loses, in rolls; of the one that is shown in EPC too,
+// where `lost` has that. In a guess they stand in the order of their texts.
+export function plays({ points, dice, list, shown, lost, isHidden, stop }, act) {
     if (!dice) return NO_ROLL;
     const byText = (one, other) => one.text.localeCompare(other.text);
     const ordered = list && (isHidden ? [...list].sort(byText) : byLoss(list));
@@ -152,7 +152,7 @@ export function plays({ points, dice, list, shown, isHidden, stop }, act) {
             !isHidden && h("span", { class: "cost", title: `${play.exact} of a roll` }, cost(play))))),
         shown && h("div", { class: "shown" },
             h("p", { class: "loss" }, shown.isBest ? `${shown.text} loses nothing.`
-                : `${shown.text} loses ${shown.exact} of a roll.`),
+                : `${shown.text} loses ${shown.exact} of a roll, ${lost ?? COMING} of EPC.`),
             h("button", {
                 type: "button", class: "onward", "data-key": "onward", click: () => act.onward(),
             }, `Play ${shown.text}`)),
@@ -166,13 +166,13 @@ export function verdict({ isBest, first, all, exact }, act) {
         h("button", { type: "button", "data-key": "reset", click: () => act.reset() }, "Count anew"));
 }
 
-const TOLD = [["mean", "Mean"], ["effective", "Effective"], ["wastage", "Wastage"]];
+const TOLD = [["mean", "Mean"], ["effective", "EPC"], ["wastage", "Wastage"]];
 
 const named = (points) => points.join(" ");
 
 // The positions that are kept, in order, each with its own answer where that is known and not hidden.
 export function kept(entries, answerTo, isHidden, act) {
-    const heads = ["Position", "Caption", "Pips", "Mean", "Effective", "Wastage"];
+    const heads = ["Position", "Caption", "Pips", "Mean", "EPC", "Wastage"];
     return h("table", { class: "kept" },
         h("caption", { class: "heard" }, "Positions side by side"),
         h("thead", {}, h("tr", {}, heads.map((head) => h("th", { scope: "col" }, head)), h("td", {}))),

@@ -2,7 +2,7 @@
 // An answer stands under its position and is read for that one alone; so nothing of a former position can be shown.
 import { MOST_KEPT, readCounts } from "./link.js";
 import { MOST_CHECKERS, sumOf } from "./points.js";
-import { sumOfFractions, timesFraction } from "./fractions.js";
+import { inPips, sumOfFractions } from "./fractions.js";
 import { sameRoll } from "./rolls.js";
 import { ESTIMATED, meanOf, readEstimate, readLessons, thousandthsOf, writeLesson } from "./trainer.js";
 
@@ -108,10 +108,19 @@ export function shownPlay(state) {
     return chosen.plays.find(({ text }) => text === state.shown) || byLoss(chosen.plays)[0];
 }
 
+// What the play that is shown loses in pips of the effective count, exactly, or null where it loses nothing.
+export function lostPips(state) {
+    const play = shownPlay(state);
+    return play && !play.isBest ? inPips(play.exact) : null;
+}
+
 // What all guesses have lost, exactly.
 export const lostOf = ({ guesses }) => sumOfFractions(guesses.map(({ play }) => play.exact));
 
 export const isKept = (state) => state.kept.some(({ points }) => keyOf(points) === keyOf(state.points));
+
+// The caption of the board's position, where it is kept with one.
+export const captionOf = (state) => state.kept.find(({ points }) => keyOf(points) === keyOf(state.points))?.caption || "";
 
 export const isFull = (state) => state.kept.length >= MOST_KEPT;
 
@@ -125,7 +134,8 @@ export function wanted(state) {
     const kept = state.kept.find((entry) => !answerOf(state, entry.points));
     if (kept) return { kind: "ask", points: kept.points };
     if (state.drill && !state.questions) return { kind: "draw", drill: state.drill };
-    const fraction = state.guesses.length > 0 && [lostOf(state), ...scoreOf(state)].find((one) => !state.decimals.has(one));
+    const summed = state.guesses.length > 0 ? [lostOf(state), ...scoreOf(state)] : [];
+    const fraction = [...summed, lostPips(state)].find((one) => one !== null && !state.decimals.has(one));
     return fraction ? { kind: "round", fraction } : null;
 }
 
@@ -136,7 +146,7 @@ export const drillGuesses = ({ questions, guesses }) => (questions || []).flatMa
 // What a drill's plays have lost, exactly: in rolls, and in pips of the effective count, 49/6 for each.
 export function scoreOf(state) {
     const rolls = sumOfFractions(drillGuesses(state).map(({ play }) => play.exact));
-    return state.drill?.ask === "play" ? [rolls, timesFraction(rolls, 49n, 6n)] : [];
+    return state.drill?.ask === "play" ? [rolls, inPips(rolls)] : [];
 }
 
 // What a drill's estimates were off.

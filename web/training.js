@@ -63,10 +63,20 @@ function drillPanel(state, act) {
                     : `What is the ${ASKED[drill.ask] === "EPC" ? "EPC" : ASKED[drill.ask].toLowerCase()}?`))
             : score(state),
         h("p", { class: "steering" },
+            isThere && question.roll && button("to the plays", "To the plays", () => act.lookAt("plays")),
             question && !isThere && button("back to it", "Back to the question", () => act.question(place)),
             questions && place > 0 && button("previous question", "Previous", () => act.question(place - 1)),
             question && button("next question", place + 1 < questions.length ? "Next" : "Score", () => act.question(place + 1)),
             end(act)));
+}
+
+// Below a play that was chosen in a drill: the way to the plays of the next question, or to the score.
+export function onward({ questions, place }, act) {
+    const isLast = place + 1 === questions.length;
+    return h("p", { class: "steering" }, button("question after", isLast ? "Score" : "Next question", () => {
+        act.question(place + 1);
+        act.lookAt(isLast ? "coach" : "plays");
+    }));
 }
 
 // The lesson or the drill that is on.
@@ -93,8 +103,9 @@ export function estimateTold(state) {
         + `The mean error so far is ${decimal(mean)}.`);
 }
 
-// The ace-stack rule, where it speaks of a position: without doubles n checkers take half as many rolls, rounded up, and
-// each is worth 7 pips, with one more for all. What it is off over the 15 stacks is compared with the program.
+// The ace-stack rule, where it speaks of a position: without doubles a stack takes half as many rolls as it has checkers,
+// rounded up, and each is worth 7 pips, with one more for all (Walter Trice, Backgammon Boot Camp, 2004). What it is off
+// over the 15 stacks is compared with the program.
 const OVER_ALL = { most: "0.167", mean: "0.027" };
 
 export function thumb(points, answer) {
@@ -103,7 +114,7 @@ export function thumb(points, answer) {
     const rule = 7 * Math.ceil(count / 2) + 1;
     const exact = answer.effective.thousandths;
     const off = 1000n * BigInt(rule) - exact;
-    return h("p", { class: "hint thumb" }, `Ace-stack rule, 7n + 1 for n rolls without a double: ${rule} EPC, `
+    return h("p", { class: "hint thumb" }, `Trice's ace-stack rule, 7n + 1 for n rolls without a double: ${rule} EPC, `
         + `${decimal(off < 0n ? -off : off)} off here; over the 15 stacks at most ${OVER_ALL.most}, `
         + `and ${OVER_ALL.mean} on average.`);
 }

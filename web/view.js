@@ -3,9 +3,10 @@
 import { h } from "./tree.js";
 import { board } from "./board.js";
 import { chances, kept, numbers, plays, rolls, verdict } from "./panels.js";
-import { coach, estimateField, estimateTold, thumb, training } from "./training.js";
+import { coach, estimateField, estimateTold, onward, thumb, training } from "./training.js";
 import {
-    answerOf, asksNumber, chosenOf, hides, hidesNumbers, isComing, isFull, isKept, lessonOf, orderOf, rollsOf, shownPlay, verdictOf,
+    answerOf, asksNumber, chosenOf, hides, hidesNumbers, isComing, isFull, isKept, lessonOf, lostPips, orderOf, questionOf,
+    rollsOf, shownPlay, verdictOf,
 } from "./state.js";
 
 // What stands in the place of numbers that a lesson asks for.
@@ -31,8 +32,12 @@ export function view(state, act) {
             chances: answer && !answer.refusal && !isEstimated ? chances(answer.distribution) : [],
             grid: rolls(list, roll, (dice) => hides(state, dice), stops.rolls, act),
             plays: [
-                plays({ points, dice: roll, list: chosen, shown, isHidden: hides(state), stop: stops.plays }, act),
+                plays({
+                    points, dice: roll, list: chosen, shown, lost: state.decimals.get(lostPips(state)),
+                    isHidden: hides(state), stop: stops.plays,
+                }, act),
                 told && verdict(told, act),
+                told && questionOf(state) && onward(state, act),
             ],
             kept: kept(orderOf(state), (at) => answerOf(state, at), isHidden, act),
         },
@@ -44,7 +49,7 @@ export function view(state, act) {
             known: database ? database.positions.toLocaleString("en") : "\u2026",
             keep: isKept(state) ? "Kept below" : isFull(state) ? "Ten are kept" : "Keep this position",
             why: typed ? typed.fault : "",
-            sorting: isHidden ? "Their numbers are hidden while you guess." : "Sorted by effective pip count.",
+            sorting: isHidden ? "Their numbers are hidden while you guess." : "Sorted by EPC.",
         },
         hidden: {
             coach: !state.drill && !lessonOf(state),

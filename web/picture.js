@@ -1,0 +1,75 @@
+// A picture of a position as a file: the small board, with a caption and the six counts below it. Each shape has its
+// colours with it, since a file has no style of the page's.
+import { lookedAt } from "./board.js";
+import { h } from "./tree.js";
+
+const DRAWN = { width: 700, height: 372 };
+const LINE_HEIGHT = 34; // of a caption
+const LINE_LETTERS = 52; // in a line of a caption
+const DOTS = 2; // dots of a PNG picture for each unit of the drawing
+
+// What the page's style says of these classes, in the light.
+const LOOKS = {
+    felt: { fill: "#e9e4d8" },
+    tray: { fill: "#f3efe4", stroke: "#52605b", "stroke-width": 2 },
+    "wedge odd": { fill: "#d3c5a6" },
+    "wedge even": { fill: "#b6cbc0" },
+    checker: { fill: "#26413a", stroke: "#f7f5f0", "stroke-width": 2 },
+    tally: { fill: "#f7f5f0", "font-size": 24, "font-weight": 700, "text-anchor": "middle" },
+    number: { fill: "#52605b", "font-size": 22, "text-anchor": "middle" },
+    caption: { fill: "#1f2a27", "font-size": 26, "text-anchor": "middle" },
+};
+
+// A text within markup; what can't stand in such a file, as half of a pair of code units, is a replacement sign.
+const escaped = (text) => String(text).replace(/[&<>"']/g, (letter) => `&#${letter.codePointAt(0)};`)
+    .replace(/[\p{Cc}\p{Cs}\ufffe\uffff]/gu, "\ufffd");
+
+// A tree as text, with the looks of its classes.
+function markup(tree) {
+    if (typeof tree !== "object") return escaped(tree);
+    const { class: name, ...rest } = tree.attributes;
+    const attributes = Object.entries({ ...rest, ...LOOKS[name] })
+        .filter(([, value]) => typeof value === "string" || typeof value === "number")
+        .map(([key, value]) => ` ${key}="${escaped(value)}"`);
+    return `<${tree.tag}${attributes.join("")}>${tree.children.map(markup).join("")}</${tree.tag}>`;
+}
+
+// The words of a caption in lines; a word that is longer than a line is cut.
+export function linesOf(caption) {
+    const words = caption.split(/\s+/).flatMap((word) => word.match(new RegExp(`.{1,${LINE_LETTERS}}`, "gu")) || []);
+    const lines = [];
+    for (const word of words) {
+        const longer = lines.length > 0 ? `${lines.at(-1)} ${word}` : "";
+        if (longer !== "" && longer.length <= LINE_LETTERS) lines[lines.length - 1] = longer;
+        else lines.push(word);
+    }
+    return lines;
+}
+
+// How large the picture of a caption is.
+const sizeOf = (caption) => ({ ...DRAWN, height: DRAWN.height + LINE_HEIGHT * (linesOf(caption).length + 1) + LINE_HEIGHT / 2 });
+
+// The picture as the text of an SVG file.
+export function asSvg(points, caption = "") {
+    const { width, height } = sizeOf(caption);
+    const below = [...linesOf(caption), points.join()].map((line, place) =>
+        h("text", { class: "caption", x: width / 2, y: DRAWN.height + LINE_HEIGHT * (place + 1) }, line));
+    const { attributes, children } = lookedAt(points, []);
+    const { viewBox, class: small, ...names } = attributes;
+    return `${markup(h("svg", {
+        xmlns: "http://www.w3.org/2000/svg", width, height, viewBox: `0 0 ${width} ${height}`, "font-family": "sans-serif", ...names,
+    }, h("rect", { width, height, fill: "#fffefb" }), children, below))}\n`;
+}
+
+// The picture as a PNG file, which the browser draws from the other one.
+export async function asPng(document, window, points, caption = "") {
+    const { width, height } = sizeOf(caption);
+    const image = new window.Image();
+    image.src = `data:image/svg+xml;charset=utf-8,${encodeURIComponent(asSvg(points, caption))}`;
+    await image.decode();
+    const canvas = document.createElement("canvas");
+    [canvas.width, canvas.height] = [DOTS * width, DOTS * height];
+    canvas.getContext("2d").drawImage(image, 0, 0, canvas.width, canvas.height);
+    return new Promise((keep, refuse) => canvas.toBlob((blob) =>
+        (blob ? keep(blob) : refuse(new Error("the browser drew nothing"))), "image/png"));
+}
