@@ -432,7 +432,8 @@ const SAVED = `(() => {
 async function driveSaved(browser) {
     const words = new URLSearchParams([["at", "1,0,0,2,0,0"], ["p", "1,0,0,2,0,0"], ["c", "<b>Three</b> & more"]]);
     const page = await browser.open(`${address}#${words}`);
-    await page.value(SAVED);
+    await page.until(`${READY} && ${KNOWN} && document.querySelector(".rolls .next")`);
+    await page.value(SAVED); // once the worker, which comes from such an address too, is there
     await page.click("#save-svg");
     await page.until("saved[0]?.name");
     const svg = await page.value(`saved[0].file.text().then((text) => {
