@@ -1,8 +1,9 @@
 // What the page's script draws, and what it reads from an address, under node. Says what went wrong, and fails.
 import { board, lookedAt, miniature } from "../web/board.js";
-import { abilities, Client } from "../web/client.js";
+import { abilities } from "../js/abilities.js";
+import { Client } from "../web/client.js";
 import { bytesOf } from "../web/packed.js";
-import { decimal, notation, percent } from "../web/engine.js";
+import { decimal, notation, percent } from "../web/texts.js";
 import { MOST_KEPT, readLink, START, writeLink } from "../web/link.js";
 import { readPoints } from "../web/points.js";
 import { chances, kept, numbers } from "../web/panels.js";

@@ -1,8 +1,8 @@
 """Puts the page together: page_parts.py WEB WIDE NARROW VERSION PAGE writes one file of the parts in WEB, the two modules
 and the version in the file VERSION.
 
-The scripts in WEB are modules that name each other by `import` and `export`; here they become one script each for the
-page and for its worker, in the order in which they rest on each other, in a function of their own. The page's policy
+The scripts in WEB, and those of the package in js/ beside it, are modules that name each other by `import` and `export`;
+here they become one script each for the page and for its worker, in the order in which they rest on each other, in a function of their own. The page's policy
 lets run and style what was put into it, by its hash, and nothing else.
 """
 import base64
@@ -14,23 +14,23 @@ import sys
 from pathlib import Path
 
 MOST_BYTES = 400_000
-IMPORT = re.compile(r'^import \{[^}]*\} from "\./(\w+)\.js";\n', re.MULTILINE)
+IMPORT = re.compile(r'^import \{[^}]*\} from "(\.\.?/[\w/]+\.js)";\n', re.MULTILINE)
 
 
-def in_order(web, name, done):
+def in_order(path, done):
     """The modules that one rests on, and then itself, each once."""
-    if name in done:
+    if path in done:
         return
-    text = (web / f"{name}.js").read_text()
+    text = path.read_text()
     for below in IMPORT.findall(text):
-        in_order(web, below, done)
-    done[name] = IMPORT.sub("", text)
+        in_order((path.parent / below).resolve(), done)
+    done[path] = IMPORT.sub("", text)
 
 
-def script(web, name, start):
+def script(module, start):
     """One script of a module and those below it, which ends with a call."""
     parts = {}
-    in_order(web, name, parts)
+    in_order(module.resolve(), parts)
     named = re.compile(r"^(?:export )?(?:async )?(?:const|function|class) (\w+)", re.MULTILINE)
     names = [word for text in parts.values() for word in named.findall(text)]
     twice = sorted({word for word in names if names.count(word) > 1})
@@ -58,10 +58,10 @@ def main(web, wide, narrow, version, page):
     # a browser with memories of 64-bit addresses can unpack; an older one needs the other module as it is
     packed = {"wide": gzip.compress(Path(wide).read_bytes(), 9, mtime=0), "narrow": Path(narrow).read_bytes()}
     modules = {name: base64.b64encode(module).decode() for name, module in packed.items()}
-    worker = script(web, "worker", "serve(self);")
+    worker = script(web / "worker.js", "serve(self);")
     lessons = "".join(line for line in (web / "lessons.txt").read_text().splitlines(True) if not line.startswith("from:"))
     parts = json.dumps({"worker": worker, "lessons": lessons, **modules}).replace("</", "<\\/")
-    code = script(web, "app", f"start(document, window, {parts});")
+    code = script(web / "app.js", f"start(document, window, {parts});")
     style = (web / "style.css").read_text()
     text = (web / "index.html").read_text()
     for mark, part in (

@@ -3,7 +3,7 @@
 // position alone, so that a test sees of which position a number is.
 import { ROLLS } from "../web/rolls.js";
 import { drawQuestions } from "../web/trainer.js";
-import { decimal, percent } from "../web/engine.js";
+import { decimal, percent } from "../web/texts.js";
 
 class Node {
     constructor(document, nodeType, localName) {

@@ -683,8 +683,6 @@ function trained() {
     equal("themes", [has("low", [4, 0, 1, 0, 0, 0]), has("low", [4, 0, 0, 1, 0, 0]), has("gaps", [2, 0, 3, 0, 0, 0]), has("gaps", [0, 2, 3, 0, 0, 0]), has("middle", [5, 0, 0, 0, 0, 0]), has("middle", [10, 0, 0, 0, 0, 0]), has("high", [0, 0, 0, 1, 1, 1]), has("high", [0, 0, 1, 1, 1, 1]), has("ace", [3, 0, 0, 0, 0, 0]), has("few", [0, 0, 0, 0, 0, 5])], [true, false, true, false, true, false, true, false, true, false]);
     equal("one play is not asked", drawQuestions(drill, ROLLS, () => [{ isBest: true }]).length, 0);
     equal("nor a tie", drawQuestions(drill, ROLLS, () => [{ isBest: true }, { isBest: true }, { isBest: false }]).length, 0);
-    const tied = { bound: 44, plays: () => [{ isBest: true }, { isBest: false }, { isBest: true }] };
-    equal("nor one that comes later", drawn(tied, drill).length, 0);
     equal("a small database has none", drawn({ bound: 8 }, drill).length, 0);
     equal("links", [readLink("#drill=gaps&seed=7").drill, readLink("#drill=ace&seed=7&ask=play").drill, readLink("#drill=gaps&seed=0").drill, readLink("#drill=x&seed=1").drill], [drill, null, null, null]);
     part = "texts";

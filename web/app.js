@@ -1,5 +1,6 @@
 // The page: draws what the state says, and hands on what is clicked, typed, dropped, and where Back and Forward lead.
-import { abilities, Client } from "./client.js";
+import { abilities } from "../js/abilities.js";
+import { Client } from "./client.js";
 import { Past } from "./history.js";
 import { readLink, writeLink } from "./link.js";
 import { asPng, asSvg } from "./picture.js";

@@ -1,5 +1,5 @@
 // Asks the worker for what the state wants, one question after the other, and loads databases.
-import { FAULTS } from "./engine.js";
+import { FAULTS } from "./texts.js";
 import { begin, ended, loading, opened, received, refused, wanted } from "./state.js";
 
 // Why a database was not opened, in words.

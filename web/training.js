@@ -1,5 +1,5 @@
 // What is shown of a lesson, of a drill, of an estimate, and of what can be begun.
-import { decimal } from "./engine.js";
+import { decimal } from "./texts.js";
 import { COMING } from "./panels.js";
 import { h } from "./tree.js";
 import { ASKED, ESTIMATED, meanOf, THEMES } from "./trainer.js";

@@ -1,43 +1,45 @@
 // What the worker does: it builds, checks and answers, so that the page never stands still.
-import { Engine, Refused } from "./engine.js";
+import { Database } from "../js/database.js";
+import { BearoffError } from "../js/errors.js";
+import { chancesOf, playsOf, roundedOf, roundText, signedOf } from "./answers.js";
 import { bytesOf, unpacked } from "./packed.js";
 import { ROLLS } from "./rolls.js";
+import { REFUSALS } from "./texts.js";
 import { drawQuestions, MOST_PIPS } from "./trainer.js";
 
 // The numbers of a position. Over the bound, or with too many checkers, only why there are none.
-export function answer(engine, points) {
+export function answer(database, points) {
+    const { bound } = database;
     let standing = null;
     try {
-        standing = engine.standing(points);
+        standing = database.standing(points);
         return {
             points,
             standing,
-            bound: engine.bound,
-            mean: engine.mean(points),
-            effective: engine.effective(points),
-            wastage: engine.wastage(points),
-            distribution: engine.distribution(points),
+            bound,
+            mean: roundedOf(database.mean(points)),
+            effective: roundedOf(database.epc(points)),
+            wastage: signedOf(database.wastage(points)),
+            distribution: chancesOf(database, points),
         };
     } catch (error) {
-        if (!(error instanceof Refused)) throw error;
-        return { points, standing, bound: engine.bound, refusal: error.message, status: error.status };
+        if (!(error instanceof BearoffError && REFUSALS[error.status])) throw error;
+        return { points, standing, bound, refusal: REFUSALS[error.status], status: error.status };
     }
 }
 
 // The 21 rolls of a position that was answered, each with its plays; none where no checker is left.
-export function rollsOf(engine, points) {
-    if (engine.standing(points).checkers === 0) return [];
-    return ROLLS.map(([one, other]) => ({ dice: [one, other], plays: engine.plays(points, one, other) }));
+export function rollsOf(database, points) {
+    if (database.standing(points).checkers === 0) return [];
+    return ROLLS.map((dice) => ({ dice, plays: playsOf(database, points, dice) }));
 }
 
 // The questions of a drill; none where the database has fewer pips than they can have.
-export function drawn(engine, drill) {
-    const isBest = (play) => (play.isBest ? 0 : 1);
-    const bestFirst = (plays) => plays.sort((one, other) => isBest(one) - isBest(other));
-    return engine.bound < MOST_PIPS ? [] : drawQuestions(drill, ROLLS, (points, roll) => bestFirst(engine.plays(points, ...roll)));
+export function drawn(database, drill) {
+    return database.bound < MOST_PIPS ? [] : drawQuestions(drill, ROLLS, (points, roll) => playsOf(database, points, roll));
 }
 
-// One desk of the worker: the compiled module, and the engine of the open database.
+// One desk of the worker: the compiled module, and the open database.
 export class Desk {
     // A desk with the module that a page carries.
     static async at({ text, isPacked }, tell) {
@@ -48,28 +50,28 @@ export class Desk {
     constructor(module, tell) {
         this.module = module;
         this.tell = tell;
-        this.engine = null;
+        this.database = null;
     }
 
     // Builds the database of a bound, checks it like any other, and opens it.
     async build(bound) {
         const usual = bound > 44 ? 800 : 400;
         this.tell({ from: 0.1, until: 0.55, usual, text: `Building the database of ${bound} pips\u2026` });
-        const engine = await Engine.start(this.module);
-        const file = engine.build(bound);
-        this.tell({ from: 0.55, until: 1, usual, text: `Checking all of its ${(file.length / 1e6).toFixed(0)} MB\u2026` });
-        return this.openIn(engine, file);
+        return this.become(await Database.build(bound, this.module, (bytes) => {
+            this.tell({ from: 0.55, until: 1, usual, text: `Checking all of its ${(bytes / 1e6).toFixed(0)} MB\u2026` });
+        }));
     }
 
     // Checks a file and opens it; where it is refused the database that was open stays so.
     async open(file) {
-        return this.openIn(await Engine.start(this.module), file);
+        return this.become(await Database.open(file, this.module));
     }
 
-    openIn(engine, file) {
-        engine.open(file);
-        this.engine = engine;
-        return { bound: engine.bound, positions: engine.positions };
+    // A database takes the place of the one that was open.
+    become(database) {
+        this.database?.close();
+        this.database = database;
+        return { bound: database.bound, positions: database.positionCount };
     }
 
     async take({ kind, bound, file, points, fraction, drill }) {
@@ -80,13 +82,13 @@ export class Desk {
                 this.tell({ from: 0.1, until: 1, usual: 400, text: "Checking the file\u2026" });
                 return this.open(file);
             case "ask":
-                return answer(this.engine, points);
+                return answer(this.database, points);
             case "rolls":
-                return rollsOf(this.engine, points);
+                return rollsOf(this.database, points);
             case "draw":
-                return drawn(this.engine, drill);
+                return drawn(this.database, drill);
             case "round":
-                return this.engine.round(fraction);
+                return roundText(this.database, fraction);
             default:
                 throw new Error("no such question");
         }
@@ -109,8 +111,7 @@ export function serve(scope) {
             if (!desk) throw new Error("the module didn't start");
             scope.postMessage({ number, reply: await desk.take(question) });
         } catch (error) {
-            const refused = error instanceof Refused;
-            const failure = { message: error.message, status: refused ? error.status : 0, line: error.line || "" };
+            const failure = { message: error.message, status: error.status || 0, line: error.line || "" };
             scope.postMessage({ number, failure });
         }
     };

@@ -1,0 +1,277 @@
+/**
+ * Exact answers of a proved backgammon bearoff database.
+ *
+ * A database is the bytes of a file that `bearoff build` writes, or what {@link Bearoff.build} makes. It is checked once,
+ * and accepted exactly where it is right: every mean in it is the least over all strategies, the recorded plays reach
+ * these means, and the recorded shares are those of these plays. That is proved of the WebAssembly module of this package,
+ * and so is what the module answers; the script hands numbers over.
+ *
+ * Each argument is checked before the module is asked. One of another type, or a list of another length, is a
+ * `TypeError`; a number that isn't whole, or is out of the range that is told, a `RangeError`; and what the database has
+ * no answer to a {@link BearoffError}, whose `code` is told at each call. Every call on a database that was closed has the
+ * code `not-open`. A call that was refused changes nothing.
+ */
+
+/**
+ * How many checkers stand on the points 1 to 6 of the home board, the ace point first; the others of 15 are borne off.
+ * Each count is a whole number from 0 to 255, and they are a position where they add up to at most 15.
+ */
+export type Position = readonly [number, number, number, number, number, number] | Uint8Array;
+
+/** Six counts, the ace point first, in a list of the caller's own. */
+export type Counts = [number, number, number, number, number, number];
+
+/** The two dice of a roll, in either order, 1 to 6 each. */
+export type Roll = readonly [number, number] | Uint8Array;
+
+/** An exact number. The denominator is not 0. */
+export interface Fraction {
+    readonly numerator: bigint;
+    readonly denominator: bigint;
+}
+
+/** A number in thousandths: a whole number. */
+export interface Thousandths {
+    readonly thousandths: number;
+}
+
+/** An exact number in lowest terms, and in thousandths, rounded to the nearest and a half up. */
+export interface Rounded extends Fraction, Thousandths {}
+
+/** One checker's move: from a point, 1 to 6, to a lower one, or to 0 where it is borne off. */
+export interface Move {
+    readonly from: number;
+    readonly to: number;
+}
+
+/** A play: its 1 to 4 moves in the order in which they are made, and the position that it leads to. */
+export interface Play {
+    readonly moves: Move[];
+    readonly to: Counts;
+}
+
+/**
+ * A position that a roll can lead to, and what it costs, in rolls and in lowest terms: the least mean number of rolls after
+ * it, less the least such mean among all positions that the roll can lead to.
+ */
+export interface Choice {
+    readonly to: Counts;
+    readonly loss: Fraction;
+}
+
+/** The pip count of a position, 0 to 90, its checkers, 0 to 15, and how many of 15 are borne off. */
+export interface Standing {
+    readonly pips: number;
+    readonly checkers: number;
+    readonly off: number;
+}
+
+/** The name of a refusal. */
+export type RefusalCode =
+    /** The database was closed. */
+    | "not-open"
+    /** A die is not 1 to 6. */
+    | "bad-roll"
+    /** A position has more than 15 checkers. */
+    | "too-many"
+    /** The position, or the bound that is to be built, has more pips than there can be. */
+    | "over-bound"
+    /** A play is asked for and no checker is left. */
+    | "finished"
+    /** The roll doesn't lead to that position. */
+    | "not-legal"
+    /** The file that is to be upgraded is of version 2 already. */
+    | "not-old"
+    /** The database has no position of that rank, or fewer than asked from there on. */
+    | "no-rank"
+    /** The bytes are no right database: a {@link DamagedError}. */
+    | "damaged"
+    /** There is no memory for the database. */
+    | "no-memory"
+    /** There is no WebAssembly here, or its file was not found. */
+    | "no-module"
+    /** The module was stopped by the machine that runs it, and this database answers nothing more. */
+    | "trapped"
+    /** The module says what no caller of this package can bring about. */
+    | "changed"
+    | "short"
+    | "unknown";
+
+/** A call that has no answer. The message says what was asked, and why there is none. */
+export class BearoffError extends Error {
+    /** The name of the refusal. */
+    readonly code: RefusalCode;
+    /** The status that the module gave, as in `bearoff.h`, or 0 where it gave none. */
+    readonly status: number;
+}
+
+/** Bytes that are no right database. Its `code` is `damaged`. */
+export class DamagedError extends BearoffError {
+    readonly code: "damaged";
+    /** What kind of fault the first one is. */
+    readonly fault:
+        | "too-short" | "bad-magic" | "bad-version" | "bad-bound" | "bad-count" | "bad-record-bytes" | "bad-reserved"
+        | "bad-length" | "bad-play" | "not-least" | "bad-mean" | "bad-spread";
+    /** The line of the first fault, as `bearoff check` writes it: `mean rank 1`. */
+    readonly line: string;
+}
+
+export interface Options {
+    /**
+     * The compiled `WebAssembly.Module` to use, one of the two files of this package: for places where the package can't
+     * read them itself, or that share one module. Without it the package reads the one that can run here, once.
+     */
+    readonly module?: object;
+}
+
+/**
+ * The module that can run here, compiled: `wide.wasm` where memories can have addresses of 64 bits, and else
+ * `narrow.wasm`. It can be posted to a worker. Refused as `no-module`.
+ */
+export function loadModule(): Promise<object>;
+
+/** A fraction as a double: near to it, and no more than that. */
+export function asNumber(fraction: Fraction): number;
+
+/**
+ * The numbers of a table of {@link Bearoff.means} or {@link Bearoff.distributions} as doubles, near to them and no more
+ * than that: rolls, or chances. A `TypeError` where the table is no `BigUint64Array` of pairs.
+ */
+export function asDoubles(table: BigUint64Array): Float64Array;
+
+/**
+ * A checked database, in a memory of its own: that of its file, and 25 MB. `close` gives it back for the next one; without
+ * it the memory goes when nothing refers to the database any more.
+ */
+export class Bearoff {
+    private constructor();
+
+    /**
+     * Checks the bytes of a file, which are copied, and opens it: 0.4 s for 44 pips, in which the thread does nothing
+     * else, so a page asks in a worker. A {@link DamagedError} where they are no right database.
+     */
+    static open(bytes: ArrayBufferLike | ArrayBufferView, options?: Options): Promise<Bearoff>;
+
+    /**
+     * Builds the database of a pip bound, 0 to 58, checks it as any other, and opens it: a second for 44 pips, in which the
+     * thread does nothing else. Refused as `over-bound` where the bound is over 58.
+     */
+    static build(bound: number, options?: Options): Promise<Bearoff>;
+
+    /** Lets go of the memory. Every later call is refused as `not-open`, but for another `close`, which does nothing. */
+    close(): void;
+
+    /** Whether it wasn't closed. */
+    readonly isOpen: boolean;
+
+    /** The greatest pip count of its positions, 0 to 58. */
+    readonly bound: number;
+
+    /** How many positions it has: those of at most its bound. Their ranks are 0 to one less. */
+    readonly positionCount: number;
+
+    /** The version of its file: 1, or 2 where the records leave out the shares that are known. */
+    readonly version: number;
+
+    /** The version of the module, as `1.2.3`. */
+    readonly libraryVersion: string;
+
+    /**
+     * The least mean number of rolls until all checkers are off, over all strategies. Refused as `too-many` or
+     * `over-bound`, as is every call below that says so by "a position of the database".
+     */
+    mean(position: Position): Rounded;
+
+    /** The effective pip count of a position of the database, in pips: 49/6 for each roll of the mean. */
+    epc(position: Position): Rounded;
+
+    /** The effective pip count of a position of the database, in thousandths, less its pip count. It may be negative. */
+    wastage(position: Position): Thousandths;
+
+    /**
+     * The chances of being off in exactly 0 to 22 rolls, from a position of the database by the recorded plays: 23
+     * fractions over 36^22, whose numerators add up to 36^22.
+     */
+    distribution(position: Position): Fraction[];
+
+    /**
+     * The chance of being off within a number of rolls, 0 or more, from a position of the database by the recorded plays,
+     * rounded to the nearest and a half up.
+     */
+    within(position: Position, rolls: number): Thousandths;
+
+    /** What any position of at most 15 checkers stands at. Refused as `too-many`. */
+    standing(position: Position): Standing;
+
+    /**
+     * How many positions are before a position of the database: those of fewer pips, and of as many pips those with the
+     * smaller counts, that of the ace point first.
+     */
+    rank(position: Position): number;
+
+    /** The position of a rank, 0 or more. Refused as `no-rank`. */
+    position(rank: number): Counts;
+
+    /**
+     * The recorded play of a roll from a position of the database. No play has a smaller mean; there may be others as good.
+     * Refused as `bad-roll` too, and as `finished` where no checker is left.
+     */
+    play(position: Position, roll: Roll): Play;
+
+    /**
+     * The first play of a roll that leads from one position of at most 15 checkers to another. Refused as `bad-roll`,
+     * `too-many` or `not-legal`.
+     */
+    playTo(position: Position, roll: Roll, to: Position): Play;
+
+    /**
+     * What a play to the position `to` costs, in rolls and in lowest terms, beside the best one. Refused as `play` is, and as
+     * `not-legal`.
+     */
+    loss(position: Position, roll: Roll, to: Position): Fraction;
+
+    /**
+     * Every position that a roll can lead to from a position of the database, once, at most 1,296, the best first, and of
+     * those that cost as much that of the lower rank. Refused as `play` is.
+     */
+    moves(position: Position, roll: Roll): Choice[];
+
+    /**
+     * What `bearoff query` writes for a line, as `mean 0,0,0,0,0,1`, without a line ending: `mean POSITION`, `dist
+     * POSITION`, `play POSITION ROLL`, `loss POSITION ROLL POSITION`, `moves POSITION ROLL` or `rank POSITION`. A line that
+     * asks nothing, or is refused, is answered too, by a text that begins with `error`; so is one of any length.
+     */
+    answer(line: string): string;
+
+    /**
+     * A fraction in thousandths, rounded to the nearest and a half up. A `RangeError` where the fraction is over 180, or
+     * its denominator is 0 or over 6 * 36^22: every number of a database is in that range.
+     */
+    thousandths(fraction: Fraction): number;
+
+    /**
+     * Whole tables: of `count` ranks from `first` on, or of all from there on, by rising rank. Refused as `no-rank` where
+     * the database has fewer. Each is a copy of the caller's own.
+     *
+     * Positions: six bytes for each.
+     */
+    positions(first?: number, count?: number): Uint8Array;
+
+    /** Means: two numbers for each, the upper and the lower 64 bits of a numerator over 36^22. */
+    means(first?: number, count?: number): BigUint64Array;
+
+    /**
+     * Effective pip counts: five numbers for each. The first two are the upper and the lower 64 bits of the numerator, the
+     * next two those of the denominator, in lowest terms, and the fifth are the thousandths.
+     */
+    epcs(first?: number, count?: number): BigUint64Array;
+
+    /** Distributions: 46 numbers for each, the upper and the lower 64 bits of each of 23 numerators over 36^22. */
+    distributions(first?: number, count?: number): BigUint64Array;
+
+    /** The bytes of its file: a copy. */
+    bytes(): Uint8Array;
+
+    /** The bytes of a file of version 2 that says the same. Refused as `not-old` where its file is of version 2 already. */
+    upgrade(): Uint8Array;
+}

@@ -1,0 +1,102 @@
+// What a caller may hand over. Each argument is read once, into a value of its own, before anything is done with it: so
+// nothing of a wrong one reaches the module, and one that changes while it is read is only what was read.
+
+// Six counts and two dice are bytes in the module.
+const MOST_BYTE = 255;
+const MOST_RANK = 65535;
+const MOST_WIDE = (1n << 128n) - 1n;
+
+const isList = (value) => Array.isArray(value) || (ArrayBuffer.isView(value) && !(value instanceof DataView));
+
+// What stands in the text of a refusal for a value that isn't what it has to be.
+function named(value) {
+    if (value === null) return "null";
+    if (typeof value === "number") return String(value);
+    if (typeof value === "object") return isList(value) ? "a list" : "an object";
+    return typeof value === "undefined" ? "undefined" : `a ${typeof value}`;
+}
+
+function readWhole(value, name) {
+    if (typeof value !== "number") throw new TypeError(`${name} is a number, and not ${named(value)}`);
+    if (!Number.isInteger(value)) throw new RangeError(`${name} is a whole number, and not ${value}`);
+    return value;
+}
+
+function readNatural(value, name, most) {
+    if (readWhole(value, name) < 0 || value > most) throw new RangeError(`${name} is 0 to ${most}, and not ${value}`);
+    return value;
+}
+
+// The members of a list, each read once.
+function readList(value, length, what) {
+    if (!isList(value)) throw new TypeError(`${what}, and not ${named(value)}`);
+    if (value.length !== length) throw new TypeError(`${what}, and not ${value.length}`);
+    const members = [];
+    for (let place = 0; place < length; place++) members.push(value[place]);
+    return members;
+}
+
+// Six counts, each a byte.
+export function readPosition(value) {
+    const counts = readList(value, 6, "a position is six counts");
+    for (const count of counts) readNatural(count, "a count", MOST_BYTE);
+    return counts;
+}
+
+// A die, as it fits the module: a whole number that no byte holds is none that a die shows, and so is 0.
+function readDie(value) {
+    const die = readWhole(value, "a die");
+    return die >= 0 && die <= MOST_BYTE ? die : 0;
+}
+
+export function readRoll(value) {
+    const [one, other] = readList(value, 2, "a roll is two dice");
+    return [readDie(one), readDie(other)];
+}
+
+// A rank, as it fits the module: no database has one of its greatest number.
+export const readRank = (value) => Math.min(readNatural(value, "a rank", Number.MAX_SAFE_INTEGER), MOST_RANK);
+
+// A pip bound, as it fits the module.
+export const readBound = (value) => Math.min(readNatural(value, "a bound", Number.MAX_SAFE_INTEGER), MOST_BYTE);
+
+// A number of rolls, as it fits the module: from 22 rolls on all checkers are off.
+export const readRolls = (value) => Math.min(readNatural(value, "a number of rolls", Number.MAX_SAFE_INTEGER), MOST_BYTE);
+
+// A range of ranks: the first, and how many; all that follow where no count is told.
+export function readRange(first, count, all) {
+    const from = readNatural(first, "the first rank", Number.MAX_SAFE_INTEGER);
+    const usual = Math.max(0, all - from);
+    return [from, count === undefined ? usual : readNatural(count, "the number of ranks", Number.MAX_SAFE_INTEGER)];
+}
+
+export function readLine(value) {
+    if (typeof value !== "string") throw new TypeError(`a line is a string, and not ${named(value)}`);
+    return value;
+}
+
+// A fraction, with numbers that fit the module.
+export function readFraction(value) {
+    if (typeof value !== "object" || value === null) throw new TypeError(`a fraction is an object, and not ${named(value)}`);
+    return [["numerator", value.numerator], ["denominator", value.denominator]].map(([name, number]) => {
+        if (typeof number !== "bigint") throw new TypeError(`a ${name} is a bigint, and not ${named(number)}`);
+        if (number < 0n || number > MOST_WIDE) throw new RangeError(`a ${name} is 0 to 2^128 - 1, and not ${number}`);
+        return number;
+    });
+}
+
+const tagOf = (value) => Object.prototype.toString.call(value);
+
+// The bytes of a file: those of a buffer, or those that a view of one shows.
+export function readBytes(value) {
+    if (ArrayBuffer.isView(value)) return new Uint8Array(value.buffer, value.byteOffset, value.byteLength);
+    if (["[object ArrayBuffer]", "[object SharedArrayBuffer]"].includes(tagOf(value))) return new Uint8Array(value);
+    throw new TypeError(`a file is an ArrayBuffer or a view of one, and not ${named(value)}`);
+}
+
+export function readModule(value) {
+    if (tagOf(value) !== "[object WebAssembly.Module]") {
+        throw new TypeError(`a module is a WebAssembly.Module, and not ${named(value)}`);
+    }
+    return value;
+}

@@ -1,0 +1,264 @@
+// What a checked database answers. Each call checks what it is given, asks the module once, and reads what it wrote.
+import {
+    readBound, readBytes, readFraction, readLine, readModule, readPosition, readRange, readRank, readRoll, readRolls,
+} from "./checks.js";
+import { Engine, OUTPUT_BYTES } from "./engine.js";
+import { BearoffError, refusal } from "./errors.js";
+
+// How many bytes the elements of a whole table have.
+const POSITION_BYTES = 6;
+const MEAN_BYTES = 16;
+const EPC_BYTES = 40;
+const DISTRIBUTION_BYTES = 368;
+const RESULT_BYTES = 40;
+const MOST_RESULTS = 1296;
+
+const WHOLE = 36n ** 22n;
+const MOST_ROLLS = 22;
+
+// The less loss first; of equal losses, as they came.
+function byLoss({ loss: one }, { loss: other }) {
+    const [left, right] = [one.numerator * other.denominator, other.numerator * one.denominator];
+    return left < right ? -1 : left > right ? 1 : 0;
+}
+
+// The database, of a kind, of the file that is put where files lie. Where it is refused the instance waits for another.
+function opened(Kind, engine, put) {
+    try {
+        put();
+        engine.open();
+        return new Kind(engine);
+    } catch (error) {
+        engine.release();
+        throw error;
+    }
+}
+
+export class Database {
+    #engine;
+
+    #bound;
+
+    #count;
+
+    // Checks the bytes of a file, over a compiled module, and opens it.
+    static async open(bytes, module) {
+        const file = readBytes(bytes);
+        const engine = await Engine.start(readModule(module));
+        return opened(this, engine, () => engine.put(file));
+    }
+
+    // Builds the file of a bound, checks it as any other, and opens it; `built` is called before the check, with the
+    // number of its bytes.
+    static async build(bound, module, built = () => {}) {
+        const most = readBound(bound);
+        const engine = await Engine.start(readModule(module));
+        return opened(this, engine, () => {
+            engine.build(most);
+            built(engine.fileBytes);
+        });
+    }
+
+    constructor(engine) {
+        this.#engine = engine;
+        engine.ask("bound", "bearoff_bound", engine.atDatabase, engine.atTold);
+        this.#bound = engine.bytes[engine.told];
+        engine.ask("positions", "bearoff_positions", engine.atDatabase, engine.atTold);
+        this.#count = engine.view.getUint32(engine.told, true);
+    }
+
+    // Lets go of the instance. Every later call is refused.
+    close() {
+        this.#engine?.release();
+        this.#engine = null;
+    }
+
+    get isOpen() {
+        return this.#engine !== null;
+    }
+
+    get bound() {
+        return this.#bound;
+    }
+
+    get positionCount() {
+        return this.#count;
+    }
+
+    get version() {
+        const engine = this.#open("version");
+        engine.ask("version", "bearoff_version", engine.atDatabase, engine.atTold);
+        return engine.view.getUint16(engine.told, true);
+    }
+
+    get libraryVersion() {
+        const engine = this.#open("library version");
+        engine.ask("library version", "bearoff_library_version", engine.atTold, engine.atTold + 2n, engine.atTold + 4n);
+        return [0, 2, 4].map((place) => engine.view.getUint16(engine.told + place, true)).join(".");
+    }
+
+    mean(position) {
+        return this.#rounded("mean", "bearoff_rounded_mean", position);
+    }
+
+    epc(position) {
+        return this.#rounded("epc", "bearoff_epc", position);
+    }
+
+    wastage(position) {
+        const engine = this.#askOf("wastage", "bearoff_wastage", position);
+        const thousandths = engine.number(engine.output);
+        return { thousandths: engine.bytes[engine.output + 8] === 0 ? thousandths : -thousandths };
+    }
+
+    distribution(position) {
+        const engine = this.#askOf("distribution", "bearoff_distribution", position);
+        return Array.from({ length: MOST_ROLLS + 1 }, (_, rolls) =>
+            ({ numerator: engine.wide(engine.output + 16 * rolls), denominator: WHOLE }));
+    }
+
+    within(position, rolls) {
+        const engine = this.#askOf("within", "bearoff_within", position, readRolls(rolls));
+        return { thousandths: engine.number(engine.output) };
+    }
+
+    standing(position) {
+        const counts = readPosition(position);
+        const engine = this.#open("standing");
+        engine.setCounts(engine.position, counts);
+        engine.ask(`standing ${counts}`, "bearoff_standing", engine.atPosition, engine.atOutput);
+        const [pips, checkers, off] = engine.bytes.subarray(engine.output, engine.output + 3);
+        return { pips, checkers, off };
+    }
+
+    rank(position) {
+        const engine = this.#askOf("rank", "bearoff_rank", position);
+        return engine.view.getUint16(engine.output, true);
+    }
+
+    position(rank) {
+        const asked = readRank(rank);
+        const engine = this.#open("position");
+        engine.ask(`position ${rank}`, "bearoff_position_of", engine.atDatabase, asked, engine.atOutput);
+        return engine.countsAt(engine.output);
+    }
+
+    play(position, roll) {
+        const dice = readRoll(roll);
+        const engine = this.#askOf("play", "bearoff_play", position, ...dice);
+        return engine.playAt(engine.output);
+    }
+
+    playTo(position, roll, to) {
+        const [counts, dice, target] = [readPosition(position), readRoll(roll), readPosition(to)];
+        const engine = this.#open("playTo");
+        engine.setCounts(engine.position, counts);
+        engine.setCounts(engine.to, target);
+        engine.ask(`playTo ${counts} ${dice.join("")} ${target}`, "bearoff_play_to", engine.atPosition, ...dice, engine.atTo,
+            engine.atOutput);
+        return engine.playAt(engine.output);
+    }
+
+    loss(position, roll, to) {
+        const [counts, dice, target] = [readPosition(position), readRoll(roll), readPosition(to)];
+        const engine = this.#open("loss");
+        engine.setCounts(engine.position, counts);
+        engine.setCounts(engine.to, target);
+        engine.ask(`loss ${counts} ${dice.join("")} ${target}`, "bearoff_loss", engine.atDatabase, engine.atPosition, ...dice,
+            engine.atTo, engine.atOutput);
+        return engine.fractionAt(engine.output);
+    }
+
+    moves(position, roll) {
+        const [counts, dice] = [readPosition(position), readRoll(roll)];
+        const engine = this.#open("moves");
+        engine.setCounts(engine.position, counts);
+        engine.ask(`moves ${counts} ${dice.join("")}`, "bearoff_results", engine.atDatabase, engine.atPosition, ...dice,
+            engine.atOutput, BigInt(MOST_RESULTS), engine.atTold);
+        return Array.from({ length: engine.number(engine.told) }, (_, result) => {
+            const place = engine.output + RESULT_BYTES * result;
+            return { to: engine.countsAt(place), loss: engine.fractionAt(place + 8) };
+        }).sort(byLoss);
+    }
+
+    answer(line) {
+        const asked = readLine(line);
+        const engine = this.#open("answer");
+        const length = engine.setLine(asked);
+        engine.ask("answer", "bearoff_answer_line", engine.atDatabase, BigInt(engine.line), BigInt(length), engine.atOutput,
+            BigInt(OUTPUT_BYTES), engine.atTold);
+        return engine.text(engine.output, engine.number(engine.told));
+    }
+
+    thousandths(fraction) {
+        const numbers = readFraction(fraction);
+        const engine = this.#open("thousandths");
+        engine.setFraction(numbers);
+        if (!engine.call("bearoff_thousandths", BigInt(engine.fraction), engine.atTold)) {
+            throw new RangeError("a fraction in thousandths is at most 180, and its denominator is 1 to 6 * 36^22");
+        }
+        return engine.number(engine.told);
+    }
+
+    positions(first = 0, count = undefined) {
+        return this.#listed("bearoff_listed_positions", POSITION_BYTES, first, count);
+    }
+
+    means(first = 0, count = undefined) {
+        return new BigUint64Array(this.#listed("bearoff_listed_means", MEAN_BYTES, first, count).buffer);
+    }
+
+    epcs(first = 0, count = undefined) {
+        return new BigUint64Array(this.#listed("bearoff_listed_epcs", EPC_BYTES, first, count).buffer);
+    }
+
+    distributions(first = 0, count = undefined) {
+        return new BigUint64Array(this.#listed("bearoff_listed_distributions", DISTRIBUTION_BYTES, first, count).buffer);
+    }
+
+    bytes() {
+        return this.#open("bytes").fileOf();
+    }
+
+    upgrade() {
+        return this.#open("upgrade").upgrade();
+    }
+
+    // The instance of a database that wasn't closed.
+    #open(asked) {
+        if (!this.#engine) throw new BearoffError("not-open", `${asked}: the database was closed`, { status: 1 });
+        return this.#engine;
+    }
+
+    // Asks something of a position, whose answer is written where outputs lie.
+    #askOf(asked, name, position, ...words) {
+        const counts = readPosition(position);
+        const engine = this.#open(asked);
+        engine.setCounts(engine.position, counts);
+        const status = engine.call(name, engine.atDatabase, engine.atPosition, ...words, engine.atOutput);
+        if (status !== 0) throw refusal(status, `${[asked, counts, ...words].join(" ")}`);
+        return engine;
+    }
+
+    #rounded(asked, name, position) {
+        const engine = this.#askOf(asked, name, position);
+        return engine.roundedAt(engine.output);
+    }
+
+    // What the module lists of a range of ranks, copied out by parts that the room for outputs holds.
+    #listed(name, each, first, count) {
+        const [from, all] = readRange(first, count, this.#count);
+        const engine = this.#open("a table");
+        if (from + all > this.#count) throw refusal(10, `${all} ranks from ${from} on`);
+        const table = new Uint8Array(all * each);
+        const most = Math.floor(OUTPUT_BYTES / each);
+        for (let done = 0; done < all; done += most) {
+            const part = Math.min(most, all - done);
+            engine.ask("a table", name, engine.atDatabase, from + done, engine.atOutput, BigInt(part));
+            table.set(engine.bytes.subarray(engine.output, engine.output + part * each), done * each);
+        }
+        return table;
+    }
+}
+
+if (Symbol.dispose) Database.prototype[Symbol.dispose] = Database.prototype.close;

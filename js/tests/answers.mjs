@@ -1,0 +1,166 @@
+// Asks the package everything that the program was asked, and compares what it answers with the program's lines: each call,
+// the texts of its replies, whole tables, and the bytes of files. answers.mjs PACKAGE PROGRAM FOLDER [BOUND..]
+import { bytesOf, end, equal, FILES, linesOf, partOf, textOf, wrong } from "./given.mjs";
+
+const { Bearoff, BearoffError, asDoubles, asNumber } = await partOf("bearoff.js");
+const { version } = JSON.parse(textOf("package.json"));
+const WHOLE = 36n ** 22n;
+const REFUSED = ["too-many", "over-bound", "finished", "not-legal"];
+
+const fraction = ({ numerator, denominator }) => `${numerator}/${denominator}`;
+const divisor = (one, other) => (other === 0n ? one : divisor(other, one % other));
+const decimal = (thousandths) => `${Math.floor(thousandths / 1000)}.${String(thousandths % 1000).padStart(3, "0")}`;
+const number = (text) => text.split(",").map(Number);
+
+// A number over another in thousandths, to the nearest and a half up, as the definition says.
+const nearest = ({ numerator, denominator }) => Number((2000n * numerator + denominator) / (2n * denominator));
+
+function lowest({ numerator, denominator }) {
+    const common = divisor(numerator, denominator);
+    return `${numerator / common}/${denominator / common}`;
+}
+
+// What the program writes for a line, put together from what the calls answer.
+function written(database, line) {
+    const [word, at, dice, to] = line.split(" ");
+    const position = number(at);
+    const roll = dice && [...dice].map(Number);
+    if (word === "mean") {
+        const epc = database.epc(position);
+        return `mean ${fraction(database.mean(position))} epc ${fraction(epc)} ${decimal(epc.thousandths)}`;
+    }
+    if (word === "dist") {
+        const shares = database.distribution(position).map((share, rolls) => [rolls, share]);
+        return `dist ${shares.filter(([, share]) => share.numerator > 0n).map(([rolls, share]) => `${rolls}:${lowest(share)}`).join(" ")}`;
+    }
+    if (word === "play") {
+        const play = database.play(position, roll);
+        return `play ${play.moves.map((move) => `${move.from}/${move.to === 0 ? "off" : move.to}`).join(" ")} to ${play.to}`;
+    }
+    if (word === "loss") return `loss ${fraction(database.loss(position, roll, number(to)))}`;
+    if (word === "rank") return `rank ${database.rank(position)}`;
+    return `moves ${database.moves(position, roll).map((choice) => `${choice.to}:${fraction(choice.loss)}`).join(" ")}`;
+}
+
+function compareLines(database, bound) {
+    const lines = linesOf(`questions_${bound}`);
+    const replies = linesOf(`replies_${bound}`);
+    equal(`the replies over ${bound} pips`, replies.length, lines.length);
+    const seen = new Set();
+    lines.forEach((line, place) => {
+        const reply = replies[place];
+        const name = `${line}, over ${bound} pips`;
+        equal(name, database.answer(line), reply);
+        seen.add(reply.split(" ")[reply.startsWith("error") ? 1 : 0]);
+        if (reply === "error bad-line") return;
+        let is;
+        try {
+            is = written(database, line);
+        } catch (error) {
+            if (!(error instanceof BearoffError && REFUSED.includes(error.code))) throw error;
+            is = `error ${error.code}`;
+        }
+        equal(`${name}, by its call`, is, reply);
+    });
+    for (const kind of ["mean", "dist", "play", "loss", "moves", "bad-line", ...REFUSED]) {
+        // 48 pips are over the bound of 44, and not over that of 58
+        seen.has(kind) || (bound === 58 && kind === "over-bound") || wrong(`no reply ${kind} over ${bound} pips`);
+    }
+    return new Set(lines.filter((_, place) => replies[place].startsWith("mean")).map((line) => line.split(" ")[1]));
+}
+
+// What else is known of a position.
+function comparePosition(database, name, position) {
+    const { pips, checkers, off } = database.standing(position);
+    equal(`${name}, pips`, pips, position.reduce((sum, count, place) => sum + count * (place + 1), 0));
+    equal(`${name}, checkers`, checkers, position.reduce((sum, count) => sum + count, 0));
+    equal(`${name}, off`, off, 15 - checkers);
+    const [mean, epc] = [database.mean(position), database.epc(position)];
+    equal(`${name}, the mean in thousandths`, mean.thousandths, nearest(mean));
+    equal(`${name}, the mean as a double`, asNumber(mean), Number(mean.numerator) / Number(mean.denominator));
+    equal(`${name}, wastage`, database.wastage(position).thousandths, epc.thousandths - 1000 * pips);
+    const rank = database.rank(position);
+    equal(`${name}, its rank's position`, database.position(rank).join(), position.join());
+    equal(`${name}, by the line`, database.answer(`rank ${position}`), `rank ${rank}`);
+    let sum = 0n;
+    database.distribution(position).forEach((share, rolls) => {
+        sum += share.numerator;
+        equal(`${name}, a share in thousandths`, database.thousandths(share), nearest(share));
+        equal(`${name}, within ${rolls}`, database.within(position, rolls).thousandths, nearest({ numerator: sum, denominator: WHOLE }));
+    });
+    equal(`${name}, all shares`, sum, WHOLE);
+    for (const roll of [[2, 1], [6, 6]]) {
+        for (const { to } of checkers > 0 ? database.moves(position, roll) : []) {
+            const play = database.playTo(position, roll, to);
+            equal(`${name}, a play to ${to}`, play.to.join(), to.join());
+            equal(`${name}, its moves`, walked(position, play.moves), to.join());
+        }
+    }
+}
+
+// Where moves lead, checker by checker.
+function walked(position, moves) {
+    const counts = [...position];
+    for (const { from, to } of moves) {
+        counts[from - 1] -= 1;
+        if (to > 0) counts[to - 1] += 1;
+    }
+    return counts.join();
+}
+
+// Whole tables, beside the calls for one position, which were compared with the program's lines.
+function compareTables(database, bound, asked) {
+    const count = database.positionCount;
+    const [positions, means, epcs, distributions] = ["positions", "means", "epcs", "distributions"].map((name) => database[name]());
+    for (const [name, table, each] of [["positions", positions, 6], ["means", means, 2], ["epcs", epcs, 5], ["distributions", distributions, 46]]) {
+        equal(`how many ${name} of ${bound} pips`, table.length, each * count);
+        for (const [first, some] of [[0, 1], [count - 1, 1], [7, Math.min(400, count - 7)], [count, 0], [3, 0]]) {
+            equal(`${some} ${name} from ${first} on`, database[name](first, some).join(), table.slice(each * first, each * (first + some)).join());
+        }
+        equal(`${name} from 5 on`, database[name](5).length, each * (count - 5));
+        const before = table[0];
+        table[0] += typeof before === "bigint" ? 1n : 1;
+        equal(`${name} are copies`, database[name](0, 1)[0], before);
+        table[0] = before;
+    }
+    const wide = (table, place) => (table[place] << 64n) | table[place + 1];
+    const [rolls, shares] = [asDoubles(means), asDoubles(distributions)];
+    for (const text of asked) {
+        const position = number(text);
+        const rank = database.rank(position);
+        const name = `${text} in the tables of ${bound} pips`;
+        equal(`${name}, the position`, positions.subarray(6 * rank, 6 * rank + 6).join(), text);
+        const [mean, epc] = [database.mean(position), database.epc(position)];
+        equal(`${name}, the mean`, wide(means, 2 * rank) * mean.denominator, mean.numerator * WHOLE);
+        equal(`${name}, near the mean`, Math.abs(rolls[rank] - asNumber(mean)) <= 1e-15 * rolls[rank], true);
+        equal(`${name}, the effective pip count`, [wide(epcs, 5 * rank), wide(epcs, 5 * rank + 2), epcs[5 * rank + 4]].join(), [epc.numerator, epc.denominator, epc.thousandths].join());
+        database.distribution(position).forEach((share, place) => {
+            equal(`${name}, the share of ${place}`, wide(distributions, 46 * rank + 2 * place), share.numerator);
+            equal(`${name}, near it`, Math.abs(shares[23 * rank + place] - asNumber(share)) <= 1e-15, true);
+        });
+    }
+}
+
+for (const bound of process.argv.length > 5 ? process.argv.slice(5).map(Number) : [8, 44, 58]) {
+    const file = bytesOf(FILES[bound]);
+    const built = await Bearoff.build(bound);
+    equal(`the file of ${bound} pips`, Buffer.compare(Buffer.from(built.bytes()), file), 0);
+    equal(`the bound of ${bound} pips`, built.bound, bound);
+    equal(`the version of ${bound} pips`, built.version, bound > 44 ? 2 : 1);
+    equal("the version of the library", built.libraryVersion, version);
+    built.close();
+    const database = await Bearoff.open(file);
+    const asked = compareLines(database, bound);
+    for (const text of bound === 8 ? asked : [...asked].slice(0, 100)) comparePosition(database, text, number(text));
+    compareTables(database, bound, asked);
+    if (bound <= 44) {
+        const upgraded = database.upgrade();
+        equal(`the upgrade of ${bound} pips`, Buffer.compare(Buffer.from(upgraded), bytesOf(`${FILES[bound]}_new`)), 0);
+        const newer = await Bearoff.open(upgraded);
+        equal("its version", newer.version, 2);
+        for (const text of [...asked].slice(0, 50)) equal(`${text}, upgraded`, newer.answer(`dist ${text}`), database.answer(`dist ${text}`));
+        newer.close();
+    }
+    database.close();
+}
+end();

@@ -1,0 +1,95 @@
+// Loads the package as a module into Chromium, from a local server: in a page and in a module worker, where memories have
+// addresses of 64 bits and where they haven't. browser.mjs PACKAGE PROGRAM FOLDER. Says what went wrong, and fails; where
+// Chromium isn't installed it says so.
+import { createServer } from "node:http";
+import { extname } from "node:path";
+import { Browser, installed } from "../../tools/browser.mjs";
+import { bytesOf, end, equal, linesOf, packageBytes, wrong } from "./given.mjs";
+
+const TYPES = { ".js": "text/javascript", ".wasm": "application/wasm", "/": "text/html; charset=utf-8" };
+
+// What the page asks, and its worker: some lines, a table, a refusal, and a database that is built.
+const ASKED = `
+import { asDoubles, Bearoff } from "/package/bearoff.js";
+
+export async function told(words) {
+    const database = await Bearoff.open(await (await fetch("/eight")).arrayBuffer(), words);
+    const lines = await (await fetch("/questions")).json();
+    const replies = lines.map((line) => database.answer(line));
+    const means = asDoubles(database.means());
+    const built = await Bearoff.build(8, words);
+    const bytes = built.bytes();
+    const same = bytes.length === database.bytes().length && bytes.every((byte, place) => byte === database.bytes()[place]);
+    let code = "";
+    try { database.mean([0, 0, 0, 0, 0, 9]); } catch (error) { code = error.code; }
+    database.close();
+    return { replies, six: means[built.rank([0, 0, 0, 0, 0, 1])].toFixed(12), same, code };
+}`;
+
+const WORKER = `
+import { told } from "/asked.js";
+import { loadModule } from "/package/bearoff.js";
+
+onmessage = async ({ data }) => {
+    const isHanded = data.module !== undefined;
+    postMessage(await told(isHanded ? data : undefined).catch((error) => String(error)));
+};`;
+
+const PAGE = `<!doctype html><meta charset="utf-8"><title>bearoff</title><link rel="icon" href="data:,">
+<script type="module">
+import { loadModule } from "/package/bearoff.js";
+import { told } from "/asked.js";
+
+const asked = (words) => new Promise((keep) => {
+    const worker = new Worker("/worker.js", { type: "module" });
+    worker.onmessage = ({ data }) => keep(data);
+    worker.onerror = ({ message }) => keep(message);
+    worker.postMessage(words);
+});
+const fail = (error) => String(error);
+window.done = { page: await told().catch(fail), worker: await asked({}), handed: await asked({ module: await loadModule() }) };
+</script>`;
+
+const program = installed();
+if (!program) {
+    console.log("js: Chromium isn't installed, so the package was tried under node alone");
+    end();
+}
+const lines = linesOf("questions_8").slice(300, 500);
+const replies = linesOf("replies_8").slice(300, 500);
+const fetched = [];
+const server = createServer((request, response) => {
+    const path = new URL(request.url, "http://localhost").pathname;
+    fetched.push(path);
+    const given = {
+        "/": PAGE, "/asked.js": ASKED, "/worker.js": WORKER, "/questions": JSON.stringify(lines), "/eight": bytesOf("eight"),
+    }[path] ?? (path.startsWith("/package/") ? packageBytes(path.slice("/package/".length)) : null);
+    response.writeHead(given === null ? 404 : 200, { "Content-Type": TYPES[extname(path)] || TYPES[path] || "application/octet-stream" });
+    response.end(given ?? "");
+}).listen(0, "127.0.0.1");
+await new Promise((keep) => server.on("listening", keep));
+const address = `http://127.0.0.1:${server.address().port}/`;
+
+const browser = new Browser(program);
+try {
+    // the worker that is handed no module finds out for itself what can run there
+    for (const [name, before, form] of [
+        ["as it is", "", "wide"],
+        ["narrowed", "const validate = WebAssembly.validate; WebAssembly.validate = (bytes) => bytes.length !== 13 && validate(bytes);", "narrow"],
+    ]) {
+        fetched.length = 0;
+        const page = await browser.open(address, { before });
+        await page.until("window.done", 30000).catch((error) => wrong(`${name}: ${error.message}; ${page.troubles().join()}; ${fetched.join(" ")}`));
+        const done = (await page.value("window.done")) || {};
+        for (const [where, is] of Object.entries(done)) {
+            equal(`${name}, the ${where}, replies that are others`, replies.filter((reply, place) => reply !== is.replies?.[place]).length, 0);
+            equal(`${name}, the ${where}`, JSON.stringify({ ...is, replies: is.replies?.length }), JSON.stringify({ replies: 200, six: "1.250000000000", same: true, code: "over-bound" }));
+        }
+        equal(`${name}, the form that the page fetched`, fetched.includes(`/package/${form}.wasm`), true);
+        equal(`${name}, what went wrong`, page.troubles().join(), "");
+    }
+} finally {
+    await browser.close();
+    server.close();
+}
+end();

@@ -1,0 +1,33 @@
+// What the tests of the package are given: the package as it was put down, the program, and a folder with its files eight,
+// race.db and large.db of 8, 44 and 58 pips, with questions_8, replies_8 and so on.
+import { readFileSync } from "node:fs";
+import { join, resolve } from "node:path";
+import { pathToFileURL } from "node:url";
+
+const [, , packageFolder, program, folder] = process.argv;
+
+export { program };
+
+export const FILES = { 8: "eight", 44: "race.db", 58: "large.db" };
+
+export const at = (name) => join(folder, name);
+export const bytesOf = (name) => readFileSync(at(name));
+export const linesOf = (name) => readFileSync(at(name), "utf8").trimEnd().split("\n");
+export const partOf = (name) => import(pathToFileURL(resolve(packageFolder, name)).href);
+export const packageBytes = (name) => readFileSync(join(packageFolder, name));
+export const textOf = (name) => packageBytes(name).toString();
+
+let failed = 0;
+
+export function wrong(text) {
+    failed += 1;
+    if (failed <= 20) console.log(`js: ${text.slice(0, 500)}`);
+}
+
+export const equal = (name, is, wanted) => is === wanted || wrong(`${name}: ${is}, and not ${wanted}`);
+
+// Ends the test.
+export function end() {
+    if (failed > 20) console.log(`js: ${failed} are wrong`);
+    process.exit(failed > 0 ? 1 : 0);
+}

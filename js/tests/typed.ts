@@ -1,0 +1,72 @@
+// What the types let through, and what they refuse: a line below @ts-expect-error that compiles is an error.
+import { asDoubles, asNumber, Bearoff, BearoffError, DamagedError, loadModule } from "bearoff";
+import type { Choice, Counts, Fraction, Play, Position, Roll, Rounded } from "bearoff";
+
+declare const console: { log(text: string): void };
+
+const six: Position = [0, 0, 0, 0, 0, 1];
+const roll: Roll = [2, 1];
+const database: Bearoff = await Bearoff.build(8);
+const mean: Rounded = database.mean(six);
+const exact: bigint = mean.numerator;
+const play: Play = database.play(six, roll);
+const first: Choice | undefined = database.moves(six, roll)[0];
+const loss: Fraction = database.loss(six, [1, 2], play.to);
+const counts: Counts = database.position(database.rank(new Uint8Array([0, 0, 0, 0, 0, 1])));
+const halves: BigUint64Array = database.means(0, 3);
+const doubles: Float64Array = asDoubles(halves);
+const texts: string[] = play.moves.map(({ from, to }) => `${from}/${to}`);
+const again: Bearoff = await Bearoff.open(database.upgrade(), { module: await loadModule() });
+
+function named(error: unknown): string {
+    if (error instanceof DamagedError) return `${error.code} ${error.fault} ${error.line}`;
+    return error instanceof BearoffError ? error.code : "another";
+}
+
+const refused: string = await Bearoff.open(new ArrayBuffer(3)).then(() => "none", named);
+const told = [exact, mean.denominator, texts.join(" "), first?.to.join(), loss.numerator, counts.join(), doubles[1]?.toFixed(3), again.version,
+    again.wastage(six).thousandths, asNumber(again.distribution(six)[1]!).toFixed(2), refused];
+console.log(told.join("; "));
+
+// What doesn't compile, and is never called.
+export async function wrong(): Promise<void> {
+    // @ts-expect-error five counts
+    database.mean([0, 0, 0, 0, 1]);
+    // @ts-expect-error seven counts
+    database.mean([0, 0, 0, 0, 0, 0, 1]);
+    // @ts-expect-error a text
+    database.mean("0,0,0,0,0,1");
+    // @ts-expect-error a text among counts
+    database.epc([0, 0, 0, 0, 0, "1"]);
+    // @ts-expect-error nothing
+    database.standing(null);
+    // @ts-expect-error bigints
+    database.rank([0n, 0n, 0n, 0n, 0n, 1n]);
+    // @ts-expect-error three dice
+    database.play(six, [2, 1, 1]);
+    // @ts-expect-error a roll of digits
+    database.moves(six, "21");
+    // @ts-expect-error no roll
+    database.play(six);
+    // @ts-expect-error a rank that is a text
+    database.position("1");
+    // @ts-expect-error a line that is none
+    database.answer(["mean 0,0,0,0,0,1"]);
+    // @ts-expect-error a path
+    await Bearoff.open("race.db");
+    // @ts-expect-error a bound that is a text
+    await Bearoff.build("44");
+    // @ts-expect-error a module that is an address
+    await Bearoff.build(44, { module: "wide.wasm" });
+    // @ts-expect-error it is opened, and not made
+    new Bearoff();
+    // @ts-expect-error what can't be changed
+    database.bound = 58;
+    // @ts-expect-error a numerator is a bigint
+    const numerator: number = mean.numerator;
+    void numerator;
+    // @ts-expect-error no such code
+    void ((new Error() as BearoffError).code === "too-few");
+    // @ts-expect-error there is no such call
+    database.distance(six);
+}

@@ -1,0 +1,44 @@
+// What the page shows of an open database: its numbers and plays, with their texts.
+import { decimal, notation, percent } from "./texts.js";
+
+const exactText = ({ numerator, denominator }) => `${numerator}/${denominator}`;
+
+// An exact number with its thousandths.
+export function roundedOf(number) {
+    const thousandths = BigInt(number.thousandths);
+    return { exact: exactText(number), thousandths, text: decimal(thousandths) };
+}
+
+// A number of thousandths that may be negative: its size, and a text with its sign.
+export function signedOf({ thousandths }) {
+    const size = BigInt(Math.abs(thousandths));
+    return { thousandths: size, text: (thousandths < 0 ? "\u2212" : "") + decimal(size) };
+}
+
+// For each number of rolls that can be the last: the chance of exactly so many, and within so many.
+export function chancesOf(database, points) {
+    return database.distribution(points).flatMap((share, rolls) => {
+        if (share.numerator === 0n) return [];
+        const exactly = BigInt(database.thousandths(share));
+        const within = BigInt(database.within(points, rolls).thousandths);
+        return [{ rolls, exactly, within, exactlyText: percent(exactly), withinText: percent(within) }];
+    });
+}
+
+// Every position that a roll can lead to, with the play and what it loses, the best first.
+export function playsOf(database, points, roll) {
+    const recorded = database.play(points, roll).to.join();
+    return database.moves(points, roll).map((choice) => {
+        const moves = database.playTo(points, roll, choice.to).moves.map(({ from, to }) => [from, to]);
+        const loss = BigInt(database.thousandths(choice.loss));
+        const isBest = choice.loss.numerator === 0n;
+        const isRecorded = choice.to.join() === recorded;
+        return { to: choice.to, moves, text: notation(moves), loss, lossText: decimal(loss), exact: exactText(choice.loss), isBest, isRecorded };
+    });
+}
+
+// The decimals of a fraction that is given as a text.
+export function roundText(database, fraction) {
+    const [numerator, denominator] = fraction.split("/").map(BigInt);
+    return decimal(database.thousandths({ numerator, denominator }));
+}

@@ -1,0 +1,40 @@
+// Numbers, plays and refusals as the page writes them.
+
+// What the statuses of a refused file mean, in plain words.
+export const FAULTS = {
+    16: "It is shorter than the header of a database.",
+    17: "It doesn't begin like a bearoff database.",
+    18: "It is of a version that isn't known here.",
+    19: "It states a pip bound over the greatest that there is.",
+    20: "It states another number of positions than its bound has.",
+    21: "It states records of another length.",
+    22: "A byte that has to be zero isn't.",
+    23: "It has more or fewer bytes than its header says.",
+    24: "A recorded play is not legal.",
+    25: "A recorded play doesn't reach the least mean.",
+    26: "A recorded mean is not that of the recorded plays.",
+    27: "A recorded chance is not that of the recorded plays.",
+};
+
+// What the other statuses mean that a position can have.
+export const REFUSALS = {
+    3: "A position has at most 15 checkers.",
+    4: "The position has more pips than the database.",
+};
+
+// Thousandths as a decimal.
+export function decimal(thousandths) {
+    const digits = thousandths.toString().padStart(4, "0");
+    return `${digits.slice(0, -3)}.${digits.slice(-3)}`;
+}
+
+// Thousandths of a chance as a percentage.
+export function percent(thousandths) {
+    const digits = thousandths.toString().padStart(2, "0");
+    return `${digits.slice(0, -1)}.${digits.slice(-1)} %`;
+}
+
+// The moves of a play in the usual notation.
+export function notation(moves) {
+    return moves.map(([from, to]) => `${from}/${to === 0 ? "off" : to}`).join(" ");
+}
