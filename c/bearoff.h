@@ -20,12 +20,13 @@
  * bearoff_build less than BEAROFF_BUILD_STACK, every other call less than 128 KB. Threads whose
  * stack is smaller have to be given more before they make such a call.
  *
- * Refusals. Each call returns a status; where it isn't BEAROFF_OK nothing that the caller lends
- * was changed, except for what the call's comment says.
+ * Refusals. Each call but bearoff_thousandths returns a status; where it isn't BEAROFF_OK nothing
+ * that the caller lends was changed, except for what the call's comment says.
  */
 #ifndef BEAROFF_H
 #define BEAROFF_H
 
+#include <stdbool.h>
 #include <stddef.h>
 #include <stdint.h>
 
@@ -97,6 +98,19 @@ typedef struct bearoff_pips {
     uint64_t thousandths;
 } bearoff_pips;
 
+/* A mean number of rolls: exact, and in thousandths, rounded to the nearest and a half up. */
+typedef struct bearoff_rolls {
+    bearoff_fraction exact;
+    uint64_t thousandths;
+} bearoff_rolls;
+
+/* How far an effective pip count is from the pip count, in thousandths of a pip, and whether it is
+ * below it; where it is not, that is how much the position wastes. */
+typedef struct bearoff_wasted {
+    uint64_t thousandths;
+    bool is_below;
+} bearoff_wasted;
+
 /* The chances of being off in exactly 0 to 22 rolls, as numerators over 36^22. They add up to 36^22. */
 typedef struct bearoff_shares {
     bearoff_wide shares[23];
@@ -109,7 +123,7 @@ typedef struct bearoff_move {
 } bearoff_move;
 
 /* A play: its moves in the order in which they are made, zeros after the last, how many there are
- * (1 to 4), and the position that it leads to. */
+ * (1 to 4; 0 only where no checker is left to move), and the position that it leads to. */
 typedef struct bearoff_recorded_play {
     bearoff_move moves[4];
     uint8_t count;
@@ -214,12 +228,33 @@ uint32_t bearoff_mean(const bearoff_database *database, const bearoff_position *
 uint32_t bearoff_epc(const bearoff_database *database, const bearoff_position *position,
                      bearoff_pips *pips);
 
+/* The mean of bearoff_mean as a fraction and in thousandths of a roll. The statuses of bearoff_mean. */
+uint32_t bearoff_rounded_mean(const bearoff_database *database, const bearoff_position *position,
+                              bearoff_rolls *rolls);
+
+/*
+ * The wastage: the thousandths of the effective pip count, less 1000 times the pip count. Where
+ * that is less than 0 `is_below` is true, and `thousandths` is how far below 0 it is. The statuses
+ * of bearoff_mean.
+ */
+uint32_t bearoff_wastage(const bearoff_database *database, const bearoff_position *position,
+                         bearoff_wasted *wastage);
+
 /*
  * The chance of each number of rolls, where each play is the recorded one. The statuses of
  * bearoff_mean, without BEAROFF_CHANGED: where the bytes were changed it tells what stands there.
  */
 uint32_t bearoff_distribution(const bearoff_database *database, const bearoff_position *position,
                               bearoff_shares *shares);
+
+/*
+ * The chance that all checkers are off within `rolls` rolls, where each play is the recorded one:
+ * the shares of bearoff_distribution up to `rolls`, added up, in thousandths, rounded to the nearest
+ * and a half up. From 22 rolls on it is 1000. The statuses of bearoff_mean; BEAROFF_CHANGED comes
+ * only where the bytes were changed after they were checked: where these shares are over 1.
+ */
+uint32_t bearoff_within(const bearoff_database *database, const bearoff_position *position,
+                        uint8_t rolls, uint64_t *thousandths);
 
 /*
  * Whole tables in one call: the positions of the `count` ranks from `first` on, by rising rank, and
@@ -270,6 +305,23 @@ uint32_t bearoff_loss(const bearoff_database *database, const bearoff_position *
 uint32_t bearoff_results(const bearoff_database *database, const bearoff_position *position,
                          uint8_t one, uint8_t other, bearoff_result *results, size_t room,
                          size_t *count);
+
+/*
+ * The first play of a roll, whose two dice, 1 to 6 each, come in either order, that leads from a
+ * position to the position `to`, whether it is a good one or not. It asks no database. From a
+ * position without a checker every roll leads to itself, with no move. BEAROFF_OK;
+ * BEAROFF_BAD_ROLL; BEAROFF_TOO_MANY where one of the positions has more than 15 checkers;
+ * BEAROFF_NOT_LEGAL where the roll doesn't lead there.
+ */
+uint32_t bearoff_play_to(const bearoff_position *position, uint8_t one, uint8_t other,
+                         const bearoff_position *to, bearoff_recorded_play *play);
+
+/*
+ * A fraction in thousandths, rounded to the nearest and a half up, as of what another call has
+ * answered. It has no status: it is true where it could be told, which is where the denominator is
+ * not 0 and at most 6 * 36^22, and the fraction at most 180; else `*thousandths` stays as it was.
+ */
+bool bearoff_thousandths(const bearoff_fraction *fraction, uint64_t *thousandths);
 
 /*
  * Answers a line of the query language, as in `mean 0,0,0,0,0,1`, `dist POSITION`, `play POSITION

@@ -1,5 +1,6 @@
 /*
- * Answers lines as `bearoff query FILE` does, by way of the library: its replies are compared with the program's.
+ * Answers lines as `bearoff query FILE` does, by way of the library: its replies are compared with the program's. What
+ * other calls say of the same position, and whole tables, have to agree with what is answered.
  * usage: lines FILE [THREADS] <lines       with THREADS, as many threads answer all lines, over a database each,
  *                                          and the program fails where their replies differ
  *        lines FILE --text <lines          by bearoff_answer_line, with no room first and then just enough
@@ -59,17 +60,17 @@ static void put(text *to, const char *form, ...) {
 
 static number value(bearoff_wide halves) { return ((number)halves.high << 64) + halves.low; }
 
+static number whole(void) {
+    number w = 1;
+    for (int i = 0; i < 22; i++) w *= 36;
+    return w;
+}
+
 static void put_number(text *to, number n) {
     char digits[40];
     int first = 40;
     do digits[--first] = (char)('0' + (int)(n % 10)); while (n /= 10);
     put(to, "%.*s", 40 - first, digits + first);
-}
-
-static number whole(void) {
-    number w = 1;
-    for (int i = 0; i < 22; i++) w *= 36;
-    return w;
 }
 
 static void put_fraction(text *to, number n, number d) {
@@ -113,6 +114,66 @@ static void put_loss(text *to, bearoff_fraction loss) {
     put_number(to, value(loss.denominator));
 }
 
+static void put_thousandths(text *to, uint64_t thousandths) {
+    put(to, "%lu.%03lu", (unsigned long)(thousandths / 1000), (unsigned long)(thousandths % 1000));
+}
+
+/* a fraction of at most a million in thousandths, a half up, with a denominator of at most 6 * 36^22 */
+static uint64_t rounded(number n, number d) {
+    number rest = n % d * 1000, half = d / 2;
+    return (uint64_t)(n / d * 1000 + rest / d + (rest % d >= d - half));
+}
+
+static int same_position(bearoff_position one, bearoff_position other) {
+    return !memcmp(&one, &other, sizeof one);
+}
+
+/* the mean of a position as a fraction and rounded, and its wastage, beside its numerator and effective pip count */
+static void check_rounded(const bearoff_database *database, bearoff_position at, bearoff_wide mean, bearoff_pips pips) {
+    bearoff_rolls rolls;
+    bearoff_wasted wasted;
+    bearoff_stand stand;
+    uint64_t told;
+    if (bearoff_rounded_mean(database, &at, &rolls) || bearoff_wastage(database, &at, &wasted) ||
+        bearoff_standing(&at, &stand)) {
+        fail("a mean that is told once is not told again");
+    }
+    number n = value(rolls.exact.numerator), d = value(rolls.exact.denominator);
+    if (n * (whole() / d) != value(mean) || rolls.thousandths != rounded(n, d)) fail("a rounded mean");
+    if (!bearoff_thousandths(&rolls.exact, &told) || told != rolls.thousandths) fail("thousandths of a mean");
+    if (!bearoff_thousandths(&pips.exact, &told) || told != pips.thousandths) fail("thousandths of pips");
+    unsigned all = 0, checkers = 0;
+    for (unsigned point = 1; point <= 6; point++) {
+        all += point * at.points[point - 1];
+        checkers += at.points[point - 1];
+    }
+    if (stand.pips != all || stand.checkers != checkers || stand.off != 15 - checkers) fail("where it stands");
+    int is_below = pips.thousandths < 1000 * all;
+    uint64_t apart = is_below ? 1000 * all - pips.thousandths : pips.thousandths - 1000 * all;
+    if (wasted.is_below != is_below || wasted.thousandths != apart) fail("a wastage");
+}
+
+/* the chances to be off within so many rolls, beside the shares */
+static void check_within(const bearoff_database *database, bearoff_position at, bearoff_shares shares) {
+    number total = 0;
+    for (int rolls = 0; rolls < 256; rolls++) {
+        uint64_t told;
+        if (rolls < 23) total += value(shares.shares[rolls]);
+        if (bearoff_within(database, &at, (uint8_t)rolls, &told) || told != rounded(total, whole())) fail("within");
+    }
+}
+
+/* a play that leads to a position, beside what each of its moves does */
+static void check_play_to(bearoff_position at, uint8_t one, uint8_t other, bearoff_position to) {
+    bearoff_recorded_play play;
+    if (bearoff_play_to(&at, one, other, &to, &play) || !same_position(play.to, to)) fail("a play to a position");
+    for (int i = 0; i < play.count; i++) {
+        at.points[play.moves[i].from - 1]--;
+        if (play.moves[i].to) at.points[play.moves[i].to - 1]++;
+    }
+    if (!same_position(at, to)) fail("the moves of a play to a position");
+}
+
 /* the results by rising loss, and those of equal loss by rising rank, in which they come */
 static void sort(bearoff_result *results, size_t count) {
     number w = whole();
@@ -147,16 +208,23 @@ static void answer(const bearoff_database *database, const char *line, text *rep
         status = bearoff_mean(database, &at, &mean);
         if (!status) status = bearoff_epc(database, &at, &pips);
         if (!status) {
+            check_rounded(database, at, mean, pips);
             put(reply, "mean ");
             put_fraction(reply, value(mean), whole());
             put(reply, " epc ");
             put_loss(reply, pips.exact);
-            put(reply, " %lu.%03lu", (unsigned long)(pips.thousandths / 1000), (unsigned long)(pips.thousandths % 1000));
+            put(reply, " ");
+            put_thousandths(reply, pips.thousandths);
         }
+    } else if (!strcmp(word, "rank")) {
+        uint16_t rank;
+        status = bearoff_rank(database, &at, &rank);
+        if (!status) put(reply, "rank %u", (unsigned)rank);
     } else if (!strcmp(word, "dist")) {
         bearoff_shares shares;
         status = bearoff_distribution(database, &at, &shares);
         if (!status) {
+            check_within(database, at, shares);
             put(reply, "dist");
             for (int k = 0; k < 23; k++) {
                 if (!value(shares.shares[k])) continue;
@@ -168,6 +236,11 @@ static void answer(const bearoff_database *database, const char *line, text *rep
         bearoff_recorded_play play;
         status = bearoff_play(database, &at, one, other, &play);
         if (!status) {
+            bearoff_recorded_play first;
+            memset(&first, 0, sizeof first);
+            if (bearoff_play_to(&at, one, other, &play.to, &first) || memcmp(&first, &play, sizeof play)) {
+                fail("the first play to the recorded position");
+            }
             put(reply, "play");
             for (int i = 0; i < play.count; i++) {
                 put(reply, play.moves[i].to ? " %d/%d" : " %d/off", play.moves[i].from, play.moves[i].to);
@@ -177,8 +250,13 @@ static void answer(const bearoff_database *database, const char *line, text *rep
         }
     } else if (!strcmp(word, "loss") && read_roll(&rest, &one, &other) && *rest++ == ' ' && read_position(&rest, &to)) {
         bearoff_fraction loss;
+        bearoff_recorded_play play;
         status = bearoff_loss(database, &at, one, other, &to, &loss);
+        if (status == BEAROFF_NOT_LEGAL && bearoff_play_to(&at, one, other, &to, &play) != BEAROFF_NOT_LEGAL) {
+            fail("a play to where the roll doesn't lead");
+        }
         if (!status) {
+            check_play_to(at, one, other, to);
             put(reply, "loss ");
             put_loss(reply, loss);
         }
@@ -192,6 +270,7 @@ static void answer(const bearoff_database *database, const char *line, text *rep
             put(reply, "moves");
             sort(results, count);
             for (size_t i = 0; i < count; i++) {
+                check_play_to(at, one, other, results[i].to);
                 put(reply, " ");
                 put_position(reply, results[i].to);
                 put(reply, ":");
@@ -249,11 +328,55 @@ static void open_it(bearoff_database *database) {
     }
 }
 
+static void *room_of(size_t count, size_t size) {
+    void *room = calloc(count, size);
+    if (!room) fail("memory");
+    return room;
+}
+
+/* whole tables, from a rank on, beside the single calls for each position */
+static void check_tables(const bearoff_database *database, uint16_t first) {
+    uint32_t all;
+    if (bearoff_positions(database, &all)) fail("positions");
+    size_t count = all - first;
+    bearoff_position *positions = (bearoff_position *)room_of(count, sizeof *positions);
+    bearoff_wide *means = (bearoff_wide *)room_of(count, sizeof *means);
+    bearoff_pips *epcs = (bearoff_pips *)room_of(count, sizeof *epcs);
+    bearoff_shares *distributions = (bearoff_shares *)room_of(count, sizeof *distributions);
+    if (bearoff_listed_positions(database, first, positions, count) || bearoff_listed_means(database, first, means, count) ||
+        bearoff_listed_epcs(database, first, epcs, count) ||
+        bearoff_listed_distributions(database, first, distributions, count)) {
+        fail("a table");
+    }
+    for (size_t i = 0; i < count; i++) {
+        bearoff_position at;
+        bearoff_wide mean;
+        bearoff_pips pips;
+        bearoff_shares shares;
+        uint16_t rank;
+        if (bearoff_position_of(database, (uint16_t)(first + i), &at) || bearoff_rank(database, &at, &rank) ||
+            bearoff_mean(database, &at, &mean) || bearoff_epc(database, &at, &pips) ||
+            bearoff_distribution(database, &at, &shares)) {
+            fail("a call for a position of a table");
+        }
+        if (rank != first + i || !same_position(at, positions[i])) fail("a position of a table");
+        if (memcmp(&mean, &means[i], sizeof mean)) fail("a mean of a table");
+        if (memcmp(&pips, &epcs[i], sizeof pips)) fail("an effective pip count of a table");
+        if (memcmp(&shares, &distributions[i], sizeof shares)) fail("a distribution of a table");
+    }
+    free(positions);
+    free(means);
+    free(epcs);
+    free(distributions);
+}
+
 static void *answer_all(void *to) {
     text *replies = (text *)to;
     bearoff_database *database = (bearoff_database *)calloc(1, sizeof *database);
     if (!database) fail("memory");
     open_it(database);
+    check_tables(database, 0);
+    check_tables(database, 37);
     replies->room = 1 << 16;
     replies->bytes = (char *)malloc(replies->room);
     if (!replies->bytes) fail("memory");

@@ -39,6 +39,7 @@ def main():
         at = text(position)
         print("mean", at)
         print("dist", at)
+        print("rank", at)
         rolls = [f"{high}{low}" for high in range(1, 7) for low in range(1, high + 1)]
         for roll in rolls if len(sys.argv) < 3 else chance.sample(rolls, 3):
             print("play", at, roll)
@@ -47,7 +48,7 @@ def main():
             to = chance.choice(firsts)
             to = chance.choice(list(after(to, int(roll[1]))) or [to])
             print("loss", at, roll, text(to))
-    for line in ("mean 0,0,0,0,0,8", "mean 0,0,0,0,0,16", "play 0,0,0,0,0,0 11", "play 0,0,0,0,0,1 17",
+    for line in ("mean 0,0,0,0,0,8", "rank 0,0,0,0,0,16", "mean 0,0,0,0,0,16", "play 0,0,0,0,0,0 11", "play 0,0,0,0,0,1 17",
                  "loss 0,0,0,0,0,1 21 0,0,0,0,0,1", "moves 9,9,0,0,0,0 21", "dist 0,0,0", "nothing 1"):
         print(line)
 

@@ -19,16 +19,6 @@
 
 #include "bearoff.h"
 
-/* what only the page for a browser uses */
-typedef struct wastage {
-    uint64_t thousandths;
-    uint8_t is_below;
-} wastage;
-uint32_t bearoff_rounded_mean(const bearoff_database *database, const bearoff_position *position, bearoff_pips *rolls);
-uint32_t bearoff_wastage(const bearoff_database *database, const bearoff_position *position, wastage *wasted);
-uint32_t bearoff_within(const bearoff_database *database, const bearoff_position *position, uint8_t rolls,
-                        uint64_t *thousandths);
-
 enum { HEADER = 32, GUARD = 64, MARK = 0xA5, MOST_POSITIONS = 46062, ASKED = 12 };
 
 /* the statuses that a call may answer with, a bit for each */
@@ -104,8 +94,8 @@ static void ask(bearoff_position at, uint8_t one, uint8_t other, size_t room) {
     take(bearoff_mean(&database, &at, (bearoff_wide *)lend(16)), ANSWERED | CHANGED, 16, 0);
     take(bearoff_epc(&database, &at, (bearoff_pips *)lend(40)), ANSWERED | CHANGED, 40, 0);
     take(bearoff_distribution(&database, &at, (bearoff_shares *)lend(368)), ANSWERED, 368, 0);
-    take(bearoff_rounded_mean(&database, &at, (bearoff_pips *)lend(40)), ANSWERED | CHANGED, 40, 0);
-    take(bearoff_wastage(&database, &at, (wastage *)lend(16)), ANSWERED | CHANGED, 16, 0);
+    take(bearoff_rounded_mean(&database, &at, (bearoff_rolls *)lend(40)), ANSWERED | CHANGED, 40, 0);
+    take(bearoff_wastage(&database, &at, (bearoff_wasted *)lend(16)), ANSWERED | CHANGED, 16, 0);
     take(bearoff_within(&database, &at, one, (uint64_t *)lend(8)), ANSWERED | CHANGED, 8, 0);
     take(bearoff_within(&database, &at, 22, (uint64_t *)lend(8)), ANSWERED | CHANGED, 8, 0);
     take(bearoff_play(&database, &at, one, other, (bearoff_recorded_play *)lend(15)),

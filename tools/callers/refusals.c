@@ -65,6 +65,14 @@ static void ask(const bearoff_database *database, bearoff_position at, uint8_t o
     bearoff_fraction *loss = (bearoff_fraction *)guarded(sizeof *loss);
     bearoff_result *results = (bearoff_result *)guarded(64 * sizeof *results);
     size_t *count = (size_t *)guarded(sizeof *count);
+    bearoff_rolls *rolls = (bearoff_rolls *)guarded(sizeof *rolls);
+    bearoff_wasted *wasted = (bearoff_wasted *)guarded(sizeof *wasted);
+    uint64_t *within = (uint64_t *)guarded(sizeof *within);
+    uint16_t *rank = (uint16_t *)guarded(sizeof *rank);
+    expect(bearoff_rounded_mean(database, &at, rolls) == wanted.numbers, what, 15);
+    expect(bearoff_wastage(database, &at, wasted) == wanted.numbers, what, 16);
+    expect(bearoff_within(database, &at, one, within) == wanted.numbers, what, 17);
+    expect(bearoff_rank(database, &at, rank) == wanted.numbers, what, 18);
     expect(bearoff_mean(database, &at, mean) == wanted.numbers, what, 1);
     expect(bearoff_epc(database, &at, pips) == wanted.numbers, what, 2);
     expect(bearoff_distribution(database, &at, shares) == wanted.numbers, what, 3);
@@ -75,6 +83,10 @@ static void ask(const bearoff_database *database, bearoff_position at, uint8_t o
         expect(untouched(mean, sizeof *mean), what, 7);
         expect(untouched(pips, sizeof *pips), what, 8);
         expect(untouched(shares, sizeof *shares), what, 9);
+        expect(untouched(rolls, sizeof *rolls), what, 19);
+        expect(untouched(wasted, sizeof *wasted), what, 20);
+        expect(untouched(within, sizeof *within), what, 21);
+        expect(untouched(rank, sizeof *rank), what, 22);
     }
     if (wanted.play) {
         expect(untouched(play, sizeof *play), what, 10);
@@ -85,7 +97,13 @@ static void ask(const bearoff_database *database, bearoff_position at, uint8_t o
     expect(guards_stand(mean, sizeof *mean) && guards_stand(pips, sizeof *pips) &&
            guards_stand(shares, sizeof *shares) && guards_stand(play, sizeof *play) &&
            guards_stand(loss, sizeof *loss) && guards_stand(results, 64 * sizeof *results) &&
-           guards_stand(count, sizeof *count), what, 14);
+           guards_stand(count, sizeof *count) && guards_stand(rolls, sizeof *rolls) &&
+           guards_stand(wasted, sizeof *wasted) && guards_stand(within, sizeof *within) &&
+           guards_stand(rank, sizeof *rank), what, 14);
+    let_go(rolls);
+    let_go(wasted);
+    let_go(within);
+    let_go(rank);
     let_go(mean);
     let_go(pips);
     let_go(shares);
@@ -93,6 +111,57 @@ static void ask(const bearoff_database *database, bearoff_position at, uint8_t o
     let_go(loss);
     let_go(results);
     let_go(count);
+}
+
+/* the calls that list so many from a rank on, and what stays as it was where they are refused */
+static void list(const bearoff_database *database, uint16_t first, size_t count, uint32_t wanted, const char *what) {
+    static const size_t sizes[] = {sizeof(bearoff_position), sizeof(bearoff_wide), sizeof(bearoff_pips),
+                                   sizeof(bearoff_shares)};
+    for (size_t call = 0; call < sizeof sizes / sizeof *sizes; call++) {
+        size_t size = count <= 64 ? count * sizes[call] : 0;
+        void *room = guarded(size);
+        uint32_t status = call == 0   ? bearoff_listed_positions(database, first, (bearoff_position *)room, count)
+                          : call == 1 ? bearoff_listed_means(database, first, (bearoff_wide *)room, count)
+                          : call == 2 ? bearoff_listed_epcs(database, first, (bearoff_pips *)room, count)
+                                      : bearoff_listed_distributions(database, first, (bearoff_shares *)room, count);
+        expect(status == wanted && guards_stand(room, size), what, (long)call);
+        expect((wanted || !size) == untouched(room, size), what, 10 + (long)call);
+        let_go(room);
+    }
+    bearoff_position *at = (bearoff_position *)guarded(sizeof *at);
+    uint32_t status = count == 1 ? bearoff_position_of(database, first, at) : wanted;
+    expect(status == wanted && guards_stand(at, sizeof *at), what, 20);
+    expect(!wanted || untouched(at, sizeof *at), what, 21);
+    let_go(at);
+}
+
+/* the calls that ask no database: a play that leads to a position, and what a position stands at */
+static void lead(bearoff_position at, uint8_t one, uint8_t other, bearoff_position to, uint32_t wanted,
+                 const char *what) {
+    bearoff_recorded_play *play = (bearoff_recorded_play *)guarded(sizeof *play);
+    expect(bearoff_play_to(&at, one, other, &to, play) == wanted, what, one);
+    expect(wanted ? untouched(play, sizeof *play) : guards_stand(play, sizeof *play), what, other);
+    let_go(play);
+}
+
+static void stand(bearoff_position at, uint32_t wanted, const char *what) {
+    bearoff_stand *standing = (bearoff_stand *)guarded(sizeof *standing);
+    expect(bearoff_standing(&at, standing) == wanted, what, 1);
+    expect(wanted ? untouched(standing, sizeof *standing) : guards_stand(standing, sizeof *standing), what, 2);
+    let_go(standing);
+}
+
+typedef unsigned __int128 number;
+
+/* a fraction in thousandths, or that it can't be told, which is -1 */
+static void round_off(number numerator, number denominator, int wanted, const char *what) {
+    bearoff_fraction fraction = {{(uint64_t)(numerator >> 64), (uint64_t)numerator},
+                                 {(uint64_t)(denominator >> 64), (uint64_t)denominator}};
+    uint64_t *told = (uint64_t *)guarded(sizeof *told);
+    bool is_told = bearoff_thousandths(&fraction, told);
+    expect(is_told == (wanted >= 0) && guards_stand(told, sizeof *told), what, wanted);
+    expect(is_told ? *told == (uint64_t)wanted : untouched(told, sizeof *told), what, (long)*told);
+    let_go(told);
 }
 
 /* opens bytes with so much room for the line */
@@ -159,7 +228,7 @@ int main(int count, char **words) {
     };
     bearoff_position none = {{0, 0, 0, 0, 0, 0}}, six = {{0, 0, 0, 0, 0, 1}}, five = {{0, 0, 0, 0, 1, 0}};
     bearoff_position many = {{1, 15, 0, 0, 0, 0}}, most = {{255, 255, 255, 255, 255, 255}}, nine = {{0, 0, 1, 0, 0, 1}};
-    bearoff_position ace = {{1, 0, 0, 0, 0, 0}};
+    bearoff_position ace = {{1, 0, 0, 0, 0, 0}}, fours = {{0, 0, 0, 2, 0, 0}}, after_21 = {{1, 0, 0, 1, 0, 0}};
     statuses closed = {BEAROFF_NOT_OPEN, BEAROFF_NOT_OPEN, BEAROFF_NOT_OPEN};
     FILE *from = count == 2 ? fopen(words[1], "rb") : 0;
     if (!from) return 2;
@@ -188,12 +257,16 @@ int main(int count, char **words) {
     expect(bearoff_positions(database, &positions) == BEAROFF_NOT_OPEN && positions == MARK, "zeros", positions);
     ask(database, six, 2, 1, five, closed, "zeros");
     ask(database, most, 0, 9, most, closed, "zeros and all else wrong");
+    list(database, 0, 1, BEAROFF_NOT_OPEN, "zeros, lists");
 
     /* nor is one that was made closed */
     bearoff_database made = BEAROFF_CLOSED;
     memcpy(database, &made, sizeof made);
     expect(bearoff_bound(database, &bound) == BEAROFF_NOT_OPEN && bound == MARK, "closed, bound", bound);
     ask(database, six, 2, 1, five, closed, "closed");
+    list(database, 0, 0, BEAROFF_NOT_OPEN, "closed, lists of none");
+    list(database, 0, 1, BEAROFF_NOT_OPEN, "closed, lists");
+    list(database, 65535, 2, BEAROFF_NOT_OPEN, "closed, lists beyond");
     expect(bearoff_version(database, &version) == BEAROFF_NOT_OPEN && version == MARK, "closed, version", version);
     expect(answer_with(database, "mean 0,0,0,0,0,1", 64, 0, "closed, line") == BEAROFF_NOT_OPEN, "closed, line", 0);
 
@@ -212,6 +285,49 @@ int main(int count, char **words) {
     ask(database, nine, 2, 1, none, statuses_of(BEAROFF_OVER_BOUND, BEAROFF_OVER_BOUND, BEAROFF_OVER_BOUND), "9 pips");
     ask(database, six, 2, 1, many, statuses_of(BEAROFF_OK, BEAROFF_OK, BEAROFF_TOO_MANY), "to 16 checkers");
 
+    /* lists: to the last of the 64 positions, and never beyond it */
+    list(database, 0, 64, BEAROFF_OK, "all");
+    list(database, 0, 1, BEAROFF_OK, "the first");
+    list(database, 63, 1, BEAROFF_OK, "the last");
+    list(database, 64, 0, BEAROFF_OK, "none behind the last");
+    list(database, 0, 0, BEAROFF_OK, "none");
+    list(database, 64, 1, BEAROFF_NO_RANK, "one behind the last");
+    list(database, 65, 0, BEAROFF_NO_RANK, "none beyond");
+    list(database, 1, 64, BEAROFF_NO_RANK, "one too many");
+    list(database, 65535, 1, BEAROFF_NO_RANK, "the greatest rank");
+    list(database, 65535, 2, BEAROFF_NO_RANK, "past the greatest rank");
+    list(database, 1, 65535, BEAROFF_NO_RANK, "a sum of 65,536");
+
+    /* what asks no database: each refusal, and the first of two */
+    lead(fours, 1, 2, after_21, BEAROFF_OK, "to where 4/2 2/1 leads");
+    lead(none, 2, 1, none, BEAROFF_OK, "without a checker");
+    lead(none, 2, 1, six, BEAROFF_NOT_LEGAL, "from none");
+    lead(six, 2, 1, none, BEAROFF_NOT_LEGAL, "to none");
+    lead(six, 2, 1, six, BEAROFF_NOT_LEGAL, "to where it was");
+    lead(six, 0, 1, five, BEAROFF_BAD_ROLL, "die 0");
+    lead(six, 1, 7, five, BEAROFF_BAD_ROLL, "die 7");
+    lead(most, 255, 255, most, BEAROFF_BAD_ROLL, "dice 255 and 1530 checkers");
+    lead(many, 2, 1, six, BEAROFF_TOO_MANY, "from 16 checkers");
+    lead(six, 2, 1, many, BEAROFF_TOO_MANY, "to 16 checkers");
+    stand(none, BEAROFF_OK, "no checker");
+    stand(many, BEAROFF_TOO_MANY, "16 checkers");
+    stand(most, BEAROFF_TOO_MANY, "1530 checkers");
+
+    /* a denominator is at most 6 * 36^22, and a fraction at most 180 */
+    number limit = 6, greatest = ~(number)0;
+    for (int i = 0; i < 22; i++) limit *= 36;
+    round_off(0, 1, 0, "nothing");
+    round_off(1, 2, 500, "a half");
+    round_off(1, 2000, 1, "half a thousandth");
+    round_off(180, 1, 180000, "180");
+    round_off(181, 1, -1, "181");
+    round_off(greatest, 1, -1, "the greatest numerator");
+    round_off(1, 0, -1, "by zero");
+    round_off(0, 0, -1, "zero by zero");
+    round_off(limit, limit, 1000, "the greatest denominator");
+    round_off(limit + 1, limit + 1, -1, "a denominator that is greater");
+    round_off(greatest, greatest, -1, "the greatest numbers");
+
     /* the room for the reply to a line */
     for (size_t room = 0; room < 64; room++) {
         answer_with(database, "mean 0,0,0,0,0,1", room, "mean 5/4 epc 245/24 10.208", "mean line");
@@ -227,7 +343,6 @@ int main(int count, char **words) {
     size_t *told = (size_t *)guarded(sizeof *told);
     for (size_t room = 0; room <= 3; room++) {
         bearoff_result *results = (bearoff_result *)guarded(room * sizeof *results);
-        bearoff_position fours = {{0, 0, 0, 2, 0, 0}};
         uint32_t status = bearoff_results(database, &fours, 2, 1, results, room, told);
         expect(status == (room < 2 ? BEAROFF_SHORT : BEAROFF_OK) && *told == 2, "results", (long)room);
         expect(guards_stand(results, room * sizeof *results) && guards_stand(told, sizeof *told), "results", (long)room);
@@ -246,6 +361,7 @@ int main(int count, char **words) {
             expect(open_with(database, bytes, length, room, one.line, one.line) == one.status, one.line, (long)room);
         }
         ask(database, six, 2, 1, five, closed, one.line);
+        list(database, 0, 1, BEAROFF_NOT_OPEN, one.line);
         expect(answer_with(database, "rank 0,0,0,0,0,1", 64, 0, one.line) == BEAROFF_NOT_OPEN, one.line, -5);
         bytes[one.place] ^= one.change;
     }
@@ -293,6 +409,22 @@ int main(int count, char **words) {
     bearoff_result results[4];
     bearoff_position three = {{0, 0, 1, 0, 0, 0}};
     size_t told_last = 0;
+    bearoff_rolls rolls;
+    bearoff_wasted wasted;
+    bearoff_wide means[20];
+    bearoff_pips epcs[20];
+    uint64_t within;
+    memset(means, MARK, sizeof means);
+    memset(epcs, MARK, sizeof epcs);
+    memset(&within, MARK, sizeof within);
+    list(database, 0, 19, BEAROFF_OK, "changed behind a list");
+    expect(bearoff_listed_means(database, 0, means, 20) == BEAROFF_CHANGED, "changed", 7);
+    expect(bearoff_listed_epcs(database, 0, epcs, 20) == BEAROFF_CHANGED, "changed", 8);
+    expect(is_marked((uint8_t *)means, sizeof means) && is_marked((uint8_t *)epcs, sizeof epcs), "changed", 9);
+    expect(bearoff_rounded_mean(database, &six, &rolls) == BEAROFF_CHANGED, "changed", 10);
+    expect(bearoff_wastage(database, &six, &wasted) == BEAROFF_CHANGED, "changed", 11);
+    expect(bearoff_within(database, &six, 0, &within) == BEAROFF_CHANGED, "changed", 12);
+    expect(is_marked((uint8_t *)&within, sizeof within), "changed", 13);
     expect(bearoff_mean(database, &six, &mean) == BEAROFF_CHANGED, "changed", 1);
     expect(bearoff_epc(database, &six, &pips) == BEAROFF_CHANGED, "changed", 2);
     expect(bearoff_distribution(database, &six, &shares) == BEAROFF_OK, "changed", 3);

@@ -1,5 +1,5 @@
-//! What a page shows of a position without a database, and how it counts what guesses lose.
-ghost use Rattle.std.specs.Prelude.{◌≡◌, ◌+◌, ◌^◌, ◌<◌, ◌↔◌, IsTrue};
+//! What a position stands at, without a database.
+ghost use Rattle.std.specs.Prelude.{◌≡◌, ◌+◌};
 ghost use Rattle.race_model.specs.Positions.{pips as pips_of, checkers as checkers_of};
 ghost use Rattle.bearoff_c.specs.Refusals.{many_refusal, status_of};
 
@@ -43,20 +43,4 @@ pub extern "C" fn bearoff_standing(position: &Counts, standing: &mut Standing) -
         off: ALL_CHECKERS - checkers,
     };
     OK
-}
-
-/// The sum of two numbers of thousandths. Whether it is below 2 ^ 64; else `sum` stays as it was.
-#[unsafe(no_mangle)]
-pub extern "C" fn bearoff_add(one: u64, other: u64, sum: &mut u64) -> bool
-    ensures fits { IsTrue result ↔ (one + other < 2 ^ 64) }
-    ensures sum { IsTrue result → sum.new ≡ one + other }
-    ensures left { ¬ IsTrue result → sum.new ≡ sum.old }
-{
-    match one.checked_add(other) {
-        Some(both) => {
-            *sum = both;
-            true
-        }
-        None => false,
-    }
 }

@@ -1,4 +1,4 @@
-use Rattle.std.proofs.Common.{◌≡◌, ◌+◌, ◌≤◌, length, sym, subst, arith}
+use Rattle.std.proofs.Common.{◌+◌, ◌≤◌, length, sym, subst, arith}
 use mathlib.Core.Logic.{∥∥₁_map}
 use Rattle.race_model.specs.Ranks.{count_to}
 use Rattle.race_model.specs.Strategies.{IsLeast}

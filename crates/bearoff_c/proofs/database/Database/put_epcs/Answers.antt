@@ -1,4 +1,4 @@
-use Rattle.std.proofs.Common.{◌≡◌, ◌+◌, ◌<◌, ◌≤◌, length, sym, ap, subst, ◌∙◌, arith}
+use Rattle.std.proofs.Common.{◌<◌, length, sym, ap, subst, ◌∙◌, arith}
 use Rattle.std.proofs.Math.Path.{ap₂}
 use Rattle.race_model.specs.Files.{mean, mean_at}
 use Rattle.race_model.specs.Fractions.{IsEffectivePips, IsThousandths}

@@ -1,4 +1,4 @@
-use Rattle.std.proofs.Common.{◌≤◌, arith}
+use Rattle.std.proofs.Common.{arith}
 use Rattle.race_model.proofs.Ranks.RankOrder.{first_of-zero}
 use Rattle.bearoff_c.proofs.database.Database.records_from.Goals as goal
 

@@ -1,4 +1,4 @@
-use Rattle.std.proofs.Common.{◌≤◌, arith}
+use Rattle.std.proofs.Common.{arith}
 use Rattle.db_layout.proofs.RecordPlaces.{first_of-next}
 use Rattle.bearoff_c.proofs.lent.Lent.level_of.Goals as goal
 

@@ -1,4 +1,4 @@
-use Rattle.std.proofs.Common.{◌≡◌, ℕ, suc, ◌+◌, ◌-◌, ◌<◌, ◌≤◌, sym, ap, subst, ◌∙◌, arith}
+use Rattle.std.proofs.Common.{◌≡◌, ℕ, suc, ◌+◌, ◌-◌, ◌<◌, sym, ap, ◌∙◌, arith}
 use Rattle.race_model.specs.Positions.{pips}
 use Rattle.race_model.specs.Ranks.{rank, first_of, count_to}
 use Rattle.race_model.specs.Versions.{version_by, record_length}

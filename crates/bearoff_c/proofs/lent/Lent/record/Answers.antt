@@ -1,4 +1,4 @@
-use Rattle.std.proofs.Common.{◌≡◌, ap, ap₂, ◌∙◌}
+use Rattle.std.proofs.Common.{ap, ap₂, ◌∙◌}
 use Rattle.race_model.specs.Positions.{pips}
 use Rattle.race_model.specs.Versions.{version_by}
 use Rattle.race_model.specs.Files.{bytes_at, told_record}

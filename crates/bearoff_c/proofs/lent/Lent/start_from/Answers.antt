@@ -1,7 +1,7 @@
-use Rattle.std.proofs.Common.{◌≡◌, ◌+◌, ◌*◌, ◌≤◌, sym, ap, ◌∙◌, w64, arith}
+use Rattle.std.proofs.Common.{◌≡◌, ◌+◌, ◌*◌, ◌≤◌, ◌∙◌, w64, arith}
 use Rattle.std.proofs.Math.Facts.{Fits-of_lt}
-use Rattle.race_model.specs.Ranks.{first_of, count_to}
-use Rattle.race_model.specs.Versions.{version_by, record_length}
+use Rattle.race_model.specs.Ranks.{count_to}
+use Rattle.race_model.specs.Versions.{version_by}
 use Rattle.race_model.specs.Files.{record_place}
 use Rattle.race_model.proofs.Ranks.RankOrder.{count_to-rises}
 use Rattle.race_model.proofs.Ranks.PositionTotals.{count_to-most}

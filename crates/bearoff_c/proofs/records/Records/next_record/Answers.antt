@@ -1,7 +1,7 @@
 use Rattle.std.proofs.Common.{◌≡◌, ℕ, suc, ◌+◌, ◌-◌, ◌<◌, ◌≤◌, List, length, refl, sym, ap, subst, ◌∙◌, w16, w64, arith}
 use Rattle.std.proofs.Math.Facts.{Fits-of_lt}
 use Rattle.race_model.specs.Positions.{pips}
-use Rattle.race_model.specs.Ranks.{at_rank, first_of, count_to}
+use Rattle.race_model.specs.Ranks.{at_rank, count_to}
 use Rattle.race_model.specs.Versions.{Version, version_by, record_length}
 use Rattle.race_model.specs.Files.{version_of, bytes_at, record_place, told_record, record_at}
 use Rattle.race_model.proofs.Ranks.RankOrder.{count_to-rises}
