@@ -142,6 +142,7 @@ impl<'a> Database<'a> {
         }
         Ok(())
     }
+
     /// Writes the positions of the ranks from one on.
     fn put_positions(&self, first: u16, positions: &mut [Counts])
         requires opened { IsTrue self.now.is_open }
@@ -165,6 +166,7 @@ impl<'a> Database<'a> {
             means[index] = Wide::of(records.next_record().mean());
         }
     }
+
     /// Writes the effective pip counts of the positions of the ranks from one on. Whether it could
     /// be done, which is so unless the bytes are changed meanwhile.
     fn put_epcs(&self, first: u16, epcs: &mut [Rounded]) -> bool
