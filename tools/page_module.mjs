@@ -3,9 +3,10 @@
 // tools/callers/questions.py, the replies of the program to them, and its files eight and race.db. What the module answers
 // to each call, and refuses, tools/js_check tries. Says what went wrong, and fails.
 import { spawnSync } from "node:child_process";
-import { readFileSync, writeFileSync } from "node:fs";
+import { mkdtempSync, readFileSync, rmSync, writeFileSync } from "node:fs";
+import { tmpdir } from "node:os";
 import { join } from "node:path";
-import { playsOf, roundText } from "../web/answers.js";
+import { playsOf, roundText, signedOf } from "../web/answers.js";
 import { readPoints } from "../web/points.js";
 import { ROLLS } from "../web/rolls.js";
 import { decimal, FAULTS, notation } from "../web/texts.js";
@@ -105,9 +106,9 @@ function compareLines(database, bound) {
         seen.play = true;
     });
     for (const kind of ["mean", "dist", "play", "moves", "error"]) seen[kind] || wrong(`no reply ${kind} over ${bound} pips`);
-    const six = rollsOf(database, [0, 0, 0, 0, 0, 1]);
-    equal("how many rolls", six.map(({ dice }) => dice.join("")).join(), ROLLS.map((dice) => dice.join("")).join());
-    equal("the plays of a roll", six.map(({ dice, plays: [best] }) => `${dice.join("")} ${best.text}`)[1], "21 6/4 4/3");
+    const rolls = rollsOf(database, [1, 0, 0, 0, 0, 1]);
+    equal("how many rolls", rolls.map(({ dice }) => dice.join("")).join(), ROLLS.map((dice) => dice.join("")).join());
+    equal("the plays of a roll", rolls[1].plays.map(({ to }) => `${to}`).sort().join(" "), "0,0,0,1,0,0 1,0,1,0,0,0");
     equal("no rolls without checkers", rollsOf(database, [0, 0, 0, 0, 0, 0]).length, 0);
 }
 
@@ -127,17 +128,19 @@ async function compareBuilt(bound, positions) {
 async function compareDamaged(desk) {
     const file = new Uint8Array(readFileSync(join(folder, "eight")));
     const before = JSON.stringify(await desk.take({ kind: "ask", points: [0, 1, 0, 0, 0, 0] }), (_, value) => (typeof value === "bigint" ? String(value) : value));
+    const own = mkdtempSync(join(tmpdir(), "damaged-"));
     for (const place of [0, 8, 9, 12, 16, 20, 28, 32 + 426 * 3, 32 + 426 * 5 + 16, 32 + 426 * 7 + 30, 32 + 426 * 9 + 100, -1]) {
         const other = place < 0 ? file.slice(0, -1) : file.slice();
         if (place >= 0) other[place] ^= 1;
-        writeFileSync(join(folder, "damaged"), other);
-        const { stderr } = spawnSync(program, ["check", join(folder, "damaged")], { encoding: "utf8" });
+        writeFileSync(join(own, "file"), other);
+        const { stderr } = spawnSync(program, ["check", join(own, "file")], { encoding: "utf8" });
         const why = await desk.take({ kind: "open", file: other }).then(() => ({ line: "accepted" }), (failure) => failure);
         equal(`the damage at ${place}`, `bearoff: refused ${why.line}\n`, stderr);
         FAULTS[why.status] || wrong(`no words for the status ${why.status}`);
         const after = JSON.stringify(await desk.take({ kind: "ask", points: [0, 1, 0, 0, 0, 0] }), (_, value) => (typeof value === "bigint" ? String(value) : value));
         equal(`after the damage at ${place}`, after, before);
     }
+    rmSync(own, { recursive: true });
     const opened = await desk.take({ kind: "open", file });
     equal("a right file after them", [opened.bound, opened.positions].join(), "8,64");
 }
@@ -158,6 +161,8 @@ function compareRounded(database) {
     for (const fraction of ["0/1", "1/6", "1/2000", "999/2000000", "31/2", `${7n ** 40n}/${36n ** 22n}`, `${7n ** 43n}/${36n ** 22n}`, "180/1"]) {
         equal(`${fraction} in decimals`, roundText(database, fraction), decimal(nearest(...over(fraction))));
     }
+    equal("a negative number", signedOf({ thousandths: -5 }).text, "\u22120.005");
+    equal("and a positive one", signedOf({ thousandths: 4208 }).text, "4.208");
 }
 
 // The messages of a page, and what is answered to them.
