@@ -140,21 +140,22 @@ export function asNumber(fraction: Fraction): number;
 export function asDoubles(table: BigUint64Array): Float64Array;
 
 /**
- * A checked database, in a memory of its own: that of its file, and 25 MB. `close` gives it back for the next one; without
- * it the memory goes when nothing refers to the database any more.
+ * A checked database, in a memory of its own: 25 MB and its file, or twice its file where it was built. `close` gives it
+ * back for the next one; without it the memory goes when nothing refers to the database any more.
  */
 export class Bearoff {
     private constructor();
 
     /**
-     * Checks the bytes of a file, which are copied, and opens it: 0.4 s for 44 pips, in which the thread does nothing
-     * else, so a page asks in a worker. A {@link DamagedError} where they are no right database.
+     * Copies the bytes of a file, checks them and opens it: 0.2 to 0.4 s for 44 pips, in which the thread does nothing
+     * else, so a page asks in a worker. The bytes stay as they are until the promise is kept, and may be changed then. A
+     * {@link DamagedError} where they are no right database, and `no-memory`.
      */
     static open(bytes: ArrayBufferLike | ArrayBufferView, options?: Options): Promise<Bearoff>;
 
     /**
      * Builds the database of a pip bound, 0 to 58, checks it as any other, and opens it: a second for 44 pips, in which the
-     * thread does nothing else. Refused as `over-bound` where the bound is over 58.
+     * thread does nothing else. Refused as `over-bound` where the bound is over 58, and as `no-memory`.
      */
     static build(bound: number, options?: Options): Promise<Bearoff>;
 

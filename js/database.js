@@ -86,13 +86,13 @@ export class Database {
     }
 
     get version() {
-        const engine = this.#open("version");
+        const engine = this.#instance("version");
         engine.ask("version", "bearoff_version", engine.atDatabase, engine.atTold);
         return engine.view.getUint16(engine.told, true);
     }
 
     get libraryVersion() {
-        const engine = this.#open("library version");
+        const engine = this.#instance("library version");
         engine.ask("library version", "bearoff_library_version", engine.atTold, engine.atTold + 2n, engine.atTold + 4n);
         return [0, 2, 4].map((place) => engine.view.getUint16(engine.told + place, true)).join(".");
     }
@@ -124,7 +124,7 @@ export class Database {
 
     standing(position) {
         const counts = readPosition(position);
-        const engine = this.#open("standing");
+        const engine = this.#instance("standing");
         engine.setCounts(engine.position, counts);
         engine.ask(`standing ${counts}`, "bearoff_standing", engine.atPosition, engine.atOutput);
         const [pips, checkers, off] = engine.bytes.subarray(engine.output, engine.output + 3);
@@ -138,7 +138,7 @@ export class Database {
 
     position(rank) {
         const asked = readRank(rank);
-        const engine = this.#open("position");
+        const engine = this.#instance("position");
         engine.ask(`position ${rank}`, "bearoff_position_of", engine.atDatabase, asked, engine.atOutput);
         return engine.countsAt(engine.output);
     }
@@ -151,7 +151,7 @@ export class Database {
 
     playTo(position, roll, to) {
         const [counts, dice, target] = [readPosition(position), readRoll(roll), readPosition(to)];
-        const engine = this.#open("playTo");
+        const engine = this.#instance("playTo");
         engine.setCounts(engine.position, counts);
         engine.setCounts(engine.to, target);
         engine.ask(`playTo ${counts} ${dice.join("")} ${target}`, "bearoff_play_to", engine.atPosition, ...dice, engine.atTo,
@@ -161,7 +161,7 @@ export class Database {
 
     loss(position, roll, to) {
         const [counts, dice, target] = [readPosition(position), readRoll(roll), readPosition(to)];
-        const engine = this.#open("loss");
+        const engine = this.#instance("loss");
         engine.setCounts(engine.position, counts);
         engine.setCounts(engine.to, target);
         engine.ask(`loss ${counts} ${dice.join("")} ${target}`, "bearoff_loss", engine.atDatabase, engine.atPosition, ...dice,
@@ -171,7 +171,7 @@ export class Database {
 
     moves(position, roll) {
         const [counts, dice] = [readPosition(position), readRoll(roll)];
-        const engine = this.#open("moves");
+        const engine = this.#instance("moves");
         engine.setCounts(engine.position, counts);
         engine.ask(`moves ${counts} ${dice.join("")}`, "bearoff_results", engine.atDatabase, engine.atPosition, ...dice,
             engine.atOutput, BigInt(MOST_RESULTS), engine.atTold);
@@ -183,7 +183,7 @@ export class Database {
 
     answer(line) {
         const asked = readLine(line);
-        const engine = this.#open("answer");
+        const engine = this.#instance("answer");
         const length = engine.setLine(asked);
         engine.ask("answer", "bearoff_answer_line", engine.atDatabase, BigInt(engine.line), BigInt(length), engine.atOutput,
             BigInt(OUTPUT_BYTES), engine.atTold);
@@ -192,7 +192,7 @@ export class Database {
 
     thousandths(fraction) {
         const numbers = readFraction(fraction);
-        const engine = this.#open("thousandths");
+        const engine = this.#instance("thousandths");
         engine.setFraction(numbers);
         if (!engine.call("bearoff_thousandths", BigInt(engine.fraction), engine.atTold)) {
             throw new RangeError("a fraction in thousandths is at most 180, and its denominator is 1 to 6 * 36^22");
@@ -217,15 +217,15 @@ export class Database {
     }
 
     bytes() {
-        return this.#open("bytes").fileOf();
+        return this.#instance("bytes").fileOf();
     }
 
     upgrade() {
-        return this.#open("upgrade").upgrade();
+        return this.#instance("upgrade").upgrade();
     }
 
     // The instance of a database that wasn't closed.
-    #open(asked) {
+    #instance(asked) {
         if (!this.#engine) throw new BearoffError("not-open", `${asked}: the database was closed`, { status: 1 });
         return this.#engine;
     }
@@ -233,7 +233,7 @@ export class Database {
     // Asks something of a position, whose answer is written where outputs lie.
     #askOf(asked, name, position, ...words) {
         const counts = readPosition(position);
-        const engine = this.#open(asked);
+        const engine = this.#instance(asked);
         engine.setCounts(engine.position, counts);
         const status = engine.call(name, engine.atDatabase, engine.atPosition, ...words, engine.atOutput);
         if (status !== 0) throw refusal(status, `${[asked, counts, ...words].join(" ")}`);
@@ -248,7 +248,7 @@ export class Database {
     // What the module lists of a range of ranks, copied out by parts that the room for outputs holds.
     #listed(name, each, first, count) {
         const [from, all] = readRange(first, count, this.#count);
-        const engine = this.#open("a table");
+        const engine = this.#instance("a table");
         if (from + all > this.#count) throw refusal(10, `${all} ranks from ${from} on`);
         const table = new Uint8Array(all * each);
         const most = Math.floor(OUTPUT_BYTES / each);

@@ -31,8 +31,13 @@ export class Engine {
         const engine = waiting.get(module)?.deref();
         waiting.delete(module);
         if (engine) return engine;
-        const { exports } = await WebAssembly.instantiate(module, {});
-        return new Engine(exports, module);
+        try {
+            const { exports } = await WebAssembly.instantiate(module, {});
+            return new Engine(exports, module);
+        } catch (cause) {
+            if (!(cause instanceof RangeError)) throw cause;
+            throw new BearoffError("no-memory", "no memory for an instance of the module", { cause });
+        }
     }
 
     constructor(exports, module) {

@@ -1,15 +1,20 @@
-// Lets the page's module answer under node, and compares it with the program's own replies:
-// page_module.mjs MODULE PROGRAM FOLDER, where the folder has questions_8 and questions_44 of tools/callers/questions.py,
-// the replies of the program to them, and its files eight and race.db. Says what went wrong, and fails.
-import { execFileSync, spawnSync } from "node:child_process";
-import { readFileSync, writeFileSync } from "node:fs";
+// Lets the page's worker answer under node, over one of the two modules, and compares what it would show with the program's
+// replies: page_module.mjs MODULE PROGRAM FOLDER, where the folder has questions_8 and questions_44 of
+// tools/callers/questions.py, the replies of the program to them, and its files eight and race.db. What the module answers
+// to each call, and refuses, tools/js_check tries. Says what went wrong, and fails.
+import { spawnSync } from "node:child_process";
+import { mkdtempSync, readFileSync, rmSync, writeFileSync } from "node:fs";
+import { tmpdir } from "node:os";
 import { join } from "node:path";
-import { Desk } from "../web/worker.js";
-import { decimal, Engine, FAULTS, Refused } from "../web/engine.js";
+import { playsOf, roundText, signedOf } from "../web/answers.js";
 import { readPoints } from "../web/points.js";
+import { ROLLS } from "../web/rolls.js";
+import { decimal, FAULTS, notation } from "../web/texts.js";
+import { answer, Desk, drawn, rollsOf, serve } from "../web/worker.js";
 
 const [, , modulePath, program, folder] = process.argv;
-const module = await WebAssembly.compile(readFileSync(modulePath));
+const bytes = readFileSync(modulePath);
+const module = await WebAssembly.compile(bytes);
 const WHOLE = 36n ** 22n;
 let failed = 0;
 
@@ -20,53 +25,26 @@ function wrong(text) {
 
 const equal = (name, is, wanted) => is === wanted || wrong(`${name}: ${is}, and not ${wanted}`);
 
-// What the program would write for a line, from what the module answers.
-const ERRORS = { 3: "error too-many", 4: "error over-bound", 5: "error finished", 6: "error not-legal" };
-
-function replied(engine, line) {
-    const [word, at, dice, to] = line.split(" ");
-    const points = at.split(",").map(Number);
-    const roll = dice && [...dice].map(Number);
-    try {
-        if (word === "mean") {
-            const [mean, epc] = [engine.mean(points), engine.effective(points)];
-            return `mean ${mean.exact} epc ${epc.exact} ${epc.text}`;
-        }
-        if (word === "play") {
-            const play = engine.play(points, ...roll);
-            return `play ${play.text} to ${play.to.join()}`;
-        }
-        const plays = engine.plays(points, ...roll);
-        if (word === "loss") {
-            const found = plays.find((play) => play.to.join() === to);
-            return found ? `loss ${found.exact}` : "error not-legal";
-        }
-        return plays;
-    } catch (error) {
-        if (error instanceof Refused && ERRORS[error.status]) return ERRORS[error.status];
-        throw error;
-    }
-}
-
 // A number over another in thousandths, to the nearest and a half up, as the definition says.
 const nearest = (numerator, denominator) => (2000n * numerator + denominator) / (2n * denominator);
 
 const over = (fraction) => fraction.split("/").map(BigInt);
 
-function compareMoves(name, plays, reply) {
-    const listed = reply.split(" ").slice(1).map((word) => word.split(":"));
-    equal(`${name}, how many`, plays.length, listed.length);
-    const costs = new Map(listed);
+const linesOf = (name) => readFileSync(join(folder, name), "utf8").trimEnd().split("\n");
+
+function comparePlays(name, plays, reply) {
+    const listed = reply.split(" ").slice(1);
+    equal(`${name}, as the program lists them`, plays.map((play) => `${play.to}:${play.exact}`).join(" "), listed.join(" "));
     for (const play of plays) {
-        equal(`${name}, the loss of ${play.text}`, play.exact, costs.get(play.to.join()));
-        equal(`${name}, rounded`, play.loss, nearest(...over(play.exact)));
+        equal(`${name}, the loss of ${play.text}`, play.loss, nearest(...over(play.exact)));
+        equal(`${name}, its text`, play.lossText, decimal(play.loss));
         equal(`${name}, best`, play.isBest, play.exact === "0/1");
+        equal(`${name}, the moves`, notation(play.moves), play.text);
     }
     equal(`${name}, recorded`, plays.filter(({ isRecorded }) => isRecorded).length, 1);
 }
 
-function compareChances(name, engine, points, reply) {
-    const rows = engine.distribution(points);
+function compareChances(name, rows, reply) {
     const told = reply.split(" ").slice(1).map((word) => word.split(":"));
     equal(`${name}, which`, rows.map(({ rolls }) => rolls).join(), told.map(([rolls]) => rolls).join());
     let total = 0n;
@@ -79,128 +57,144 @@ function compareChances(name, engine, points, reply) {
     equal(`${name}, in all`, total, WHOLE);
 }
 
-function compareStanding(name, engine, points) {
-    const { pips, checkers, off } = engine.standing(points);
+function compareMean(name, shown, points, reply) {
+    equal(name, `mean ${shown.mean.exact} epc ${shown.effective.exact} ${shown.effective.text}`, reply);
+    const { pips, checkers, off } = shown.standing;
     equal(`${name}, pips`, pips, points.reduce((sum, count, place) => sum + count * (place + 1), 0));
     equal(`${name}, checkers`, checkers, points.reduce((sum, count) => sum + count, 0));
     equal(`${name}, off`, off, 15 - checkers);
-    const mean = engine.mean(points);
-    equal(`${name}, the mean in thousandths`, mean.thousandths, nearest(...over(mean.exact)));
-    const waste = engine.effective(points).thousandths - 1000n * BigInt(pips);
-    equal(`${name}, wastage`, engine.wastage(points).text, (waste < 0n ? "\u2212" : "") + decimal(waste < 0n ? -waste : waste));
+    equal(`${name}, the mean in thousandths`, shown.mean.thousandths, nearest(...over(shown.mean.exact)));
+    equal(`${name}, the mean's text`, shown.mean.text, decimal(shown.mean.thousandths));
+    const waste = shown.effective.thousandths - 1000n * BigInt(pips);
+    equal(`${name}, wastage`, shown.wastage.text, (waste < 0n ? "\u2212" : "") + decimal(waste < 0n ? -waste : waste));
+    equal(`${name}, its size`, shown.wastage.thousandths, waste < 0n ? -waste : waste);
 }
 
-function compare(engine, bound) {
-    const lines = readFileSync(join(folder, `questions_${bound}`), "utf8").trimEnd().split("\n");
-    const replies = readFileSync(join(folder, `replies_${bound}`), "utf8").trimEnd().split("\n");
-    equal(`the replies over ${bound} pips`, replies.length, lines.length);
+// What is shown of a position that was refused.
+const REFUSED = { "error too-many": [3, "A position has at most 15 checkers."], "error over-bound": [4, "The position has more pips than the database."] };
+
+function compareLines(database, bound) {
+    const replies = linesOf(`replies_${bound}`);
+    const plays = new Map();
     const seen = {};
-    lines.forEach((line, place) => {
-        const [word, at] = line.split(" ");
-        const name = `${line}, over ${bound} pips`;
+    linesOf(`questions_${bound}`).forEach((line, place) => {
+        const [word, at, dice] = line.split(" ");
         const reply = replies[place];
-        if (engine.exports.bearoff_answer_line) equal(name, engine.answerLine(line), reply);
-        if (!["mean", "dist", "play", "loss", "moves"].includes(word) || reply.endsWith("bad-line")) return;
-        seen[reply.split(" ")[0]] = true;
+        if (!["mean", "dist", "play", "moves"].includes(word) || reply.endsWith("bad-line")) return;
+        const name = `${line}, over ${bound} pips`;
         const points = at.split(",").map(Number);
-        if (word === "dist" && reply.startsWith("dist")) compareChances(name, engine, points, reply);
-        else if (word !== "dist") {
-            const is = replied(engine, line);
-            if (Array.isArray(is)) compareMoves(name, is, reply);
-            else equal(name, is, reply);
+        seen[reply.split(" ")[0]] = true;
+        if (word === "mean" || word === "dist") {
+            const shown = answer(database, points);
+            equal(`${name}, of which`, [shown.points.join(), shown.bound].join(), [at, bound].join());
+            if (REFUSED[reply]) equal(`${name}, refused`, [shown.status, shown.refusal].join(), REFUSED[reply].join());
+            else if (word === "mean") compareMean(name, shown, points, reply);
+            else compareChances(name, shown.distribution, reply);
+        } else if (reply.startsWith("moves")) {
+            const roll = [...dice].map(Number);
+            plays.set(`${at} ${[...roll].sort().reverse().join("")}`, playsOf(database, points, roll));
+            comparePlays(name, plays.get(`${at} ${[...roll].sort().reverse().join("")}`), reply);
         }
-        if (word === "mean" && reply.startsWith("mean")) compareStanding(name, engine, points);
     });
-    for (const kind of ["mean", "dist", "play", "loss", "moves", "error"]) seen[kind] || wrong(`no reply ${kind} over ${bound} pips`);
-    if (engine.exports.bearoff_answer_line) console.log(`page: each line over ${bound} pips was answered by bearoff_answer_line too`);
+    // the recorded play of each roll whose plays were told
+    linesOf(`questions_${bound}`).forEach((line, place) => {
+        const [word, at, dice] = line.split(" ");
+        const told = word === "play" && plays.get(`${at} ${dice}`);
+        if (!told) return;
+        const recorded = told.find(({ isRecorded }) => isRecorded);
+        equal(`${line}, over ${bound} pips`, `play ${recorded.text} to ${recorded.to}`, replies[place]);
+        seen.play = true;
+    });
+    for (const kind of ["mean", "dist", "play", "moves", "error"]) seen[kind] || wrong(`no reply ${kind} over ${bound} pips`);
+    const rolls = rollsOf(database, [1, 0, 0, 0, 0, 1]);
+    equal("how many rolls", rolls.map(({ dice }) => dice.join("")).join(), ROLLS.map((dice) => dice.join("")).join());
+    equal("the plays of a roll", rolls[1].plays.map(({ to }) => `${to}`).sort().join(" "), "0,0,0,1,0,0 1,0,1,0,0,0");
+    equal("no rolls without checkers", rollsOf(database, [0, 0, 0, 0, 0, 0]).length, 0);
 }
 
-// A built file is byte for byte the program's, and answers as it does.
-async function compareBuilt(bound, name) {
+// A built database answers as the program's file does.
+async function compareBuilt(bound, positions) {
     const told = [];
-    const desk = new Desk(module, ({ from, until }) => told.push(`${from} to ${until}`));
-    await desk.build(bound);
-    const builder = await Engine.start(module);
-    const file = builder.build(bound);
-    Buffer.compare(Buffer.from(file), readFileSync(join(folder, name))) === 0 || wrong(`the file of ${bound} pips is another`);
-    equal(`the bound of ${bound} pips`, desk.engine.bound, bound);
-    equal("the steps of the bar", told.join(), "0.1 to 0.55,0.55 to 1");
-    compare(desk.engine, bound);
-    return file;
+    const desk = new Desk(module, ({ from, until, text }) => told.push(`${from} to ${until} ${text}`));
+    const opened = await desk.build(bound);
+    equal(`the database of ${bound} pips`, [opened.bound, opened.positions].join(), [bound, positions].join());
+    const megabytes = { 8: "0", 44: "11" }[bound];
+    equal("the steps of the bar", told.join("; "), `0.1 to 0.55 Building the database of ${bound} pips\u2026; 0.55 to 1 Checking all of its ${megabytes} MB\u2026`);
+    compareLines(desk.database, bound);
+    return desk;
 }
 
-// Each damage is refused as the program refuses it.
-async function compareDamaged(file) {
-    const damaged = [new Uint8Array(0), file.slice(0, 20), file.slice(0, -1), Uint8Array.of(...file, 0)];
-    for (let place = 0; place < file.length; place += place < 40 ? 1 : 467) {
-        const other = file.slice();
-        other[place] ^= 1 + (place % 7);
-        damaged.push(other);
+// A refused file leaves the open database as it was; each fault has its words.
+async function compareDamaged(desk) {
+    const file = new Uint8Array(readFileSync(join(folder, "eight")));
+    const before = JSON.stringify(await desk.take({ kind: "ask", points: [0, 1, 0, 0, 0, 0] }), (_, value) => (typeof value === "bigint" ? String(value) : value));
+    const own = mkdtempSync(join(tmpdir(), "damaged-"));
+    for (const place of [0, 8, 9, 12, 16, 20, 28, 32 + 426 * 3, 32 + 426 * 5 + 16, 32 + 426 * 7 + 30, 32 + 426 * 9 + 100, -1]) {
+        const other = place < 0 ? file.slice(0, -1) : file.slice();
+        if (place >= 0) other[place] ^= 1;
+        writeFileSync(join(own, "file"), other);
+        const { stderr } = spawnSync(program, ["check", join(own, "file")], { encoding: "utf8" });
+        const why = await desk.take({ kind: "open", file: other }).then(() => ({ line: "accepted" }), (failure) => failure);
+        equal(`the damage at ${place}`, `bearoff: refused ${why.line}\n`, stderr);
+        FAULTS[why.status] || wrong(`no words for the status ${why.status}`);
+        const after = JSON.stringify(await desk.take({ kind: "ask", points: [0, 1, 0, 0, 0, 0] }), (_, value) => (typeof value === "bigint" ? String(value) : value));
+        equal(`after the damage at ${place}`, after, before);
     }
-    const statuses = new Set();
-    for (const [number, other] of damaged.entries()) {
-        const path = join(folder, "damaged");
-        writeFileSync(path, other);
-        const { status, stderr } = spawnSync(program, ["check", path], { encoding: "utf8" });
-        const engine = await Engine.start(module);
-        try {
-            engine.open(other);
-            equal(`damage ${number}`, "accepted", status === 0 ? "accepted" : stderr);
-        } catch (error) {
-            if (!(error instanceof Refused)) throw error;
-            statuses.add(error.status);
-            equal(`damage ${number}`, `bearoff: refused ${error.line}\n`, stderr);
-            FAULTS[error.status] || wrong(`no words for the status ${error.status}`);
-            try {
-                engine.mean([0, 0, 0, 0, 0, 1]);
-                wrong(`damage ${number} was refused, and answers`);
-            } catch (later) {
-                equal(`damage ${number}, asked`, later.status, 1);
-            }
-        }
-    }
-    statuses.size >= 9 || wrong(`only the faults ${[...statuses]} were met`);
+    rmSync(own, { recursive: true });
+    const opened = await desk.take({ kind: "open", file });
+    equal("a right file after them", [opened.bound, opened.positions].join(), "8,64");
 }
 
-// Rooms that are too small, bounds that are too great, and positions that are none.
-async function compareRefusals(file) {
-    for (const [bound, room, status] of [[8, file.length - 1, 8], [8, 0, 8], [44, 1000, 8], [59, 100000, 4], [255, 100, 4], [8, file.length, 0]]) {
-        const engine = await Engine.start(module);
-        let is = 0;
-        try {
-            engine.build(bound, room);
-        } catch (error) {
-            is = error.status;
-        }
-        equal(`a room of ${room} bytes for ${bound} pips`, is, status);
+// What a drill asks has a play that is best alone, and another.
+async function compareDrawn(desk) {
+    const drill = { theme: "gaps", seed: 7, ask: "play" };
+    const questions = drawn(desk.database, drill);
+    equal("how many questions", questions.length, 20);
+    for (const { points, roll } of questions) {
+        const best = playsOf(desk.database, points, roll).map(({ isBest }) => isBest);
+        equal(`${points} ${roll}`, [best.length > 1, best.filter(Boolean).length].join(), "true,1");
     }
-    const engine = await Engine.start(module);
-    engine.open(file);
-    const refused = (name, status, ask) => {
-        try {
-            ask();
-            wrong(`${name} was answered`);
-        } catch (error) {
-            equal(name, error.status, status);
-        }
-    };
-    refused("16 checkers", 3, () => engine.standing([16, 0, 0, 0, 0, 0]));
-    refused("16 checkers", 3, () => engine.mean([255, 255, 0, 0, 0, 0]));
-    refused("9 pips", 4, () => engine.wastage([9, 0, 0, 0, 0, 0]));
-    refused("the die 7", 2, () => engine.plays([1, 0, 0, 0, 0, 0], 7, 1));
-    refused("no checker", 5, () => engine.plays([0, 0, 0, 0, 0, 0], 2, 1));
-    refused("a play that isn't one", 6, () => engine.call("bearoff_play_to", 256, engine.put([0, 0, 0, 0, 0, 1]), 2, 1, engine.put([1, 0, 0, 0, 0, 0], 16)));
-    refused("a sum over 180 rolls", 7, () => engine.round("181/1"));
+    equal("the same drill", JSON.stringify(await desk.take({ kind: "draw", drill })), JSON.stringify(questions));
+}
+
+function compareRounded(database) {
     for (const fraction of ["0/1", "1/6", "1/2000", "999/2000000", "31/2", `${7n ** 40n}/${36n ** 22n}`, `${7n ** 43n}/${36n ** 22n}`, "180/1"]) {
-        equal(`${fraction} in decimals`, engine.round(fraction), decimal(nearest(...over(fraction))));
+        equal(`${fraction} in decimals`, roundText(database, fraction), decimal(nearest(...over(fraction))));
     }
+    equal("a negative number", signedOf({ thousandths: -5 }).text, "\u22120.005");
+    equal("and a positive one", signedOf({ thousandths: 4208 }).text, "4.208");
+}
+
+// The messages of a page, and what is answered to them.
+async function compareServed() {
+    const posted = [];
+    const scope = { postMessage: (message) => posted.push(message) };
+    serve(scope);
+    const questions = [
+        { kind: "ask", points: [0, 0, 0, 0, 0, 1] }, { kind: "start", module: { text: bytes.toString("base64"), isPacked: false }, bound: 8 },
+        { kind: "ask", points: [0, 0, 0, 0, 0, 1] }, { kind: "open", file: new Uint8Array(3) }, { kind: "round", fraction: "181/1" }, { kind: "nothing" },
+        { kind: "round", fraction: "5/4" },
+    ];
+    questions.forEach((question, number) => scope.onmessage({ data: { number, question } }));
+    while (!posted.some(({ number }) => number === questions.length - 1)) await new Promise((keep) => setTimeout(keep, 5));
+    const replies = posted.filter(({ number }) => number !== undefined);
+    equal("the order of replies", replies.map(({ number }) => number).join(), "0,1,2,3,4,5,6");
+    equal("a question before the start", replies[0].failure.message, "the module didn't start");
+    equal("the start", replies[1].reply.positions, 64);
+    equal("an answer", replies[2].reply.mean.exact, "5/4");
+    equal("a refused file", [replies[3].failure.status, replies[3].failure.line].join(), "16,header too-short");
+    equal("a sum over 180 rolls", replies[4].failure.status, 0);
+    equal("no question", replies[5].failure.message, "no such question");
+    equal("the last one", replies[6].reply, "1.250");
 }
 
 if (readPoints("0,0,0,0,0,1") === null) wrong("points.js reads no position");
-execFileSync(program, ["--version"]);
-const eight = await compareBuilt(8, "eight");
-await compareBuilt(44, "race.db");
-await compareDamaged(eight);
-await compareRefusals(eight);
-if (failed > 0) console.log(`page: ${failed} answers of the module are wrong`);
+const small = await compareBuilt(8, 64);
+const large = await compareBuilt(44, 26314);
+await compareDamaged(small);
+await compareDrawn(large);
+equal("a small database has no drill", drawn(small.database, { theme: "gaps", seed: 7, ask: "play" }).length, 0);
+compareRounded(small.database);
+await compareServed();
+if (failed > 0) console.log(`page: ${failed} answers of the worker are wrong`);
 process.exit(failed > 0 ? 1 : 0);

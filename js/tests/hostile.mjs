@@ -1,8 +1,10 @@
 // Hands the package what it has to refuse: each kind of wrong argument to each call, damaged files, a module that traps, a
 // database that was closed. After each the database answers as before. hostile.mjs PACKAGE PROGRAM FOLDER
 import { spawnSync } from "node:child_process";
-import { writeFileSync } from "node:fs";
-import { at, bytesOf, end, equal, partOf, program, textOf, wrong } from "./given.mjs";
+import { mkdtempSync, rmSync, writeFileSync } from "node:fs";
+import { tmpdir } from "node:os";
+import { join } from "node:path";
+import { bytesOf, end, equal, partOf, program, textOf, wrong } from "./given.mjs";
 
 const { Bearoff, BearoffError, DamagedError, asDoubles, loadModule } = await partOf("bearoff.js");
 const { Engine } = await partOf("engine.js");
@@ -208,8 +210,9 @@ async function refuseDamages() {
         damaged.push(other);
     }
     const faults = new Set();
+    const own = mkdtempSync(join(tmpdir(), "damaged-"));
     for (const [number, other] of damaged.entries()) {
-        const path = at("damaged");
+        const path = join(own, "file");
         writeFileSync(path, other);
         const { status, stderr } = spawnSync(program, ["check", path], { encoding: "utf8" });
         try {
@@ -222,6 +225,7 @@ async function refuseDamages() {
             faults.add(error.fault);
         }
     }
+    rmSync(own, { recursive: true });
     faults.size >= 9 && !faults.has("") || wrong(`only the faults ${[...faults]} were met`);
     compareStill("damages");
 }
@@ -265,6 +269,14 @@ async function refuseTrapped() {
     isTrapped = true;
     equal("a trap", refusedWith(() => opened.mean(SIX)), "trapped");
     isTrapped = false;
+    // the reason stays that of the first call, which is no call of the module's any more
+    const reason = engine.trap;
+    equal("the reason of a trap", reason instanceof WebAssembly.RuntimeError, true);
+    try {
+        opened.mean(SIX);
+    } catch (error) {
+        equal("the reason of a call after it", error.cause === reason, true);
+    }
     for (const [name, ask] of Object.entries({ mean: () => opened.mean(SIX), rank: () => opened.rank(SIX), answer: () => opened.answer("mean 0,0,0,0,0,1"), means: () => opened.means(), version: () => opened.version })) {
         equal(`${name} after a trap`, refusedWith(ask), "trapped");
     }
@@ -278,6 +290,22 @@ async function refuseTrapped() {
     equal("and only once", (await Engine.start(module)) === waits, false);
 }
 
+// A number that the module says is below the pip count is negative, though none of a database is.
+async function tellBelow() {
+    const module = await loadModule();
+    const { exports } = await WebAssembly.instantiate(module, {});
+    const below = (at, position, out) => {
+        const status = exports.bearoff_wastage(at, position, out);
+        new Uint8Array(exports.memory.buffer)[Number(out) + 8] = 1;
+        return status;
+    };
+    const engine = new Engine({ ...exports, bearoff_wastage: below }, module);
+    engine.put(eight);
+    engine.open();
+    const { Database } = await partOf("database.js");
+    equal("a wastage below", new Database(engine).wastage(SIX).thousandths, -4208);
+}
+
 // Memory that can't grow is an answer, and the databases that are open stay so.
 async function refuseMemory() {
     const module = await loadModule();
@@ -287,6 +315,11 @@ async function refuseMemory() {
     engine.exports = { ...exports, memory };
     equal("no memory for a build", refusedWith(() => engine.build(58)), "no-memory");
     equal("no memory for a file", refusedWith(() => engine.put(new Uint8Array(14_000_000))), "no-memory");
+    const { instantiate } = WebAssembly;
+    WebAssembly.instantiate = async () => { throw new RangeError("full"); };
+    await Engine.start(module).catch(() => {}); // the one that waits, if there is one
+    equal("no memory for an instance", await refusedLater(() => Bearoff.open(eight)), "no-memory");
+    WebAssembly.instantiate = instantiate;
     compareStill("want of memory");
 }
 
@@ -308,6 +341,7 @@ await refuseOpening();
 await refuseDamages();
 await refuseClosed();
 await refuseTrapped();
+await tellBelow();
 await refuseMemory();
 compareNames();
 compareStill("all");
