@@ -83,7 +83,7 @@ try {
         const done = (await page.value("window.done")) || {};
         for (const [where, is] of Object.entries(done)) {
             equal(`${name}, the ${where}, replies that are others`, replies.filter((reply, place) => reply !== is.replies?.[place]).length, 0);
-            equal(`${name}, the ${where}`, JSON.stringify({ ...is, replies: is.replies?.length }), JSON.stringify({ replies: 200, six: "1.250000000000", same: true, code: "over-bound" }));
+            equal(`${name}, the ${where}`, JSON.stringify(is.replies ? { ...is, replies: is.replies.length } : is), JSON.stringify({ replies: 200, six: "1.250000000000", same: true, code: "over-bound" }));
         }
         equal(`${name}, the form that the page fetched`, fetched.includes(`/package/${form}.wasm`), true);
         equal(`${name}, what went wrong`, page.troubles().join(), "");
