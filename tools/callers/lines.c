@@ -6,6 +6,8 @@
  *        lines FILE --text <lines          by bearoff_answer_line, with no room first and then just enough
  *        lines FILE --speed N              how many means a second N calls come to, over all positions of at most
  *                                          the bound in the order of a walk
+ *        lines FILE --tables               how many microseconds all means take in one call, and all distributions,
+ *                                          with the memory for them; the best of nine
  * It is C and C++ both.
  */
 #define _POSIX_C_SOURCE 200809L
@@ -418,6 +420,13 @@ static size_t all_positions(bearoff_position *at, unsigned bound) {
     return count;
 }
 
+/* seconds since some time */
+static double now(void) {
+    struct timespec time;
+    clock_gettime(CLOCK_MONOTONIC, &time);
+    return (double)time.tv_sec + 1e-9 * (double)time.tv_nsec;
+}
+
 static void speed(long calls) {
     static bearoff_database database;
     uint8_t bound;
@@ -427,9 +436,8 @@ static void speed(long calls) {
     bearoff_positions(&database, &positions);
     bearoff_position *at = (bearoff_position *)malloc(positions * sizeof *at);
     if (!at || all_positions(at, bound) != positions) fail("positions");
-    struct timespec start, end;
     number sum = 0;
-    clock_gettime(CLOCK_MONOTONIC, &start);
+    double start = now();
     size_t place = 0;
     for (long i = 0; i < calls; i++) {
         bearoff_wide mean;
@@ -437,21 +445,47 @@ static void speed(long calls) {
         if (bearoff_mean(&database, &at[place], &mean)) fail("mean");
         sum += value(mean);
     }
-    clock_gettime(CLOCK_MONOTONIC, &end);
-    double taken = (double)(end.tv_sec - start.tv_sec) + 1e-9 * (double)(end.tv_nsec - start.tv_nsec);
-    printf("%.0f means a second\n", (double)calls / taken);
+    printf("%.0f means a second\n", (double)calls / (now() - start));
     if (!sum) fail("no sum");
     free(at);
 }
 
+static void tables(void) {
+    static bearoff_database database;
+    uint32_t positions;
+    double means = 1, distributions = 1;
+    open_it(&database);
+    bearoff_positions(&database, &positions);
+    for (int i = 0; i < 9; i++) {
+        double start = now();
+        bearoff_wide *mean = (bearoff_wide *)malloc(positions * sizeof *mean);
+        if (!mean || bearoff_listed_means(&database, 0, mean, positions)) fail("means");
+        double taken = now() - start;
+        if (taken < means) means = taken;
+        start = now();
+        bearoff_shares *shares = (bearoff_shares *)malloc(positions * sizeof *shares);
+        if (!shares || bearoff_listed_distributions(&database, 0, shares, positions)) fail("distributions");
+        taken = now() - start;
+        if (taken < distributions) distributions = taken;
+        free(mean);
+        free(shares);
+    }
+    printf("means %.0f us\ndistributions %.0f us\n", 1e6 * means, 1e6 * distributions);
+}
+
 int main(int count, char **words) {
-    if (count < 2) fail("usage: lines FILE [THREADS | --text | --speed N]");
+    if (count < 2) fail("usage: lines FILE [THREADS | --text | --speed N | --tables]");
     FILE *from = fopen(words[1], "rb");
     if (!from) fail("open");
     file = read_all(from);
     fclose(from);
     if (count == 4) {
         speed(atol(words[3]));
+        free(file.bytes);
+        return 0;
+    }
+    if (count == 3 && !strcmp(words[2], "--tables")) {
+        tables();
         free(file.bytes);
         return 0;
     }

@@ -1,29 +1,45 @@
-"""How many means a second the module answers, over random positions of at most the bound.
+"""How fast the package for Python is, the best of nine.
 
-usage: speed.py FILE
+usage: speed.py FILE             how many means a second it answers, one call each, over all positions in no order
+       speed.py FILE --tables    how many microseconds all means take as an array of numpy, and all distributions,
+                                 and both as floats
 """
 import random
 import sys
 import time
 
-from bearoff import Database
+import bearoff
 
 
-def positions(point, checkers, pips):
-    if point > 6:
-        yield ()
-        return
-    for count in range(min(checkers, pips // point) + 1):
-        for rest in positions(point + 1, checkers - count, pips - point * count):
-            yield (count, *rest)
+def least(ask):
+    """The least time of nine runs, in seconds."""
+    times = []
+    for _ in range(9):
+        start = time.perf_counter()
+        ask()
+        times.append(time.perf_counter() - start)
+    return min(times)
 
 
-database = Database.open(sys.argv[1])
-asked = list(positions(1, 15, database.bound))
-random.Random(1).shuffle(asked)
-asked = (asked * (200000 // len(asked) + 1))[:200000]
-mean = database.mean
-start = time.perf_counter()
-for position in asked:
-    mean(position)
-print(int(len(asked) / (time.perf_counter() - start)), "means a second")
+def calls(database):
+    asked = [tuple(position) for position in database]
+    random.Random(1).shuffle(asked)
+    mean = database.mean
+
+    def ask():
+        for position in asked:
+            mean(position)
+
+    print(int(len(asked) / least(ask)), "means a second")
+
+
+def tables(database):
+    import numpy
+
+    for name, table in ("means", database.means), ("distributions", database.distributions):
+        print(name, int(1e6 * least(lambda: numpy.asarray(table()))), "us")
+        print(name, "as floats", int(1e6 * least(lambda: numpy.asarray(table()) @ bearoff.WEIGHTS)), "us")
+
+
+database = bearoff.Database.open(sys.argv[1])
+tables(database) if sys.argv[2:] == ["--tables"] else calls(database)

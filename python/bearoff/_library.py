@@ -1,0 +1,185 @@
+"""The shared library: what its calls take, where it is found, and a stack that is large enough for it."""
+
+from __future__ import annotations
+
+import ctypes
+import ctypes.util
+import os
+import threading
+from pathlib import Path
+from struct import Struct
+from typing import Any, Callable, Dict, List, Optional, Tuple
+
+from .errors import NoLibrary
+
+__version__ = "1.0.0"
+
+# how many bytes there are, and how much stack, as the header has it
+LINE = 32
+RESULTS = 1296
+REPLY = 123125
+FILE = 15060844
+OPEN_STACK = 1572864
+BUILD_STACK = 20971520
+
+# a thread of Python needs stack of its own too
+_MORE_STACK = 4 << 20
+
+# what the library's structs hold: a number of 128 bits is its high half and its low half
+WIDE = Struct("=2Q")
+FRACTION = Struct("=4Q")
+PIPS = Struct("=5Q")
+SHARES = Struct("=46Q")
+PLAY = Struct("=8BB6B")
+RESULT = Struct("=6B2x4Q")
+COUNTS = Struct("=6B")
+
+# rooms for one of them
+WideRoom = ctypes.c_char * WIDE.size
+FractionRoom = ctypes.c_char * FRACTION.size
+PipsRoom = ctypes.c_char * PIPS.size
+SharesRoom = ctypes.c_char * SHARES.size
+PlayRoom = ctypes.c_char * PLAY.size
+CountsRoom = ctypes.c_char * COUNTS.size
+
+
+class DatabaseStruct(ctypes.Structure):
+    """The struct that `bearoff_open` fills; one that it didn't fill is not open."""
+
+    _fields_ = [
+        ("bytes", ctypes.c_void_p),
+        ("length", ctypes.c_size_t),
+        ("is_open", ctypes.c_uint8),
+        ("bound", ctypes.c_uint8),
+        ("version", ctypes.c_uint16),
+        ("ranks", ctypes.c_uint16 * (6 * 16 * 91 + 92)),
+    ]
+
+
+_POINTER = ctypes.c_void_p
+_BYTE = ctypes.c_uint8
+_RANK = ctypes.c_uint16
+_SIZE = ctypes.c_size_t
+_Calls = Dict[str, Optional[Tuple[Any, ...]]]
+
+# what the calls take that last long enough to let other threads run meanwhile
+_LONG_CALLS: _Calls = {
+    "open": (_POINTER, _POINTER, _SIZE, _POINTER, _SIZE, _POINTER),
+    "upgrade": (_POINTER, _SIZE, _POINTER, _SIZE, _POINTER, _SIZE, _POINTER),
+    "build": (_BYTE, _POINTER, _SIZE, _POINTER, _SIZE, _POINTER),
+    "listed_positions": (_POINTER, _RANK, _POINTER, _SIZE),
+    "listed_means": (_POINTER, _RANK, _POINTER, _SIZE),
+    "listed_epcs": (_POINTER, _RANK, _POINTER, _SIZE),
+    "listed_distributions": (_POINTER, _RANK, _POINTER, _SIZE),
+}
+
+# .. and those that are over before another thread could have begun; what takes pointers alone is given them as they
+# are, since to convert them would cost a third of the call
+_SHORT_CALLS: _Calls = {
+    "version": None,
+    "bound": None,
+    "positions": None,
+    "rank": None,
+    "position_of": (_POINTER, _RANK, _POINTER),
+    "mean": None,
+    "epc": None,
+    "distribution": None,
+    "play": (_POINTER, _POINTER, _BYTE, _BYTE, _POINTER),
+    "loss": (_POINTER, _POINTER, _BYTE, _BYTE, _POINTER, _POINTER),
+    "results": (_POINTER, _POINTER, _BYTE, _BYTE, _POINTER, _SIZE, _POINTER),
+    "answer_line": (_POINTER, _POINTER, _SIZE, _POINTER, _SIZE, _POINTER),
+}
+
+
+class Library:
+    """The calls of the shared library by their names, without ``bearoff_``. Each gives a status."""
+
+    def __init__(self, path: str) -> None:
+        try:
+            short, long = ctypes.PyDLL(path), ctypes.CDLL(path)
+            self._declare(short, {"library_version": None})
+        except (OSError, AttributeError) as error:
+            raise NoLibrary(f"{path} is not the library: {error}") from error
+        release = self._release()
+        if not _is_enough(release, __version__):
+            raise NoLibrary(f"{path} is of version {release}, and this package of version {__version__}")
+        self._declare(short, _SHORT_CALLS)
+        self._declare(long, _LONG_CALLS)
+
+    def _release(self) -> str:
+        numbers = [ctypes.c_uint16() for _ in range(3)]
+        self.library_version(*map(ctypes.byref, numbers))
+        return ".".join(str(number.value) for number in numbers)
+
+    def _declare(self, handle: ctypes.CDLL, calls: _Calls) -> None:
+        for name, arguments in calls.items():
+            call = getattr(handle, "bearoff_" + name)
+            if arguments:
+                call.argtypes = arguments
+            call.restype = ctypes.c_uint32
+            setattr(self, name, call)
+
+    def __getattr__(self, name: str) -> Any:
+        raise AttributeError(name)
+
+
+def _is_enough(told: str, wanted: str) -> bool:
+    """Whether a library of one version has all that another one has."""
+    have, want = ([int(number) for number in version.split(".")] for version in (told, wanted))
+    return have[0] == want[0] and have >= want
+
+
+def _path() -> str:
+    named = os.environ.get("BEAROFF_LIBRARY")
+    if named:
+        return named
+    beside = Path(__file__).with_name("libbearoff.so")
+    found = str(beside) if beside.exists() else ctypes.util.find_library("bearoff")
+    if not found:
+        raise NoLibrary("libbearoff is not installed, and BEAROFF_LIBRARY doesn't name it")
+    return found
+
+
+_library: Optional[Library] = None
+
+
+def library() -> Library:
+    """The library, which is loaded once."""
+    global _library
+    if _library is None:
+        _library = Library(_path())
+    return _library
+
+
+_setting_stack = threading.Lock()
+
+
+def on_stack(size: int, call: Callable[..., int], *arguments: Any) -> int:
+    """The status of a call that runs in a thread of its own, with at least so much stack, whatever the caller's
+    thread has.
+    """
+    told: List[int] = []
+    failed: List[BaseException] = []
+
+    def run() -> None:
+        try:
+            told.append(call(*arguments))
+        except BaseException as error:
+            failed.append(error)
+
+    thread = threading.Thread(target=run, name="bearoff")
+    with _setting_stack:
+        before = threading.stack_size(size + _MORE_STACK)
+        try:
+            thread.start()
+        finally:
+            threading.stack_size(before)
+    thread.join()
+    if failed:
+        raise failed[0]
+    return told[0]
+
+
+def address(room: bytearray) -> Any:
+    """What a call takes as the address of some bytes."""
+    return ctypes.byref(ctypes.c_char.from_buffer(room))

@@ -1,0 +1,72 @@
+"""The errors of this package. Each is a `BearoffError`, and so a ValueError.
+
+What the system refuses stays what Python says of it: OSError where a file can't be read, and MemoryError.
+"""
+
+from __future__ import annotations
+
+from typing import Tuple, Type
+
+NOT_OPEN = 1
+TOO_MANY = 3
+OVER_BOUND = 4
+SHORT = 8
+
+_REASONS = {
+    NOT_OPEN: "the database is not open",
+    2: "a die is not 1 to 6",
+    TOO_MANY: "more than 15 checkers",
+    OVER_BOUND: "more pips than the bound",
+    5: "no checker is left",
+    6: "the roll doesn't lead there",
+    7: "the bytes were changed since they were checked",
+    SHORT: "the room is too small",
+    9: "the file is of version 2 already",
+    10: "the database has no position of that rank",
+}
+
+
+class BearoffError(ValueError):
+    """What every error of this package is."""
+
+
+class BadArgument(BearoffError):
+    """What was given is no position, roll, rank, pip bound, line or file at all."""
+
+
+class Refused(BearoffError):
+    """The library gave no answer. `status` is the number that it gave instead, as in ``bearoff.h``.
+
+    The message says why, and what was asked: the database is closed, a position has more than 15 checkers
+    or more pips than the bound, a die isn't 1 to 6, no checker is left, the roll doesn't lead to the
+    position, or there is no position of that rank.
+    """
+
+    def __init__(self, status: int, asked: str = "") -> None:
+        reason = _REASONS.get(status, f"status {status}")
+        super().__init__(f"{reason}: {asked}" if asked else reason)
+        self.status = status
+        self.asked = asked
+
+    def __reduce__(self) -> Tuple[Type[Refused], Tuple[int, str]]:
+        return type(self), (self.status, self.asked)
+
+
+class Damaged(BearoffError):
+    """The bytes are no right database. `line` names their first fault, as in ``mean rank 1``."""
+
+    def __init__(self, status: int, line: str) -> None:
+        super().__init__(line)
+        self.status = status
+        self.line = line
+
+    def __reduce__(self) -> Tuple[Type[Damaged], Tuple[int, str]]:
+        return type(self), (self.status, self.line)
+
+
+class Changed(BearoffError):
+    """The file of a database that was pickled isn't what it was then."""
+
+
+class NoLibrary(BearoffError, OSError):
+    """The shared library isn't there, or is of a version that this package can't use."""

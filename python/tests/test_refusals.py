@@ -1,0 +1,216 @@
+"""What is refused, and by which error: hostile arguments of each kind, damaged bytes, closed databases."""
+
+import pickle
+import unittest
+from fractions import Fraction
+from typing import Any, Callable, Tuple, Type
+
+from bearoff import BadArgument, BearoffError, Changed, Damaged, Database, NoLibrary, Position, Refused
+
+from .given import FOLDER, database
+
+Calls = Tuple[Callable[..., Any], ...]
+
+SIX = (0, 0, 0, 0, 0, 1)
+HUGE = 10**5000
+
+
+class Angry:
+    """It has an order and a length, and nothing else that can be asked."""
+
+    def __len__(self) -> int:
+        return 6
+
+    def __getitem__(self, place: int) -> int:
+        if place >= 6:
+            raise IndexError
+        return 0
+
+    def __repr__(self) -> str:
+        raise RuntimeError("not to be shown")
+
+
+class Long(list):  # type: ignore[type-arg]
+    """A list that has fewer items than it says."""
+
+    def __len__(self) -> int:
+        return 6
+
+
+NO_POSITIONS: Tuple[Any, ...] = (
+    *((), (1, 2, 3), (0,) * 5, (0,) * 7, [0] * 1000, range(5), [[0] * 6]),
+    *((0, 0, 0, 0, 0, -1), [-1] * 6, (0, 0, 0, 0, 0, HUGE), (0, 0, 0, 0, 0, 1000), [HUGE] * 6, Position(0, 0, 0, 0, 0, -1)),
+    *((0.0,) * 6, (0, 0, 0, 0, 0, 1.0), [None] * 6, ("0",) * 6, (0, 0, 0, 0, 0, "1"), (Fraction(1),) * 6, (1j,) * 6),
+    *(None, 0, 1, 6, 1.5, True, HUGE, object(), type, len, print, Ellipsis, float("nan")),
+    *({0, 1, 2, 3, 4, 5}, frozenset(range(6)), {0: 0, 1: 0, 2: 0, 3: 0, 4: 0, 5: 0}, iter(SIX), (c for c in SIX)),
+    *("", " ", "0", "0,0,0,0,0", "0,0,0,0,0,0,0", "0,0,0,0,0,1 ", " 0,0,0,0,0,1", "0, 0, 0, 0, 0, 1", "0,0,0,0,0,1\n"),
+    *("0,0,0,0,0,-1", "0,0,0,0,0,+1", "0,0,0,0,0,01", "0,0,0,0,0,1000", "0,0,0,0,0,1.0", "0,0,0,0,0,", ",0,0,0,0,0"),
+    *("0;0;0;0;0;1", "000001", "0,0,0,0,0,\u0661", "0,0,0,0,0,1\0", "\ud800", "a" * 10**6, "mean 0,0,0,0,0,1"),
+    *(b"", b"0,0,0,0,0,1", bytearray(5), memoryview(bytes(48)), Long([1, 2])),
+)
+
+NO_ROLLS: Tuple[Any, ...] = (
+    *((), (1,), (1, 2, 3), [1, 2, 3, 4], None, 21, 2.1, "21", "2-1", {1, 2}, {1: 2, 2: 1}, iter((2, 1)), (1.0, 2), ("2", "1")),
+    *((None, None), ((2, 1),), object(), b"", Long([1, 2])),
+)
+
+BAD_ROLLS: Tuple[Any, ...] = ((0, 1), (1, 7), (-1, 2), (257, 258), (1, HUGE), [255, 255], (65537, 1), (2**64 + 1, 2), (False, 1))
+
+NO_RANKS: Tuple[Any, ...] = (-1, -HUGE, 1.0, None, "1", b"1", (1,), [1], object(), float("inf"), Fraction(1), 1j)
+
+
+class Refusals(unittest.TestCase):
+    def refused(self, status: int, call: Callable[..., Any], *words: Any) -> str:
+        with self.assertRaises(Refused) as refused:
+            call(*words)
+        self.assertIsInstance(refused.exception, BearoffError)
+        self.assertEqual(refused.exception.status, status, words)
+        return str(refused.exception)
+
+    def bad(self, call: Callable[..., Any], *words: Any) -> None:
+        with self.assertRaises(BadArgument) as refused:
+            call(*words)
+        self.assertLess(len(str(refused.exception)), 300)
+
+    def test_what_is_no_position(self) -> None:
+        here = database(8)
+        for wrong in NO_POSITIONS:
+            for call in (here.mean, here.epc, here.distribution, here.rank, here.__contains__):
+                self.bad(call, wrong)
+            self.bad(here.play, wrong, (2, 1))
+            self.bad(here.moves, wrong, (2, 1))
+            self.bad(here.loss, wrong, (2, 1), SIX)
+            self.bad(here.loss, SIX, (2, 1), wrong)
+        for wrong in (text for text in NO_POSITIONS if isinstance(text, (str, bytes, type(None), int))):
+            self.bad(Position.parse, wrong)
+
+    def test_what_is_no_roll(self) -> None:
+        here = database(8)
+        for wrong in NO_ROLLS:
+            self.bad(here.play, SIX, wrong)
+            self.bad(here.moves, SIX, wrong)
+            self.bad(here.loss, SIX, wrong, SIX)
+        for wrong in BAD_ROLLS:
+            self.refused(2, here.play, SIX, wrong)
+            self.refused(2, here.moves, SIX, wrong)
+            self.refused(2, here.loss, SIX, wrong, SIX)
+
+    def test_what_is_no_rank(self) -> None:
+        for wrong in NO_RANKS:
+            self.bad(database(8).position, wrong)
+        for beyond in (64, 65, 255, 256, 65535, 65536, 65536 + 5, 2**32, 2**64, HUGE):
+            self.refused(10, database(8).position, beyond)
+        self.assertIn("46062", self.refused(10, database(58).position, 46062))
+        self.assertEqual(database(8).position(True), (1, 0, 0, 0, 0, 0))
+
+    def test_what_is_no_bound(self) -> None:
+        for wrong in (*NO_RANKS, "44", (44,)):
+            self.bad(Database.build, wrong)
+        for beyond in (59, 255, 256, 256 + 8, 2**64, HUGE):
+            self.refused(4, Database.build, beyond)
+        self.assertEqual(len(Database.build(0)), 1)
+
+    def test_what_is_no_line(self) -> None:
+        for wrong in (None, 1, b"mean 0,0,0,0,0,1", ["mean"], SIX):
+            self.bad(database(8).answer, wrong)
+
+    def test_what_is_no_file(self) -> None:
+        for wrong in (None, 0, 3, 1.5, SIX, object(), [1, 2], "a\0b"):
+            self.bad(Database.open, wrong)
+        for wrong in (None, 5, "eight", SIX, [1]):
+            self.bad(Database, wrong)
+        self.assertRaises(FileNotFoundError, Database.open, FOLDER / "nothing")
+        self.assertRaises(FileNotFoundError, Database.open, "")
+        self.assertRaises(IsADirectoryError, Database.open, FOLDER)
+        with self.assertRaises(Damaged) as damaged:
+            Database.open("/dev/zero")
+        self.assertEqual(damaged.exception.line, "header bad-magic")
+
+    def test_positions_that_have_no_answer(self) -> None:
+        here = database(8)
+        for call in (here.mean, here.epc, here.distribution, here.rank):
+            told = self.refused(3, call, (1, 15, 0, 0, 0, 0))
+            self.assertEqual(told, "more than 15 checkers: 1,15,0,0,0,0")
+            for many in ((255,) * 6, (256,) * 6, [999] * 6, "16,0,0,0,0,0", "0,0,0,0,0,999", Position(0, 0, 0, 0, 0, 16)):
+                self.refused(3, call, many)
+            told = self.refused(4, call, "0,0,1,0,0,1")
+            self.assertEqual(told, "more pips than the bound: 0,0,1,0,0,1")
+            self.refused(4, call, (0, 0, 0, 0, 0, 15))
+            call((True, 0, 0, 0, 0, False))
+            call(b"\1\0\0\0\0\0")
+        with_roll: Calls = (here.play, here.moves)
+        for call in with_roll:
+            told = self.refused(5, call, (0,) * 6, (2, 1))
+            self.assertEqual(told, "no checker is left: 0,0,0,0,0,0 with (2, 1)")
+            self.refused(3, call, (256,) * 6, (2, 1))
+        told = self.refused(6, here.loss, SIX, (2, 1), "1,0,0,0,0,0")
+        self.assertEqual(told, "the roll doesn't lead there: 0,0,0,0,0,1 with (2, 1) to 1,0,0,0,0,0")
+        self.refused(3, here.loss, SIX, (2, 1), (16, 0, 0, 0, 0, 0))
+        for outside in ((1, 15, 0, 0, 0, 0), "0,0,1,0,0,1", (255,) * 6):
+            self.assertNotIn(outside, here)
+        self.assertEqual(here.mean(Angry()), 0)  # type: ignore[arg-type]
+
+    def test_a_message_of_what_can_not_be_shown(self) -> None:
+        class Silent:
+            def __repr__(self) -> str:
+                raise RuntimeError("not to be shown")
+
+        self.bad(database(8).mean, Silent())
+        self.bad(database(8).mean, [Silent()] * 6)
+        self.refused(2, database(8).play, SIX, (HUGE, HUGE))
+
+    def test_damaged_bytes(self) -> None:
+        content = (FOLDER / "eight").read_bytes()
+        changed = bytearray(content)
+        changed[32 + 426 + 15] ^= 1
+        for given, status, line in (
+            (content[:31], 16, "header too-short"),
+            (b"", 16, "header too-short"),
+            (b"header", 16, "header too-short"),
+            (content[:-1], 23, "header bad-length"),
+            (content + bytes(2**24), 23, "header bad-length"),
+            (changed, 26, "mean rank 1"),
+            (memoryview(changed), 26, "mean rank 1"),
+        ):
+            for opened in (Database, Database.open):
+                with self.assertRaises(Damaged) as damaged:
+                    opened(given)
+                self.assertEqual((damaged.exception.status, damaged.exception.line), (status, line))
+                self.assertIsInstance(damaged.exception, BearoffError)
+
+    def test_a_closed_database(self) -> None:
+        here = Database.open(FOLDER / "eight")
+        self.assertFalse(here.closed)
+        self.assertIs(here.__enter__(), here)
+        here.close()
+        here.close()
+        self.assertTrue(here.closed)
+        for call in (here.mean, here.epc, here.distribution, here.rank, here.__contains__):
+            self.refused(1, call, SIX)
+        with_roll: Calls = (here.play, here.moves)
+        for call in with_roll:
+            self.refused(1, call, SIX, (2, 1))
+        for ask in (here.positions, here.means, here.epcs, here.distributions, here.upgrade, here.__enter__):
+            self.refused(1, ask)
+        any_of_it: Calls = (len, iter, bytes, list, pickle.dumps)
+        for every in any_of_it:
+            self.refused(1, every, here)
+        self.refused(1, here.position, 0)
+        self.refused(1, here.loss, SIX, (2, 1), SIX)
+        self.refused(1, here.answer, "rank 0,0,0,0,0,1")
+        self.refused(1, lambda: here.version)
+        self.refused(1, lambda: here.bound)
+        self.assertEqual(repr(here), "<bearoff.Database: closed>")
+        self.assertTrue(here)
+
+    def test_errors_are_of_one_family_and_can_be_pickled(self) -> None:
+        kinds: Tuple[Type[BearoffError], ...] = (BadArgument, Refused, Damaged, Changed, NoLibrary)
+        for kind in kinds:
+            self.assertTrue(issubclass(kind, BearoffError) and issubclass(kind, ValueError))
+        for error in (Refused(3, "16,0,0,0,0,0"), Damaged(26, "mean rank 1"), BadArgument("x"), Changed("y"), NoLibrary("z")):
+            again = pickle.loads(pickle.dumps(error))
+            self.assertEqual((type(again), str(again), vars(again)), (type(error), str(error), vars(error)))
+
+
+if __name__ == "__main__":
+    unittest.main()
