@@ -323,6 +323,17 @@ async function refuseMemory() {
     compareStill("want of memory");
 }
 
+// The module itself refuses rooms that are too small for a build, and bounds that are too great.
+async function refuseRooms() {
+    const engine = await Engine.start(await loadModule());
+    engine.build(8);
+    for (const [bound, room, status] of [[8, eight.length - 1, 8], [8, 0, 8], [44, 1000, 8], [59, 100000, 4], [255, 100, 4], [8, eight.length, 0]]) {
+        const [work, front] = [BigInt(engine.file), BigInt(engine.file + 200000)];
+        const is = engine.call("bearoff_build", bound, work, BigInt(room), front, BigInt(room), engine.atTold);
+        equal(`a room of ${room} bytes for ${bound} pips`, is, status);
+    }
+}
+
 // The types and the script name the same.
 function compareNames() {
     const types = textOf("bearoff.d.ts");
@@ -342,6 +353,7 @@ await refuseDamages();
 await refuseClosed();
 await refuseTrapped();
 await tellBelow();
+await refuseRooms();
 await refuseMemory();
 compareNames();
 compareStill("all");
