@@ -11,7 +11,7 @@ from typing import Any, NamedTuple, Sequence, Tuple, Union
 
 from .errors import BadArgument
 
-_TEXT = re.compile(r"(?:(?:0|[1-9][0-9]{0,2}),){5}(?:0|[1-9][0-9]{0,2})", re.ASCII)
+_TEXT = re.compile(r"(?:(?:0|[1-9][0-9]{0,2}),){5}(?:0|[1-9][0-9]{0,2})")
 
 class Position(NamedTuple):
     """How many checkers stand on each point of the home board, the ace point first; the others are borne

@@ -20,6 +20,12 @@ def counts(words: str) -> Position:
     return Position(*map(int, words.split(",")))
 
 
+def pairs(table: memoryview) -> List[Tuple[int, int]]:
+    """The halves of each number of a table."""
+    halves = table.cast("B").cast("Q").tolist()
+    return list(zip(halves[::2], halves[1::2]))
+
+
 def wide(high: int, low: int) -> int:
     return (high << 64) + low
 
@@ -190,18 +196,17 @@ class WholeTables(unittest.TestCase):
         here, found = database(58), positions(58)
         self.assertEqual(bytes(here.positions()), b"".join(map(bytes, found)))
         self.assertEqual(list(here), found)
-        halves = here.means().cast("B").cast("Q").tolist()
-        for position, high, low in zip(found, halves[::2], halves[1::2]):
+        for position, (high, low) in zip(found, pairs(here.means())):
             self.assertEqual(here.mean(position), Fraction(wide(high, low), WHOLE))
 
     def test_weights(self) -> None:
-        """Floats by the weights are as near to the exact numbers as the page says."""
-        here = database(44)
-        table: Any = here.means()
-        for rank in range(1, len(here)):
-            about = table[rank, 0] * WEIGHTS[0] + table[rank, 1] * WEIGHTS[1]
-            exact = float(Fraction(wide(table[rank, 0], table[rank, 1]), WHOLE))
-            self.assertLess(abs(about - exact), 1e-15 * exact)
+        """Floats by the weights are as near to the exact numbers as the page says, also where the high half is nothing."""
+        here = database(58)
+        halves = [*pairs(here.means()), *pairs(here.distributions())[::29]]
+        for high, low in halves:
+            about = high * WEIGHTS[0] + low * WEIGHTS[1]
+            self.assertLessEqual(abs(about - wide(high, low) / WHOLE), 1e-15 * wide(high, low) / WHOLE)
+        self.assertTrue(any(high == 0 < low for high, low in halves))
 
     def test_a_table_belongs_to_the_caller(self) -> None:
         table: Any = database(8).means()

@@ -453,24 +453,23 @@ static void speed(long calls) {
 static void tables(void) {
     static bearoff_database database;
     uint32_t positions;
-    double means = 1, distributions = 1;
     open_it(&database);
     bearoff_positions(&database, &positions);
-    for (int i = 0; i < 9; i++) {
-        double start = now();
-        bearoff_wide *mean = (bearoff_wide *)malloc(positions * sizeof *mean);
-        if (!mean || bearoff_listed_means(&database, 0, mean, positions)) fail("means");
-        double taken = now() - start;
-        if (taken < means) means = taken;
-        start = now();
-        bearoff_shares *shares = (bearoff_shares *)malloc(positions * sizeof *shares);
-        if (!shares || bearoff_listed_distributions(&database, 0, shares, positions)) fail("distributions");
-        taken = now() - start;
-        if (taken < distributions) distributions = taken;
-        free(mean);
-        free(shares);
+    for (int which = 0; which < 2; which++) {
+        double least = 1;
+        for (int i = 0; i < 9; i++) {
+            double start = now();
+            void *room = malloc(positions * (which ? sizeof(bearoff_shares) : sizeof(bearoff_wide)));
+            if (!room || (which ? bearoff_listed_distributions(&database, 0, (bearoff_shares *)room, positions)
+                                : bearoff_listed_means(&database, 0, (bearoff_wide *)room, positions))) {
+                fail("a table");
+            }
+            double taken = now() - start;
+            free(room);
+            if (taken < least) least = taken;
+        }
+        printf("%s %.0f us\n", which ? "distributions" : "means", 1e6 * least);
     }
-    printf("means %.0f us\ndistributions %.0f us\n", 1e6 * means, 1e6 * distributions);
 }
 
 int main(int count, char **words) {
