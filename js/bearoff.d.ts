@@ -154,8 +154,8 @@ export class Bearoff {
     static open(bytes: ArrayBufferLike | ArrayBufferView, options?: Options): Promise<Bearoff>;
 
     /**
-     * Builds the database of a pip bound, 0 to 58, checks it as any other, and opens it: a second for 44 pips, in which the
-     * thread does nothing else. Refused as `over-bound` where the bound is over 58, and as `no-memory`.
+     * Builds the database of a pip bound, 0 to 58, checks it as any other, and opens it: 0.3 to 0.9 s for 44 pips, in which
+     * the thread does nothing else. Refused as `over-bound` where the bound is over 58, and as `no-memory`.
      */
     static build(bound: number, options?: Options): Promise<Bearoff>;
 
