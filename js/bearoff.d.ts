@@ -88,7 +88,7 @@ export type RefusalCode =
     | "damaged"
     /** There is no memory for the database. */
     | "no-memory"
-    /** There is no WebAssembly here, or its file was not found. */
+    /** There is no WebAssembly here, or the module's file can't be read or compiled. */
     | "no-module"
     /** The module was stopped by the machine that runs it, and this database answers nothing more. */
     | "trapped"
