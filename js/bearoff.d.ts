@@ -88,7 +88,7 @@ export type RefusalCode =
     | "damaged"
     /** There is no memory for the database. */
     | "no-memory"
-    /** There is no WebAssembly here, or its file was not found. */
+    /** There is no WebAssembly here, or the module's file can't be read or compiled. */
     | "no-module"
     /** The module was stopped by the machine that runs it, and this database answers nothing more. */
     | "trapped"
@@ -154,8 +154,8 @@ export class Bearoff {
     static open(bytes: ArrayBufferLike | ArrayBufferView, options?: Options): Promise<Bearoff>;
 
     /**
-     * Builds the database of a pip bound, 0 to 58, checks it as any other, and opens it: a second for 44 pips, in which the
-     * thread does nothing else. Refused as `over-bound` where the bound is over 58, and as `no-memory`.
+     * Builds the database of a pip bound, 0 to 58, checks it as any other, and opens it: 0.3 to 0.9 s for 44 pips, in which
+     * the thread does nothing else. Refused as `over-bound` where the bound is over 58, and as `no-memory`.
      */
     static build(bound: number, options?: Options): Promise<Bearoff>;
 

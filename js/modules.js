@@ -10,20 +10,26 @@ const ADDRESSES = {
     narrow: () => new URL("./narrow.wasm", import.meta.url),
 };
 
-async function compiled(address) {
+// The bytes at an address, of a disk or of a server.
+async function bytesAt(address) {
     if (address.protocol === "file:") {
         const { readFile } = await import(/* webpackIgnore: true */ /* @vite-ignore */ "node:fs/promises");
-        return WebAssembly.compile(await readFile(address));
+        return readFile(address);
     }
     const response = await fetch(address);
-    if (!response.ok) throw new BearoffError("no-module", `${address}: ${response.status} ${response.statusText}`);
-    return WebAssembly.compile(await response.arrayBuffer());
+    if (!response.ok) throw new Error(`${response.status} ${response.statusText}`);
+    return response.arrayBuffer();
 }
 
 async function load() {
     const form = abilities();
     if (form === "none") throw new BearoffError("no-module", "there is no WebAssembly here");
-    return compiled(ADDRESSES[form]());
+    const address = ADDRESSES[form]();
+    try {
+        return await WebAssembly.compile(await bytesAt(address));
+    } catch (cause) {
+        throw new BearoffError("no-module", `${address}: ${cause.message}`, { cause });
+    }
 }
 
 // The module that can run here, compiled once.

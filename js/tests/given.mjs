@@ -1,6 +1,6 @@
 // What the tests of the package are given: the package as it was put down, the program, and a folder with its files eight,
 // race.db and large.db of 8, 44 and 58 pips, with questions_8, replies_8 and so on.
-import { readFileSync } from "node:fs";
+import { readdirSync, readFileSync } from "node:fs";
 import { join, resolve } from "node:path";
 import { pathToFileURL } from "node:url";
 
@@ -14,6 +14,7 @@ export const at = (name) => join(folder, name);
 export const bytesOf = (name) => readFileSync(at(name));
 export const linesOf = (name) => readFileSync(at(name), "utf8").trimEnd().split("\n");
 export const partOf = (name) => import(pathToFileURL(resolve(packageFolder, name)).href);
+export const packageParts = () => readdirSync(packageFolder);
 export const packageBytes = (name) => readFileSync(join(packageFolder, name));
 export const textOf = (name) => packageBytes(name).toString();
 

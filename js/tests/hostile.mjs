@@ -4,7 +4,8 @@ import { spawnSync } from "node:child_process";
 import { mkdtempSync, rmSync, writeFileSync } from "node:fs";
 import { tmpdir } from "node:os";
 import { join } from "node:path";
-import { bytesOf, end, equal, partOf, program, textOf, wrong } from "./given.mjs";
+import { pathToFileURL } from "node:url";
+import { bytesOf, end, equal, packageBytes, packageParts, partOf, program, textOf, wrong } from "./given.mjs";
 
 const { Bearoff, BearoffError, DamagedError, asDoubles, loadModule } = await partOf("bearoff.js");
 const { Engine } = await partOf("engine.js");
@@ -334,6 +335,27 @@ async function refuseRooms() {
     }
 }
 
+// A package whose module isn't there says so, and finds it once it is there.
+async function refuseMissing() {
+    const own = mkdtempSync(join(tmpdir(), "package-"));
+    const isModule = (name) => name.endsWith(".wasm");
+    const parts = packageParts();
+    for (const name of parts.filter((part) => !isModule(part))) writeFileSync(join(own, name), packageBytes(name));
+    const missing = await import(pathToFileURL(join(own, "bearoff.js")).href);
+    const refusedThere = (ask) => ask().then(() => "none", (error) => (error instanceof missing.BearoffError ? error.code : String(error)));
+    equal("no module", await refusedThere(() => missing.Bearoff.open(eight)), "no-module");
+    for (const name of parts.filter(isModule)) writeFileSync(join(own, name), "no module");
+    equal("bytes that are no module", await refusedThere(() => missing.Bearoff.build(1)), "no-module");
+    const { validate } = WebAssembly;
+    WebAssembly.validate = () => false;
+    equal("no WebAssembly", await refusedThere(() => missing.loadModule()), "no-module");
+    WebAssembly.validate = validate;
+    for (const name of parts.filter(isModule)) writeFileSync(join(own, name), packageBytes(name));
+    equal("a module that came later", await refusedThere(() => missing.Bearoff.open(eight)), "none");
+    equal("compiled once", (await missing.loadModule()) === (await missing.loadModule()), true);
+    rmSync(own, { recursive: true });
+}
+
 // The types and the script name the same.
 function compareNames() {
     const types = textOf("bearoff.d.ts");
@@ -354,6 +376,7 @@ await refuseClosed();
 await refuseTrapped();
 await tellBelow();
 await refuseRooms();
+await refuseMissing();
 await refuseMemory();
 compareNames();
 compareStill("all");
