@@ -97,9 +97,9 @@ class Library:
     def __init__(self, path: str) -> None:
         try:
             short, long = ctypes.PyDLL(path), ctypes.CDLL(path)
-            self._declare(short, {"library_version": None})
-        except (OSError, AttributeError) as error:
-            raise NoLibrary(f"{path} is not the library: {error}") from error
+        except OSError as error:
+            raise NoLibrary(f"{path} is no library: {error}") from error
+        self._declare(short, {"library_version": None})
         release = self._release()
         if not _is_enough(release, __version__):
             raise NoLibrary(f"{path} is of version {release}, and this package of version {__version__}")
@@ -113,7 +113,9 @@ class Library:
 
     def _declare(self, handle: ctypes.CDLL, calls: _Calls) -> None:
         for name, arguments in calls.items():
-            call = getattr(handle, "bearoff_" + name)
+            call = getattr(handle, "bearoff_" + name, None)
+            if call is None:
+                raise NoLibrary(f"{handle._name} has no function bearoff_{name}")
             if arguments:
                 call.argtypes = arguments
             call.restype = ctypes.c_uint32

@@ -7,7 +7,7 @@ import os
 from fractions import Fraction
 from hashlib import sha256
 from types import TracebackType
-from typing import Any, Dict, Iterator, List, Optional, Sequence, Tuple, Type, TypeVar, Union
+from typing import Any, Dict, Iterator, List, Literal, Optional, Sequence, Tuple, Type, TypeVar, Union
 
 from . import _library as lib
 from .errors import NOT_OPEN, OVER_BOUND, SHORT, TOO_MANY, BadArgument, Changed, Damaged, Refused
@@ -268,7 +268,7 @@ class Database:
         """
         return self._table("listed_distributions", "Q", 23, 2)
 
-    def _table(self, name: str, kind: str, *shape: int) -> memoryview:
+    def _table(self, name: str, kind: Literal["B", "Q"], *shape: int) -> memoryview:
         """An array of all positions, which belongs to the caller."""
         opened = self._opened
         count = _length(opened)

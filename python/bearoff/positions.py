@@ -5,6 +5,7 @@ from __future__ import annotations
 import re
 from collections.abc import Mapping
 from fractions import Fraction
+from itertools import islice
 from operator import index
 from reprlib import Repr
 from typing import Any, NamedTuple, Sequence, Tuple, Union
@@ -156,11 +157,11 @@ def number_of(number: Any, what: str) -> int:
 
 
 def _numbers(items: Any, count: int) -> Tuple[int, ...]:
-    """So many whole numbers of something that has an order, or none at all."""
+    """So many whole numbers of something that has an order and a length, or none at all."""
     if isinstance(items, Mapping) or not (hasattr(items, "__len__") and hasattr(items, "__getitem__")):
         return ()
     try:
-        numbers = tuple(map(index, items)) if len(items) == count else ()
+        numbers = tuple(map(index, islice(items, count + 1))) if len(items) == count else ()
     except TypeError:
         return ()
     return numbers if len(numbers) == count else ()

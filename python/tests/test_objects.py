@@ -255,14 +255,16 @@ class Versions(unittest.TestCase):
 
     def test_other_libraries(self) -> None:
         with tempfile.TemporaryDirectory() as folder:
-            source, library = Path(folder, "other.c"), Path(folder, "other.so")
-            source.write_text(OTHER_LIBRARY % (2, 3, 4))
-            subprocess.run(["cc", "-shared", "-fPIC", "-o", str(library), str(source)], check=True)
+            source, later, empty = (Path(folder, name) for name in ("library.c", "later.so", "empty.so"))
+            for library, version in (later, "2.3.4"), (empty, bearoff.__version__):
+                source.write_text(OTHER_LIBRARY % tuple(version.split(".")))
+                subprocess.run(["cc", "-shared", "-fPIC", "-o", str(library), str(source)], check=True)
             for path, told in (
-                (library, f"{library} is of version 2.3.4, and this package of version {bearoff.__version__}"),
-                (source, f"{source} is not the library: "),
-                (Path(folder, "missing.so"), f"{folder}/missing.so is not the library: "),
-                (Path("libm.so.6"), "libm.so.6 is not the library: "),
+                (later, f"{later} is of version 2.3.4, and this package of version {bearoff.__version__}"),
+                (empty, f"{empty} has no function bearoff_version"),
+                (source, f"{source} is no library: "),
+                (Path(folder, "missing.so"), f"{folder}/missing.so is no library: "),
+                (Path("libm.so.6"), "libm.so.6 has no function bearoff_library_version"),
             ):
                 environment = {**os.environ, "BEAROFF_LIBRARY": str(path)}
                 script = f"import os; os.environ.update({environment!r})\n{LOADING}"

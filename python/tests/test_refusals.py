@@ -30,6 +30,16 @@ class Angry:
         raise RuntimeError("not to be shown")
 
 
+class Endless:
+    """It says that it has six items, and has ever more."""
+
+    def __len__(self) -> int:
+        return 6
+
+    def __getitem__(self, place: int) -> int:
+        return 0
+
+
 class Long(list):  # type: ignore[type-arg]
     """A list that has fewer items than it says."""
 
@@ -46,7 +56,7 @@ NO_POSITIONS: Tuple[Any, ...] = (
     *("", " ", "0", "0,0,0,0,0", "0,0,0,0,0,0,0", "0,0,0,0,0,1 ", " 0,0,0,0,0,1", "0, 0, 0, 0, 0, 1", "0,0,0,0,0,1\n"),
     *("0,0,0,0,0,-1", "0,0,0,0,0,+1", "0,0,0,0,0,01", "0,0,0,0,0,1000", "0,0,0,0,0,1.0", "0,0,0,0,0,", ",0,0,0,0,0"),
     *("0;0;0;0;0;1", "000001", "0,0,0,0,0,\u0661", "0,0,0,0,0,1\0", "\ud800", "a" * 10**6, "mean 0,0,0,0,0,1"),
-    *(b"", b"0,0,0,0,0,1", bytearray(5), memoryview(bytes(48)), Long([1, 2])),
+    *(b"", b"0,0,0,0,0,1", bytearray(5), memoryview(bytes(48)), Long([1, 2]), Endless()),
 )
 
 NO_ROLLS: Tuple[Any, ...] = (
