@@ -1,5 +1,5 @@
 //! The check of one record, with records of lower rank that were accepted.
-ghost use Rattle.std.specs.Prelude.{◌≡◌, ℕ, ◌+◌, ◌*◌, ◌<◌, ◌≤◌, List, slice_index, Some, Err, sum};
+ghost use Rattle.std.specs.Prelude.{◌≡◌, ℕ, ◌+◌, ◌*◌, ◌<◌, ◌≤◌, List, slice_index, Some, Err, sum, take};
 ghost use Rattle.std.specs.Prelude.{IsErrAnd, IfOk, IfErr, OnOk, OnErr};
 ghost use Rattle.race_model.specs.Positions.{Board, IsPosition, IsFinished, pips};
 ghost use Rattle.race_model.specs.Dice.{roll_at, weight};
@@ -23,7 +23,7 @@ use crate::kept::LowerRecords;
 use crate::numbers::mean_in;
 use crate::plays::{PlayFault, check_recorded};
 use crate::record_sums::RecordSums;
-use db_layout::{Header, RecordView};
+use db_layout::{Header, RecordView, most_rolls};
 use db_reader::{ReadFault, Record, Table};
 use fixed_fraction::law_sums;
 use home_board::Position;
@@ -70,19 +70,25 @@ pub enum RecordFault {
     Read,
 }
 
-/// Adds the numbers of a record with the weight of a roll, where an accepted record can hold
-/// them.
-fn add_numbers(sums: &mut RecordSums, roll: Roll, view: &RecordView<'_>) -> Result<(), ReadFault>
-    requires { sums.old.weight + weight roll ≤ 36 }
-    ensures added { OnOk result
-        (IsAdded sums.old (weight roll) (mean_of view.now) (shares_of view.now) sums.new) }
-    ensures refused { OnErr result
-        (¬ ((mean_of view.now ≤ 22 * whole) × (sum (shares_of view.now) ≡ whole))) }
+/// Adds the mean of a record, and its shares of fewer than so many rolls, with the weight of a
+/// roll, where they are what an accepted record can hold that has no other share.
+fn add_numbers(
+    sums: &mut RecordSums,
+    roll: Roll,
+    view: &RecordView<'_>,
+    rolls: u8,
+) -> Result<(), ReadFault>
+    requires light { sums.old.weight + weight roll ≤ 36 }
+    requires few { rolls ≤ 23 }
+    ensures added { OnOk result (IsAdded sums.old (weight roll) (mean_of view.now)
+        (take rolls (shares_of view.now)) sums.new) }
+    ensures refused { OnErr result (¬ ((mean_of view.now ≤ 22 * whole)
+        × (sum (take rolls (shares_of view.now)) ≡ whole))) }
 {
     // a copy, whose parts stay known while sums are written
     let view = view.copied();
     let mean = mean_in(&view).ok_or(ReadFault)?;
-    if sums.add(roll.weight(), mean, &view) {
+    if sums.add(roll.weight(), mean, &view, rolls) {
         Ok(())
     } else {
         Err(ReadFault)
@@ -125,6 +131,8 @@ fn sum_plays<T: Table>(
         (IsErrAnd result (λ refused. refused.fault ≡ PlayFault.Read)) }
 {
     law_sums();
+    // no play has a share from there on
+    let rolls = most_rolls(position.pips());
     let mut sums = RecordSums::new();
     for index in 0..21 {
         let roll = Roll::from_index(index).unwrap();
@@ -136,7 +144,7 @@ fn sum_plays<T: Table>(
         if position.is_finished() {
             continue;
         }
-        if let Err(_) = add_numbers(&mut sums, roll, &table.lend(recorded, room)) {
+        if let Err(_) = add_numbers(&mut sums, roll, &table.lend(recorded, room), rolls) {
             return Err(RefusedPlay {
                 roll: index,
                 fault: PlayFault::Read,
