@@ -8,6 +8,7 @@ ghost use Rattle.race_model.specs.Files.{mean_of, mean_at};
 ghost use Rattle.race_model.specs.Plays.{Legal};
 ghost use Rattle.race_model.specs.BestPlays.{IsBestPlay};
 ghost use Rattle.race_model.specs.LocalEquations.{whole, IsPlayed, IsBest, IsLocalAt};
+ghost use Rattle.least_plays.specs.Known.{HasRows};
 ghost use Rattle.fixed_fraction.specs.Totals.{IsAdded};
 ghost use Rattle.db_reader.specs.Telling.{WhereTold};
 ghost use Rattle.db_reader.specs.TableStays.{TableStays};
@@ -159,12 +160,12 @@ fn sum_plays<T: Table>(
 /// means of so many ranks.
 // a function of its own, since a browser makes a function fast only between two calls of it
 #[inline(never)]
-pub fn check_record<T: Table, const ROOM: usize>(
+pub fn check_record<T: Table, const ROOM: usize, const ROWS: usize>(
     table: &mut T,
     ranks: &Ranks,
     header: Header,
     rank: u16,
-    lower: &mut LowerRecords<ROOM>,
+    lower: &mut LowerRecords<ROOM, ROWS>,
     own: &mut Record,
     room: &mut Record,
 ) -> Result<(), RecordFault>
@@ -172,6 +173,7 @@ pub fn check_record<T: Table, const ROOM: usize>(
     requires rank { rank < header.count }
     requires room { header.count ≤ ROOM + ROOM }
     requires near { HasRoom ROOM rank }
+    requires rows { HasRows ROWS rank }
     requires small { ROOM ≤ 46062 }
     requires file { WhereTold (T.tells table.old)
         (λ file. HasHeader file header) }
