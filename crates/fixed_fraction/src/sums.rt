@@ -92,7 +92,7 @@ impl Sums {
         for k in 0..22 {
             shares[k + 1] = part_of_36(self.shares[k])?;
         }
-        Spread::new(shares)
+        Some(Spread::of_whole(shares))
     }
 }
 
