@@ -21,6 +21,7 @@ use legal_plays::Roll;
 use ranking::Ranks;
 
 /// The record of the position of the next rank. The plays of the one after it can be found then.
+#[inline(always)]
 pub(crate) fn next_record<K: Keeper, const ROWS: usize>(
     ranks: &Ranks,
     position: &Position,
@@ -96,6 +97,7 @@ fn best_plays<K: Keeper, const ROWS: usize>(
 }
 
 /// The means and the shares that the rolls play to, added up with the weights of the rolls.
+#[inline(always)]
 fn sums_of<K: Keeper>(records: &K, plays: &[u16; 21]) -> Sums
     ghost full: { AllRecords }
     requires kept { AreKept full (K.means records.now) (K.spreads records.now)
