@@ -4,7 +4,7 @@ ghost use Rattle.std.specs.Prelude.{IsErrAnd, IfOk, IfErr, OnOk, OnErr};
 ghost use Rattle.race_model.specs.Positions.{Board, IsPosition, IsFinished, pips};
 ghost use Rattle.race_model.specs.Dice.{roll_at, weight};
 ghost use Rattle.race_model.specs.Ranks.{rank as rank_of, at_rank};
-ghost use Rattle.race_model.specs.Files.{mean_of, mean_at};
+ghost use Rattle.race_model.specs.Files.{mean_of, mean_at, play};
 ghost use Rattle.race_model.specs.Plays.{Legal};
 ghost use Rattle.race_model.specs.BestPlays.{IsBestPlay};
 ghost use Rattle.race_model.specs.LocalEquations.{whole, IsPlayed, IsBest, IsLocalAt};
@@ -24,6 +24,7 @@ use crate::kept::LowerRecords;
 use crate::numbers::mean_in;
 use crate::plays::{PlayFault, check_recorded};
 use crate::record_sums::RecordSums;
+use crate::upgrading::plays_in;
 use db_layout::{Header, RecordView, most_rolls};
 use db_reader::{ReadFault, Record, Table};
 use fixed_fraction::law_sums;
@@ -105,13 +106,14 @@ fn sum_plays<T: Table>(
     position: &Position,
     rank: u16,
     best: &[u16; 21],
-    own: &Record,
+    recorded: &[u16; 21],
     room: &mut Record,
 ) -> Result<RecordSums, RefusedPlay>
     requires position { IsPosition position.now }
     requires short { pips position.now ≤ 58 }
     requires rank { rank ≡ rank_of position.now }
-    requires own { T.ready table.old own.now rank }
+    requires recorded { WhereTold (T.tells table.old) (λ file. (i : ℕ) → i < 21 →
+        slice_index recorded.now i ≡ play file position.now (roll_at i)) }
     requires records { (y : Board) → IsPosition y → pips y ≤ pips position.now →
         HasRecord (T.accepted table.old) (rank_of y) }
     requires lower { WhereTold (T.tells table.old)
@@ -137,8 +139,9 @@ fn sum_plays<T: Table>(
     let mut sums = RecordSums::new();
     for index in 0..21 {
         let roll = Roll::from_index(index).unwrap();
-        let recorded = table.lend(rank, own).play(roll);
-        let best = best[usize::from(index)];
+        let place = usize::from(index);
+        let recorded = recorded[place];
+        let best = best[place];
         if let Err(fault) = check_recorded(table, ranks, position, roll, recorded, best, room) {
             return Err(RefusedPlay { roll: index, fault });
         }
@@ -195,7 +198,8 @@ pub fn check_record<T: Table, const ROOM: usize, const ROWS: usize>(
     }
     let position = ranks.unrank(rank).unwrap();
     let best = lower.best_plays(ranks, &position);
-    let sums = match sum_plays(table, ranks, &position, rank, &best, own, room) {
+    let recorded = plays_in(&table.lend(rank, own));
+    let sums = match sum_plays(table, ranks, &position, rank, &best, &recorded, room) {
         Ok(sums) => sums,
         Err(refused) => return Err(refused.of_record()),
     };

@@ -4,7 +4,8 @@ use Rattle.std.proofs.Common.{subst, ◌∙◌, arith, rules, tests}
 use Rattle.race_model.specs.Positions.{Board, IsPosition, pips}
 use Rattle.race_model.specs.Ranks.{rank, count_to, at_rank}
 use Rattle.race_model.specs.Dice.{roll_at}
-use Rattle.race_model.specs.Files.{bound_of, record_at, mean_of, mean_at, share_of}
+use Rattle.race_model.specs.Files.{bound_of, record_at, mean_of, mean_at, play_of, share_of}
+use Rattle.race_model.proofs.Dice.Throws.{roll_of_index}
 use Rattle.race_model.proofs.Plays.Results.{legal_position}
 use Rattle.race_model.proofs.Plays.Spent.{legal_takes}
 use Rattle.race_model.proofs.Ranks.RankOrder.{rank_bound}
@@ -23,7 +24,9 @@ use Rattle.std.proofs.lemmas.Bool.{false≢true}
 use Rattle.certificate.specs.KeptMeans.{kept_mean}
 use Rattle.certificate.specs.RecordNumbers.{IsMeanOf, IsShareOf}
 use Rattle.certificate.specs.RecordFaults.{IsFirstFaultAt, of_record}
+use Rattle.certificate.proofs.Accepted.{play-of_lent}
 use Rattle.certificate.proofs.RecordBytes.{mean-of_record}
+use Rattle.certificate.proofs.Upgrades.{get_or-plays_of}
 use Rattle.certificate.proofs.KeptMeans.{accepted-mean_more}
 use Rattle.certificate.proofs.RecordTests.{IsSummed, first-refused, wrong-mean, wrong-share, right-numbers}
 use Rattle.certificate.proofs.record_check.check_record.Given.{Over}
@@ -70,6 +73,17 @@ best_plays-best-requires g c =
 pub sum_plays-requires-clause-short : goal.sum_plays-requires-clause-short
 sum_plays-requires-clause-short g c =
     short g (goal.at.sum_plays-requires-clause-short g c).After-unwrap-position
+
+pub sum_plays-requires-clause-recorded : goal.sum_plays-requires-clause-recorded
+sum_plays-requires-clause-recorded g c file told i lt =
+    let here = (goal.at.sum_plays-requires-clause-recorded g c).After-unwrap-position in
+    let bytes = c.lend.result in
+    let roll = roll_of_index i lt in
+    ap (λ xs. slice_index xs i) c.plays_in-recorded.ensures
+    ∙ (get_or-plays_of bytes i lt
+    ∙ (ap (play_of bytes) (sym roll.1)
+    ∙ play-of_lent file bytes c.unwrap-position.result c.args.rank (c.lend.ensures file told)
+    (sym (ranked g here)) (roll_at i)))
 
 pub sum_plays-requires-clause-records : goal.sum_plays-requires-clause-records
 sum_plays-requires-clause-records g c y is fewer =
