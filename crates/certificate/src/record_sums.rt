@@ -85,9 +85,28 @@ impl RecordSums {
 
 /// Adds the shares of a record of fewer than so many rolls with a weight, one after another as
 /// they are read, for as long as they are no more than the whole: true exactly where they add up
-/// to it.
-#[tactic(auto, unfolding(race_model::specs::LocalEquations::whole))]
+/// to it. The weights 1 and 2, which most are, are told to the compiler, since they need no product.
 fn add_shares(shares: &mut [u128; 23], weight: u8, view: &RecordView<'_>, rolls: u8) -> bool
+    requires small { (k : ℕ) → k < 23 → slice_index shares.old k ≤ 36 * whole }
+    requires light { weight ≤ 36 }
+    requires few { rolls ≤ 23 }
+    ensures whole { IsTrue result ↔ (sum (take rolls (shares_of view.now)) ≡ whole) }
+    ensures added { IsTrue result → (k : ℕ) → k < 23 → slice_index shares.new k
+        ≡ slice_index shares.old k + weight * slice_index (take rolls (shares_of view.now)) k }
+    ensures bounded { (k : ℕ) → k < 23 →
+        slice_index shares.new k ≤ slice_index shares.old k + weight * whole }
+{
+    match weight {
+        1 => add_weighed(shares, 1, view, rolls),
+        2 => add_weighed(shares, 2, view, rolls),
+        _ => add_weighed(shares, weight, view, rolls),
+    }
+}
+
+/// The same, for each weight alike.
+#[inline(always)]
+#[tactic(auto, unfolding(race_model::specs::LocalEquations::whole))]
+fn add_weighed(shares: &mut [u128; 23], weight: u8, view: &RecordView<'_>, rolls: u8) -> bool
     requires small { (k : ℕ) → k < 23 → slice_index shares.old k ≤ 36 * whole }
     requires light { weight ≤ 36 }
     requires few { rolls ≤ 23 }
@@ -108,22 +127,7 @@ fn add_shares(shares: &mut [u128; 23], weight: u8, view: &RecordView<'_>, rolls:
             return false;
         }
         left -= share;
-        shares[usize::from(k)] += weighed(weight, share);
+        shares[usize::from(k)] += u128::from(weight) * share;
     }
     left == 0
-}
-
-/// A share with a weight: most are 1 or 2, which need no product.
-#[inline]
-#[tactic(auto, unfolding(race_model::specs::LocalEquations::whole))]
-fn weighed(weight: u8, share: u128) -> u128
-    requires light { weight ≤ 36 }
-    requires share { share ≤ whole }
-    ensures { result ≡ weight * share }
-{
-    match weight {
-        1 => share,
-        2 => share + share,
-        _ => u128::from(weight) * share,
-    }
 }

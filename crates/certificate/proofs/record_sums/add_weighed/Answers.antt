@@ -8,7 +8,7 @@ use Rattle.race_model.specs.Files.{share_of}
 use Rattle.race_model.specs.LocalEquations.{whole}
 use Rattle.certificate.specs.RecordNumbers.{shares_of}
 use Rattle.certificate.proofs.RecordBytes.{get_or-shares_of, shares-more, sum-take_rises}
-use Rattle.certificate.proofs.record_sums.add_shares.Goals as goal
+use Rattle.certificate.proofs.record_sums.add_weighed.Goals as goal
 
 -- fewer of the first shares are no more than more of them
 part : (bytes : List ℕ) (k n : ℕ) → k ≤ n
@@ -105,10 +105,10 @@ loop-k-preserved c =
     let xs = c.loop-k.shares in
     let start = c.args.shares.now in
     let share = c.spread-share.result in
-    let value = get_or xs k 0 + c.weighed.result in
-    let sums : value ≡ get_or xs k 0 + c.args.weight * share = omega (arith, c.weighed.ensures) in
+    let value = get_or xs k 0 + c.from.result * share in
+    let sums : value ≡ get_or xs k 0 + c.args.weight * share = ap (λ n. get_or xs k 0 + n * share) c.from.ensures in
     let small : share ≤ whole = omega (arith, before.left, c.if-share-left.false) in
-    rw c.from.ensures (record {
+    rw c.from-in-loop-k.ensures (record {
       len = search rules;
       left = omega (
         arith,
