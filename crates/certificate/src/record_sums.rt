@@ -85,7 +85,8 @@ impl RecordSums {
 
 /// Adds the shares of a record of fewer than so many rolls with a weight, one after another as
 /// they are read, for as long as they are no more than the whole: true exactly where they add up
-/// to it. The weights 1 and 2, which most are, are told to the compiler, since they need no product.
+/// to it. The weights 1 and 2, which most are, are told to the compiler, since they need no
+/// product.
 fn add_shares(shares: &mut [u128; 23], weight: u8, view: &RecordView<'_>, rolls: u8) -> bool
     requires small { (k : ℕ) → k < 23 → slice_index shares.old k ≤ 36 * whole }
     requires light { weight ≤ 36 }

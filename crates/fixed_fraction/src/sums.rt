@@ -111,8 +111,8 @@ fn part_of_36(total: u128) -> Option<u128>
     }
 }
 
-/// Adds shares with a weight: 1 and 2, which most are, are told to the compiler, since they need no
-/// product.
+/// Adds shares with a weight: 1 and 2, which most are, are told to the compiler, since they need
+/// no product.
 fn add_shares(shares: &mut [u128; 23], weight: u8, others: &[u128; 23])
     requires small { (k : ℕ) → k < 23 → slice_index shares.old k ≤ 36 * whole }
     requires parts { (k : ℕ) → k < 23 → slice_index others.now k ≤ whole }

@@ -157,7 +157,8 @@ loop-index-preserved g c =
           let read = recorded_is g after file told in
           let lent = c.lend.ensures file
           (fine.stays.told ∙ (before.stays.told ∙ told)) in
-          let mean = lent-mean file bytes x v (slice_index c.args.recorded.now c.from-place.result) lent read in
+          let number = slice_index c.args.recorded.now c.from-place.result in
+          let mean = lent-mean file bytes x v number lent read in
           let some = take c.most_rolls-rolls.result (shares_of bytes) in
           let numbers = subst (λ m. IsAdded c.loop-index.sums (weight v) m some
           c.add_numbers.new.sums)
@@ -175,8 +176,7 @@ loop-index-preserved g c =
           (λ k few.
           ap (λ n. get_or (take n (shares_of bytes)) k 0) (rolls_are g after)
           ∙ lent-share file x c.requires.position c.requires.short lower unfinished v
-          (fine.right file (before.stays.told ∙ told) read).0 bytes (slice_index c.args.recorded.now c.from-place.result) lent
-          read k few
+          (fine.right file (before.stays.told ∙ told) read).0 bytes number lent read k few
           ∙ ap (λ v. recorded_share file x v k) roll)
           here;
     }

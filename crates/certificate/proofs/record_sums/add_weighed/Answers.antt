@@ -106,7 +106,8 @@ loop-k-preserved c =
     let start = c.args.shares.now in
     let share = c.spread-share.result in
     let value = get_or xs k 0 + c.from.result * share in
-    let sums : value ≡ get_or xs k 0 + c.args.weight * share = ap (λ n. get_or xs k 0 + n * share) c.from.ensures in
+    let sums : value ≡ get_or xs k 0 + c.args.weight * share =
+    ap (λ n. get_or xs k 0 + n * share) c.from.ensures in
     let small : share ≤ whole = omega (arith, before.left, c.if-share-left.false) in
     rw c.from-in-loop-k.ensures (record {
       len = search rules;

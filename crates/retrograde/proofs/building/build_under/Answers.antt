@@ -1,4 +1,5 @@
-use Rattle.std.proofs.Common.{◌≡◌, ◌⊎◌, inl, inr, ⊎_elim, rules, ℕ, suc, ◌+◌, ◌-◌, ◌≤◌, length, sym, ap, subst, ◌∙◌, arith}
+use Rattle.std.proofs.Common.{◌⊎◌, inl, inr, ⊎_elim, rules}
+use Rattle.std.proofs.Common.{◌≡◌, ℕ, suc, ◌+◌, ◌-◌, ◌≤◌, length, sym, ap, subst, ◌∙◌, arith}
 use Rattle.race_model.specs.Ranks.{first_of, count_to}
 use Rattle.race_model.specs.Versions.{version_by}
 use Rattle.race_model.proofs.Ranks.RankOrder.{first_of-zero, first_of-suc, first_of-rises, count_to-rises}
@@ -49,7 +50,10 @@ add_level-requires g c =
                   omega (arith, none),
                   (
                     rw first_of-zero (c.new-least.ensures (mean_of_rank all-records)),
-                    (c.requires.few, rows_for c.args.header g.row.ROWS c.requires.rows 0 (omega arith)),
+                    (
+                      c.requires.few,
+                      rows_for c.args.header g.row.ROWS c.requires.rows 0 (omega arith),
+                    ),
                   ),
                 ),
               ),

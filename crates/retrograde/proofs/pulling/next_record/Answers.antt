@@ -17,8 +17,8 @@ returns-then-is_finished g c =
     let made = c.finished_record.result in
     record {
       record_is =
-          record-at_end g.full c.args.position.now c.requires.1.1.1.0 c.requires.1.1.1.1.0 none made.mean
-          made.plays
+          record-at_end g.full c.args.position.now c.requires.1.1.1.0 c.requires.1.1.1.1.0 none
+          made.mean made.plays
           made.spread
           is.mean is.plays is.plays_len is.start is.shares is.shares_len;
       known = c.best_plays-plays.ensures.known;
@@ -72,8 +72,8 @@ unwrap-mean-requires g c =
     let best = c.best_plays-plays.ensures in
     let exact = mean-exact g.full x c.requires.1.1.1.0 c.requires.1.1.1.1.0 unfinished
     (g.K.Keeper.means c.args.records.now)
-    c.requires.1.1.1.1.1.0.means_are c.requires.1.1.1.1.1.1.0 c.best_plays-plays.result best.len best.best
-    in
+    c.requires.1.1.1.1.1.0.means_are c.requires.1.1.1.1.1.1.0 c.best_plays-plays.result
+    best.len best.best in
     c.mean.ensures.some.1 (
       exact.0,
       exact.1.0,
@@ -88,12 +88,12 @@ unwrap-spread-requires g c =
     let sums = c.sums_of-sums.ensures.shares in
     let last = no-last g.full x c.requires.1.1.1.0 c.requires.1.1.1.1.0 unfinished
     (g.K.Keeper.means c.args.records.now)
-    c.requires.1.1.1.1.1.0.means_are c.requires.1.1.1.1.1.1.0 c.best_plays-plays.result best.len best.best
-    in
+    c.requires.1.1.1.1.1.0.means_are c.requires.1.1.1.1.1.1.0 c.best_plays-plays.result
+    best.len best.best in
     let exact = shares-exact g.full x c.requires.1.1.1.0 c.requires.1.1.1.1.0 unfinished
     (g.K.Keeper.means c.args.records.now)
-    c.requires.1.1.1.1.1.0.means_are c.requires.1.1.1.1.1.1.0 c.best_plays-plays.result best.len best.best
-    in
+    c.requires.1.1.1.1.1.0.means_are c.requires.1.1.1.1.1.1.0 c.best_plays-plays.result
+    best.len best.best in
     c.spread.ensures.some.1
     (sums 22 (omega arith) ∙ last, λ k lt. ap (λ n. n % 36) (sums k (omega arith)) ∙ exact k lt)
 
@@ -111,8 +111,8 @@ returns g c =
       record_is =
           record-before g.full x c.requires.1.1.1.0 c.requires.1.1.1.1.0 unfinished
           (g.K.Keeper.means c.args.records.now)
-          c.requires.1.1.1.1.1.0.means_are c.requires.1.1.1.1.1.1.0 c.best_plays-plays.result best.len
-          best.best
+          c.requires.1.1.1.1.1.0.means_are c.requires.1.1.1.1.1.1.0 c.best_plays-plays.result
+          best.len best.best
           c.unwrap-mean.result c.unwrap-spread.result mean start
           (λ k lt. moved k lt ∙ sums.shares k (omega arith)) c.at-start.ensures.len;
       known = c.best_plays-plays.ensures.known;
