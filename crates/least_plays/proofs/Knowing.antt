@@ -46,7 +46,8 @@ kept_in row d n = slice_index (slice_index_or row.after (number d - 1) []) n
 
 -- a row that is written leaves the others
 number_in-other : (rows : List Row) (place r : ℕ) (row : Row) (d : Die) (n : ℕ) →
-    r % length rows ≢ place → number_in (set rows place row) r d (suc n) ≡ number_in rows r d (suc n)
+    r % length rows ≢ place →
+    number_in (set rows place row) r d (suc n) ≡ number_in rows r d (suc n)
 unfolding number_in row_in kept_in
 number_in-other rows place r row d n apart =
     ap (λ len. kept_in (get_or (set rows place row) (r % len) (record { after = [] })) d n)
@@ -132,7 +133,8 @@ pub number_in-some : (rows : List Row) (r : ℕ) (d : Die) (n place i j : ℕ) �
     i ≡ number d - 1 → j + 1 ≡ n →
     number_in rows r d n
     ≡ slice_index
-    (slice_index_or (slice_index_or rows (place % length rows) (record { after = [] })).after i []) j
+    (slice_index_or (slice_index_or rows (place % length rows) (record { after = [] })).after i [])
+    j
 unfolding number_in row_in kept_in
 number_in-some rows r d zero place i j at first second = absurd (omega arith)
 number_in-some rows r d (suc n) place i j at first second =

@@ -1,5 +1,6 @@
 -- The position's row is written, and its best plays are those of its starts.
-use Rattle.std.proofs.Common.{◌-◌, ◌%◌, ◌∷◌, [], replicate, slice_index, slice_index_or, sym, ap, subst, ◌∙◌, arith, rules, mod-lt}
+use Rattle.std.proofs.Common.{◌-◌, ◌%◌, ◌∷◌, [], replicate, slice_index, slice_index_or, sym, ap, subst, ◌∙◌}
+use Rattle.std.proofs.Common.{arith, rules, mod-lt}
 use Rattle.race_model.specs.Positions.{IsFinished}
 use Rattle.race_model.specs.Dice.{number, roll_at}
 use Rattle.race_model.specs.Ranks.{rank}
@@ -34,11 +35,13 @@ pub returns-then-is_finished-clause-known : goal.returns-then-is_finished-clause
 returns-then-is_finished-clause-known g c =
     let x = c.args.position.now in
     let none : IsFinished x = c.is_finished.ensures.value.0 c.if-is_finished.true in
-    knows_more (g.M.Means.mean c.args.means.now) c.args.self.now x (c.from-place.result % g.row.ROWS)
+    knows_more (g.M.Means.mean c.args.means.now) c.args.self.now x
+    (c.from-place.result % g.row.ROWS)
     (record { after = replicate 6 (replicate 3 0) }) c.is_finished.ensures.position c.requires.low
     (omega arith) c.requires.rows
     (ap (λ r. r % g.row.ROWS) (c.from-place.ensures ∙ c.rank.ensures.value))
-    (mod-lt c.from-place.result (has_some g.row.ROWS (rank c.args.position.now) c.requires.rows)) c.requires.known
+    (mod-lt c.from-place.result (has_some g.row.ROWS (rank c.args.position.now) c.requires.rows))
+    c.requires.known
     (λ d n few.
     subst (IsBestAfter (g.M.Means.mean c.args.means.now) x (d ∷ replicate n d))
     (sym (finished_row d n))
@@ -61,7 +64,8 @@ returns-clause-known g c =
     knows_more mean c.args.self.now x (c.from-place.result % g.row.ROWS) c.row_of.result
     c.is_finished.ensures.position c.requires.low (omega arith) c.requires.rows
     (ap (λ r. r % g.row.ROWS) (c.from-place.ensures ∙ c.rank.ensures.value))
-    (mod-lt c.from-place.result (has_some g.row.ROWS (rank c.args.position.now) c.requires.rows)) c.requires.known
+    (mod-lt c.from-place.result (has_some g.row.ROWS (rank c.args.position.now) c.requires.rows))
+    c.requires.known
     (λ d n few.
     let e : Start = record { after = []; plays = [] } in
     subst (λ xs. IsBestAfter mean x (d ∷ replicate n d) (slice_index xs n))
