@@ -8,8 +8,8 @@ use Rattle.certificate.specs.declared.kept.LowerRecords.{LowerRecords}
 
 -- the means that are kept of the ranks below the next one are those of the file, and the best
 -- plays of the next position can be found by them
-pub record IsLower {room : ℕ} (told : Option (List ℕ)) (lower : LowerRecords room) (next : ℕ) :
-    Type 0 where
+pub record IsLower {room rows : ℕ} (told : Option (List ℕ)) (lower : LowerRecords room rows)
+    (next : ℕ) : Type 0 where
   pub known : Knows (kept_mean room lower.means) lower.plays next
   pub means_are : WhereTold told (λ file.
       (r : ℕ) → r < next → next ≤ r + room → kept_mean room lower.means r ≡ mean_at file r)

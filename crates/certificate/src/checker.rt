@@ -3,6 +3,7 @@ ghost use Rattle.std.specs.Prelude.{◌≡◌, ℕ, ◌+◌, ◌<◌, ◌≤◌,
 ghost use Rattle.race_model.specs.Versions.{version_by};
 ghost use Rattle.race_model.specs.Files.{version_of, bound_of};
 ghost use Rattle.race_model.specs.LocalEquations.{IsLocal};
+ghost use Rattle.least_plays.specs.Known.{HasRows};
 ghost use Rattle.db_reader.specs.Telling.{WhereTold, RoseWhere};
 ghost use Rattle.db_reader.specs.TableStays.{TableStays};
 ghost use Rattle.db_reader.specs.Reads.{HasHeader};
@@ -14,7 +15,11 @@ use crate::kept::LowerRecords;
 use crate::record_check::check_record;
 use db_layout::Header;
 use db_reader::{Record, Table, TableFault};
+use least_plays::{ROWS_TO_8, ROWS_TO_58};
 use ranking::Ranks;
+
+/// How many means are kept to 8 pips: those of all positions.
+const ROOM_TO_8: usize = 64;
 
 /// How many means are kept to 44 pips: those of all positions.
 const ROOM_TO_44: usize = 26314;
@@ -44,19 +49,22 @@ pub fn check_records<T: Table>(table: &mut T, ranks: &Ranks) -> Result<Header, C
         Err(TableFault::Bad(fault)) => return Err(CheckFault::Header(fault)),
         Err(TableFault::Read) => return Err(CheckFault::Read),
     };
-    if usize::from(header.count) <= ROOM_TO_44 {
-        check_under::<T, ROOM_TO_44>(table, ranks, header)
+    let count = usize::from(header.count);
+    if count <= ROOM_TO_8 {
+        check_under::<T, ROOM_TO_8, ROWS_TO_8>(table, ranks, header)
+    } else if count <= ROOM_TO_44 {
+        check_under::<T, ROOM_TO_44, ROWS_TO_58>(table, ranks, header)
     } else {
-        check_under::<T, ROOM_TO_58>(table, ranks, header)
+        check_under::<T, ROOM_TO_58, ROWS_TO_58>(table, ranks, header)
     }
 }
 
-/// The same, where the table has accepted this header, with room for the means of so many
-/// ranks.
+/// The same, where the table has accepted this header, with room for the means of so many ranks,
+/// and with so many rows for the best plays.
 // so that its room is on the stack while it checks, and not while the header is read or its
 // caller goes on
 #[inline(never)]
-fn check_under<T: Table, const ROOM: usize>(
+fn check_under<T: Table, const ROOM: usize, const ROWS: usize>(
     table: &mut T,
     ranks: &Ranks,
     header: Header,
@@ -64,7 +72,9 @@ fn check_under<T: Table, const ROOM: usize>(
     requires header { T.accepted table.old ≡ Some header }
     requires room { header.count ≤ ROOM + ROOM }
     requires near { (r : ℕ) → r < header.count → HasRoom ROOM r }
+    requires rows { (r : ℕ) → r < header.count → HasRows ROWS r }
     requires small { ROOM ≤ 46062 }
+    requires few { ROWS ≤ 11452 }
     requires file { WhereTold (T.tells table.old)
         (λ file. HasHeader file header) }
     ensures header { IfOk result (λ same. same ≡ header) }
@@ -72,7 +82,7 @@ fn check_under<T: Table, const ROOM: usize>(
     ensures first { WhereTold (T.tells table.old) (λ file. IfErr result (IsFirst file)) }
     ensures stays { TableStays ⟦<T as Table>⟧ table.old table.new (result ≡ Err CheckFault.Read) }
 {
-    let mut lower: LowerRecords<ROOM> = LowerRecords::new();
+    let mut lower: LowerRecords<ROOM, ROWS> = LowerRecords::new();
     let mut own = Record::new();
     let mut room = Record::new();
     for rank in 0..header.count {

@@ -5,7 +5,7 @@ ghost use Rattle.race_model.specs.Positions.{IsPosition, pips};
 ghost use Rattle.race_model.specs.Dice.{roll_at};
 ghost use Rattle.race_model.specs.Ranks.{rank as rank_of};
 ghost use Rattle.race_model.specs.BestPlays.{IsBestPlay};
-ghost use Rattle.least_plays.specs.Known.{Knows};
+ghost use Rattle.least_plays.specs.Known.{HasRows, Knows};
 ghost use Rattle.certificate.specs.KeptMeans.{kept_place, kept_mean, HasRoom};
 
 use home_board::Position;
@@ -74,15 +74,16 @@ impl<const ROOM: usize> Means for AcceptedMeans<ROOM> {
 }
 
 /// The means of the last `ROOM` records that were accepted, and what the best plays of the next
-/// position are found by. It takes no memory but its own: 16 bytes for each mean and 412,272 more,
-/// which lie where the value lies, as on the stack of `check`; so lend it by `&mut`.
+/// position are found by, in so many rows. It takes no memory but its own: 16 bytes for each mean
+/// and 36 for each row, which lie where the value lies, as on the stack of `check`; so lend it by
+/// `&mut`.
 #[derive(Drop)]
-pub struct LowerRecords<const ROOM: usize> {
+pub struct LowerRecords<const ROOM: usize, const ROWS: usize> {
     pub means: AcceptedMeans<ROOM>,
-    pub plays: LeastPlays,
+    pub plays: LeastPlays<ROWS>,
 }
 
-impl<const ROOM: usize> LowerRecords<ROOM> {
+impl<const ROOM: usize, const ROWS: usize> LowerRecords<ROOM, ROWS> {
     /// No record was accepted: the next one is that of rank 0.
     pub fn new() -> Self
         ensures { (mean : ℕ → ℕ) → Knows mean result.plays 0 }
@@ -100,6 +101,7 @@ impl<const ROOM: usize> LowerRecords<ROOM> {
         requires position { IsPosition position.now }
         requires low { pips position.now ≤ 58 }
         requires room { rank_of position.now ≤ ROOM + ROOM }
+        requires rows { HasRows ROWS (rank_of position.now) }
         requires known { Knows (kept_mean ROOM self.old.means) self.old.plays
             (rank_of position.now) }
         ensures means { self.new.means ≡ self.old.means }

@@ -1,13 +1,14 @@
 //! The check of one record, with records of lower rank that were accepted.
-ghost use Rattle.std.specs.Prelude.{◌≡◌, ℕ, ◌+◌, ◌*◌, ◌<◌, ◌≤◌, List, slice_index, Some, Err, sum};
+ghost use Rattle.std.specs.Prelude.{◌≡◌, ℕ, ◌+◌, ◌*◌, ◌<◌, ◌≤◌, List, slice_index, Some, Err, sum, take};
 ghost use Rattle.std.specs.Prelude.{IsErrAnd, IfOk, IfErr, OnOk, OnErr};
 ghost use Rattle.race_model.specs.Positions.{Board, IsPosition, IsFinished, pips};
 ghost use Rattle.race_model.specs.Dice.{roll_at, weight};
 ghost use Rattle.race_model.specs.Ranks.{rank as rank_of, at_rank};
-ghost use Rattle.race_model.specs.Files.{mean_of, mean_at};
+ghost use Rattle.race_model.specs.Files.{mean_of, mean_at, play};
 ghost use Rattle.race_model.specs.Plays.{Legal};
 ghost use Rattle.race_model.specs.BestPlays.{IsBestPlay};
 ghost use Rattle.race_model.specs.LocalEquations.{whole, IsPlayed, IsBest, IsLocalAt};
+ghost use Rattle.least_plays.specs.Known.{HasRows};
 ghost use Rattle.fixed_fraction.specs.Totals.{IsAdded};
 ghost use Rattle.db_reader.specs.Telling.{WhereTold};
 ghost use Rattle.db_reader.specs.TableStays.{TableStays};
@@ -23,7 +24,8 @@ use crate::kept::LowerRecords;
 use crate::numbers::mean_in;
 use crate::plays::{PlayFault, check_recorded};
 use crate::record_sums::RecordSums;
-use db_layout::{Header, RecordView};
+use crate::upgrading::plays_in;
+use db_layout::{Header, RecordView, most_rolls};
 use db_reader::{ReadFault, Record, Table};
 use fixed_fraction::law_sums;
 use home_board::Position;
@@ -70,19 +72,25 @@ pub enum RecordFault {
     Read,
 }
 
-/// Adds the numbers of a record with the weight of a roll, where an accepted record can hold
-/// them.
-fn add_numbers(sums: &mut RecordSums, roll: Roll, view: &RecordView<'_>) -> Result<(), ReadFault>
-    requires { sums.old.weight + weight roll ≤ 36 }
-    ensures added { OnOk result
-        (IsAdded sums.old (weight roll) (mean_of view.now) (shares_of view.now) sums.new) }
-    ensures refused { OnErr result
-        (¬ ((mean_of view.now ≤ 22 * whole) × (sum (shares_of view.now) ≡ whole))) }
+/// Adds the mean of a record, and its shares of fewer than so many rolls, with the weight of a
+/// roll, where they are what an accepted record can hold that has no other share.
+fn add_numbers(
+    sums: &mut RecordSums,
+    roll: Roll,
+    view: &RecordView<'_>,
+    rolls: u8,
+) -> Result<(), ReadFault>
+    requires light { sums.old.weight + weight roll ≤ 36 }
+    requires few { rolls ≤ 23 }
+    ensures added { OnOk result (IsAdded sums.old (weight roll) (mean_of view.now)
+        (take rolls (shares_of view.now)) sums.new) }
+    ensures refused { OnErr result (¬ ((mean_of view.now ≤ 22 * whole)
+        × (sum (take rolls (shares_of view.now)) ≡ whole))) }
 {
     // a copy, whose parts stay known while sums are written
     let view = view.copied();
     let mean = mean_in(&view).ok_or(ReadFault)?;
-    if sums.add(roll.weight(), mean, &view) {
+    if sums.add(roll.weight(), mean, &view, rolls) {
         Ok(())
     } else {
         Err(ReadFault)
@@ -98,13 +106,14 @@ fn sum_plays<T: Table>(
     position: &Position,
     rank: u16,
     best: &[u16; 21],
-    own: &Record,
+    recorded: &[u16; 21],
     room: &mut Record,
 ) -> Result<RecordSums, RefusedPlay>
     requires position { IsPosition position.now }
     requires short { pips position.now ≤ 58 }
     requires rank { rank ≡ rank_of position.now }
-    requires own { T.ready table.old own.now rank }
+    requires recorded { WhereTold (T.tells table.old) (λ file. (i : ℕ) → i < 21 →
+        slice_index recorded.now i ≡ play file position.now (roll_at i)) }
     requires records { (y : Board) → IsPosition y → pips y ≤ pips position.now →
         HasRecord (T.accepted table.old) (rank_of y) }
     requires lower { WhereTold (T.tells table.old)
@@ -125,18 +134,21 @@ fn sum_plays<T: Table>(
         (IsErrAnd result (λ refused. refused.fault ≡ PlayFault.Read)) }
 {
     law_sums();
+    // no play has a share from there on
+    let rolls = most_rolls(position.pips());
     let mut sums = RecordSums::new();
     for index in 0..21 {
         let roll = Roll::from_index(index).unwrap();
-        let recorded = table.lend(rank, own).play(roll);
-        let best = best[usize::from(index)];
+        let place = usize::from(index);
+        let recorded = recorded[place];
+        let best = best[place];
         if let Err(fault) = check_recorded(table, ranks, position, roll, recorded, best, room) {
             return Err(RefusedPlay { roll: index, fault });
         }
         if position.is_finished() {
             continue;
         }
-        if let Err(_) = add_numbers(&mut sums, roll, &table.lend(recorded, room)) {
+        if let Err(_) = add_numbers(&mut sums, roll, &table.lend(recorded, room), rolls) {
             return Err(RefusedPlay {
                 roll: index,
                 fault: PlayFault::Read,
@@ -151,12 +163,12 @@ fn sum_plays<T: Table>(
 /// means of so many ranks.
 // a function of its own, since a browser makes a function fast only between two calls of it
 #[inline(never)]
-pub fn check_record<T: Table, const ROOM: usize>(
+pub fn check_record<T: Table, const ROOM: usize, const ROWS: usize>(
     table: &mut T,
     ranks: &Ranks,
     header: Header,
     rank: u16,
-    lower: &mut LowerRecords<ROOM>,
+    lower: &mut LowerRecords<ROOM, ROWS>,
     own: &mut Record,
     room: &mut Record,
 ) -> Result<(), RecordFault>
@@ -164,6 +176,7 @@ pub fn check_record<T: Table, const ROOM: usize>(
     requires rank { rank < header.count }
     requires room { header.count ≤ ROOM + ROOM }
     requires near { HasRoom ROOM rank }
+    requires rows { HasRows ROWS rank }
     requires small { ROOM ≤ 46062 }
     requires file { WhereTold (T.tells table.old)
         (λ file. HasHeader file header) }
@@ -185,7 +198,8 @@ pub fn check_record<T: Table, const ROOM: usize>(
     }
     let position = ranks.unrank(rank).unwrap();
     let best = lower.best_plays(ranks, &position);
-    let sums = match sum_plays(table, ranks, &position, rank, &best, own, room) {
+    let recorded = plays_in(&table.lend(rank, own));
+    let sums = match sum_plays(table, ranks, &position, rank, &best, &recorded, room) {
         Ok(sums) => sums,
         Err(refused) => return Err(refused.of_record()),
     };

@@ -1,6 +1,6 @@
 //! The sums of what is recorded for the rolls, added up as the records are read, so that no share
 //! is copied.
-ghost use Rattle.std.specs.Prelude.{◌≡◌, ℕ, ◌+◌, ◌*◌, ◌<◌, ◌≤◌, ◌↔◌, IsTrue, replicate, slice_index, sum};
+ghost use Rattle.std.specs.Prelude.{◌≡◌, ℕ, ◌+◌, ◌*◌, ◌<◌, ◌≤◌, ◌↔◌, IsTrue, replicate, slice_index, sum, take};
 ghost use Rattle.race_model.specs.LocalEquations.{whole};
 ghost use Rattle.fixed_fraction.specs.Totals.{IsAdded};
 ghost use Rattle.certificate.specs.RecordNumbers.{shares_of};
@@ -46,19 +46,20 @@ impl RecordSums {
         }
     }
 
-    /// Adds a mean and the shares of a record with the weight of a roll. True exactly where these
-    /// shares add up to the whole; else some of them may be added. All weights together are at
-    /// most 36, so no sum leaves 128 bits.
+    /// Adds a mean, and the shares of a record of fewer than so many rolls, with the weight of a
+    /// roll. True exactly where these shares add up to the whole; else some of them may be added.
+    /// All weights together are at most 36, so no sum leaves 128 bits.
     #[tactic(auto, unfolding(race_model::specs::LocalEquations::whole))]
-    pub fn add(&mut self, weight: u8, mean: Scaled, view: &RecordView<'_>) -> bool
-        requires { self.old.weight + weight ≤ 36 }
-        ensures whole { IsTrue result ↔ (sum (shares_of view.now) ≡ whole) }
+    pub fn add(&mut self, weight: u8, mean: Scaled, view: &RecordView<'_>, rolls: u8) -> bool
+        requires light { self.old.weight + weight ≤ 36 }
+        requires few { rolls ≤ 23 }
+        ensures whole { IsTrue result ↔ (sum (take rolls (shares_of view.now)) ≡ whole) }
         ensures added { IsTrue result →
-            IsAdded self.old weight mean (shares_of view.now) self.new }
+            IsAdded self.old weight mean (take rolls (shares_of view.now)) self.new }
     {
         self.weight += weight;
         self.mean += u128::from(weight) * mean.numerator();
-        add_shares(&mut self.shares, weight, view)
+        add_shares(&mut self.shares, weight, view, rolls)
     }
 
     /// Whether a number is one roll and a 36th of the means, and no more than 22 rolls. It is
@@ -82,20 +83,43 @@ impl RecordSums {
     }
 }
 
-/// Adds the shares of a record with a weight, one after another as they are read, for as long as
-/// they are no more than the whole: true exactly where they add up to it.
-#[tactic(auto, unfolding(race_model::specs::LocalEquations::whole))]
-fn add_shares(shares: &mut [u128; 23], weight: u8, view: &RecordView<'_>) -> bool
+/// Adds the shares of a record of fewer than so many rolls with a weight, one after another as
+/// they are read, for as long as they are no more than the whole: true exactly where they add up
+/// to it. The weights 1 and 2, which most are, are told to the compiler, since they need no
+/// product.
+fn add_shares(shares: &mut [u128; 23], weight: u8, view: &RecordView<'_>, rolls: u8) -> bool
     requires small { (k : ℕ) → k < 23 → slice_index shares.old k ≤ 36 * whole }
     requires light { weight ≤ 36 }
-    ensures whole { IsTrue result ↔ (sum (shares_of view.now) ≡ whole) }
+    requires few { rolls ≤ 23 }
+    ensures whole { IsTrue result ↔ (sum (take rolls (shares_of view.now)) ≡ whole) }
     ensures added { IsTrue result → (k : ℕ) → k < 23 → slice_index shares.new k
-        ≡ slice_index shares.old k + weight * slice_index (shares_of view.now) k }
+        ≡ slice_index shares.old k + weight * slice_index (take rolls (shares_of view.now)) k }
+    ensures bounded { (k : ℕ) → k < 23 →
+        slice_index shares.new k ≤ slice_index shares.old k + weight * whole }
+{
+    match weight {
+        1 => add_weighed(shares, 1, view, rolls),
+        2 => add_weighed(shares, 2, view, rolls),
+        _ => add_weighed(shares, weight, view, rolls),
+    }
+}
+
+/// The same, for each weight alike.
+#[inline(always)]
+#[tactic(auto, unfolding(race_model::specs::LocalEquations::whole))]
+fn add_weighed(shares: &mut [u128; 23], weight: u8, view: &RecordView<'_>, rolls: u8) -> bool
+    requires small { (k : ℕ) → k < 23 → slice_index shares.old k ≤ 36 * whole }
+    requires light { weight ≤ 36 }
+    requires few { rolls ≤ 23 }
+    ensures whole { IsTrue result ↔ (sum (take rolls (shares_of view.now)) ≡ whole) }
+    ensures added { IsTrue result → (k : ℕ) → k < 23 → slice_index shares.new k
+        ≡ slice_index shares.old k + weight * slice_index (take rolls (shares_of view.now)) k }
     ensures bounded { (k : ℕ) → k < 23 →
         slice_index shares.new k ≤ slice_index shares.old k + weight * whole }
 {
     let mut left = WHOLE;
-    for k in 0..23 {
+    // of which there are 23: so the compiler leaves the view's own test out
+    for k in 0..rolls.min(23) {
         let share = view.spread(k);
         if share == 0 {
             continue;
@@ -104,22 +128,7 @@ fn add_shares(shares: &mut [u128; 23], weight: u8, view: &RecordView<'_>) -> boo
             return false;
         }
         left -= share;
-        shares[usize::from(k)] += weighed(weight, share);
+        shares[usize::from(k)] += u128::from(weight) * share;
     }
     left == 0
-}
-
-/// A share with a weight: most are 1 or 2, which need no product.
-#[inline]
-#[tactic(auto, unfolding(race_model::specs::LocalEquations::whole))]
-fn weighed(weight: u8, share: u128) -> u128
-    requires light { weight ≤ 36 }
-    requires share { share ≤ whole }
-    ensures { result ≡ weight * share }
-{
-    match weight {
-        1 => share,
-        2 => share + share,
-        _ => u128::from(weight) * share,
-    }
 }

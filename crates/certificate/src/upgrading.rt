@@ -48,7 +48,7 @@ fn numbers_in(view: &RecordView<'_>) -> Option<Numbers>
 }
 
 /// What stands in a record for the rolls 0 to 20.
-fn plays_in(view: &RecordView<'_>) -> [u16; 21]
+pub(crate) fn plays_in(view: &RecordView<'_>) -> [u16; 21]
     ensures { result ≡ plays_of view.now }
 {
     let mut plays = [0; 21];

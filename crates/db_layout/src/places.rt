@@ -156,7 +156,7 @@ pub(crate) fn share_count(version: u16, pips: u8) -> u8
 }
 
 /// How many rolls a position of so many pips can need at most.
-pub(crate) fn most_rolls(pips: u8) -> u8
+pub fn most_rolls(pips: u8) -> u8
     ensures { result ≡ most_rolls pips }
 {
     if pips == 0 {

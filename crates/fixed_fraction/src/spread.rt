@@ -45,6 +45,14 @@ impl Spread {
         }
     }
 
+    /// The spread with these shares, which add up to 36 ^ 22.
+    pub(crate) fn of_whole(shares: [u128; 23]) -> Self
+        requires { sum shares ≡ whole }
+        ensures { result ≡ shares }
+    {
+        Spread { shares }
+    }
+
     /// The 23 shares, that of 0 rolls first, as numerators over 36 ^ 22.
     pub fn shares(&self) -> &[u128; 23]
         ensures value { result.now ≡ self.now }

@@ -92,7 +92,7 @@ impl Sums {
         for k in 0..22 {
             shares[k + 1] = part_of_36(self.shares[k])?;
         }
-        Spread::new(shares)
+        Some(Spread::of_whole(shares))
     }
 }
 
@@ -111,9 +111,26 @@ fn part_of_36(total: u128) -> Option<u128>
     }
 }
 
-/// Adds shares with a weight.
-#[tactic(auto, unfolding(race_model::specs::LocalEquations::whole))]
+/// Adds shares with a weight: 1 and 2, which most are, are told to the compiler, since they need
+/// no product.
 fn add_shares(shares: &mut [u128; 23], weight: u8, others: &[u128; 23])
+    requires small { (k : ℕ) → k < 23 → slice_index shares.old k ≤ 36 * whole }
+    requires parts { (k : ℕ) → k < 23 → slice_index others.now k ≤ whole }
+    requires light { weight ≤ 36 }
+    ensures added { (k : ℕ) → k < 23 →
+        slice_index shares.new k ≡ slice_index shares.old k + weight * slice_index others.now k }
+{
+    match weight {
+        1 => add_weighed(shares, 1, others),
+        2 => add_weighed(shares, 2, others),
+        _ => add_weighed(shares, weight, others),
+    }
+}
+
+/// The same, for each weight alike.
+#[inline(always)]
+#[tactic(auto, unfolding(race_model::specs::LocalEquations::whole))]
+fn add_weighed(shares: &mut [u128; 23], weight: u8, others: &[u128; 23])
     requires small { (k : ℕ) → k < 23 → slice_index shares.old k ≤ 36 * whole }
     requires parts { (k : ℕ) → k < 23 → slice_index others.now k ≤ whole }
     requires light { weight ≤ 36 }

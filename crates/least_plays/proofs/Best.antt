@@ -145,7 +145,7 @@ best_of_steps mean x d dice ranks kept r unfinished steps bests least =
         run
 
 -- the next position, and a step of it
-module _ (mean : ℕ → ℕ) (count : ℕ) (plays : LeastPlays) (x : Board)
+module _ {n : ℕ} (mean : ℕ → ℕ) (count : ℕ) (plays : LeastPlays n) (x : Board)
     (next : IsNext mean count plays x) where
   -- what is kept of a position one step on is the best there
   pub kept_best : (d e : Die) (n : ℕ) (z : Board) → n ≤ 3 → Step x d z →

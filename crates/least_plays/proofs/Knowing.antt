@@ -5,7 +5,8 @@ use Rattle.std.proofs.Common.{◌∷◌, length, replicate, get_or, set, sym, ap
 use Rattle.std.proofs.Common.{get_or-set_other, get_or-set_same}
 use Rattle.std.specs.Prelude.{slice_index, slice_index_or}
 use Rattle.std.proofs.lemmas.Bool.{cases_lt}
-use Rattle.std.proofs.lemmas.List.{length-replicate}
+use Rattle.std.proofs.lemmas.List.{length-replicate, length-set}
+use Rattle.std.proofs.Math.Nat.{mod-eq_of_lt}
 use Rattle.race_model.specs.Positions.{Board, IsPosition, pips}
 use Rattle.race_model.specs.Dice.{Die, one, two, three, four, five, six, number}
 use Rattle.race_model.specs.Ranks.{rank, count_to}
@@ -15,17 +16,29 @@ use Rattle.race_model.proofs.Plays.Spent.{run_takes}
 use Rattle.race_model.proofs.Ranks.RankOrder.{rank_apart, rank_bound, count_to-rises}
 use Rattle.race_model.proofs.Ranks.PositionTotals.{seven_levels}
 use Rattle.race_model.proofs.Ranks.BestPlays.{run_lower, run-agree_reached}
-use Rattle.least_plays.specs.Known.{row_in, number_in, IsBestAfter, Knows}
+use Rattle.least_plays.specs.Known.{HasRows, row_in, number_in, IsBestAfter, Knows}
 use Rattle.least_plays.specs.declared.room.Row.{Row}
 use Rattle.least_plays.specs.declared.room.LeastPlays.{LeastPlays}
 
 -- before the first rank there is nothing to know
-pub knows_nothing : (mean : ℕ → ℕ) (plays : LeastPlays) → Knows mean plays 0
+pub knows_nothing : {n : ℕ} (mean : ℕ → ℕ) (plays : LeastPlays n) → Knows mean plays 0
 knows_nothing mean plays = record { each = λ y at lower. absurd (omega arith) }
 
--- ranks that are less than 11,452 apart have rows of their own
-rows_apart : (r n : ℕ) → r < n → n < r + 11452 → r % 11452 ≢ n % 11452
-rows_apart r n below near e = omega arith
+-- ranks that are less than 11,452 apart have rows of their own, where there are rows for them
+rows_apart : (rows r n : ℕ) → HasRows rows n → r < n → n < r + 11452 → r % rows ≢ n % rows
+rows_apart rows r n has below near e = ⊎_elim
+    (λ few.
+    let first : r % rows ≡ r = mod-eq_of_lt (omega arith) in
+    let second : n % rows ≡ n = mod-eq_of_lt few in
+    omega arith)
+    (λ usual.
+    let same : r % 11452 ≡ n % 11452 = subst (λ m. r % m ≡ n % m) usual e in
+    omega arith)
+    has.own
+
+-- .. at least one
+pub has_some : (rows r : ℕ) → HasRows rows r → 0 < rows
+has_some rows r has = ⊎_elim (λ few. omega arith) (λ usual. omega arith) has.own
 
 -- what a row keeps
 kept_in : Row → Die → ℕ → ℕ
@@ -33,59 +46,67 @@ kept_in row d n = slice_index (slice_index_or row.after (number d - 1) []) n
 
 -- a row that is written leaves the others
 number_in-other : (rows : List Row) (place r : ℕ) (row : Row) (d : Die) (n : ℕ) →
-    r % 11452 ≢ place → number_in (set rows place row) r d (suc n) ≡ number_in rows r d (suc n)
+    r % length rows ≢ place →
+    number_in (set rows place row) r d (suc n) ≡ number_in rows r d (suc n)
 unfolding number_in row_in kept_in
 number_in-other rows place r row d n apart =
-    ap (λ row. kept_in row d n)
-    (get_or-set_other {A = Row} rows place (r % 11452) row (record { after = [] }) apart)
+    ap (λ len. kept_in (get_or (set rows place row) (r % len) (record { after = [] })) d n)
+    (length-set {A = Row} rows place row)
+    ∙ ap (λ row. kept_in row d n)
+    (get_or-set_other {A = Row} rows place (r % length rows) row (record { after = [] }) apart)
 
 -- .. and has what was written
 number_in-same : (rows : List Row) (place r : ℕ) (row : Row) (d : Die) (n : ℕ) →
-    r % 11452 ≡ place → place < length rows →
+    r % length rows ≡ place → place < length rows →
     number_in (set rows place row) r d (suc n)
     ≡ slice_index (slice_index_or row.after (number d - 1) []) n
 unfolding number_in row_in kept_in
 number_in-same rows place r row d n same inside =
-    ap (λ q. kept_in (get_or (set rows place row) q (record { after = [] })) d n) same
+    ap (λ q. kept_in (get_or (set rows place row) q (record { after = [] })) d n)
+    (ap (λ len. r % len) (length-set {A = Row} rows place row) ∙ same)
     ∙ ap (λ row. kept_in row d n)
     (get_or-set_same {A = Row} rows place row (record { after = [] }) inside)
 
 -- the position of the next rank is known once its row is written
-pub knows_more : (mean : ℕ → ℕ) (plays : LeastPlays) (x : Board) (place : ℕ) (row : Row) →
-    IsPosition x → pips x ≤ 58 → place ≡ rank x % 11452 → place < length plays.rows →
-    Knows mean plays (rank x) →
+pub knows_more : {size : ℕ} (mean : ℕ → ℕ) (plays : LeastPlays size) (x : Board) (place : ℕ)
+    (row : Row) →
+    IsPosition x → pips x ≤ 58 → length plays.rows ≡ size → HasRows size (rank x) →
+    place ≡ rank x % size → place < size → Knows mean plays (rank x) →
     ((d : Die) (n : ℕ) → n < 3 →
     IsBestAfter mean x (d ∷ replicate n d)
     (slice_index (slice_index_or row.after (number d - 1) []) n)) →
     Knows mean (record plays { rows = set plays.rows place row }) (rank x + 1)
-knows_more mean plays x place row at low placed inside known best = record { each = each } where
-  each : (y : Board) → IsPosition y → rank y < rank x + 1 → rank x + 1 < count_to (pips y + 6) →
-      (d : Die) (n : ℕ) → n < 3 →
-      IsBestAfter mean y (d ∷ replicate n d)
-      (number_in (set plays.rows place row) (rank y) d (suc n))
-  each y there lower near d n few = ⊎_elim
-      (λ below.
-      let near_here = (rank_bound x (pips y + 6) at).0 (omega arith) in
-      let apart : rank y % 11452 ≢ place =
-      λ e. rows_apart (rank y) (rank x) below (seven_levels x y at there low near_here)
-      (e ∙ placed) in
-      subst (λ r. IsBestAfter mean y (d ∷ replicate n d) r)
-      (sym (number_in-other plays.rows place (rank y) row d n apart))
-      (known.each y there below (omega arith) d n few))
-      (λ here.
-      let e : rank x ≡ rank y = omega arith in
-      let same : rank y % 11452 ≡ place = ap (λ r. r % 11452) (sym e) ∙ sym placed in
-      subst (λ r. IsBestAfter mean y (d ∷ replicate n d) r)
-      (sym (number_in-same plays.rows place (rank y) row d n same inside))
-      (subst
-      (λ z. IsBestAfter mean z (d ∷ replicate n d)
-      (slice_index (slice_index_or row.after (number d - 1) []) n))
-      (rank_apart x y at there e) (best d n few)))
-      (cases_lt (rank y) (rank x))
+knows_more {size} mean plays x place row at low long has placed inside known best =
+    record { each = each }
+  where
+    each : (y : Board) → IsPosition y → rank y < rank x + 1 → rank x + 1 < count_to (pips y + 6) →
+        (d : Die) (n : ℕ) → n < 3 →
+        IsBestAfter mean y (d ∷ replicate n d)
+        (number_in (set plays.rows place row) (rank y) d (suc n))
+    each y there lower near d n few = ⊎_elim
+        (λ below.
+        let near_here = (rank_bound x (pips y + 6) at).0 (omega arith) in
+        let apart : rank y % length plays.rows ≢ place =
+        λ e. rows_apart size (rank y) (rank x) has below (seven_levels x y at there low near_here)
+        (ap (λ len. rank y % len) (sym long) ∙ (e ∙ placed)) in
+        subst (λ r. IsBestAfter mean y (d ∷ replicate n d) r)
+        (sym (number_in-other plays.rows place (rank y) row d n apart))
+        (known.each y there below (omega arith) d n few))
+        (λ here.
+        let e : rank x ≡ rank y = omega arith in
+        let same : rank y % length plays.rows ≡ place =
+        ap (λ len. rank y % len) long ∙ (ap (λ r. r % size) (sym e) ∙ sym placed) in
+        subst (λ r. IsBestAfter mean y (d ∷ replicate n d) r)
+        (sym (number_in-same plays.rows place (rank y) row d n same (omega (arith, inside, long))))
+        (subst
+        (λ z. IsBestAfter mean z (d ∷ replicate n d)
+        (slice_index (slice_index_or row.after (number d - 1) []) n))
+        (rank_apart x y at there e) (best d n few)))
+        (cases_lt (rank y) (rank x))
 
 -- the same is known by means that agree on the ranks of positions below the last one, from which
 -- the next one is at most 24 pips away
-pub knows_agree_near : (mean other : ℕ → ℕ) (plays : LeastPlays) (next : ℕ) →
+pub knows_agree_near : {size : ℕ} (mean other : ℕ → ℕ) (plays : LeastPlays size) (next : ℕ) →
     ((z : Board) → IsPosition z → rank z + 1 < next → next < count_to (pips z + 24) →
     mean (rank z) ≡ other (rank z)) →
     Knows mean plays next → Knows other plays next
@@ -102,7 +123,7 @@ knows_agree_near mean other plays next agree known = record {
 }
 
 -- .. so it is by means that agree below the last rank
-pub knows_agree : (mean other : ℕ → ℕ) (plays : LeastPlays) (next : ℕ) →
+pub knows_agree : {size : ℕ} (mean other : ℕ → ℕ) (plays : LeastPlays size) (next : ℕ) →
     ((q : ℕ) → q + 1 < next → mean q ≡ other q) → Knows mean plays next → Knows other plays next
 knows_agree mean other plays next agree =
     knows_agree_near mean other plays next (λ z at lower near. agree (rank z) lower)
@@ -112,7 +133,8 @@ pub number_in-some : (rows : List Row) (r : ℕ) (d : Die) (n place i j : ℕ) �
     i ≡ number d - 1 → j + 1 ≡ n →
     number_in rows r d n
     ≡ slice_index
-    (slice_index_or (slice_index_or rows (place % 11452) (record { after = [] })).after i []) j
+    (slice_index_or (slice_index_or rows (place % length rows) (record { after = [] })).after i [])
+    j
 unfolding number_in row_in kept_in
 number_in-some rows r d zero place i j at first second = absurd (omega arith)
 number_in-some rows r d (suc n) place i j at first second =

@@ -1,6 +1,6 @@
 -- What is known of the positions of the last levels of pips. Source: this project's profile.
-use Rattle.std.specs.Prelude.{ℕ, zero, suc, ◌+◌, ◌-◌, ◌%◌, ◌<◌, ◌≤◌, ◌==◌, if◌then◌else◌, List, []}
-use Rattle.std.specs.Prelude.{◌∷◌, replicate, slice_index, slice_index_or}
+use Rattle.std.specs.Prelude.{◌≡◌, ◌⊎◌, ℕ, zero, suc, ◌+◌, ◌-◌, ◌%◌, ◌<◌, ◌≤◌, ◌==◌, if◌then◌else◌}
+use Rattle.std.specs.Prelude.{List, [], ◌∷◌, length, replicate, slice_index, slice_index_or}
 use Rattle.race_model.specs.Positions.{Board, IsPosition, IsFinished, pips}
 use Rattle.race_model.specs.Dice.{Die, one, two, three, four, five, six, number}
 use Rattle.race_model.specs.Plays.{Run}
@@ -15,9 +15,14 @@ use Rattle.least_plays.specs.declared.starts.Starts.{Starts}
 abbrev pub IsBestAfter : (ℕ → ℕ) → Board → List Die → ℕ → Type 0
 IsBestAfter mean x dice r = IsBestOf mean (Run x dice) r
 
+-- so many rows do for the ranks up to one: as many as do to 58 pips, or one for each of them
+pub record HasRows (rows r : ℕ) : Type 0 where
+  pub few : rows ≤ 11452
+  pub own : (r < rows) ⊎ (rows ≡ 11452)
+
 -- the row of a rank: rows are used again, since those of the last levels alone are read
 unfoldable pub row_in : List Row → ℕ → Row
-row_in rows r = slice_index_or rows (r % 11452) (record { after = [] })
+row_in rows r = slice_index_or rows (r % length rows) (record { after = [] })
 
 -- what is kept of a rank for a die that is played n times: nothing but the rank itself for none
 unfoldable pub number_in : List Row → ℕ → Die → ℕ → ℕ
@@ -27,18 +32,19 @@ number_in rows r d (suc n) =
 
 -- of each position below the next rank to which a step from there on can lead, the best ranks
 -- after each die once, twice and three times are kept
-pub record Knows (mean : ℕ → ℕ) (plays : LeastPlays) (next : ℕ) : Type 0 where
+pub record Knows {n : ℕ} (mean : ℕ → ℕ) (plays : LeastPlays n) (next : ℕ) : Type 0 where
   pub each : (y : Board) → IsPosition y → rank y < next → next < count_to (pips y + 6) →
       (d : Die) (n : ℕ) → n < 3 →
       IsBestAfter mean y (d ∷ replicate n d) (number_in plays.rows (rank y) d (suc n))
 
 -- x is the next position, it is unfinished, and the means of all lower ranks are there
-pub record IsNext (mean : ℕ → ℕ) (count : ℕ) (plays : LeastPlays) (x : Board) : Type 0 where
-  pub position : IsPosition x
-  pub unfinished : ¬ IsFinished x
-  pub low : pips x ≤ 58
-  pub held : rank x ≤ count
-  pub known : Knows mean plays (rank x)
+pub record IsNext {n : ℕ} (mean : ℕ → ℕ) (count : ℕ) (plays : LeastPlays n) (x : Board) : Type 0
+  where
+    pub position : IsPosition x
+    pub unfinished : ¬ IsFinished x
+    pub low : pips x ≤ 58
+    pub held : rank x ≤ count
+    pub known : Knows mean plays (rank x)
 
 -- how often the other die of a roll is played after the first
 abbrev pub dice_left : Die → Die → ℕ

@@ -25,6 +25,7 @@ pub fn better<M: Means>(one: u16, other: u16, means: &M) -> u16
 }
 
 /// The better of each two of nine ranks and nine others.
+#[inline(always)]
 pub fn better_of_each<M: Means>(ones: &[u16; 9], others: &[u16; 9], means: &M) -> [u16; 9]
     requires ones { (j : ℕ) → j < 9 → slice_index ones.now j < M.count means.now }
     requires others { (j : ℕ) → j < 9 → slice_index others.now j < M.count means.now }

@@ -7,7 +7,7 @@
 #![tactic(auto)]
 
 pub use means::Means;
-pub use room::LeastPlays;
+pub use room::{LeastPlays, ROWS_TO_8, ROWS_TO_58};
 
 mod choice;
 pub mod means;

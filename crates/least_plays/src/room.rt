@@ -5,7 +5,7 @@ ghost use Rattle.race_model.specs.Dice.{roll_at};
 ghost use Rattle.race_model.specs.Ranks.{rank as rank_of};
 ghost use Rattle.race_model.specs.BestPlays.{IsBestPlay};
 ghost use Rattle.least_plays.specs.Choices.{IsLeastOf};
-ghost use Rattle.least_plays.specs.Known.{kept_in, Knows, IsNext, IsStart, AreStarts};
+ghost use Rattle.least_plays.specs.Known.{HasRows, kept_in, Knows, IsNext, IsStart, AreStarts};
 ghost use Rattle.least_plays.specs.Steps.{AreSteps};
 ghost use Rattle.least_plays.specs.declared.starts.Start.{Start as StartValue};
 
@@ -17,9 +17,12 @@ use home_board::Position;
 use legal_plays::Die;
 use ranking::Ranks;
 
-/// How many positions are kept: to 58 pips no pip count has more than 1,636 of them, and a step
-/// leads at most 6 pips down.
-const ROWS: usize = 7 * 1636;
+/// How many rows do for positions of at most 58 pips: no pip count has more than 1,636 of them,
+/// and a step leads at most 6 pips down.
+pub const ROWS_TO_58: usize = 7 * 1636;
+
+/// How many rows do for positions of at most 8 pips: one for each of them.
+pub const ROWS_TO_8: usize = 64;
 
 /// What is kept of one position: for each die the best ranks after it is played once, twice and
 /// three times.
@@ -34,14 +37,15 @@ impl Row {
 }
 
 /// What is known of the positions of the last levels of pips, for the best plays of the next
-/// position. It takes no memory but its own: 412,272 bytes, which lie where the value lies, as on
-/// the stack of the function that makes it; so lend it by `&mut`.
+/// position, in so many rows. It takes no memory but its own: 36 bytes for each row, of
+/// `ROWS_TO_58` rows 412,272, which lie where the value lies, as on the stack of the function that
+/// makes it; so lend it by `&mut`.
 #[derive(Drop)]
-pub struct LeastPlays {
+pub struct LeastPlays<const ROWS: usize> {
     pub(crate) rows: [Row; ROWS],
 }
 
-impl LeastPlays {
+impl<const ROWS: usize> LeastPlays<ROWS> {
     /// Nothing is known yet: the next position is that of rank 0.
     pub fn new() -> Self
         ensures { (mean : ℕ → ℕ) → Knows mean result 0 }
@@ -53,10 +57,12 @@ impl LeastPlays {
 
     /// The best plays of the 21 rolls from the next position, by rank: for each the rank of the
     /// result of least mean and, of equal means, the lowest rank. The position's rank is the next
-    /// one, it has at most 58 pips, and the means of all lower ranks are there. The position of
-    /// the rank after it is the next then. (The tie rule is this project's profile.)
+    /// one, it has at most 58 pips, and the means of all lower ranks are there. There are
+    /// `ROWS_TO_58` rows, or one for each rank so far. The position of the rank after it is the
+    /// next then. (The tie rule is this project's profile.)
     pub fn advance<M: Means>(&mut self, ranks: &Ranks, position: &Position, means: &M) -> [u16; 21]
         requires low { pips position.now ≤ 58 }
+        requires rows { HasRows ROWS (rank_of position.now) }
         requires held { rank_of position.now ≤ M.count means.now }
         requires known { Knows (M.mean means.now) self.old (rank_of position.now) }
         ensures known { Knows (M.mean means.now) self.new (rank_of position.now + 1) }
@@ -77,6 +83,7 @@ impl LeastPlays {
     /// The best ranks with each die first.
     fn starts<M: Means>(&self, ranks: &Ranks, position: &Position, means: &M) -> Starts
         requires next { IsNext (M.mean means.now) (M.count means.now) self.now position.now }
+        requires rows { (0 < ROWS) × (ROWS ≤ 11452) }
         ensures position { result.position ≡ position.now }
         ensures starts { AreStarts (M.mean means.now) (M.count means.now) result }
     {
@@ -95,6 +102,7 @@ impl LeastPlays {
     /// The best ranks with the die of these steps first.
     fn start<M: Means>(&self, steps: &Steps, means: &M) -> Start
         requires next { IsNext (M.mean means.now) (M.count means.now) self.now steps.now.position }
+        requires rows { (0 < ROWS) × (ROWS ≤ 11452) }
         requires steps { AreSteps steps.now.position steps.now.die steps.now.ranks.items }
         ensures { IsStart (M.mean means.now) steps.now.position steps.now.die result }
     {
@@ -111,6 +119,7 @@ impl LeastPlays {
     /// The best of what is kept of some ranks for what may follow a die.
     fn best_of<M: Means>(&self, ranks: &[u16], die: Die, means: &M) -> [u16; 9]
         requires some { 0 < length ranks.now }
+        requires rows { (0 < ROWS) × (ROWS ≤ 11452) }
         requires held { (i j : ℕ) → i < length ranks.now → j < 9 →
             slice_index (kept_in self.now.rows (slice_index ranks.now i) die) j
             < M.count means.now }
@@ -128,6 +137,7 @@ impl LeastPlays {
 
     /// What is kept of a rank for what may follow a die.
     fn kept(&self, rank: u16, die: Die) -> [u16; 9]
+        requires { (0 < ROWS) × (ROWS ≤ 11452) }
         ensures { result ≡ kept_in self.now.rows rank die }
     {
         let after = &self.rows[usize::from(rank) % ROWS].after;

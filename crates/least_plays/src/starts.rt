@@ -48,6 +48,7 @@ impl Starts {
     }
 
     /// The best plays of the 21 rolls.
+    #[inline(always)]
     pub fn best_plays<M: Means>(&self, means: &M) -> [u16; 21]
         requires { AreStarts (M.mean means.now) (M.count means.now) self.now }
         ensures best { (i : ℕ) → i < 21 →

@@ -10,6 +10,7 @@ use home_board::Position;
 /// of backgammon: from the die's own point it is borne off, from a higher point it moves down, and
 /// from a lower one it is borne off only where that is the highest point with a checker. None
 /// where the rules allow no such move.
+#[inline(always)]
 pub fn step(position: &Position, die: Die, source: u8) -> Option<Position>
     ensures moved { IfSome result (λ y. StepFrom position.now (number die) source y) }
     ensures none { IfNone result ((y : List ℕ) → ¬ StepFrom position.now (number die) source y) }

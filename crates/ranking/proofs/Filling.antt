@@ -44,12 +44,13 @@ pub record IsPartway (p j : ℕ) (rows added : List Row) : Type 0 where
   pub counted : (k : ℕ) (d : Row) → k < j → IsRow (used p k) (slice_index_or added k d)
 
 -- the row of no checkers is right from the start
-pub partway_start : (p : ℕ) (rows : List Row) → p ≤ 6 → length rows ≡ 16 →
+pub partway_start : (p : ℕ) (rows added : List Row) → p ≤ 6 → length rows ≡ 16 →
+    length added ≡ 16 →
     ((k : ℕ) (d : Row) → k < 16 → IsRow (ways (p + 1) k) (slice_index_or rows k d)) →
-    IsPartway p 1 rows (replicate 16 (record { cells = replicate 91 0 }))
-partway_start p rows h l above = record {
+    IsPartway p 1 rows (slice_set added 0 (record { cells = replicate 91 0 }))
+partway_start p rows added h l few above = record {
   long = l;
-  long_added = refl;
+  long_added = length-set {A = Row} added 0 (record { cells = replicate 91 0 }) ∙ few;
   done = λ k d low. first k d (omega arith);
   rest = λ k d low high. above k d high;
   counted = λ k d low. none k d (omega arith);
@@ -60,8 +61,12 @@ partway_start p rows h l above = record {
     same k m e = rw (e, add-one) (omega (arith, ways-step p 0 m h (omega arith), used-none p m h))
 
   none : (k : ℕ) (d : Row) → k ≡ 0 →
-      IsRow (used p k) (slice_index_or (replicate 16 (record { cells = replicate 91 0 })) k d)
-  none k d e = rw e (record { each = λ m low. zeros 91 m ∙ sym (used-none p m h) })
+      IsRow (used p k)
+      (slice_index_or (slice_set added 0 (record { cells = replicate 91 0 })) k d)
+  none k d e =
+      let empty : Row = record { cells = replicate 91 0 } in
+      rw (e, get_or-set_same {A = Row} added 0 empty d (omega (arith, few)))
+      (record { each = λ m low. zeros 91 m ∙ sym (used-none p m h) })
 
 -- the row that is added
 pub added_row : (p k : ℕ) (below row : Row) → p ≤ 6 → k < 15 → IsRow (ways p k) below →

@@ -15,6 +15,11 @@ pub struct PointTable {
 }
 
 impl PointTable {
+    /// No list at all.
+    pub const EMPTY: PointTable = PointTable {
+        rows: [Row::EMPTY; CHECKER_COUNTS],
+    };
+
     /// The lists on no points at all: one, which has no pips.
     pub fn of_no_points() -> PointTable
         ensures { IsPointTable (ways 7) result }
@@ -27,22 +32,19 @@ impl PointTable {
     }
 
     /// Turns the table of the lists on the points above one into that of the lists
-    /// from that point on, and gives the table of those that have a checker there.
-    pub fn add_point(&mut self, point: u8) -> PointTable
+    /// from that point on, and another into that of those that have a checker there.
+    pub fn add_point(&mut self, point: u8, occupied: &mut PointTable)
         requires first { 1 ≤ point }
         requires last { point ≤ 6 }
         requires above { IsPointTable (ways (point + 1)) self.old }
         ensures ways { IsPointTable (ways point) self.new }
-        ensures used { IsPointTable (used point) result }
+        ensures used { IsPointTable (used point) occupied.new }
     {
-        let mut used = PointTable {
-            rows: [Row::EMPTY; CHECKER_COUNTS],
-        };
+        occupied.rows[0] = Row::EMPTY;
         for checkers in 1..CHECKER_COUNTS {
             let more = self.rows[checkers - 1].shifted(point);
             self.rows[checkers] = self.rows[checkers].plus(&more);
-            used.rows[checkers] = more;
+            occupied.rows[checkers] = more;
         }
-        used
     }
 }

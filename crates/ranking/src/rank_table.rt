@@ -39,14 +39,13 @@ impl RankTable {
         ensures { IsRankTable result }
     {
         let mut ways = PointTable::of_no_points();
-        let sixes = ways.add_point(6);
-        let fives = ways.add_point(5);
-        let fours = ways.add_point(4);
-        let threes = ways.add_point(3);
-        let twos = ways.add_point(2);
-        let ones = ways.add_point(1);
+        let mut points = [PointTable::EMPTY; 6];
+        for above in 0..6 {
+            let point = 6 - above;
+            ways.add_point(point, &mut points[usize::from(point) - 1]);
+        }
         RankTable {
-            points: [ones, twos, threes, fours, fives, sixes],
+            points,
             starts: starts_of(&ways.rows[15]),
         }
     }

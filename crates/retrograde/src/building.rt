@@ -1,6 +1,6 @@
 //! The records of a bound, made and written level by level: a level is the positions of one pip
 //! count.
-ghost use Rattle.std.specs.Prelude.{◌≡◌, ℕ, ◌+◌, ◌-◌, ◌<◌, ◌≤◌, List, [], length, OnOk, OnErr, IfErr};
+ghost use Rattle.std.specs.Prelude.{◌≡◌, ℕ, ◌+◌, ◌-◌, ◌<◌, ◌≤◌, ◌⊎◌, List, [], length, OnOk, OnErr, IfErr};
 ghost use Rattle.std.specs.Io.KnownBytes.{Appends};
 ghost use Rattle.race_model.specs.Ranks.{first_of, count_to};
 ghost use Rattle.race_model.specs.Versions.{compact, version_by};
@@ -22,7 +22,7 @@ use crate::records::Records;
 use db_layout::{COMPACT_VERSION, Header, VERSION, WriteFault, write_header, write_record};
 use fixed_fraction::{Scaled, Spread};
 use home_board::OLD_BOUND;
-use least_plays::LeastPlays;
+use least_plays::{LeastPlays, ROWS_TO_8, ROWS_TO_58};
 use ranking::Ranks;
 use std::alloc::Global;
 use std::io::Write;
@@ -147,8 +147,31 @@ fn build_with<K: Keeper, W: Write>(
     ensures built { Builds (version_by header.version) header.bound (W.contents writer.old)
         (W.contents writer.new) result }
 {
+    if usize::from(header.count) <= ROWS_TO_8 {
+        build_under::<K, W, ROWS_TO_8>(records, header, writer)
+    } else {
+        build_under::<K, W, ROWS_TO_58>(records, header, writer)
+    }
+}
+
+/// The same, with so many rows for the best plays.
+// so that no more rows are on the stack than are needed
+#[inline(never)]
+fn build_under<K: Keeper, W: Write, const ROWS: usize>(
+    records: &mut K,
+    header: Header,
+    writer: &mut W,
+) -> Result<(), BuildFault>
+    requires means { K.means records.old ≡ [] }
+    requires spreads { K.spreads records.old ≡ [] }
+    requires plays { K.plays records.old ≡ [] }
+    requires few { ROWS ≤ 11452 }
+    requires rows { (header.count ≤ ROWS) ⊎ (ROWS ≡ 11452) }
+    ensures built { Builds (version_by header.version) header.bound (W.contents writer.old)
+        (W.contents writer.new) result }
+{
     let ranks = Ranks::new();
-    let mut least = LeastPlays::new();
+    let mut least: LeastPlays<ROWS> = LeastPlays::new();
     add_level(records, &mut least, &ranks, 0)?;
     write_header(&header, writer)?;
     write_level(records, &header, 0, writer)?;
@@ -162,9 +185,9 @@ fn build_with<K: Keeper, W: Write>(
 /// Makes the records of the positions of a pip count, where those of fewer pips are made. Of the
 /// shares only those of the last 24 levels are kept, since a roll takes no more pips. Refused
 /// only for want of memory.
-fn add_level<K: Keeper>(
+fn add_level<K: Keeper, const ROWS: usize>(
     records: &mut K,
-    least: &mut LeastPlays,
+    least: &mut LeastPlays<ROWS>,
     ranks: &Ranks,
     pips: u8,
 ) -> Result<(), BuildFault>
@@ -176,6 +199,8 @@ fn add_level<K: Keeper>(
     requires recent { length (K.means records.old)
         ≤ first_of (pips - 24) + length (K.spreads records.old) }
     requires known { Knows (mean_of_rank full) least.old (first_of pips) }
+    requires few { ROWS ≤ 11452 }
+    requires rows { (count_to pips ≤ ROWS) ⊎ (ROWS ≡ 11452) }
     ensures known { OnOk result (Knows (mean_of_rank full) least.new (count_to pips)) }
     ensures kept { OnOk result
         (AreKept full (K.means records.new) (K.spreads records.new)

@@ -5,7 +5,7 @@ ghost use Rattle.race_model.specs.Dice.{Throw, roll_at};
 ghost use Rattle.race_model.specs.Plays.{Legal};
 ghost use Rattle.race_model.specs.Ranks.{rank as rank_of, first_of};
 ghost use Rattle.race_model.specs.LocalEquations.{whole};
-ghost use Rattle.least_plays.specs.Known.{Knows};
+ghost use Rattle.least_plays.specs.Known.{HasRows, Knows};
 ghost use Rattle.retrograde.specs.AllRecords.{AllRecords, mean_of_rank};
 ghost use Rattle.race_model.specs.BestPlays.{IsBestPlay};
 ghost use Rattle.retrograde.specs.BuiltRecords.{sum_of_means, sum_of_shares};
@@ -21,11 +21,12 @@ use legal_plays::Roll;
 use ranking::Ranks;
 
 /// The record of the position of the next rank. The plays of the one after it can be found then.
-pub(crate) fn next_record<K: Keeper>(
+#[inline(always)]
+pub(crate) fn next_record<K: Keeper, const ROWS: usize>(
     ranks: &Ranks,
     position: &Position,
     records: &K,
-    least: &mut LeastPlays,
+    least: &mut LeastPlays<ROWS>,
 ) -> Record
     ghost full: { AllRecords }
     requires position { IsPosition position.now }
@@ -36,6 +37,7 @@ pub(crate) fn next_record<K: Keeper>(
     requires recent { length (K.means records.now)
         ≤ first_of (pips position.now - 24) + length (K.spreads records.now) }
     requires known { Knows (mean_of_rank full) least.old (rank_of position.now) }
+    requires rows { HasRows ROWS (rank_of position.now) }
     ensures record_is { IsRecordOfRank full (rank_of position.now) result.mean result.plays
         result.spread }
     ensures known { Knows (mean_of_rank full) least.new (rank_of position.now + 1) }
@@ -72,11 +74,11 @@ fn finished_record() -> Record
 }
 
 /// The best plays with the 21 rolls, by the means of lower ranks.
-fn best_plays<K: Keeper>(
+fn best_plays<K: Keeper, const ROWS: usize>(
     ranks: &Ranks,
     position: &Position,
     records: &K,
-    least: &mut LeastPlays,
+    least: &mut LeastPlays<ROWS>,
 ) -> [u16; 21]
     ghost full: { AllRecords }
     requires low { pips position.now ≤ 58 }
@@ -84,6 +86,7 @@ fn best_plays<K: Keeper>(
         slice_index (K.means records.now) r ≡ mean_of_rank full r }
     requires next { rank_of position.now ≡ length (K.means records.now) }
     requires known { Knows (mean_of_rank full) least.old (rank_of position.now) }
+    requires rows { HasRows ROWS (rank_of position.now) }
     ensures known { Knows (mean_of_rank full) least.new (rank_of position.now + 1) }
     ensures best { (i : ℕ) → i < 21 →
         IsBestPlay (slice_index (K.means records.now)) position.now (roll_at i)
@@ -94,6 +97,7 @@ fn best_plays<K: Keeper>(
 }
 
 /// The means and the shares that the rolls play to, added up with the weights of the rolls.
+#[inline(always)]
 fn sums_of<K: Keeper>(records: &K, plays: &[u16; 21]) -> Sums
     ghost full: { AllRecords }
     requires kept { AreKept full (K.means records.now) (K.spreads records.now)

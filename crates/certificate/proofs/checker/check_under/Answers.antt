@@ -21,13 +21,16 @@ check_record-requires g c =
             (
               c.requires.near c.loop-rank.rank c.loop-rank-test.true,
               (
-                c.requires.small,
+                c.requires.rows c.loop-rank.rank c.loop-rank-test.true,
                 (
-                  (λ file told. c.requires.file file (sym before.stays.told ∙ told)),
+                  c.requires.small,
                   (
-                    (λ file told. before.lower file (sym before.stays.told ∙ told)),
-                    subst (λ told. IsLower told c.loop-rank.lower c.loop-rank.rank)
-                        (sym before.stays.told) before.kept,
+                    (λ file told. c.requires.file file (sym before.stays.told ∙ told)),
+                    (
+                      (λ file told. before.lower file (sym before.stays.told ∙ told)),
+                      subst (λ told. IsLower told c.loop-rank.lower c.loop-rank.rank)
+                          (sym before.stays.told) before.kept,
+                    ),
                   ),
                 ),
               ),

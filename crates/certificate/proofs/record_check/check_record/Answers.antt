@@ -1,10 +1,11 @@
 -- The tests of the record of one rank, from its plays to its shares.
 use Rattle.std.proofs.Common.{◌≡◌, ◌↔◌, refl, Err, ℕ, ◌+◌, ◌<◌, ◌≤◌, List, Some, true, false, slice_index, sym, ap}
 use Rattle.std.proofs.Common.{subst, ◌∙◌, arith, rules, tests}
-use Rattle.race_model.specs.Positions.{Board, pips}
+use Rattle.race_model.specs.Positions.{Board, IsPosition, pips}
 use Rattle.race_model.specs.Ranks.{rank, count_to, at_rank}
 use Rattle.race_model.specs.Dice.{roll_at}
-use Rattle.race_model.specs.Files.{bound_of, record_at, mean_of, mean_at, share_of}
+use Rattle.race_model.specs.Files.{bound_of, record_at, mean_of, mean_at, play_of, share_of}
+use Rattle.race_model.proofs.Dice.Throws.{roll_of_index}
 use Rattle.race_model.proofs.Plays.Results.{legal_position}
 use Rattle.race_model.proofs.Plays.Spent.{legal_takes}
 use Rattle.race_model.proofs.Ranks.RankOrder.{rank_bound}
@@ -14,18 +15,83 @@ use Rattle.certificate.specs.PlayFaults.{FirstOfPlays}
 use Rattle.certificate.specs.declared.plays.PlayFault.{PlayFault}
 use Rattle.certificate.specs.declared.plays.PlayFault.TheVariants.{NotLegal, NotLeast, Read}
 use Rattle.certificate.specs.declared.record_check.RecordFault.TheVariants.{Read as ReadRecord}
+use Rattle.db_layout.proofs.Bounds.{bound-most}
+use Rattle.least_plays.specs.Known.{HasRows, Knows}
 use Rattle.db_reader.specs.TableStays.{TableStays}
+use Rattle.db_reader.specs.Reads.{HasRecord}
 use Rattle.db_reader.proofs.Failures.{rose_then, rose_as, table_as, table_more, err-same}
 use Rattle.std.proofs.lemmas.Bool.{false≢true}
 use Rattle.certificate.specs.KeptMeans.{kept_mean}
 use Rattle.certificate.specs.RecordNumbers.{IsMeanOf, IsShareOf}
 use Rattle.certificate.specs.RecordFaults.{IsFirstFaultAt, of_record}
+use Rattle.certificate.proofs.Accepted.{play-of_lent}
 use Rattle.certificate.proofs.RecordBytes.{mean-of_record}
+use Rattle.certificate.proofs.Upgrades.{get_or-plays_of}
 use Rattle.certificate.proofs.KeptMeans.{accepted-mean_more}
 use Rattle.certificate.proofs.RecordTests.{IsSummed, first-refused, wrong-mean, wrong-share, right-numbers}
 use Rattle.certificate.proofs.record_check.check_record.Given.{Over}
-use Rattle.certificate.proofs.record_check.check_record.Goals.{After-has_mean}
+use Rattle.certificate.proofs.record_check.check_record.Goals.{After-has_mean, After-unwrap-position}
 use Rattle.certificate.proofs.record_check.check_record.Goals as goal
+
+-- the position of the rank, of whose record the tests are
+module _ (g : Over) (c : After-unwrap-position g) where
+  ranked : rank c.unwrap-position.result ≡ c.args.rank
+  ranked = rw c.unwrap-position.ensures at c.unrank.ensures.ranked
+
+  at : IsPosition c.unwrap-position.result
+  at = rw c.unwrap-position.ensures at c.unrank.ensures.position
+
+  low : pips c.unwrap-position.result ≤ c.args.header.bound
+  low =
+      (rank_bound c.unwrap-position.result c.args.header.bound at).0
+      (omega (arith, ranked, c.requires.rank, c.args.header.counted))
+
+  short : pips c.unwrap-position.result ≤ 58
+  short = omega (arith, low, bound-most c.args.header)
+
+pub best_plays-best-requires : goal.best_plays-best-requires
+best_plays-best-requires g c =
+    let here = (goal.at.best_plays-best-requires g c).After-unwrap-position in
+    let is = ranked g here in (
+      search rules,
+      (
+        at g here,
+        (
+          short g here,
+          (
+            omega (arith, is, c.requires.rank, c.requires.room),
+            (
+              subst (HasRows g.row.ROWS) (sym is) c.requires.rows,
+              subst (Knows (kept_mean g.row.ROOM c.args.lower.now.means) c.args.lower.now.plays)
+                  (sym is) c.requires.kept.known,
+            ),
+          ),
+        ),
+      ),
+    )
+
+pub sum_plays-requires-clause-short : goal.sum_plays-requires-clause-short
+sum_plays-requires-clause-short g c =
+    short g (goal.at.sum_plays-requires-clause-short g c).After-unwrap-position
+
+pub sum_plays-requires-clause-recorded : goal.sum_plays-requires-clause-recorded
+sum_plays-requires-clause-recorded g c file told i lt =
+    let here = (goal.at.sum_plays-requires-clause-recorded g c).After-unwrap-position in
+    let bytes = c.lend.result in
+    let roll = roll_of_index i lt in
+    ap (λ xs. slice_index xs i) c.plays_in-recorded.ensures
+    ∙ (get_or-plays_of bytes i lt
+    ∙ (ap (play_of bytes) (sym roll.1)
+    ∙ play-of_lent file bytes c.unwrap-position.result c.args.rank (c.lend.ensures file told)
+    (sym (ranked g here)) (roll_at i)))
+
+pub sum_plays-requires-clause-records : goal.sum_plays-requires-clause-records
+sum_plays-requires-clause-records g c y is fewer =
+    let here = (goal.at.sum_plays-requires-clause-records g c).After-unwrap-position in
+    let under = (rank_bound y c.args.header.bound is).1 (omega (arith, fewer, low g here)) in
+    subst (λ accepted. HasRecord accepted (rank y))
+    (sym ((c.in_default.ensures {u = tt}).accepted ∙ c.requires.header))
+    (omega (arith, c.args.header.counted, under))
 
 pub sum_plays-requires-clause-lower : goal.sum_plays-requires-clause-lower
 sum_plays-requires-clause-lower g c file told = c.requires.lower file

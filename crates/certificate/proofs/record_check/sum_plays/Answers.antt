@@ -1,18 +1,20 @@
 -- The rolls one after another: what is recorded for each is accepted, and added up.
-use Rattle.std.proofs.Common.{◌≡◌, ℕ, ◌+◌, ◌<◌, List, Some, slice_index, refl, sym, ap, subst, ◌∙◌, arith, below_more}
-use Rattle.race_model.specs.Positions.{Board, IsPosition, IsFinished}
+use Rattle.std.proofs.Common.{◌≡◌, ℕ, ◌+◌, ◌*◌, ◌<◌, ◌≤◌, List, Some, slice_index, get_or, sum, take, refl}
+use Rattle.std.proofs.Common.{sym, ap, subst, ◌∙◌, arith, below_more}
+use Rattle.race_model.specs.Positions.{Board, IsPosition, IsFinished, pips}
 use Rattle.race_model.specs.Dice.{roll_at, weight}
-use Rattle.race_model.specs.LocalEquations.{IsPlayed, IsBest, IsLocalAt}
+use Rattle.race_model.specs.LocalEquations.{whole, IsPlayed, IsBest, IsLocalAt}
 use Rattle.race_model.specs.Ranks.{rank}
 use Rattle.race_model.specs.Plays.{Legal}
-use Rattle.race_model.specs.Files.{mean_at, play}
+use Rattle.race_model.specs.Files.{mean_of, mean_at, play}
+use Rattle.race_model.specs.Horizon.{most_rolls}
 use Rattle.race_model.specs.BestPlays.{IsBestPlay}
 use Rattle.race_model.proofs.Plays.Results.{legal_position, legal_pips}
+use Rattle.race_model.proofs.Strategies.Horizons.{most_rolls-most}
 use Rattle.fixed_fraction.specs.Totals.{IsAdded, AreTotals}
 use Rattle.db_reader.proofs.Failures.{table_more}
 use Rattle.certificate.specs.PlayFaults.{Applies}
 use Rattle.certificate.specs.RecordNumbers.{shares_of, recorded_mean, recorded_share}
-use Rattle.certificate.proofs.Accepted.{play-of_lent}
 use Rattle.certificate.proofs.PlayNumbers.{play-lent, lent-mean, lent-share}
 use Rattle.certificate.proofs.record_check.sum_plays.Given.{Over}
 use Rattle.certificate.proofs.record_check.sum_plays.Goals.{After-check_recorded, In_default}
@@ -24,18 +26,22 @@ module _ (g : Over) (c : After-check_recorded g) where
   roll_is = rw c.unwrap-roll.ensures at c.from_index.ensures.value
 
   recorded_is : (file : List ℕ) → g.T.Table.tells c.args.table.now ≡ Some file →
-      c.play-recorded.result ≡ play file c.args.position.now c.unwrap-roll.result
+      slice_index c.args.recorded.now c.from-place.result
+      ≡ play file c.args.position.now c.unwrap-roll.result
   recorded_is file told =
-      c.play-recorded.ensures
-      ∙ play-of_lent file c.lend.result c.args.position.now c.args.rank
-      (c.lend.ensures file (c.loop-index.invariant.stays.told ∙ told)) c.requires.rank
-      c.unwrap-roll.result
+      ap (slice_index c.args.recorded.now) c.from-place.ensures
+      ∙ (c.requires.recorded file told c.loop-index.index c.loop-index-test.true
+      ∙ ap (play file c.args.position.now) (sym roll_is))
+
+  rolls_are : c.most_rolls-rolls.result ≡ most_rolls (pips c.args.position.now)
+  rolls_are = c.most_rolls-rolls.ensures ∙ ap most_rolls c.pips.ensures.value
 
 -- where it is accepted, the plays of one roll more are played and least
 held_more : (g : Over) (c : In_default g) →
     c.unwrap-roll.result ≡ roll_at c.loop-index.index → (file : List ℕ) →
     g.T.Table.tells c.args.table.now ≡ Some file →
-    c.play-recorded.result ≡ play file c.args.position.now c.unwrap-roll.result →
+    slice_index c.args.recorded.now c.from-place.result
+    ≡ play file c.args.position.now c.unwrap-roll.result →
     (j : ℕ) → j < c.loop-index.index + 1 →
     IsPlayed file c.args.position.now (roll_at j) × IsBest file c.args.position.now (roll_at j)
 held_more g c roll file told read =
@@ -85,6 +91,18 @@ loop-index-preserved-then-is_finished g c =
           absurd (unfinished ((c.if-is_finished.ensures {u = tt}).value.0 refl));
     }
 
+pub add_numbers-requires-clause-few : goal.add_numbers-requires-clause-few
+add_numbers-requires-clause-few g c =
+    let most = most_rolls-most (pips c.args.position.now) c.requires.short in
+    omega (arith, c.most_rolls-rolls.ensures ∙ ap most_rolls c.pips.ensures.value, most)
+
+pub returns-in-Err-add_numbers-clause-fault : goal.returns-in-Err-add_numbers-clause-fault
+returns-in-Err-add_numbers-clause-fault g c file told = record {
+  is_roll = c.loop-index-test.true;
+  applies = tt;
+  earlier = c.loop-index.invariant.held file told;
+}
+
 pub returns-in-Err-add_numbers-clause-stays : goal.returns-in-Err-add_numbers-clause-stays
 returns-in-Err-add_numbers-clause-stays g c =
     let at = (goal.at.returns-in-Err-add_numbers-clause-stays g c).After-check_recorded in
@@ -102,11 +120,15 @@ returns-in-Err-add_numbers-clause-stays g c =
           let lower = subst (λ r. (z : Board) → IsPosition z → rank z < r
           → IsLocalAt file z) c.requires.rank
           (c.requires.lower file told) in
+          let bytes = c.lend.result in
           absurd ((c.in-Err-add_numbers.ensures {u = tt}).refused
+          (subst
+          (λ n. (mean_of bytes ≤ 22 * whole) × (sum (take n (shares_of bytes)) ≡ whole))
+          (sym (rolls_are g at))
           (play-lent file x c.requires.position c.requires.short lower unfinished
           c.unwrap-roll.result
-          (fine.right file now read).0 c.lend-in-loop-index.result c.play-recorded.result
-          (c.lend-in-loop-index.ensures file (fine.stays.told ∙ now)) read));
+          (fine.right file now read).0 bytes (slice_index c.args.recorded.now c.from-place.result)
+          (c.lend.ensures file (fine.stays.told ∙ now)) read)));
     }
 
 pub loop-index-preserved : goal.loop-index-preserved
@@ -122,7 +144,7 @@ loop-index-preserved g c =
     let within =
     c.law_sums.ensures.within i c.loop-index.sums.weight c.loop-index-test.true before.light in
     let added = (c.in_default-add_numbers.ensures {u = tt}).added in
-    let bytes = c.lend-in-loop-index.result in
+    let bytes = c.lend.result in
     record {
       stays = table_more before.stays fine.stays (λ e. cc);
       others = λ bytes other ready. fine.others bytes other (before.others bytes other ready);
@@ -133,20 +155,28 @@ loop-index-preserved g c =
           omega (arith, within.1, more);
       totals = λ file told unfinished.
           let read = recorded_is g after file told in
-          let lent = c.lend-in-loop-index.ensures file
+          let lent = c.lend.ensures file
           (fine.stays.told ∙ (before.stays.told ∙ told)) in
-          let mean = lent-mean file bytes x v c.play-recorded.result lent read in
-          let numbers = subst (λ m. IsAdded c.loop-index.sums (weight v) m
-          (shares_of bytes) c.add_numbers.new.sums)
+          let number = slice_index c.args.recorded.now c.from-place.result in
+          let mean = lent-mean file bytes x v number lent read in
+          let some = take c.most_rolls-rolls.result (shares_of bytes) in
+          let numbers = subst (λ m. IsAdded c.loop-index.sums (weight v) m some
+          c.add_numbers.new.sums)
           mean added in
           let here = subst (λ v. IsAdded c.loop-index.sums (weight v) (recorded_mean file x v)
-          (shares_of bytes) c.add_numbers.new.sums)
+          some c.add_numbers.new.sums)
           roll numbers in
+          let lower = subst (λ r. (z : Board) → IsPosition z → rank z < r
+          → IsLocalAt file z) c.requires.rank
+          (c.requires.lower file told) in
           c.law_sums.ensures.next (recorded_mean file x)
           (recorded_share file x) i c.loop-index.sums
-          c.add_numbers.new.sums (shares_of bytes) c.loop-index-test.true
+          c.add_numbers.new.sums some c.loop-index-test.true
           (before.totals file told unfinished)
-          (λ k few. lent-share file bytes x v c.play-recorded.result k few lent read
+          (λ k few.
+          ap (λ n. get_or (take n (shares_of bytes)) k 0) (rolls_are g after)
+          ∙ lent-share file x c.requires.position c.requires.short lower unfinished v
+          (fine.right file (before.stays.told ∙ told) read).0 bytes number lent read k few
           ∙ ap (λ v. recorded_share file x v k) roll)
           here;
     }
@@ -175,7 +205,7 @@ check_recorded-requires-clause-result_best g c =
     let roll = rw c.unwrap-roll.ensures at c.from_index.ensures.value in (
       y.0,
       subst (λ v. Legal c.args.position.now v y.0) (sym roll) y.1,
-      y.2 ∙ ap (λ i. slice_index c.args.best.now i) (sym c.from.ensures),
+      y.2 ∙ ap (λ i. slice_index c.args.best.now i) (sym c.from-place.ensures),
     )
 
 pub check_recorded-requires-clause-best : goal.check_recorded-requires-clause-best
@@ -184,8 +214,8 @@ check_recorded-requires-clause-best g c file told =
     let roll = rw c.unwrap-roll.ensures at c.from_index.ensures.value in
     let best = c.requires.best file (sym c.loop-index.invariant.stays.told ∙ told)
     c.loop-index.index c.loop-index-test.true in
-    subst (λ v. IsBestPlay (mean_at file) x v (slice_index c.args.best.now c.from.result))
+    subst (λ v. IsBestPlay (mean_at file) x v (slice_index c.args.best.now c.from-place.result))
     (sym roll)
     (subst
     (λ i. IsBestPlay (mean_at file) x (roll_at c.loop-index.index) (slice_index c.args.best.now i))
-    (sym c.from.ensures) best)
+    (sym c.from-place.ensures) best)

@@ -1,4 +1,4 @@
-use Rattle.std.proofs.Common.{◌≡◌, ◌↔◌, Bool, true, false, ◌+◌, ◌*◌, ◌%◌, sym, ap, ◌∙◌, arith}
+use Rattle.std.proofs.Common.{◌≡◌, ◌↔◌, Bool, true, false, ◌+◌, ◌*◌, ◌%◌, sym, ap, ◌∙◌, arith, rules}
 use Rattle.race_model.specs.Positions.{IsFinished}
 use Rattle.race_model.specs.LocalEquations.{whole}
 use Rattle.retrograde.proofs.Unique.{record-at_end, plays-held, plays-recent, mean-exact}
@@ -17,42 +17,46 @@ returns-then-is_finished g c =
     let made = c.finished_record.result in
     record {
       record_is =
-          record-at_end g.full c.args.position.now c.requires.1.0 c.requires.1.1.0 none made.mean
-          made.plays
+          record-at_end g.full c.args.position.now c.requires.1.1.1.0 c.requires.1.1.1.1.0 none
+          made.mean made.plays
           made.spread
           is.mean is.plays is.plays_len is.start is.shares is.shares_len;
       known = c.best_plays-plays.ensures.known;
     }
 
 pub best_plays-plays-requires : goal.best_plays-plays-requires
-best_plays-plays-requires g c = λ κs within. (
-  within,
-  (
-    c.requires.1.1.0,
-    (c.requires.1.1.1.0.means_are, (c.requires.1.1.1.1.0, c.requires.1.1.1.1.1.1)),
-  ),
-)
+best_plays-plays-requires g c =
+    let here = c.requires.1.1.1.1 in λ κs within. (
+      within,
+      (
+        search rules,
+        (
+          search rules,
+          (here.0, (here.1.0.means_are, (here.1.1.0, (here.1.1.1.1.0, here.1.1.1.1.1)))),
+        ),
+      ),
+    )
 
 pub sums_of-sums-requires : goal.sums_of-sums-requires
 sums_of-sums-requires g c =
     let x = c.args.position.now in
     let unfinished = denied c.is_finished.ensures.value c.if-is_finished.false in
-    let agree = c.requires.1.1.1.0.means_are in
-    let next = c.requires.1.1.1.1.0 in
-    let recent = c.requires.1.1.1.1.1.0 in
+    let agree = c.requires.1.1.1.1.1.0.means_are in
+    let next = c.requires.1.1.1.1.1.1.0 in
+    let recent = c.requires.1.1.1.1.1.1.1.0 in
     let best = c.best_plays-plays.ensures in λ κs within. (
       within,
       (
-        c.requires.1.1.1.0,
+        c.requires.1.1.1.1.1.0,
         (
-          plays-held g.full x c.requires.1.0 c.requires.1.1.0 unfinished
+          plays-held g.full x c.requires.1.1.1.0 c.requires.1.1.1.1.0 unfinished
               (g.K.Keeper.means c.args.records.now) agree
               next
               c.best_plays-plays.result best.len best.best,
           λ i lt. omega (
             arith,
             recent,
-            plays-recent g.full x c.requires.1.0 c.requires.1.1.0 unfinished
+            plays-recent g.full x c.requires.1.1.1.0 c.requires.1.1.1.1.0 unfinished
                 (g.K.Keeper.means c.args.records.now)
                 agree
                 next c.best_plays-plays.result best.len best.best i lt,
@@ -66,10 +70,10 @@ unwrap-mean-requires g c =
     let x = c.args.position.now in
     let unfinished = denied c.is_finished.ensures.value c.if-is_finished.false in
     let best = c.best_plays-plays.ensures in
-    let exact = mean-exact g.full x c.requires.1.0 c.requires.1.1.0 unfinished
+    let exact = mean-exact g.full x c.requires.1.1.1.0 c.requires.1.1.1.1.0 unfinished
     (g.K.Keeper.means c.args.records.now)
-    c.requires.1.1.1.0.means_are c.requires.1.1.1.1.0 c.best_plays-plays.result best.len best.best
-    in
+    c.requires.1.1.1.1.1.0.means_are c.requires.1.1.1.1.1.1.0 c.best_plays-plays.result
+    best.len best.best in
     c.mean.ensures.some.1 (
       exact.0,
       exact.1.0,
@@ -82,14 +86,14 @@ unwrap-spread-requires g c =
     let unfinished = denied c.is_finished.ensures.value c.if-is_finished.false in
     let best = c.best_plays-plays.ensures in
     let sums = c.sums_of-sums.ensures.shares in
-    let last = no-last g.full x c.requires.1.0 c.requires.1.1.0 unfinished
+    let last = no-last g.full x c.requires.1.1.1.0 c.requires.1.1.1.1.0 unfinished
     (g.K.Keeper.means c.args.records.now)
-    c.requires.1.1.1.0.means_are c.requires.1.1.1.1.0 c.best_plays-plays.result best.len best.best
-    in
-    let exact = shares-exact g.full x c.requires.1.0 c.requires.1.1.0 unfinished
+    c.requires.1.1.1.1.1.0.means_are c.requires.1.1.1.1.1.1.0 c.best_plays-plays.result
+    best.len best.best in
+    let exact = shares-exact g.full x c.requires.1.1.1.0 c.requires.1.1.1.1.0 unfinished
     (g.K.Keeper.means c.args.records.now)
-    c.requires.1.1.1.0.means_are c.requires.1.1.1.1.0 c.best_plays-plays.result best.len best.best
-    in
+    c.requires.1.1.1.1.1.0.means_are c.requires.1.1.1.1.1.1.0 c.best_plays-plays.result
+    best.len best.best in
     c.spread.ensures.some.1
     (sums 22 (omega arith) ∙ last, λ k lt. ap (λ n. n % 36) (sums k (omega arith)) ∙ exact k lt)
 
@@ -105,10 +109,10 @@ returns g c =
     let moved = rw c.unwrap-spread.ensures at c.spread.ensures.moved in
     record {
       record_is =
-          record-before g.full x c.requires.1.0 c.requires.1.1.0 unfinished
+          record-before g.full x c.requires.1.1.1.0 c.requires.1.1.1.1.0 unfinished
           (g.K.Keeper.means c.args.records.now)
-          c.requires.1.1.1.0.means_are c.requires.1.1.1.1.0 c.best_plays-plays.result best.len
-          best.best
+          c.requires.1.1.1.1.1.0.means_are c.requires.1.1.1.1.1.1.0 c.best_plays-plays.result
+          best.len best.best
           c.unwrap-mean.result c.unwrap-spread.result mean start
           (λ k lt. moved k lt ∙ sums.shares k (omega arith)) c.at-start.ensures.len;
       known = c.best_plays-plays.ensures.known;

@@ -1,5 +1,9 @@
 -- The means of the lower ranks are there.
+use Rattle.std.proofs.Common.{rules}
 use Rattle.certificate.proofs.kept.LowerRecords.best_plays.Goals as goal
 
-pub advance-requires-clause-held : goal.advance-requires-clause-held
-advance-requires-clause-held g c = c.requires.room
+pub advance-requires : goal.advance-requires
+advance-requires g c = (
+  search rules,
+  (c.requires.low, (c.requires.rows, (c.requires.room, c.requires.known))),
+)

@@ -1,7 +1,9 @@
 -- The position's row is written, and its best plays are those of its starts.
-use Rattle.std.proofs.Common.{◌-◌, ◌%◌, ◌∷◌, [], replicate, slice_index, slice_index_or, sym, ap, subst, ◌∙◌, arith}
+use Rattle.std.proofs.Common.{◌-◌, ◌%◌, ◌∷◌, [], replicate, slice_index, slice_index_or, sym, ap, subst, ◌∙◌}
+use Rattle.std.proofs.Common.{arith, rules, mod-lt}
 use Rattle.race_model.specs.Positions.{IsFinished}
 use Rattle.race_model.specs.Dice.{number, roll_at}
+use Rattle.race_model.specs.Ranks.{rank}
 use Rattle.race_model.specs.BestPlays.{IsBestPlay}
 use Rattle.race_model.proofs.Dice.Faces.{number_positive}
 use Rattle.race_model.proofs.Plays.Spent.{number_most}
@@ -9,30 +11,37 @@ use Rattle.race_model.proofs.Plays.MostPlays.{get_or-zeros}
 use Rattle.race_model.proofs.Ranks.BestPlays.{run-at_end, play-at_end}
 use Rattle.least_plays.specs.Known.{IsBestAfter}
 use Rattle.least_plays.specs.declared.starts.Start.{Start}
-use Rattle.least_plays.proofs.Knowing.{knows_more, finished_row}
+use Rattle.least_plays.proofs.Knowing.{has_some, knows_more, finished_row}
 use Rattle.least_plays.proofs.room.LeastPlays.advance.Goals as goal
 
 pub starts-starts-requires : goal.starts-starts-requires
-starts-starts-requires g c = record {
-  next = record {
-    position = c.is_finished.ensures.position;
-    unfinished = λ none.
-        let yes = c.is_finished.ensures.value.1 none in
-        let no = c.if-is_finished.false in cc;
-    low = c.requires.low;
-    held = c.requires.held;
-    known = c.requires.known;
-  };
-}
+starts-starts-requires g c = (
+  search rules,
+  (
+    record {
+      position = c.is_finished.ensures.position;
+      unfinished = λ none.
+          let yes = c.is_finished.ensures.value.1 none in
+          let no = c.if-is_finished.false in cc;
+      low = c.requires.low;
+      held = c.requires.held;
+      known = c.requires.known;
+    },
+    (has_some g.row.ROWS (rank c.args.position.now) c.requires.rows, c.requires.rows.few),
+  ),
+)
 
 pub returns-then-is_finished-clause-known : goal.returns-then-is_finished-clause-known
 returns-then-is_finished-clause-known g c =
     let x = c.args.position.now in
     let none : IsFinished x = c.is_finished.ensures.value.0 c.if-is_finished.true in
-    knows_more (g.M.Means.mean c.args.means.now) c.args.self.now x (c.from-place.result % 11452)
+    knows_more (g.M.Means.mean c.args.means.now) c.args.self.now x
+    (c.from-place.result % g.row.ROWS)
     (record { after = replicate 6 (replicate 3 0) }) c.is_finished.ensures.position c.requires.low
-    (ap (λ r. r % 11452) (c.from-place.ensures ∙ c.rank.ensures.value))
-    (omega arith) c.requires.known
+    (omega arith) c.requires.rows
+    (ap (λ r. r % g.row.ROWS) (c.from-place.ensures ∙ c.rank.ensures.value))
+    (mod-lt c.from-place.result (has_some g.row.ROWS (rank c.args.position.now) c.requires.rows))
+    c.requires.known
     (λ d n few.
     subst (IsBestAfter (g.M.Means.mean c.args.means.now) x (d ∷ replicate n d))
     (sym (finished_row d n))
@@ -52,10 +61,11 @@ returns-clause-known g c =
     let mean = g.M.Means.mean c.args.means.now in
     let x = c.args.position.now in
     let starts = c.starts-starts.result in
-    knows_more mean c.args.self.now x (c.from-place.result % 11452) c.row_of.result
-    c.is_finished.ensures.position c.requires.low
-    (ap (λ r. r % 11452) (c.from-place.ensures ∙ c.rank.ensures.value))
-    (omega arith) c.requires.known
+    knows_more mean c.args.self.now x (c.from-place.result % g.row.ROWS) c.row_of.result
+    c.is_finished.ensures.position c.requires.low (omega arith) c.requires.rows
+    (ap (λ r. r % g.row.ROWS) (c.from-place.ensures ∙ c.rank.ensures.value))
+    (mod-lt c.from-place.result (has_some g.row.ROWS (rank c.args.position.now) c.requires.rows))
+    c.requires.known
     (λ d n few.
     let e : Start = record { after = []; plays = [] } in
     subst (λ xs. IsBestAfter mean x (d ∷ replicate n d) (slice_index xs n))

@@ -1,5 +1,6 @@
 -- The numbers of a row by their places, whichever die it is.
-use Rattle.std.proofs.Common.{◌≡◌, ℕ, ◌-◌, ◌%◌, [], List, ◌∷◌, slice_index, slice_index_or, ap, refl, ◌∙◌, arith}
+use Rattle.std.proofs.Common.{◌≡◌, ℕ, ◌-◌, ◌%◌, [], List, ◌∷◌, length, ap, refl, ◌∙◌, arith}
+use Rattle.std.proofs.Common.{slice_index, slice_index_or}
 use Rattle.race_model.specs.Dice.{Die, one, two, three, four, five, six, number}
 use Rattle.least_plays.specs.Known.{row_in, number_in, kept_in}
 use Rattle.least_plays.specs.declared.room.Row.{Row}
@@ -10,14 +11,15 @@ at : Row → ℕ → ℕ → ℕ
 at row i n = slice_index (slice_index_or row.after i []) n
 
 -- what the code makes of a row
-made : List Row → ℕ → ℕ → ℕ → List ℕ
-made rows place r own =
-    let row = slice_index_or rows (place % 11452) (record { after = [] }) in
+made : ℕ → List Row → ℕ → ℕ → ℕ → List ℕ
+made size rows place r own =
+    let row = slice_index_or rows (place % size) (record { after = [] }) in
     at row 0 0 ∷ at row 1 0 ∷ at row 2 0 ∷ at row 3 0 ∷ at row 4 0 ∷ at row 5 0 ∷ r
     ∷ at row own 1 ∷ at row own 2 ∷ []
 
 -- it is what is kept
-made-is : (rows : List Row) (r : ℕ) (d : Die) → made rows r r (number d - 1) ≡ kept_in rows r d
+made-is : (rows : List Row) (r : ℕ) (d : Die) →
+    made (length rows) rows r r (number d - 1) ≡ kept_in rows r d
 unfolding number_in row_in kept_in made at
 made-is rows r one = refl
 made-is rows r two = refl
@@ -28,10 +30,12 @@ made-is rows r six = refl
 
 pub returns : goal.returns
 unfolding made at
-returns c =
+returns g c =
+    let long : g.row.ROWS ≡ length c.args.self.now.rows = omega arith in
     let own : c.from-2.result - 1 ≡ number c.args.die - 1 =
     omega (arith, c.from-2.ensures, c.number.ensures.value) in
-    ap (λ place. made c.args.self.now.rows place c.args.rank (c.from-2.result - 1))
+    ap (λ place. made g.row.ROWS c.args.self.now.rows place c.args.rank (c.from-2.result - 1))
     c.from.ensures
-    ∙ ap (made c.args.self.now.rows c.args.rank c.args.rank) own
+    ∙ ap (made g.row.ROWS c.args.self.now.rows c.args.rank c.args.rank) own
+    ∙ ap (λ n. made n c.args.self.now.rows c.args.rank c.args.rank (number c.args.die - 1)) long
     ∙ made-is c.args.self.now.rows c.args.rank c.args.die

@@ -1,6 +1,6 @@
 -- One die more.
 use Rattle.std.proofs.Common.{◌≡◌, ◌+◌, ◌-◌, length-set}
-use Rattle.std.proofs.Common.{sym, subst, ◌∙◌, arith}
+use Rattle.std.proofs.Common.{sym, subst, ◌∙◌, arith, rules}
 use Rattle.race_model.specs.Dice.{Die, number}
 use Rattle.race_model.proofs.Dice.Faces.{same_number, number_positive}
 use Rattle.race_model.proofs.Plays.Spent.{number_most}
@@ -9,12 +9,17 @@ use Rattle.least_plays.specs.Known.{IsStart}
 use Rattle.least_plays.specs.declared.starts.Start.{Start}
 use Rattle.least_plays.proofs.room.LeastPlays.starts.Goals as goal
 
-pub start-requires-clause-next : goal.start-requires-clause-next
-start-requires-clause-next g c = rw c.of-steps.ensures.position c.requires.next
-
-pub start-requires-clause-steps : goal.start-requires-clause-steps
-start-requires-clause-steps g c =
-    rw (c.of-steps.ensures.position, c.of-steps.ensures.die) c.of-steps.ensures.steps
+pub start-requires : goal.start-requires
+start-requires g c = (
+  search rules,
+  (
+    rw c.of-steps.ensures.position c.requires.next,
+    (
+      c.requires.rows,
+      rw (c.of-steps.ensures.position, c.of-steps.ensures.die) c.of-steps.ensures.steps,
+    ),
+  ),
+)
 
 pub loop-index-preserved : goal.loop-index-preserved
 loop-index-preserved g c =

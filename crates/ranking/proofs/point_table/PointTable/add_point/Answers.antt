@@ -7,14 +7,14 @@ use Rattle.ranking.proofs.point_table.PointTable.add_point.Goals.{After-shifted-
 
 pub loop-checkers-init : goal.loop-checkers-init
 loop-checkers-init c =
-    partway_start c.args.point c.args.self.now.rows c.requires.last c.requires.above.long
-    c.requires.above.each
+    partway_start c.args.point c.args.self.now.rows c.args.occupied.now.rows c.requires.last
+    c.requires.above.long (omega arith) c.requires.above.each
 
 -- the row that is added counts the lists with a checker on the point
 more : (c : After-shifted-more) →
     IsRow (used c.args.point c.loop-checkers.checkers) c.shifted-more.result
 more c =
-    added_at _ _ c.loop-checkers.self.rows c.loop-checkers.used.rows (record { cells = [] }) _
+    added_at _ _ c.loop-checkers.self.rows c.loop-checkers.occupied.rows (record { cells = [] }) _
     c.requires.last c.loop-checkers.auto.checkers c.loop-checkers-test.true
     c.loop-checkers.invariant c.shifted-more.ensures
 

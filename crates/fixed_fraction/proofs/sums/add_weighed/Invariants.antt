@@ -1,5 +1,5 @@
 use Rattle.std.proofs.Common.{◌≡◌, ℕ, ◌+◌, ◌*◌, ◌<◌, ◌≤◌, length, get_or}
-use Rattle.fixed_fraction.proofs.sums.add_shares.Given as goal
+use Rattle.fixed_fraction.proofs.sums.add_weighed.Given as goal
 
 -- the shares of fewer rolls are added, and the others are as they were
 abbrev pub invariant-loop-k : goal.invariant-loop-k

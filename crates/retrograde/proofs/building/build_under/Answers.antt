@@ -1,8 +1,10 @@
+use Rattle.std.proofs.Common.{◌⊎◌, inl, inr, ⊎_elim, rules}
 use Rattle.std.proofs.Common.{◌≡◌, ℕ, suc, ◌+◌, ◌-◌, ◌≤◌, length, sym, ap, subst, ◌∙◌, arith}
 use Rattle.race_model.specs.Ranks.{first_of, count_to}
 use Rattle.race_model.specs.Versions.{version_by}
 use Rattle.race_model.proofs.Ranks.RankOrder.{first_of-zero, first_of-suc, first_of-rises, count_to-rises}
 use Rattle.db_layout.proofs.Bounds.{bound-most}
+use Rattle.db_layout.specs.declared.header.Header.{Header}
 use Rattle.std.proofs.KnownBytes.{Appends-nil}
 use Rattle.retrograde.specs.AllRecords.{mean_of_rank, bytes_of_rank}
 use Rattle.retrograde.specs.BuiltBytes.{IsRefusedBy}
@@ -12,11 +14,19 @@ use Rattle.db_layout.proofs.Prefixes.{header-first}
 use Rattle.retrograde.proofs.Kept.{kept-none}
 use Rattle.retrograde.proofs.Prefixes.{refused_build, nothing-written, header-written, ranks-written, level-part}
 use Rattle.retrograde.proofs.Prefixes.{level-written, all-written}
-use Rattle.retrograde.proofs.building.build_with.Goals as goal
+use Rattle.retrograde.proofs.building.build_under.Goals as goal
 
 -- a level begins where the one below ends
 first_of-one : (p : ℕ) → first_of (p + 1) ≡ count_to p
 first_of-one p = let next : p + 1 ≡ suc p = omega arith in rw next (first_of-suc p)
+
+-- the rows that do for a bound do for each level up to it
+rows_for : (header : Header) (rows : ℕ) → (header.count ≤ rows) ⊎ (rows ≡ 11452) → (p : ℕ) →
+    p ≤ header.bound → (count_to p ≤ rows) ⊎ (rows ≡ 11452)
+rows_for header rows has p low = ⊎_elim
+    (λ all. inl (omega (arith, all, header.counted, count_to-rises p header.bound low)))
+    (λ usual. inr usual)
+    has
 
 pub add_level-requires : goal.add_level-requires
 add_level-requires g c =
@@ -25,16 +35,28 @@ add_level-requires g c =
     λ κs within. (
       within,
       (
-        omega arith,
+        search rules,
         (
-          kept-none all-records means (g.K.Keeper.spreads c.args.records.now)
-              (g.K.Keeper.plays c.args.records.now) c.requires.means c.requires.spreads
-              c.requires.plays,
+          search rules,
           (
-            none ∙ sym first_of-zero,
+            omega arith,
             (
-              omega (arith, none),
-              rw first_of-zero (c.new-least.ensures (mean_of_rank all-records)),
+              kept-none all-records means (g.K.Keeper.spreads c.args.records.now)
+                  (g.K.Keeper.plays c.args.records.now) c.requires.means c.requires.spreads
+                  c.requires.plays,
+              (
+                none ∙ sym first_of-zero,
+                (
+                  omega (arith, none),
+                  (
+                    rw first_of-zero (c.new-least.ensures (mean_of_rank all-records)),
+                    (
+                      c.requires.few,
+                      rows_for c.args.header g.row.ROWS c.requires.rows 0 (omega arith),
+                    ),
+                  ),
+                ),
+              ),
             ),
           ),
         ),
@@ -124,14 +146,30 @@ add_level-requires-in-loop-below g c =
     let below = c.loop-below.below in λ κs within. (
       within,
       (
-        omega (arith, bound-most c.args.header),
+        search rules,
         (
-          is.kept,
+          search rules,
           (
-            is.made,
+            omega (arith, bound-most c.args.header),
             (
-              omega (arith, is.recent, first_of-rises (below - 24) (below + 1 - 24) (omega arith)),
-              is.known,
+              is.kept,
+              (
+                is.made,
+                (
+                  omega (
+                    arith,
+                    is.recent,
+                    first_of-rises (below - 24) (below + 1 - 24) (omega arith),
+                  ),
+                  (
+                    is.known,
+                    (
+                      c.requires.few,
+                      rows_for c.args.header g.row.ROWS c.requires.rows (below + 1) (omega arith),
+                    ),
+                  ),
+                ),
+              ),
             ),
           ),
         ),

@@ -1,18 +1,19 @@
 -- The shares of a record, added one after another.
-use Rattle.std.proofs.Common.{◌≡◌, ℕ, ◌+◌, ◌*◌, ◌<◌, ◌≤◌, List, length, get_or, set, sum, take, sym}
+use Rattle.std.proofs.Common.{◌≡◌, ⊎_elim, ℕ, ◌+◌, ◌*◌, ◌<◌, ◌≤◌, List, length, get_or, set, sum, take, sym}
 use Rattle.std.proofs.Common.{ap, ◌∙◌, arith, rules, below_more}
-use Rattle.std.proofs.lemmas.List.{take_all, get_or-set_same, get_or-set_other}
-use Rattle.std.proofs.lemmas.List.Sums.{sum_by-take-le}
+use Rattle.std.proofs.lemmas.Bool.{cases_lt}
+use Rattle.std.proofs.lemmas.List.{length-take, get_or-take, get_or_past, get_or-set_same, get_or-set_other}
 use Rattle.std.proofs.lemmas.Nat.{mul-le}
 use Rattle.race_model.specs.Files.{share_of}
 use Rattle.race_model.specs.LocalEquations.{whole}
 use Rattle.certificate.specs.RecordNumbers.{shares_of}
-use Rattle.certificate.proofs.RecordBytes.{get_or-shares_of, length-shares_of, shares-more}
-use Rattle.certificate.proofs.record_sums.add_shares.Goals as goal
+use Rattle.certificate.proofs.RecordBytes.{get_or-shares_of, shares-more, sum-take_rises}
+use Rattle.certificate.proofs.record_sums.add_weighed.Goals as goal
 
--- the first shares are no more than all of them
-part : (bytes : List ℕ) (k : ℕ) → sum (take k (shares_of bytes)) ≤ sum (shares_of bytes)
-part bytes k = sum_by-take-le (λ x. x) (shares_of bytes) k
+-- fewer of the first shares are no more than more of them
+part : (bytes : List ℕ) (k n : ℕ) → k ≤ n
+    → sum (take k (shares_of bytes)) ≤ sum (take n (shares_of bytes))
+part bytes k n le = sum-take_rises (shares_of bytes) k n le
 
 -- one share more is added, and the others stay
 module _ (start xs bytes : List ℕ) (weight k share : ℕ) (long : length xs ≡ 23) (lt : k < 23)
@@ -53,7 +54,7 @@ loop-k-preserved-then-share-eq0 c =
     let bytes = c.args.view.now in
     let k = c.loop-k.k in
     let before = c.loop-k.invariant in
-    let lt : k < 23 = c.loop-k-test.true in
+    let lt : k < 23 = omega (arith, c.loop-k-test.true, c.requires.few) in
     let is = c.spread-share.ensures.share (omega arith) in
     let none : get_or (shares_of bytes) k 0 ≡ 0 =
     get_or-shares_of bytes k lt ∙ sym is ∙ c.if-share-eq0.true in
@@ -79,14 +80,15 @@ pub returns-then-share-left-clause-whole : goal.returns-then-share-left-clause-w
 returns-then-share-left-clause-whole c =
     let bytes = c.args.view.now in
     let k = c.loop-k.k in
-    let is = c.spread-share.ensures.share (omega (arith, c.loop-k-test.true)) in
-    let more = shares-more bytes k c.spread-share.result c.loop-k-test.true is in (
+    let lt : k < 23 = omega (arith, c.loop-k-test.true, c.requires.few) in
+    let is = c.spread-share.ensures.share (omega (arith, lt)) in
+    let more = shares-more bytes k c.spread-share.result lt is in (
       λ no. cc,
       λ all. absurd (omega (
         arith,
         all,
         more,
-        part bytes (k + 1),
+        part bytes (k + 1) c.args.rolls (omega (arith, c.loop-k-test.true)),
         c.loop-k.invariant.left,
         c.if-share-left.true,
       )),
@@ -97,16 +99,17 @@ loop-k-preserved c =
     let bytes = c.args.view.now in
     let k = c.loop-k.k in
     let before = c.loop-k.invariant in
-    let lt : k < 23 = c.loop-k-test.true in
+    let lt : k < 23 = omega (arith, c.loop-k-test.true, c.requires.few) in
     let is = c.spread-share.ensures.share (omega arith) in
     let here = before.others k (omega arith) in
     let xs = c.loop-k.shares in
     let start = c.args.shares.now in
     let share = c.spread-share.result in
-    let value = get_or xs k 0 + c.weighed.result in
-    let sums : value ≡ get_or xs k 0 + c.args.weight * share = omega (arith, c.weighed.ensures) in
+    let value = get_or xs k 0 + c.from.result * share in
+    let sums : value ≡ get_or xs k 0 + c.args.weight * share =
+    ap (λ n. get_or xs k 0 + n * share) c.from.ensures in
     let small : share ≤ whole = omega (arith, before.left, c.if-share-left.false) in
-    rw c.from.ensures (record {
+    rw c.from-in-loop-k.ensures (record {
       len = search rules;
       left = omega (
         arith,
@@ -126,10 +129,37 @@ pub returns-clause-whole : goal.returns-clause-whole
 returns-clause-whole c =
     let bytes = c.args.view.now in
     let before = c.loop-k.invariant in
-    let end : c.loop-k.k ≡ 23 = omega (arith, c.loop-k-test.false, c.loop-k.auto.k-end) in
-    let all : sum (take c.loop-k.k (shares_of bytes)) ≡ sum (shares_of bytes) =
-    ap sum (take_all c.loop-k.k (shares_of bytes) (omega (arith, end, length-shares_of bytes))) in
+    let end : c.loop-k.k ≡ c.args.rolls = omega (
+      arith,
+      c.loop-k-test.false,
+      c.loop-k.auto.k-end,
+    ) in
+    let all : sum (take c.loop-k.k (shares_of bytes)) ≡ sum (take c.args.rolls (shares_of bytes)) =
+    ap (λ n. sum (take n (shares_of bytes))) end in
     grind (arith, before.left, all)
+
+pub returns-clause-added : goal.returns-clause-added
+returns-clause-added c added j lt =
+    let bytes = c.args.view.now in
+    let before = c.loop-k.invariant in
+    let end : c.loop-k.k ≡ c.args.rolls = omega (
+      arith,
+      c.loop-k-test.false,
+      c.loop-k.auto.k-end,
+    ) in
+    let some = take c.args.rolls (shares_of bytes) in
+    let start = get_or c.args.shares.now j 0 in
+    ⊎_elim
+    (λ first.
+    let same : c.args.weight * get_or (shares_of bytes) j 0 ≡ c.args.weight * get_or some j 0 =
+    ap (λ n. c.args.weight * n) (sym (get_or-take c.args.rolls (shares_of bytes) j 0 first)) in
+    omega (arith, before.added j (omega (arith, end, first)), same))
+    (λ later.
+    let none : c.args.weight * get_or some j 0 ≡ c.args.weight * 0 =
+    ap (λ n. c.args.weight * n)
+    (get_or_past some j 0 (omega (arith, length-take c.args.rolls (shares_of bytes), later))) in
+    omega (arith, before.others j (omega (arith, end, later)), none))
+    (cases_lt j c.args.rolls)
 
 pub returns-then-share-left-clause-bounded : goal.returns-then-share-left-clause-bounded
 returns-then-share-left-clause-bounded c = λ j lt. c.loop-k.invariant.bounded j

@@ -1,7 +1,7 @@
 use Rattle.std.proofs.Common.{◌≡◌, ℕ, ◌+◌, ◌*◌, ◌<◌, ◌≤◌, length, get_or, sum, take}
 use Rattle.race_model.specs.LocalEquations.{whole}
 use Rattle.certificate.specs.RecordNumbers.{shares_of}
-use Rattle.certificate.proofs.record_sums.add_shares.Given as goal
+use Rattle.certificate.proofs.record_sums.add_weighed.Given as goal
 
 -- the shares of fewer rolls are added, and what is left is the whole without them
 abbrev pub invariant-loop-k : goal.invariant-loop-k
