@@ -9,7 +9,7 @@ use Rattle.std.proofs.lemmas.List.Sums.{sum_by-cons, sum_by_more, sum_by-take-dr
 use Rattle.std.proofs.lemmas.List.FromFn.{get_or-map-range_with_len}
 use Rattle.race_model.specs.Files.{record_at, mean_of, play_of, share_of, mean_at, play_at, spread_at}
 use Rattle.race_model.proofs.Numbers.Sums.{sum-zeros}
-use Rattle.certificate.specs.RecordNumbers.{shares_of}
+use Rattle.certificate.specs.RecordNumbers.{plays_of, shares_of}
 
 pub mean-of_record : (f : List ℕ) (r : ℕ) → mean_of (record_at f r) ≡ mean_at f r
 unfolding mean_at
@@ -22,6 +22,25 @@ share-of_record f r k = refl
 pub play-of_record : (f : List ℕ) (r roll : ℕ) → play_of (record_at f r) roll ≡ play_at f r roll
 unfolding play_at
 play-of_record f r roll = refl
+
+-- one of the plays in the bytes of a record
+pub get_or-plays_of : (bytes : List ℕ) (i : ℕ) → i < 21
+    → get_or (plays_of bytes) i 0 ≡ play_of bytes i
+unfolding plays_of
+get_or-plays_of bytes i lt =
+    get_or-map-range_with_len (play_of bytes) 0 21 i i 0 (omega arith) (omega arith)
+
+-- .. of which there are 21
+pub length-plays_of : (bytes : List ℕ) → length (plays_of bytes) ≡ 21
+unfolding plays_of
+length-plays_of bytes = length-map (range_with_len 0 21) (play_of bytes)
+
+-- 21 numbers that are these plays one by one
+pub are_plays : (xs bytes : List ℕ) → length xs ≡ 21
+    → ((i : ℕ) → i < 21 → get_or xs i 0 ≡ play_of bytes i) → xs ≡ plays_of bytes
+are_plays xs bytes len each =
+    same_number_lists xs (plays_of bytes) (len ∙ sym (length-plays_of bytes))
+    (λ i lt. each i (omega arith) ∙ sym (get_or-plays_of bytes i (omega arith)))
 
 -- one of the shares in the bytes of a record
 pub get_or-shares_of : (bytes : List ℕ) (k : ℕ) → k < 23

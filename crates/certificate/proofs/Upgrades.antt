@@ -33,36 +33,15 @@ use Rattle.std.specs.Io.KnownBytes.{Appends}
 use Rattle.db_layout.proofs.Bytes.{record_reads, mean_fits, shares_fit, small_record}
 use Rattle.db_layout.proofs.WholeFiles.{file-version, file-bound, file-bytes, whole-mean}
 use Rattle.db_layout.proofs.WholeFiles.{whole-play, whole-share, whole-is_file}
-use Rattle.certificate.specs.RecordNumbers.{shares_of}
-use Rattle.certificate.specs.Upgrades.{plays_of, compact_record, WritesUpgrade, WritesUpgradePart}
+use Rattle.certificate.specs.RecordNumbers.{plays_of, shares_of}
+use Rattle.certificate.specs.Upgrades.{compact_record, WritesUpgrade, WritesUpgradePart}
 use Rattle.certificate.specs.Upgrades.{IsUpgradeRefused, IsLater}
 use Rattle.certificate.specs.declared.upgrade_fault.UpgradeFault.{UpgradeFault}
 use Rattle.certificate.specs.declared.upgrade_fault.UpgradeFault.TheVariants.{NotOld, Read, Write}
 use Rattle.certificate.proofs.Accepted.{accepted-right, accepted-mean, accepted-total, accepted-under}
-use Rattle.certificate.proofs.RecordBytes.{mean-of_record, play-of_record, share-of_record, get_or-shares_of}
-
--- one of the plays in the bytes of a record
-pub get_or-plays_of : (bytes : List ℕ) (i : ℕ) → i < 21
-    → get_or (plays_of bytes) i 0 ≡ play_of bytes i
-unfolding plays_of
-get_or-plays_of bytes i lt =
-    get_or-map-range_with_len (play_of bytes) 0 21 i i 0 (omega arith) (omega arith)
-
--- .. of which there are 21
-pub length-plays_of : (bytes : List ℕ) → length (plays_of bytes) ≡ 21
-unfolding plays_of
-length-plays_of bytes = length-map (range_with_len 0 21) (play_of bytes)
-
--- 21 numbers that are these plays one by one
-pub are_plays : (xs bytes : List ℕ) → length xs ≡ 21
-    → ((i : ℕ) → i < 21 → get_or xs i 0 ≡ play_of bytes i) → xs ≡ plays_of bytes
-are_plays xs bytes len each =
-    same_number_lists xs (plays_of bytes) (len ∙ sym (length-plays_of bytes))
-    (λ i lt. each i (omega arith) ∙ sym (get_or-plays_of bytes i (omega arith)))
-
-length-shares_of : (bytes : List ℕ) → length (shares_of bytes) ≡ 23
-unfolding shares_of
-length-shares_of bytes = length-map (range_with_len 0 23) (share_of bytes)
+use Rattle.certificate.proofs.RecordBytes.{mean-of_record, play-of_record, share-of_record}
+use Rattle.certificate.proofs.RecordBytes.{get_or-plays_of, length-plays_of, are_plays, get_or-shares_of}
+use Rattle.certificate.proofs.RecordBytes.{length-shares_of}
 
 -- a share is told by itself and by no other
 told_share-same : (version : Version) (p : ℕ) (s t : ℕ → ℕ) (k : ℕ) → s k ≡ t k →

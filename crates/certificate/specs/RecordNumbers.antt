@@ -4,9 +4,13 @@ use Rattle.std.specs.Prelude.{◌≡◌, ℕ, zero, suc, ◌+◌, ◌*◌, ◌<�
 use Rattle.std.specs.List.{range_with_len}
 use Rattle.race_model.specs.Positions.{Board, IsFinished}
 use Rattle.race_model.specs.Dice.{Throw}
-use Rattle.race_model.specs.Files.{share_of, mean_at, spread_at, play}
+use Rattle.race_model.specs.Files.{play_of, share_of, mean_at, spread_at, play}
 use Rattle.race_model.specs.LocalEquations.{whole, weighted}
 use Rattle.fixed_fraction.specs.Totals.{Totals}
+
+-- the plays of the rolls 0 to 20 in the bytes of a record
+unfoldable pub plays_of : List ℕ → List ℕ
+plays_of bytes = map (play_of bytes) (range_with_len 0 21)
 
 -- the shares of 0 to 22 rolls in the bytes of a record
 unfoldable pub shares_of : List ℕ → List ℕ

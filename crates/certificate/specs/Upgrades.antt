@@ -9,7 +9,7 @@ use Rattle.race_model.specs.Files.{record_at, mean_of, play_of}
 use Rattle.race_model.specs.Upgrades.{IsUpgrade}
 use Rattle.db_layout.specs.Records.{record_of}
 use Rattle.db_layout.specs.Writes.{AppendsPart}
-use Rattle.certificate.specs.RecordNumbers.{shares_of}
+use Rattle.certificate.specs.RecordNumbers.{plays_of, shares_of}
 use Rattle.certificate.specs.declared.upgrade_fault.UpgradeFault.{UpgradeFault}
 use Rattle.certificate.specs.declared.upgrade_fault.UpgradeFault.TheVariants.{NotOld, Read, Write}
 
@@ -32,10 +32,6 @@ abbrev pub IsLater : UpgradeFault → Type 0
 IsLater NotOld = ⊥
 IsLater Read = Unit {0}
 IsLater Write = Unit {0}
-
--- the plays of the rolls 0 to 20 in the bytes of a record
-unfoldable pub plays_of : List ℕ → List ℕ
-plays_of bytes = map (play_of bytes) (range_with_len 0 21)
 
 -- the record of a rank of a file, as a file of version 2 stores it
 unfoldable pub compact_record : List ℕ → ℕ → List ℕ

@@ -2,10 +2,11 @@
 ghost use Rattle.std.specs.Prelude.{◌≡◌, ℕ, ◌*◌, ◌≤◌, ◌↔◌, IsSome, IfSome, sum};
 ghost use Rattle.race_model.specs.Files.{mean_of};
 ghost use Rattle.race_model.specs.LocalEquations.{whole};
-ghost use Rattle.certificate.specs.RecordNumbers.{shares_of};
+ghost use Rattle.certificate.specs.RecordNumbers.{plays_of, shares_of};
 
 use db_layout::RecordView;
 use fixed_fraction::{Scaled, Spread};
+use legal_plays::Roll;
 
 /// The mean of a record; none exactly where it is over 22 rolls.
 pub fn mean_in(view: &RecordView<'_>) -> Option<Scaled>
@@ -13,6 +14,18 @@ pub fn mean_in(view: &RecordView<'_>) -> Option<Scaled>
     ensures value { IfSome result (λ mean. mean ≡ mean_of view.now) }
 {
     Scaled::new(view.mean())
+}
+
+/// What stands in a record for the rolls 0 to 20.
+pub fn plays_in(view: &RecordView<'_>) -> [u16; 21]
+    ensures { result ≡ plays_of view.now }
+{
+    let mut plays = [0; 21];
+    for index in 0..21 {
+        let roll = Roll::from_index(index).unwrap();
+        plays[usize::from(index)] = view.play(roll);
+    }
+    plays
 }
 
 /// The shares of a record; none exactly where they don't add up to the whole.

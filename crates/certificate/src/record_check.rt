@@ -21,10 +21,9 @@ ghost use Rattle.certificate.specs.RecordFaults.{IsFirstFaultAt, of_record};
 
 use crate::equations::{has_mean, wrong_share};
 use crate::kept::LowerRecords;
-use crate::numbers::mean_in;
+use crate::numbers::{mean_in, plays_in};
 use crate::plays::{PlayFault, check_recorded};
 use crate::record_sums::RecordSums;
-use crate::upgrading::plays_in;
 use db_layout::{Header, RecordView, most_rolls};
 use db_reader::{ReadFault, Record, Table};
 use fixed_fraction::law_sums;

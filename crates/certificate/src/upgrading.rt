@@ -10,16 +10,15 @@ ghost use Rattle.db_layout.specs.Writes.{AppendsPart};
 ghost use Rattle.db_reader.specs.Telling.{WhereTold};
 ghost use Rattle.db_reader.specs.TableStays.{TableStays};
 ghost use Rattle.db_reader.specs.Reads.{HasRecord};
-ghost use Rattle.certificate.specs.RecordNumbers.{shares_of};
-ghost use Rattle.certificate.specs.Upgrades.{plays_of, compact_record, WritesUpgrade, IsUpgradeRefused};
+ghost use Rattle.certificate.specs.RecordNumbers.{plays_of, shares_of};
+ghost use Rattle.certificate.specs.Upgrades.{compact_record, WritesUpgrade, IsUpgradeRefused};
 ghost use Rattle.certificate.specs.Upgrades.{IsLater};
 
-use crate::numbers::{mean_in, spread_in};
+use crate::numbers::{mean_in, plays_in, spread_in};
 use crate::upgrade_fault::UpgradeFault;
 use db_layout::{COMPACT_VERSION, Header, RecordView, write_header, write_record};
 use db_reader::{Record, Table};
 use fixed_fraction::{Scaled, Spread};
-use legal_plays::Roll;
 use ranking::Ranks;
 use std::io::Write;
 
@@ -45,18 +44,6 @@ fn numbers_in(view: &RecordView<'_>) -> Option<Numbers>
         plays: plays_in(view),
         spread: spread_in(view)?,
     })
-}
-
-/// What stands in a record for the rolls 0 to 20.
-pub(crate) fn plays_in(view: &RecordView<'_>) -> [u16; 21]
-    ensures { result ≡ plays_of view.now }
-{
-    let mut plays = [0; 21];
-    for index in 0..21 {
-        let roll = Roll::from_index(index).unwrap();
-        plays[usize::from(index)] = view.play(roll);
-    }
-    plays
 }
 
 /// Writes the record of a rank as a file of version 2 stores it. Refused as `Read` where it can't

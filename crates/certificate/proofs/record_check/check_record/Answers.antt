@@ -25,8 +25,7 @@ use Rattle.certificate.specs.KeptMeans.{kept_mean}
 use Rattle.certificate.specs.RecordNumbers.{IsMeanOf, IsShareOf}
 use Rattle.certificate.specs.RecordFaults.{IsFirstFaultAt, of_record}
 use Rattle.certificate.proofs.Accepted.{play-of_lent}
-use Rattle.certificate.proofs.RecordBytes.{mean-of_record}
-use Rattle.certificate.proofs.Upgrades.{get_or-plays_of}
+use Rattle.certificate.proofs.RecordBytes.{mean-of_record, get_or-plays_of}
 use Rattle.certificate.proofs.KeptMeans.{accepted-mean_more}
 use Rattle.certificate.proofs.RecordTests.{IsSummed, first-refused, wrong-mean, wrong-share, right-numbers}
 use Rattle.certificate.proofs.record_check.check_record.Given.{Over}

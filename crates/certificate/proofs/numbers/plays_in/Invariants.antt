@@ -1,6 +1,6 @@
 use Rattle.std.proofs.Common.{◌≡◌, ℕ, ◌<◌, length, get_or}
 use Rattle.race_model.specs.Files.{play_of}
-use Rattle.certificate.proofs.upgrading.plays_in.Given as goal
+use Rattle.certificate.proofs.numbers.plays_in.Given as goal
 
 -- the plays of the rolls of lower index are read
 abbrev pub invariant-loop-index : goal.invariant-loop-index

@@ -1,6 +1,6 @@
 use Rattle.std.proofs.Common.{arith}
-use Rattle.certificate.proofs.Upgrades.{are_plays}
-use Rattle.certificate.proofs.upgrading.plays_in.Goals as goal
+use Rattle.certificate.proofs.RecordBytes.{are_plays}
+use Rattle.certificate.proofs.numbers.plays_in.Goals as goal
 
 pub returns : goal.returns
 returns c =
