@@ -200,7 +200,7 @@ class WholeTables(unittest.TestCase):
             self.assertEqual(here.mean(position), Fraction(wide(high, low), WHOLE))
 
     def test_weights(self) -> None:
-        """Floats by the weights are as near to the exact numbers as the page says, also where the high half is nothing."""
+        """Floats by the weights are as near to the exact numbers as the page says, also where one half is nothing."""
         here = database(58)
         halves = [*pairs(here.means()), *pairs(here.distributions())[::29]]
         for high, low in halves:

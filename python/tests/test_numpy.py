@@ -38,7 +38,8 @@ class Arrays(unittest.TestCase):
         self.assertLess((abs(means @ WEIGHTS - [float(mean) for mean in exact])).max(), 1e-14)
         sums = (numpy.asarray(here.distributions()) @ WEIGHTS).sum(axis=1)
         self.assertLess(abs(sums - 1).max(), 1e-14)
-        self.assertEqual(numpy.asarray(here.epcs())[:, 4].tolist(), [here.epc(position).thousandths for position in found])
+        thousandths = [here.epc(position).thousandths for position in found]
+        self.assertEqual(numpy.asarray(here.epcs())[:, 4].tolist(), thousandths)
 
     def test_a_row_is_a_position(self) -> None:
         here = database(44)

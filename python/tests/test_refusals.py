@@ -49,7 +49,8 @@ class Long(list):  # type: ignore[type-arg]
 
 NO_POSITIONS: Tuple[Any, ...] = (
     *((), (1, 2, 3), (0,) * 5, (0,) * 7, [0] * 1000, range(5), [[0] * 6]),
-    *((0, 0, 0, 0, 0, -1), [-1] * 6, (0, 0, 0, 0, 0, HUGE), (0, 0, 0, 0, 0, 1000), [HUGE] * 6, Position(0, 0, 0, 0, 0, -1)),
+    *((0, 0, 0, 0, 0, -1), [-1] * 6, (0, 0, 0, 0, 0, HUGE), (0, 0, 0, 0, 0, 1000), [HUGE] * 6),
+    Position(0, 0, 0, 0, 0, -1),
     *((0.0,) * 6, (0, 0, 0, 0, 0, 1.0), [None] * 6, ("0",) * 6, (0, 0, 0, 0, 0, "1"), (Fraction(1),) * 6, (1j,) * 6),
     *(None, 0, 1, 6, 1.5, True, HUGE, object(), type, len, print, Ellipsis, float("nan")),
     *({0, 1, 2, 3, 4, 5}, frozenset(range(6)), {0: 0, 1: 0, 2: 0, 3: 0, 4: 0, 5: 0}, iter(SIX), (c for c in SIX)),
@@ -60,11 +61,13 @@ NO_POSITIONS: Tuple[Any, ...] = (
 )
 
 NO_ROLLS: Tuple[Any, ...] = (
-    *((), (1,), (1, 2, 3), [1, 2, 3, 4], None, 21, 2.1, "21", "2-1", {1, 2}, {1: 2, 2: 1}, iter((2, 1)), (1.0, 2), ("2", "1")),
-    *((None, None), ((2, 1),), object(), b"", Long([1, 2])),
+    *((), (1,), (1, 2, 3), [1, 2, 3, 4], None, 21, 2.1, "21", "2-1", {1, 2}, {1: 2, 2: 1}, iter((2, 1))),
+    *((1.0, 2), ("2", "1"), (None, None), ((2, 1),), object(), b"", Long([1, 2])),
 )
 
-BAD_ROLLS: Tuple[Any, ...] = ((0, 1), (1, 7), (-1, 2), (257, 258), (1, HUGE), [255, 255], (65537, 1), (2**64 + 1, 2), (False, 1))
+BAD_ROLLS: Tuple[Any, ...] = (
+    *((0, 1), (1, 7), (-1, 2), (257, 258), (1, HUGE), [255, 255], (65537, 1), (2**64 + 1, 2), (False, 1)),
+)
 
 NO_RANKS: Tuple[Any, ...] = (-1, -HUGE, 1.0, None, "1", b"1", (1,), [1], object(), float("inf"), Fraction(1), 1j)
 
@@ -141,7 +144,8 @@ class Refusals(unittest.TestCase):
         for call in (here.mean, here.epc, here.distribution, here.rank):
             told = self.refused(3, call, (1, 15, 0, 0, 0, 0))
             self.assertEqual(told, "more than 15 checkers: 1,15,0,0,0,0")
-            for many in ((255,) * 6, (256,) * 6, [999] * 6, "16,0,0,0,0,0", "0,0,0,0,0,999", Position(0, 0, 0, 0, 0, 16)):
+            ways: Tuple[Any, ...] = ((255,) * 6, (256,) * 6, [999] * 6, "16,0,0,0,0,0", "0,0,0,0,0,999")
+            for many in (*ways, Position(0, 0, 0, 0, 0, 16)):
                 self.refused(3, call, many)
             told = self.refused(4, call, "0,0,1,0,0,1")
             self.assertEqual(told, "more pips than the bound: 0,0,1,0,0,1")
@@ -217,7 +221,8 @@ class Refusals(unittest.TestCase):
         kinds: Tuple[Type[BearoffError], ...] = (BadArgument, Refused, Damaged, Changed, NoLibrary)
         for kind in kinds:
             self.assertTrue(issubclass(kind, BearoffError) and issubclass(kind, ValueError))
-        for error in (Refused(3, "16,0,0,0,0,0"), Damaged(26, "mean rank 1"), BadArgument("x"), Changed("y"), NoLibrary("z")):
+        errors = (Refused(3, "16,0,0,0,0,0"), Damaged(26, "mean rank 1"), BadArgument("x"), Changed("y"), NoLibrary("z"))
+        for error in errors:
             again = pickle.loads(pickle.dumps(error))
             self.assertEqual((type(again), str(again), vars(again)), (type(error), str(error), vars(error)))
 
