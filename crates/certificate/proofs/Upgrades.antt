@@ -1,18 +1,15 @@
 -- The upgrade of an accepted file: its records hold what those of the file hold.
-use Rattle.std.proofs.Common.{◌≡◌, ⊎_elim, ℕ, zero, suc, ◌*◌, ◌^◌, ◌<◌, ◌≤◌, List, Option, length}
+use Rattle.std.proofs.Common.{◌≡◌, ⊎_elim, ℕ, zero, suc, ◌*◌, ◌^◌, ◌<◌, ◌≤◌, List, Option}
 use Rattle.std.proofs.Common.{get_or, sum, refl, sym, ap, subst, ◌∙◌, arith, le_trans, cond, leb}
 use Rattle.std.specs.Prelude.{slice_index}
-use Rattle.std.specs.List.{range_with_len}
-use Rattle.std.proofs.lemmas.List.{length-map, get_or_past}
-use Rattle.std.proofs.lemmas.List.FromFn.{get_or-map-range_with_len}
-use Rattle.std.proofs.lemmas.Grind.{same_number_lists}
+use Rattle.std.proofs.lemmas.List.{get_or_past}
 use Rattle.std.proofs.lemmas.Bool.{cases_lt}
 use Rattle.race_model.specs.Positions.{Board, IsPosition, pips}
 use Rattle.race_model.specs.Dice.{roll_at, roll_index}
 use Rattle.race_model.specs.Ranks.{rank, at_rank, count_to}
 use Rattle.race_model.specs.Horizon.{most_rolls}
 use Rattle.race_model.specs.Versions.{Version, full, compact}
-use Rattle.race_model.specs.Files.{record_at, mean_of, play_of, share_of, mean_at, play_at, spread_at, bound_of}
+use Rattle.race_model.specs.Files.{record_at, mean_of, play_of, mean_at, play_at, spread_at, bound_of}
 use Rattle.race_model.specs.LocalEquations.{whole, IsLocal}
 use Rattle.race_model.specs.ToldShares.{told_share}
 use Rattle.race_model.specs.SameNumbers.{HasSameNumbers}
@@ -40,7 +37,7 @@ use Rattle.certificate.specs.declared.upgrade_fault.UpgradeFault.{UpgradeFault}
 use Rattle.certificate.specs.declared.upgrade_fault.UpgradeFault.TheVariants.{NotOld, Read, Write}
 use Rattle.certificate.proofs.Accepted.{accepted-right, accepted-mean, accepted-total, accepted-under}
 use Rattle.certificate.proofs.RecordBytes.{mean-of_record, play-of_record, share-of_record}
-use Rattle.certificate.proofs.RecordBytes.{get_or-plays_of, length-plays_of, are_plays, get_or-shares_of}
+use Rattle.certificate.proofs.RecordBytes.{get_or-plays_of, length-plays_of, get_or-shares_of}
 use Rattle.certificate.proofs.RecordBytes.{length-shares_of}
 
 -- a share is told by itself and by no other

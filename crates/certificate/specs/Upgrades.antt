@@ -1,11 +1,10 @@
 -- What an upgrade writes. Source: this project's profile.
-use Rattle.std.specs.Prelude.{ℕ, List, Option, map}
-use Rattle.std.specs.List.{range_with_len}
+use Rattle.std.specs.Prelude.{ℕ, List, Option}
 use Rattle.std.specs.Io.KnownBytes.{Appends, Keeps}
 use Rattle.race_model.specs.Positions.{pips}
 use Rattle.race_model.specs.Ranks.{at_rank}
 use Rattle.race_model.specs.Versions.{compact}
-use Rattle.race_model.specs.Files.{record_at, mean_of, play_of}
+use Rattle.race_model.specs.Files.{record_at, mean_of}
 use Rattle.race_model.specs.Upgrades.{IsUpgrade}
 use Rattle.db_layout.specs.Records.{record_of}
 use Rattle.db_layout.specs.Writes.{AppendsPart}
