@@ -2,10 +2,13 @@
 
 Each number in a lesson that has three decimals or is a fraction has to be one of the step's own: the mean, the effective
 pip count or the wastage of its position, a number of the program's replies to the lines that stand behind `from:` in the
-step, or one that an earlier step of the lesson had. A roll that is asked has to have more than one play. The
-page, docs/lessons.md, has to name the lessons in their order. What the ace-stack rule is off over all stacks is compared
-too.
+step, or one that an earlier step of the lesson had. Any other number in digits has to be a pip count of such a position, or
+what the ace-stack rule says of it; and so many checkers, or so many on a point, have to be there. A difference stands behind
+`from:`, as in `51.943 - 49.679 > 2` or `158/81 - 1/1 = 77/81`, and has to hold of such numbers. A roll that is asked has to
+have more than one play. The page, docs/lessons.md, has to name the lessons in their order. What the ace-stack rule is off
+over all stacks is compared too, and what a third checker costs at most.
 """
+import itertools
 import re
 import subprocess
 import sys
@@ -55,26 +58,73 @@ def steps_of(text):
     return lessons
 
 
-# what is no fraction but a move
-MOVE = re.compile("6/[1-5]|5/[1-4]|4/[1-3]|3/[12]|2/1")
+# what is no number of a position: a position, a move, a roll, the rule's own words
+PASSED_OVER = re.compile(r"(\d+,){5}\d+|\b[1-6]/(off|[1-5])\b|\b[1-6]-[1-6]\b|7n \+ 1")
+COUNTS = ["no", "one", "two", "three", "four", "five", "six", "seven", "eight", "nine", "ten", "eleven", "twelve",
+          "thirteen", "fourteen", "fifteen"]
+POINTS = ["ace", *COUNTS[2:7]]
+CHECKERS = re.compile(rf"\b({'|'.join(COUNTS)}) (?:checkers\b|on the ({'|'.join(POINTS)}) point)", re.IGNORECASE)
+COMPARED = re.compile(r"([\d./]+) - ([\d./]+) ([>=]) ([\d./]+)")
+
+
+def rule_of(count):
+    """What the ace-stack rule says of so many checkers."""
+    return 7 * ((count + 1) // 2) + 1
+
+
+def faults_of(words, known, boards):
+    """What a step says that is not so, where its numbers are known and its boards were shown or named."""
+    left = PASSED_OVER.sub(lambda passed: passed[0] if passed[0] in known else " ", words)
+    whole = {str(sum(point * count for point, count in enumerate(board, 1))) for board in boards}
+    whole |= {str(rule_of(board[0])) for board in boards if board[0] == sum(board)}
+    for number in re.findall(r"\d+(?:/\d+|\.\d+)?", left):
+        if number not in known | whole:
+            yield f"{number} is none of the program's"
+    for count, point in CHECKERS.findall(words):
+        number = COUNTS.index(count.lower())
+        have = [board[POINTS.index(point.lower())] if point else sum(board) for board in boards]
+        if number not in have:
+            yield f"no position has {count} {point or 'checkers'}"
+
 
 lessons = steps_of(Path(path).read_text(encoding="utf-8"))
 for title, steps in lessons:
-    known = {"49/6"}
+    known, boards = {"49/6"}, []
     for number, step in enumerate(steps, 1):
+        said = []
+        named = [step["at"], *re.findall(r"\d+(?:,\d+){5}", f"{step['words']} {step['from']}")]
+        boards += [list(map(int, position.split(","))) for position in named]
         known |= numbers(step["at"])[1]
-        for reply in replies(step["from"]):
+        lines = [line for line in step["from"] if not COMPARED.fullmatch(line)]
+        for line, reply in zip(lines, replies(lines)):
+            if reply.startswith("error"):
+                said.append(f"{line}: {reply}")
             told = re.findall(r"\d+/\d+|\d+\.\d{3}", reply)
             known |= {*told, *(nearest(Fraction(one)) for one in told if "/" in one)}
-        words = step["words"]
-        fractions = [one for one in re.findall(r"\b\d+/\d+\b", words) if one not in known and not MOVE.fullmatch(one)]
-        for one in fractions + [one for one in re.findall(r"\b\d+\.\d{3}\b", words) if one not in known]:
-            wrong.append(f"{title}, step {number}: {one} is none of the program's")
-        if "roll" in step:
-            if len(replies([f"moves {step['at']} {step['roll']}"])[0].split()) < 3:
-                wrong.append(f"{title}, step {number}: {step['roll']} has nothing to decide")
+        for line in step["from"]:
+            if line in lines:
+                continue
+            one, other, sign, least = COMPARED.fullmatch(line).groups()
+            more = Fraction(one) - Fraction(other)
+            if not {one, other} <= known or not (more > Fraction(least) if sign == ">" else more == Fraction(least)):
+                said.append(f"{line} doesn't hold")
+            elif sign == "=":
+                known.add(least)
+        said += faults_of(step["words"], known, boards)
+        if "roll" in step and len(replies([f"moves {step['at']} {step['roll']}"])[0].split()) < 3:
+            said.append(f"{step['roll']} has nothing to decide")
+        wrong += [f"{title}, step {number}: {fault}" for fault in said]
 
-errors = [abs(numbers(f"{count},0,0,0,0,0")[0] - (7 * ((count + 1) // 2) + 1)) for count in range(1, 16)]
+errors = [abs(numbers(f"{count},0,0,0,0,0")[0] - rule_of(count)) for count in range(1, 16)]
+
+# what a checker that joins any two costs: the mean with it, less that without it
+joined = [((*pair, third), pair) for pair in itertools.combinations_with_replacement(range(6), 2) for third in range(6)]
+asked = [",".join(str(points.count(point)) for point in range(6)) for both in joined for points in both]
+means = [Fraction(reply.split()[1]) for reply in replies([f"mean {position}" for position in asked])]
+dearest = max(three - two for three, two in zip(means[::2], means[1::2]))
+if not re.search(rf"\b{dearest} of a roll\. No third checker costs more", " ".join(Path(path).read_text().split())):
+    wrong.append(f"a third checker costs at most {dearest}")
+
 told = re.search(r'OVER_ALL = \{ most: "([\d.]+)", mean: "([\d.]+)" \}', Path(path).with_name("training.js").read_text())
 if told.groups() != (nearest(max(errors)), nearest(sum(errors) / 15)):
     wrong.append(f"the ace-stack rule: {told.groups()}, and not {nearest(max(errors))} and {nearest(sum(errors) / 15)}")
