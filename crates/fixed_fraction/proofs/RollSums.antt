@@ -1,13 +1,17 @@
 -- Sums over the rolls, added up in the order of their indices.
-use Rattle.std.proofs.Common.{◌≡◌, ℕ, suc, ◌+◌, ◌*◌, ◌<◌, ◌≤◌, List, [], ◌∷◌, length, get_or, take}
-use Rattle.std.proofs.Common.{sum_by, sum, sym, ap, ◌∙◌, arith}
-use Rattle.std.proofs.lemmas.List.{take_all}
+use Rattle.std.proofs.Common.{◌≡◌, ℕ, suc, ◌+◌, ◌*◌, ◌^◌, ◌<◌, ◌≤◌, List, [], ◌∷◌, length, get_or, take}
+use Rattle.std.proofs.Common.{Bor, map, sum_by, sum, refl, sym, ap, subst, ◌∙◌, arith}
+use Rattle.std.proofs.lemmas.List.{take_all, get_or-map}
 use Rattle.std.proofs.lemmas.List.Sums.{sum_by-cons, sum_by_more, sum_by-take-le}
-use Rattle.race_model.specs.Dice.{Throw, one, all_rolls, roll_at, weight}
+use Rattle.race_model.specs.Dice.{Throw, one, all_rolls, roll_at, roll_index, weight}
 use Rattle.race_model.specs.LocalEquations.{whole, weighted}
-use Rattle.race_model.proofs.Dice.RollSums.{length-all_rolls, sum_by-weight}
-use Rattle.fixed_fraction.specs.Totals.{Totals, IsAdded, AreTotals}
-use Rattle.fixed_fraction.proofs.Shares.{sum_upto, sum_upto-same, sum_upto-zero, sum_upto-linear}
+use Rattle.race_model.proofs.Dice.RollSums.{length-all_rolls, sum_by-weight, roll_index-range}
+use Rattle.race_model.proofs.Dice.Throws.{roll_of_index}
+use Rattle.race_model.proofs.Numbers.Sums.{sum_by-map, sum_by-equal, sum_by-zero}
+use Rattle.fixed_fraction.specs.Shares.{weighted_share}
+use Rattle.fixed_fraction.specs.Totals.{Totals, IsAdded, AreTotals, weighted_at}
+use Rattle.fixed_fraction.proofs.Pulls.{part_small}
+use Rattle.fixed_fraction.proofs.Shares.{sum_upto, sum_upto-same, sum_upto-zero, sum_upto-linear, sum_upto-weighted_share}
 use Rattle.fixed_fraction.proofs.Shares.{sum-by_places, sum_upto-without_last}
 
 -- the sum over one roll more
@@ -61,16 +65,103 @@ sum-places xs len =
     let all : sum (take 23 xs) ≡ sum xs = ap sum (take_all 23 xs (omega arith)) in
     sym all ∙ sum-by_places xs 23 (omega arith)
 
--- shares that were added with a weight add up to both sums
-pub shares-added : (xs ys zs : List ℕ) (w : ℕ) → length xs ≡ 23 → length ys ≡ 23 → length zs ≡ 23
-    → ((k : ℕ) → k < 23 → get_or zs k 0 ≡ get_or xs k 0 + w * get_or ys k 0)
-    → sum zs ≡ sum xs + w * sum ys
-shares-added xs ys zs w len_x len_y len_z each =
-    let terms = sum_upto-same 23 (λ k. get_or zs k 0) (λ k. w * get_or ys k 0 + get_or xs k 0)
-    (λ k lt. omega (arith, each k lt)) in
-    let linear = sum_upto-linear 23 w (λ k. get_or ys k 0) (λ k. get_or xs k 0) in
-    let part = ap (λ n. w * n) (sum-places ys len_y) in
-    omega (arith, sum-places zs len_z, terms, linear, sum-places xs len_x, part)
+-- one number more, of those that go by the index of the roll
+module _ (g : ℕ → ℕ) (i value w total most : ℕ) (lt : i < 21) (is : value ≡ g i)
+    (small : value ≤ most) (weighs : w ≡ weight (roll_at i))
+    (so_far : total ≡ sum_by (λ v. weight v * g (roll_index v)) (take i all_rolls))
+    (bound : total ≤ sum_by weight (take i all_rolls) * most) where
+  pub roll-added : total + w * value
+      ≡ sum_by (λ v. weight v * g (roll_index v)) (take (i + 1) all_rolls)
+  roll-added =
+      let here : value ≡ g (roll_index (roll_at i)) = is ∙ ap g (sym (roll_of_index i lt).1) in
+      let part : w * value ≡ weight (roll_at i) * g (roll_index (roll_at i)) =
+      ap (λ n. n * value) weighs ∙ ap (λ n. weight (roll_at i) * n) here in
+      rw (roll-more (λ v. weight v * g (roll_index v)) i lt) (omega (arith, so_far, part))
+
+  pub roll-bound : total + w * value ≤ sum_by weight (take (i + 1) all_rolls) * most
+  roll-bound =
+      let next : sum_by weight (take (i + 1) all_rolls) ≡ sum_by weight (take i all_rolls) + w =
+      roll-more weight i lt ∙ ap (λ n. sum_by weight (take i all_rolls) + n) (sym weighs) in
+      let all = part_small total w value (sum_by weight (take i all_rolls))
+      (sum_by weight (take (i + 1) all_rolls)) most 0 small next (omega (arith, bound)) in
+      omega (arith, all)
+
+-- numbers of at most 22 wholes each leave room in 128 bits
+pub rolls-fit : (i total : ℕ) → i < 21
+    → total ≤ sum_by weight (take (i + 1) all_rolls) * (22 * whole) → total < 2 ^ 128
+unfolding whole
+rolls-fit i total lt bound =
+    omega (arith, roll-more weight i lt, weights-within i lt)
+
+-- .. and after all rolls
+pub rolls-done : (g : Throw → ℕ) (i total : ℕ) → i ≡ 21 → total ≡ sum_by g (take i all_rolls)
+    → total ≡ sum_by g all_rolls
+rolls-done g i total all is = is ∙ (ap (λ n. sum_by g (take n all_rolls)) all ∙ all-rolls g)
+
+pub rolls-bound : (i total most : ℕ) → i ≡ 21 → total ≤ sum_by weight (take i all_rolls) * most
+    → total ≤ 36 * most
+rolls-bound i total most all bound =
+    subst (λ n. total ≤ n * most)
+    (rolls-done weight i (sum_by weight (take i all_rolls)) all refl ∙ sum_by-weight) bound
+
+-- a list that is lent, at a place
+pub lent-at : (xs : List (Bor (List ℕ))) (i : ℕ) (d : Bor (List ℕ)) → i < length xs
+    → get_or (map (λ s. s.now) xs) i [] ≡ (get_or xs i d).now
+lent-at xs i d lt = get_or-map (λ (s : Bor (List ℕ)). s.now) xs i d [] lt
+
+-- the weights, as a list
+pub weights-by_index : (i : ℕ) → i < 21
+    → get_or (1 ∷ 2 ∷ 1 ∷ 2 ∷ 2 ∷ 1 ∷ 2 ∷ 2 ∷ 2 ∷ 1 ∷ 2 ∷ 2 ∷ 2 ∷ 2 ∷ 1 ∷ 2 ∷ 2 ∷ 2 ∷ 2 ∷ 2 ∷ 1 ∷ [])
+    i 0 ≡ weight (roll_at i)
+unfolding all_rolls roll_at
+weights-by_index i lt =
+    get_or-map weight all_rolls i (record { first = one; second = one }) 0
+    (omega (arith, length-all_rolls))
+
+-- a number for all rolls alike
+rolls-alike : (n : ℕ) → sum_by (λ v. weight v * n) all_rolls ≡ 36 * n
+unfolding all_rolls
+rolls-alike n = omega arith
+
+-- where no roll leads to a share of exactly k rolls, their sum is none
+pub weighted_at-zero : (spreads : List (List ℕ)) (k : ℕ)
+    → ((i : ℕ) → i < 21 → get_or (get_or spreads i []) k 0 ≡ 0) → weighted_at spreads k ≡ 0
+weighted_at-zero spreads k none =
+    sum_by-zero (λ v. weight v * get_or (get_or spreads (roll_index v) []) k 0) all_rolls
+    (λ v.
+    ap (λ n. weight v * n) (none (roll_index v) (roll_index-range v)) ∙ times-none (weight v))
+  where
+    times-none : (n : ℕ) → n * 0 ≡ 0
+    times-none n = omega arith
+
+-- sums of the shares that the rolls lead to add up to 36 wholes
+pub shares-summed : (xs : List ℕ) (spreads : List (List ℕ)) → length xs ≡ 23
+    → ((k : ℕ) → k < 23 → get_or xs k 0 ≡ weighted_at spreads k)
+    → ((i : ℕ) → i < 21 → sum (get_or spreads i []) ≡ whole)
+    → ((i : ℕ) → i < 21 → length (get_or spreads i []) ≡ 23) → sum xs ≡ 36 * whole
+shares-summed xs spreads len each wholes lengths =
+    sum-places xs len
+    ∙ (sum_upto-same 23 (λ k. get_or xs k 0) (weighted_share parts)
+    (λ k lt. each k lt ∙ sym (sum_by-map (λ part. part.0 * get_or part.1 k 0) of_roll all_rolls))
+    ∙ (sum_upto-weighted_share parts 23
+    ∙ (sum_by-map (λ part. part.0 * sum_upto 23 (λ k. get_or part.1 k 0)) of_roll all_rolls
+    ∙ (sum_by-equal (λ v. weight v * sum_upto 23 (λ k. get_or (spread v) k 0))
+    (λ v. weight v * whole) all_rolls (λ v. ap (λ n. weight v * n) (all v))
+    ∙ rolls-alike whole))))
+  where
+    spread : Throw → List ℕ
+    spread v = get_or spreads (roll_index v) []
+
+    of_roll : Throw → ℕ × List ℕ
+    of_roll v = (weight v, spread v)
+
+    parts : List (ℕ × List ℕ)
+    parts = map of_roll all_rolls
+
+    all : (v : Throw) → sum_upto 23 (λ k. get_or (spread v) k 0) ≡ whole
+    all v =
+        sym (sum-places (spread v) (lengths (roll_index v) (roll_index-range v)))
+        ∙ wholes (roll_index v) (roll_index-range v)
 
 -- shares that are a 36th of such sums, one roll later, add up to the whole
 pub shares-moved : (xs totals : List ℕ) → length xs ≡ 23 → length totals ≡ 23 → get_or xs 0 0 ≡ 0

@@ -1,7 +1,8 @@
 -- Sums over the 21 rolls of what each leads to, each counted with the weight of its roll.
-use Rattle.std.specs.Prelude.{◌≡◌, ℕ, ◌+◌, ◌*◌, ◌<◌, ◌≤◌, List, length, slice_index, sum, sum_by, take}
-use Rattle.race_model.specs.Dice.{Throw, all_rolls, weight}
-use Rattle.race_model.specs.LocalEquations.{whole}
+use Rattle.std.specs.Prelude.{◌≡◌, ℕ, ◌+◌, ◌*◌, ◌<◌, ◌≤◌, List, [], length, slice_index, slice_index_or, sum, sum_by}
+use Rattle.std.specs.Prelude.{take}
+use Rattle.race_model.specs.Dice.{Throw, all_rolls, roll_index, weight}
+use Rattle.race_model.specs.LocalEquations.{whole, weighted}
 
 -- the weights, the means, and for each of 0 to 22 rolls the shares, added up
 pub record Totals : Type 0 where
@@ -33,3 +34,7 @@ pub record AreTotals (mean : Throw → ℕ) (share : Throw → ℕ → ℕ) (rol
   pub means : totals.mean ≡ sum_by (λ v. weight v * mean v) (take rolls all_rolls)
   pub each : (k : ℕ) → k < 23 →
       slice_index totals.shares k ≡ sum_by (λ v. weight v * share v k) (take rolls all_rolls)
+
+-- of the shares that the rolls lead to, by their index, the weighted sum of those of exactly k rolls
+abbrev pub weighted_at : List (List ℕ) → ℕ → ℕ
+weighted_at spreads k = weighted (λ v. slice_index (slice_index_or spreads (roll_index v) []) k)

@@ -1,9 +1,10 @@
 //! Weighted sums over the 21 rolls.
 ghost use Rattle.std.specs.Prelude.{◌≡◌, ℕ, suc, ◌+◌, ◌*◌, ◌%◌, ◌<◌, ◌≤◌, ◌↔◌, List, replicate};
-ghost use Rattle.std.specs.Prelude.{slice_index, sum_by, take, IsSome, IfSome};
-ghost use Rattle.race_model.specs.Dice.{Throw, all_rolls, roll_at, weight};
+ghost use Rattle.std.specs.Prelude.{[], length, map, slice_index, slice_index_or, sum, sum_by, take};
+ghost use Rattle.std.specs.Prelude.{IsSome, IfSome};
+ghost use Rattle.race_model.specs.Dice.{Throw, all_rolls, roll_at, roll_index, weight};
 ghost use Rattle.race_model.specs.LocalEquations.{whole, weighted};
-ghost use Rattle.fixed_fraction.specs.Totals.{Totals, IsAdded, AreTotals};
+ghost use Rattle.fixed_fraction.specs.Totals.{Totals, IsAdded, AreTotals, weighted_at};
 
 use crate::scaled::{Scaled, WHOLE};
 use crate::spread::Spread;
@@ -12,13 +13,18 @@ use std::marker::Model;
 /// By which 9 is to be multiplied to come to 1 modulo 2 ^ 128.
 const INVERSE_OF_NINE: u128 = 75618303760208547436305468318170713657;
 
-/// The means and the shares of what some rolls lead to, added up with the weights of these rolls:
-/// 1 for a double, else 2 (the rules of backgammon: 36 throws count equally). Of all 21 rolls the
-/// weights add up to 36, so that the record of a position is one roll and a 36th of these sums,
-/// its shares moved on by one roll.
+/// How many of the 36 throws are each roll, by its index: one for a double, else two (the rules of
+/// backgammon: 36 throws count equally).
+const WEIGHTS: [u8; 21] = [
+    1, 2, 1, 2, 2, 1, 2, 2, 2, 1, 2, 2, 2, 2, 1, 2, 2, 2, 2, 2, 1,
+];
+
+/// The means and the shares of what the 21 rolls lead to, added up with the weights of these rolls:
+/// 1 for a double, else 2 (the rules of backgammon: 36 throws count equally). The weights add up to
+/// 36, so that the record of a position is one roll and a 36th of these sums, its shares moved on
+/// by one roll.
 #[derive(Drop)]
 pub struct Sums {
-    weight: u8,
     mean: u128,
     shares: [u128; 23],
 }
@@ -29,35 +35,33 @@ impl Model for Sums {
 
     ghost Value = { Totals };
 
-    ghost view = { λ sums.
-        record { weight = sums.weight; mean = sums.mean; shares = sums.shares } };
+    ghost view = { λ sums. record { weight = 36; mean = sums.mean; shares = sums.shares } };
 
     ghost invariant = { λ sums.
-        AreSmall (record { weight = sums.weight; mean = sums.mean; shares = sums.shares }) };
+        AreSmall (record { weight = 36; mean = sums.mean; shares = sums.shares }) };
 }
 
 impl Sums {
-    /// The sums of no roll.
-    pub fn new() -> Self
-        ensures { result ≡ record { weight = 0; mean = 0; shares = replicate 23 0 } }
+    /// The sums of the means and of the shares that the rolls lead to, in the order of their
+    /// indices. None of them has a share of so many rolls or more.
+    pub fn of(means: &[Scaled; 21], spreads: &[&Spread; 21], rolls: u8) -> Self
+        requires few { rolls ≤ 23 }
+        requires beyond { (i k : ℕ) → i < 21 → rolls ≤ k →
+            slice_index (slice_index_or (map (λ s. s.now) spreads.now) i []) k ≡ 0 }
+        ensures weight { result.weight ≡ 36 }
+        ensures mean { result.mean ≡ weighted (λ v. slice_index means.now (roll_index v)) }
+        ensures shares { (k : ℕ) → k < 23 → slice_index result.shares k
+            ≡ weighted_at (map (λ s. s.now) spreads.now) k }
     {
-        Sums {
-            weight: 0,
-            mean: 0,
-            shares: [0; 23],
+        law_spreads(spreads);
+        let mut shares = [0; 23];
+        for k in 0..rolls.min(23) {
+            shares[usize::from(k)] = sum_of_shares(spreads, k);
         }
-    }
-
-    /// Adds the mean and the shares of what a roll of this weight leads to. All weights together
-    /// are at most 36, so no sum leaves 128 bits.
-    #[tactic(auto, unfolding(race_model::specs::LocalEquations::whole))]
-    pub fn add(&mut self, weight: u8, mean: Scaled, spread: &Spread)
-        requires { self.old.weight + weight ≤ 36 }
-        ensures { IsAdded self.old weight mean spread.now self.new }
-    {
-        self.weight += weight;
-        self.mean += u128::from(weight) * mean.numerator();
-        add_shares(&mut self.shares, weight, spread.shares());
+        Sums {
+            mean: sum_of_means(means),
+            shares,
+        }
     }
 
     /// One roll and a 36th of the means. None exactly where that is no whole numerator or over 22
@@ -77,7 +81,6 @@ impl Sums {
     /// share.
     #[tactic(auto, unfolding(race_model::specs::LocalEquations::whole))]
     pub fn spread(&self) -> Option<Spread>
-        requires { self.now.weight ≡ 36 }
         ensures start { IfSome result (λ spread. slice_index spread 0 ≡ 0) }
         ensures moved { IfSome result (λ spread. (k : ℕ) → k < 22 →
             36 * slice_index spread (suc k) ≡ slice_index self.now.shares k) }
@@ -111,35 +114,45 @@ fn part_of_36(total: u128) -> Option<u128>
     }
 }
 
-/// Adds shares with a weight: 1 and 2, which most are, are told to the compiler, since they need
-/// no product.
-fn add_shares(shares: &mut [u128; 23], weight: u8, others: &[u128; 23])
-    requires small { (k : ℕ) → k < 23 → slice_index shares.old k ≤ 36 * whole }
-    requires parts { (k : ℕ) → k < 23 → slice_index others.now k ≤ whole }
-    requires light { weight ≤ 36 }
-    ensures added { (k : ℕ) → k < 23 →
-        slice_index shares.new k ≡ slice_index shares.old k + weight * slice_index others.now k }
+/// What is known of each of these spreads: it has 23 shares, which add up to the whole.
+#[inline(always)]
+fn law_spreads(spreads: &[&Spread; 21])
+    ensures wholes { (i : ℕ) → i < 21 →
+        sum (slice_index_or (map (λ s. s.now) spreads.now) i []) ≡ whole }
+    ensures lengths { (i : ℕ) → i < 21 →
+        length (slice_index_or (map (λ s. s.now) spreads.now) i []) ≡ 23 }
 {
-    match weight {
-        1 => add_weighed(shares, 1, others),
-        2 => add_weighed(shares, 2, others),
-        _ => add_weighed(shares, weight, others),
+    for spread in spreads {
+        let _start = spread.at(0);
     }
 }
 
-/// The same, for each weight alike.
+/// The sum of what the rolls lead to, in the order of their indices, with the weights of the rolls.
 #[inline(always)]
 #[tactic(auto, unfolding(race_model::specs::LocalEquations::whole))]
-fn add_weighed(shares: &mut [u128; 23], weight: u8, others: &[u128; 23])
-    requires small { (k : ℕ) → k < 23 → slice_index shares.old k ≤ 36 * whole }
-    requires parts { (k : ℕ) → k < 23 → slice_index others.now k ≤ whole }
-    requires light { weight ≤ 36 }
-    ensures added { (k : ℕ) → k < 23 →
-        slice_index shares.new k ≡ slice_index shares.old k + weight * slice_index others.now k }
+fn sum_of_means(means: &[Scaled; 21]) -> u128
+    ensures value { result ≡ weighted (λ v. slice_index means.now (roll_index v)) }
+    ensures bound { result ≤ 36 * (22 * whole) }
 {
-    for k in 0..23 {
-        shares[k] += u128::from(weight) * others[k];
+    let mut total = 0;
+    for index in 0..21 {
+        total += u128::from(WEIGHTS[index]) * means[index].numerator();
     }
+    total
+}
+
+/// The same of their shares of exactly `k` rolls. The loop has no test and no number but the
+/// weights, so that the compiler makes a straight line of it.
+#[inline(always)]
+#[tactic(auto, unfolding(race_model::specs::LocalEquations::whole))]
+fn sum_of_shares(spreads: &[&Spread; 21], k: u8) -> u128
+    ensures { result ≡ weighted_at (map (λ s. s.now) spreads.now) k }
+{
+    let mut total = 0;
+    for index in 0..21 {
+        total += u128::from(WEIGHTS[index]) * spreads[index].at(k);
+    }
+    total
 }
 
 /// How sums over the rolls are added up in the order of their indices, for any two numbers that

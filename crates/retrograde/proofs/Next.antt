@@ -5,6 +5,7 @@ use Rattle.race_model.specs.Positions.{Board, IsPosition, IsFinished, pips}
 use Rattle.race_model.specs.Dice.{Throw, roll_at, roll_index}
 use Rattle.race_model.specs.Plays.{Legal}
 use Rattle.race_model.specs.Ranks.{rank, at_rank}
+use Rattle.race_model.specs.Horizon.{most_rolls}
 use Rattle.race_model.specs.LocalEquations.{whole}
 use Rattle.race_model.proofs.Plays.Results.{legal_position}
 use Rattle.race_model.proofs.Ranks.RankOrder.{at_rank-rank}
@@ -13,7 +14,7 @@ use Rattle.race_model.proofs.Dice.RollSums.{roll_index-range}
 use Rattle.race_model.specs.BestPlays.{IsBestPlay}
 use Rattle.retrograde.specs.BuiltRecords.{shares_of, sum_of_means, sum_of_shares, IsMade, IsReached}
 use Rattle.race_model.proofs.Ranks.BestPlays.{legal_lower, play-at_end}
-use Rattle.retrograde.proofs.Turns.{mean-exact, shares-exact, no-last, pulled-reached}
+use Rattle.retrograde.proofs.Turns.{mean-exact, shares-exact, none-beyond, pulled-reached}
 
 -- the best play leads to the position of its rank
 pub best-legal : (means : List ℕ) (x : Board) (v : Throw) (r : ℕ) → IsPosition x →
@@ -65,11 +66,14 @@ module _ (x : Board) (at : IsPosition x) (unfinished : ¬ IsFinished x) (low : p
   can-pull_shares =
       shares-exact x at (omega arith) unfinished means spreads plays goes next-reached
 
-  pub has-room : (i : ℕ) → i < 21 → slice_index (shares_of spreads (slice_index plays i)) 22 ≡ 0
-  has-room i lt =
-      subst (λ (j : ℕ). slice_index (shares_of spreads (slice_index plays j)) 22 ≡ 0)
+  -- no play has a share of as many rolls as a game from here can take
+  pub play-beyond : (i k : ℕ) → i < 21 → most_rolls (pips x) ≤ k → k ≤ 22 →
+      slice_index (shares_of spreads (slice_index plays i)) k ≡ 0
+  play-beyond i k lt beyond few =
+      subst (λ (j : ℕ). slice_index (shares_of spreads (slice_index plays j)) k ≡ 0)
       (roll_of_index i lt).1
-      (no-last x at (omega arith) unfinished means spreads plays goes next-reached (roll_at i))
+      (none-beyond x at (omega arith) unfinished means spreads plays goes next-reached (roll_at i)
+      k beyond few)
 
   -- and a strategy has them
   pub next-is_reached : (mean : ℕ) (shares : List ℕ) →

@@ -9,13 +9,14 @@ use Rattle.race_model.specs.Positions.{Board, IsPosition, IsFinished, pips}
 use Rattle.race_model.specs.Dice.{Throw, reversed, IsRoll, throws, roll_at, roll_index}
 use Rattle.race_model.specs.Plays.{Legal}
 use Rattle.race_model.specs.Ranks.{at_rank}
+use Rattle.race_model.specs.Horizon.{most_rolls}
 use Rattle.race_model.specs.LocalEquations.{whole}
-use Rattle.race_model.specs.Strategies.{Strategy, stop, turn, Fits, total, count_of, IsWithin}
+use Rattle.race_model.specs.Strategies.{Strategy, stop, turn, Fits, total, count_of, IsWithin, EndsIn}
 use Rattle.race_model.proofs.Dice.Throws.{roll_or_reversed, index_of_roll, roll_index-reversed, legal_reversed}
 use Rattle.race_model.proofs.Numbers.Sums.{sum_by-equal}
 use Rattle.race_model.proofs.Dice.RollSums.{sum_by-throws}
 use Rattle.race_model.proofs.Strategies.Histories.{fits_within, count_over-beyond}
-use Rattle.race_model.proofs.Strategies.Horizons.{ends_in_22, within_22}
+use Rattle.race_model.proofs.Strategies.Horizons.{ends_in_22, ends_in_most, within_22}
 use Rattle.race_model.proofs.Strategies.Spreads.{counts_add_up, counts_weigh}
 use Rattle.race_model.proofs.Strategies.Totals.{total-turn, count_of-turn, count_of-turn_none}
 use Rattle.race_model.proofs.Strategies.Totals.{total-stop, count_of-stop, count_of-stop_more}
@@ -37,9 +38,9 @@ legal-by_index x to legal v =
         (legal (roll_index u) (index_of_roll u is).0)
 
 -- no count goes beyond the rolls that a strategy can take
-pub no-count_beyond : (s : Strategy) (k : ℕ) → IsWithin 21 s → 21 < k → count_of s k ≡ 0
+pub no-count_beyond : (s : Strategy) (n k : ℕ) → IsWithin n s → n < k → count_of s k ≡ 0
 unfolding count_of
-no-count_beyond s k within lt = count_over-beyond 22 21 k s within lt
+no-count_beyond s n k within lt = count_over-beyond 22 n k s within lt
 
 -- a sum of weighed numbers below 23 is at most 22 times that of the numbers
 weigh-small : (c : ℕ → ℕ) (a n : ℕ) → a + n ≤ 23 →
@@ -134,13 +135,20 @@ module _ (x : Board) (at : IsPosition x) (low : pips x ≤ 58) (unfinished : ¬ 
   shares-exact k lt =
       rw (← count-is k (le_of_lt lt)) (mul-mod_right 36 (count_of (turn to next) (suc k)))
 
-  -- no throw goes on for 22 rolls
-  pub no-last : (v : Throw) →
-      slice_index (shares_of spreads (slice_index plays (roll_index v))) 22 ≡ 0
+  -- no throw goes on for as many rolls as a game from here can take
+  pub none-beyond : (v : Throw) (k : ℕ) → most_rolls (pips x) ≤ k → k ≤ 22 →
+      slice_index (shares_of spreads (slice_index plays (roll_index v))) k ≡ 0
   unfolding to next
-  no-last v =
-      sym ((reached v).counts 22 (omega arith))
-      ∙ no-count_beyond (next v) 22 (within v) (omega arith)
+  none-beyond v k beyond few = by (most_rolls (pips x)) (ends_in_most x at) beyond
+    where
+      by : (n : ℕ) → EndsIn n x → n ≤ k →
+          slice_index (shares_of spreads (slice_index plays (roll_index v))) k ≡ 0
+      by zero ends le = absurd (unfinished ends)
+      by (suc n) ends le =
+          sym ((reached v).counts k few)
+          ∙ no-count_beyond (next v) n k
+          (fits_within n (to v) (next v) (ends unfinished v (to v) (goes v)) (reached v).fits)
+          (omega arith)
 
   -- a strategy has the mean and the shares that are pulled
   pub pulled-reached : (mean : ℕ) (shares : List ℕ) →

@@ -1,17 +1,19 @@
 -- The record of a position follows from those of lower rank: whoever makes it makes this one.
-use Rattle.std.proofs.Common.{◌≡◌, ℕ, zero, suc, ◌+◌, ◌-◌, ◌*◌, ◌%◌, ◌<◌, ◌≤◌, List, length, sum_by}
+use Rattle.std.proofs.Common.{◌≡◌, ◌⊎◌, ⊎_elim, ℕ, zero, suc, ◌+◌, ◌-◌, ◌*◌, ◌%◌, ◌<◌, ◌≤◌, List, length, sum_by}
 use Rattle.std.proofs.Common.{refl, sym, ap, subst, ◌∙◌, arith, ext_get_or}
+use Rattle.std.proofs.lemmas.List.{get_or_past}
 use Rattle.std.specs.Prelude.{slice_index}
 use Rattle.race_model.specs.Positions.{Board, IsPosition, IsFinished, pips}
 use Rattle.race_model.specs.Dice.{Throw, all_rolls, roll_at, roll_index, weight}
 use Rattle.race_model.specs.Plays.{Legal}
 use Rattle.race_model.specs.Ranks.{rank, first_of, count_to}
+use Rattle.race_model.specs.Horizon.{most_rolls}
 use Rattle.race_model.specs.LocalEquations.{whole}
 use Rattle.race_model.proofs.Plays.Results.{legal_position}
 use Rattle.race_model.proofs.Plays.Spent.{legal_takes}
 use Rattle.race_model.proofs.Ranks.BestPlays.{best-agree, legal_lower}
 use Rattle.race_model.proofs.Ranks.RankOrder.{rank_bound, at_rank-rank, rank_within, first_of-rises}
-use Rattle.race_model.proofs.Strategies.Horizons.{within_22}
+use Rattle.race_model.proofs.Strategies.Horizons.{within_22, most_rolls-most}
 use Rattle.race_model.proofs.Numbers.Sums.{sum_by-equal}
 use Rattle.race_model.proofs.Dice.RollSums.{roll_index-range}
 use Rattle.race_model.specs.BestPlays.{IsBestPlay}
@@ -19,7 +21,7 @@ use Rattle.retrograde.specs.BuiltRecords.{shares_of, sum_of_means, sum_of_shares
 use Rattle.retrograde.specs.AllRecords.{AllRecords, mean_of_rank, plays_of_rank, shares_of_rank}
 use Rattle.retrograde.specs.KeptRecords.{IsRecordOfRank}
 use Rattle.retrograde.proofs.Best.{finished-stays}
-use Rattle.retrograde.proofs.Next.{ReachedBelow, can-pull_shares, has-room}
+use Rattle.retrograde.proofs.Next.{ReachedBelow, can-pull_shares, play-lower, play-beyond}
 use Rattle.retrograde.proofs.Turns.{total-small}
 
 -- a throw has one best play
@@ -177,6 +179,23 @@ module _ (full : AllRecords) (x : Board) (at : IsPosition x) (low : pips x ≤ 5
     shares-exact =
         can-pull_shares x at unfinished low full.means full.spreads reached-below plays best-all
 
+    -- no play has a share of as many rolls as a game from here can take
+    pub plays-beyond : (i k : ℕ) → i < 21 → most_rolls (pips x) ≤ k →
+        slice_index (shares_of_rank full (slice_index plays i)) k ≡ 0
+    plays-beyond i k lt beyond = ⊎_elim
+        (λ few.
+        play-beyond x at unfinished low full.means full.spreads reached-below plays best-all i k lt
+        beyond few)
+        (λ past.
+        let lower = play-lower x at unfinished low full.means full.spreads reached-below plays
+        best-all i lt in
+        let len = full.shares_len (slice_index plays i) (omega (arith, lower, under)) in
+        get_or_past (shares_of_rank full (slice_index plays i)) k 0 (omega (arith, len, past)))
+        (split k)
+      where
+        split : (k : ℕ) → (k ≤ 22) ⊎ (23 ≤ k)
+        split k = grind arith
+
     pub no-last : sum_of_shares full.spreads plays 22 ≡ 0
     no-last =
         sum_by-equal
@@ -185,10 +204,9 @@ module _ (full : AllRecords) (x : Board) (at : IsPosition x) (low : pips x ≤ 5
         * slice_index (shares_of full.spreads (slice_index plays (roll_index v))) 22)
         (λ v. 0) all_rolls
         (λ v.
-        let room = has-room x at unfinished low full.means full.spreads reached-below plays
-        best-all (
-        roll_index v)
-        (roll_index-range v) in
+        let room = play-beyond x at unfinished low full.means full.spreads reached-below plays
+        best-all (roll_index v) 22 (roll_index-range v) (most_rolls-most (pips x) low)
+        (omega arith) in
         ap (λ n. weight v * n) room ∙ times-none (weight v))
         ∙ none-sum
       where

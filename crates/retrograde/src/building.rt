@@ -254,7 +254,7 @@ fn write_level<K: Keeper, W: Write>(
     let first = records.count() - unwritten.len() as u16;
     for (index, plays) in unwritten.iter().enumerate() {
         let rank = first + index as u16;
-        let mean = records.mean(rank).unwrap();
+        let mean = records.mean(rank);
         write_record(header, pips, mean, plays, spread_of(records, rank), writer)?;
     }
     Ok(())

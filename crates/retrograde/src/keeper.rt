@@ -1,6 +1,6 @@
 //! What a build keeps of the records that it has made, wherever they lie.
-ghost use Rattle.std.specs.Prelude.{◌≡◌, ℕ, ◌+◌, ◌-◌, ◌<◌, ◌≤◌, ◌↔◌, List, [], ◌∷◌, ◌++◌, length};
-ghost use Rattle.std.specs.Prelude.{slice_index, slice_index_or, IsSome, IfSome, OnOk, IfErr};
+ghost use Rattle.std.specs.Prelude.{◌≡◌, ℕ, ◌+◌, ◌-◌, ◌<◌, ◌≤◌, List, [], ◌∷◌, ◌++◌, length};
+ghost use Rattle.std.specs.Prelude.{slice_index, slice_index_or, OnOk, IfErr};
 ghost use Rattle.retrograde.specs.AllRecords.{AllRecords, shares_of_rank};
 ghost use Rattle.retrograde.specs.KeptRecords.{AreKept, IsRecordOfRank};
 ghost use Rattle.retrograde.specs.declared.build_fault.BuildFault.TheVariants.{Memory};
@@ -25,10 +25,10 @@ pub(crate) trait Keeper {
     fn count(&self) -> u16
         ensures { result ≡ length (means self.now) };
 
-    /// The mean of a rank; none exactly where its record isn't made.
-    fn mean(&self, rank: u16) -> Option<Scaled>
-        ensures some { IsSome result ↔ (rank < length (means self.now)) }
-        ensures value { IfSome result (λ mean. mean ≡ slice_index (means self.now) rank) };
+    /// The mean of a rank whose record is made.
+    fn mean(&self, rank: u16) -> Scaled
+        requires { rank < length (means self.now) }
+        ensures { result ≡ slice_index (means self.now) rank };
 
     /// The shares of a rank that is kept.
     fn spread(&self, rank: u16) -> &Spread
@@ -124,6 +124,6 @@ impl<'a, K: Keeper> least_plays::Means for MeansOf<'a, K> {
     ghost count = { λ means. length (K.means means.records.now) };
 
     fn mean(&self, rank: u16) -> u128 {
-        self.records.mean(rank).unwrap().numerator()
+        self.records.mean(rank).numerator()
     }
 }

@@ -38,8 +38,9 @@ impl<'a> Keeper for LentRecords<'a> {
         self.made as u16
     }
 
-    fn mean(&self, rank: u16) -> Option<Scaled> {
-        self.means[..self.made].get(usize::from(rank)).copied()
+    fn mean(&self, rank: u16) -> Scaled {
+        let means = &*self.means;
+        means[usize::from(rank)]
     }
 
     fn spread(&self, rank: u16) -> &Spread {

@@ -52,6 +52,14 @@ impl Means {
         self.means.get(usize::from(rank)).copied()
     }
 
+    /// The mean of a rank below `len`, without a test.
+    pub(crate) fn at(&self, rank: u16) -> Scaled
+        requires { rank < length self.now }
+        ensures { result ≡ slice_index self.now rank }
+    {
+        self.means[usize::from(rank)]
+    }
+
     /// How many means there are: the ranks below it have one.
     pub fn len(&self) -> u16
         ensures { result ≡ length self.now }
@@ -67,6 +75,6 @@ impl least_plays::Means for Means {
     ghost count = { λ means. length means };
 
     fn mean(&self, rank: u16) -> u128 {
-        self.get(rank).unwrap().numerator()
+        self.at(rank).numerator()
     }
 }

@@ -6,18 +6,17 @@ ghost use Rattle.race_model.specs.Plays.{Legal};
 ghost use Rattle.race_model.specs.Ranks.{rank as rank_of, first_of};
 ghost use Rattle.race_model.specs.LocalEquations.{whole};
 ghost use Rattle.least_plays.specs.Known.{HasRows, Knows};
-ghost use Rattle.retrograde.specs.AllRecords.{AllRecords, mean_of_rank};
+ghost use Rattle.retrograde.specs.AllRecords.{AllRecords, mean_of_rank, shares_of_rank};
 ghost use Rattle.race_model.specs.BestPlays.{IsBestPlay};
 ghost use Rattle.retrograde.specs.BuiltRecords.{sum_of_means, sum_of_shares};
 ghost use Rattle.retrograde.specs.KeptRecords.{AreKept, IsRecordOfRank};
 
 use crate::keeper::{Keeper, MeansOf, spread_of};
 use crate::record::Record;
-use fixed_fraction::sums::{Sums, law_sums};
-use fixed_fraction::{Scaled, Spread};
+use db_layout::most_rolls;
+use fixed_fraction::{Scaled, Spread, Sums};
 use home_board::Position;
 use least_plays::LeastPlays;
-use legal_plays::Roll;
 use ranking::Ranks;
 
 /// The record of the position of the next rank. The plays of the one after it can be found then.
@@ -46,7 +45,7 @@ pub(crate) fn next_record<K: Keeper, const ROWS: usize>(
     if position.is_finished() {
         return finished_record();
     }
-    let sums = sums_of(records, &plays);
+    let sums = sums_of(records, &plays, most_rolls(position.pips()));
     let mean = sums.mean().unwrap();
     let spread = sums.spread().unwrap();
     let _start = spread.at(0);
@@ -96,27 +95,28 @@ fn best_plays<K: Keeper, const ROWS: usize>(
     least.advance(ranks, position, &MeansOf { records })
 }
 
-/// The means and the shares that the rolls play to, added up with the weights of the rolls.
+/// The means and the shares that the rolls play to, added up with the weights of the rolls. There
+/// is no share of so many rolls or more.
 #[inline(always)]
-fn sums_of<K: Keeper>(records: &K, plays: &[u16; 21]) -> Sums
+fn sums_of<K: Keeper>(records: &K, plays: &[u16; 21], rolls: u8) -> Sums
     ghost full: { AllRecords }
     requires kept { AreKept full (K.means records.now) (K.spreads records.now)
         (K.plays records.now) }
     requires made { (i : ℕ) → i < 21 → slice_index plays.now i < length (K.means records.now) }
     requires recent { (i : ℕ) → i < 21 →
         length (K.means records.now) ≤ slice_index plays.now i + length (K.spreads records.now) }
-    ensures weight { result.weight ≡ 36 }
+    requires few { rolls ≤ 23 }
+    requires beyond { (i k : ℕ) → i < 21 → rolls ≤ k →
+        slice_index (shares_of_rank full (slice_index plays.now i)) k ≡ 0 }
     ensures mean { result.mean ≡ sum_of_means full.means plays.now }
     ensures shares { (k : ℕ) → k < 23 →
         slice_index result.shares k ≡ sum_of_shares full.spreads plays.now k }
 {
-    law_sums();
-    let mut sums = Sums::new();
+    let mut means = [Scaled::ZERO; 21];
+    let mut spreads = [spread_of(records, plays[0]); 21];
     for index in 0..21 {
-        let roll = Roll::from_index(index).unwrap();
-        let play = plays[usize::from(index)];
-        let mean = records.mean(play).unwrap();
-        sums.add(roll.weight(), mean, spread_of(records, play));
+        means[index] = records.mean(plays[index]);
+        spreads[index] = spread_of(records, plays[index]);
     }
-    sums
+    Sums::of(&means, &spreads, rolls)
 }

@@ -43,8 +43,8 @@ impl Keeper for Records {
         self.means.len()
     }
 
-    fn mean(&self, rank: u16) -> Option<Scaled> {
-        self.means.get(rank)
+    fn mean(&self, rank: u16) -> Scaled {
+        self.means.at(rank)
     }
 
     fn spread(&self, rank: u16) -> &Spread {

@@ -55,7 +55,7 @@ loop-index-init g c = Appends-nil (g.W.Write.contents c.args.writer.now)
 
 -- the bytes that are written of a record are those of its rank
 record_is : (g : Over) (c : After-write_record g) →
-    record_of (version_by c.args.header.now.version) c.args.pips c.unwrap-mean.result
+    record_of (version_by c.args.header.now.version) c.args.pips c.mean-mean.result
     (get_or (g.K.Keeper.plays c.args.records.now) c.loop-index.index []) c.spread_of.result.now
     ≡ bytes_of_rank (version_by c.args.header.now.version) g.full
     (length (g.K.Keeper.means c.args.records.now)
@@ -68,11 +68,11 @@ record_is g c =
     (g.K.Keeper.spreads records) (g.K.Keeper.plays records) c.requires.1.1.1.0 c.args.pips
     c.loop-index.index
     (c.count.result - length c.plays-unwritten.result.now + c.loop-index.index)
-    c.unwrap-mean.result c.spread_of.result.now lt
+    c.mean-mean.result c.spread_of.result.now lt
     (omega (arith, ap length c.plays-unwritten.ensures))
     (level-pips c.args.pips (length (g.K.Keeper.means records)) count c.loop-index.index
     c.requires.1.1.1.1.1.1 c.requires.1.1.1.1.1.0 lt)
-    (rw c.unwrap-mean.ensures at c.mean.ensures.value) c.spread_of.ensures
+    c.mean-mean.ensures c.spread_of.ensures
 
 pub returns-in_err-write_record-clause-part : goal.returns-in_err-write_record-clause-part
 returns-in_err-write_record-clause-part g c =

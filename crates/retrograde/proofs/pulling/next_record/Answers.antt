@@ -1,7 +1,9 @@
 use Rattle.std.proofs.Common.{◌≡◌, ◌↔◌, Bool, true, false, ◌+◌, ◌*◌, ◌%◌, sym, ap, ◌∙◌, arith, rules}
-use Rattle.race_model.specs.Positions.{IsFinished}
+use Rattle.race_model.specs.Positions.{IsFinished, pips}
+use Rattle.race_model.specs.Horizon.{most_rolls}
 use Rattle.race_model.specs.LocalEquations.{whole}
-use Rattle.retrograde.proofs.Unique.{record-at_end, plays-held, plays-recent, mean-exact}
+use Rattle.race_model.proofs.Strategies.Horizons.{most_rolls-most}
+use Rattle.retrograde.proofs.Unique.{record-at_end, plays-held, plays-recent, plays-beyond, mean-exact}
 use Rattle.retrograde.proofs.Unique.{shares-exact, no-last, record-before}
 use Rattle.retrograde.proofs.pulling.next_record.Goals as goal
 
@@ -44,6 +46,8 @@ sums_of-sums-requires g c =
     let agree = c.requires.1.1.1.1.1.0.means_are in
     let next = c.requires.1.1.1.1.1.1.0 in
     let recent = c.requires.1.1.1.1.1.1.1.0 in
+    let rolls : c.most_rolls.result ≡ most_rolls (pips x) =
+    c.most_rolls.ensures ∙ ap most_rolls c.pips.ensures.value in
     let best = c.best_plays-plays.ensures in λ κs within. (
       within,
       (
@@ -53,13 +57,23 @@ sums_of-sums-requires g c =
               (g.K.Keeper.means c.args.records.now) agree
               next
               c.best_plays-plays.result best.len best.best,
-          λ i lt. omega (
-            arith,
-            recent,
-            plays-recent g.full x c.requires.1.1.1.0 c.requires.1.1.1.1.0 unfinished
-                (g.K.Keeper.means c.args.records.now)
-                agree
-                next c.best_plays-plays.result best.len best.best i lt,
+          (
+            λ i lt. omega (
+              arith,
+              recent,
+              plays-recent g.full x c.requires.1.1.1.0 c.requires.1.1.1.1.0 unfinished
+                  (g.K.Keeper.means c.args.records.now)
+                  agree
+                  next c.best_plays-plays.result best.len best.best i lt,
+            ),
+            (
+              omega (arith, rolls, most_rolls-most (pips x) c.requires.1.1.1.1.0),
+              λ i k lt le.
+                  plays-beyond g.full x c.requires.1.1.1.0 c.requires.1.1.1.1.0 unfinished
+                  (g.K.Keeper.means c.args.records.now)
+                  agree
+                  next c.best_plays-plays.result best.len best.best i k lt (omega (arith, rolls, le)),
+            ),
           ),
         ),
       ),

@@ -1,79 +1,74 @@
-use Rattle.std.proofs.Common.{◌≡◌, ℕ, ◌<◌, List, length, get_or, sym, ap, subst, ◌∙◌, arith}
-use Rattle.std.specs.Prelude.{slice_index}
-use Rattle.race_model.specs.Dice.{Throw, roll_at, roll_index, weight}
-use Rattle.race_model.proofs.Dice.Throws.{roll_of_index}
-use Rattle.fixed_fraction.specs.Totals.{IsAdded}
-use Rattle.retrograde.specs.AllRecords.{AllRecords, mean_of_rank, shares_of_rank}
+use Rattle.std.proofs.Common.{◌≡◌, ◌⊎◌, ⊎_elim, ℕ, ◌+◌, ◌*◌, ◌<◌, List, [], Bor, map, get_or}
+use Rattle.std.proofs.Common.{sym, ap, ◌∙◌, arith}
+use Rattle.std.proofs.lemmas.List.{get_or-set_other, length-set, map-set, length-map}
+use Rattle.std.proofs.lemmas.Grind.{get_or-set_at}
+use Rattle.race_model.specs.Dice.{all_rolls, roll_index, weight}
+use Rattle.race_model.proofs.Dice.RollSums.{roll_index-range}
+use Rattle.race_model.proofs.Numbers.Sums.{sum_by-equal}
+use Rattle.retrograde.specs.AllRecords.{mean_of_rank, shares_of_rank}
 use Rattle.retrograde.proofs.pulling.sums_of.Goals as goal
 
--- the mean and the shares that a throw plays to
-mean-of : AllRecords → List ℕ → Throw → ℕ
-mean-of full plays v = mean_of_rank full (slice_index plays (roll_index v))
-
-share-of : AllRecords → List ℕ → Throw → ℕ → ℕ
-share-of full plays v k = slice_index (shares_of_rank full (slice_index plays (roll_index v))) k
-
--- .. of a roll by its index
-at-index : (plays : List ℕ) (i place : ℕ) → i < 21 → place ≡ i
-    → slice_index plays place ≡ slice_index plays (roll_index (roll_at i))
-at-index plays i place lt e = ap (slice_index plays) (e ∙ sym (roll_of_index i lt).1)
-
-pub add-requires : goal.add-requires
-unfolding mean-of share-of
-add-requires g c =
-    let roll = rw c.unwrap-roll.ensures at c.from_index.ensures.value in
-    rw (c.weight.ensures.value, roll)
-    (c.law_sums.ensures.room (mean-of g.full c.args.plays.now)
-    (share-of g.full c.args.plays.now) c.loop-index.index
-    c.loop-index.sums c.loop-index-test.true c.loop-index.invariant)
+split : (j n : ℕ) → j < n + 1 → (j < n) ⊎ (j ≡ n)
+split j n lt = grind arith
 
 pub loop-index-preserved : goal.loop-index-preserved
-unfolding mean-of share-of
 loop-index-preserved g c =
-    let plays = c.args.plays.now in
     let i = c.loop-index.index in
-    let lt : i < 21 = c.loop-index-test.true in
-    let roll = rw c.unwrap-roll.ensures at c.from_index.ensures.value in
-    let play = get_or plays c.from.result 0 in
-    let here = at-index plays i c.from.result lt c.from.ensures in
-    let held : play < length (g.K.Keeper.means c.args.records.now) = rw c.from.ensures
-    (c.requires.1.1.0 i lt) in
-    let mean = (rw c.unwrap-mean.ensures at c.mean.ensures.value)
-    ∙ (c.requires.1.0.means_are play held
-    ∙ ap (mean_of_rank g.full) here) in
-    let shares = c.spread_of.ensures ∙ ap (shares_of_rank g.full) here in
-    let weighs = c.weight.ensures.value ∙ ap weight roll in
-    c.law_sums.ensures.next (mean-of g.full plays) (share-of g.full plays) i c.loop-index.sums
-    c.add.new.self
-    c.spread_of.result.now lt c.loop-index.invariant (λ k few. ap (λ xs. slice_index xs k) shares)
-    (subst (λ (w : ℕ). IsAdded c.loop-index.sums w
-    (mean-of g.full plays (roll_at i)) c.spread_of.result.now c.add.new.self)
-    weighs
-    (subst
-    (λ (m : ℕ). IsAdded c.loop-index.sums c.weight.result m c.spread_of.result.now c.add.new.self)
-    mean c.add.ensures))
+    let plays = c.args.plays.now in
+    let kept = c.loop-index.invariant in
+    let spreads = map (λ (s : Bor (List ℕ)). s.now) c.loop-index.spreads in
+    let spread = c.spread_of.result.now in
+    let play = get_or plays i 0 in
+    let mean : c.mean.result ≡ mean_of_rank g.full play =
+    c.mean.ensures ∙ c.requires.1.0.means_are play (c.requires.1.1.0 i c.loop-index-test.true) in
+    let set = map-set (λ (s : Bor (List ℕ)). s.now) c.loop-index.spreads i c.spread_of.result in
+    let long = length-map c.loop-index.spreads (λ (s : Bor (List ℕ)). s.now) in
+    record {
+      means_len = length-set c.loop-index.means i c.mean.result ∙ kept.means_len;
+      spreads_len = length-set c.loop-index.spreads i c.spread_of.result ∙ kept.spreads_len;
+      means_are = λ j lt. ⊎_elim
+          (λ less.
+          get_or-set_other c.loop-index.means i j c.mean.result 0 (λ e. absurd (omega arith))
+          ∙ kept.means_are j less)
+          (λ same.
+          get_or-set_at c.loop-index.means i j c.mean.result 0 same
+          (omega (arith, kept.means_len, c.loop-index-test.true))
+          ∙ (mean ∙ ap (λ n. mean_of_rank g.full (get_or plays n 0)) (sym same)))
+          (split j i lt);
+      spreads_are = λ j lt. ap (λ (xs : List (List ℕ)). get_or xs j []) set ∙ ⊎_elim
+          (λ less.
+          get_or-set_other spreads i j spread [] (λ e. absurd (omega arith))
+          ∙ kept.spreads_are j less)
+          (λ same.
+          get_or-set_at spreads i j spread [] same
+          (omega (arith, kept.spreads_len, long, c.loop-index-test.true))
+          ∙ (c.spread_of.ensures
+          ∙ ap (λ n. shares_of_rank g.full (get_or plays n 0)) (sym same)))
+          (split j i lt);
+    }
 
 -- all rolls are added
-pub returns-clause-weight : goal.returns-clause-weight
-unfolding mean-of share-of
-returns-clause-weight g c =
-    let all : c.loop-index.index ≡ 21 = omega arith in
-    c.law_sums.ensures.weight (mean-of g.full c.args.plays.now) (share-of g.full c.args.plays.now)
-    c.loop-index.sums
-    (rw all at c.loop-index.invariant)
-
 pub returns-clause-mean : goal.returns-clause-mean
-unfolding mean-of share-of
 returns-clause-mean g c =
-    let all : c.loop-index.index ≡ 21 = omega arith in
-    c.law_sums.ensures.mean (mean-of g.full c.args.plays.now) (share-of g.full c.args.plays.now)
-    c.loop-index.sums
-    (rw all at c.loop-index.invariant)
+    c.of.ensures.mean
+    ∙ sum_by-equal (λ v. weight v * get_or c.loop-index.means (roll_index v) 0)
+    (λ v. weight v * mean_of_rank g.full (get_or c.args.plays.now (roll_index v) 0)) all_rolls
+    (λ v.
+    ap (λ n. weight v * n)
+    (c.loop-index.invariant.means_are (roll_index v)
+    (omega (arith, roll_index-range v, c.loop-index-test.false))))
 
 pub returns-clause-shares : goal.returns-clause-shares
-unfolding mean-of share-of
 returns-clause-shares g c = λ k few.
-    let all : c.loop-index.index ≡ 21 = omega arith in
-    c.law_sums.ensures.shares (mean-of g.full c.args.plays.now) (share-of g.full c.args.plays.now)
-    c.loop-index.sums k few
-    (rw all at c.loop-index.invariant)
+    c.of.ensures.shares k few
+    ∙ sum_by-equal
+    (λ v.
+    weight v
+    * get_or
+    (get_or (map (λ (s : Bor (List ℕ)). s.now) c.loop-index.spreads) (roll_index v) []) k 0)
+    (λ v. weight v * get_or (shares_of_rank g.full (get_or c.args.plays.now (roll_index v) 0)) k 0)
+    all_rolls
+    (λ v.
+    ap (λ (xs : List ℕ). weight v * get_or xs k 0)
+    (c.loop-index.invariant.spreads_are (roll_index v)
+    (omega (arith, roll_index-range v, c.loop-index-test.false))))

@@ -1,15 +1,19 @@
-use Rattle.std.specs.Prelude.{slice_index}
-use Rattle.race_model.specs.Dice.{roll_index}
-use Rattle.fixed_fraction.specs.Totals.{AreTotals}
+use Rattle.std.proofs.Common.{◌≡◌, ℕ, ◌<◌, [], length, map, get_or}
+use Rattle.std.specs.Prelude.{slice_index, slice_index_or}
 use Rattle.retrograde.specs.AllRecords.{mean_of_rank, shares_of_rank}
 use Rattle.retrograde.proofs.pulling.sums_of.Given as goal
 
 abbrev pub ghost-spread_of : goal.ghost-spread_of
 ghost-spread_of g a = g.full
 
--- the sums of the rolls so far
+-- what the rolls so far play to
 abbrev pub invariant-loop-index : goal.invariant-loop-index
-invariant-loop-index g l =
-    AreTotals (λ v. mean_of_rank g.full (slice_index l.plays (roll_index v)))
-    (λ v k. slice_index (shares_of_rank g.full (slice_index l.plays (roll_index v))) k) l.index
-    l.sums
+invariant-loop-index g l = record {
+  means_len : length l.means ≡ 21;
+  spreads_len : length l.spreads ≡ 21;
+  means_are : (j : ℕ) → j < l.index
+      → get_or l.means j 0 ≡ mean_of_rank g.full (slice_index l.plays j);
+  spreads_are : (j : ℕ) → j < l.index
+      → slice_index_or (map (λ s. s.now) l.spreads) j []
+      ≡ shares_of_rank g.full (slice_index l.plays j);
+}

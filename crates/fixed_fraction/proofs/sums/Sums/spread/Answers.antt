@@ -1,4 +1,4 @@
-use Rattle.std.proofs.Common.{◌≡◌, ℕ, ◌*◌, ◌<◌, sum, refl, ap, ◌∙◌, arith}
+use Rattle.std.proofs.Common.{◌≡◌, ℕ, ◌*◌, ◌<◌, sum, refl, arith}
 use Rattle.race_model.specs.LocalEquations.{whole}
 use Rattle.fixed_fraction.proofs.RollSums.{shares-moved}
 use Rattle.fixed_fraction.proofs.sums.Sums.spread.Goals as goal
@@ -8,8 +8,7 @@ of_whole-requires c =
     let totals = c.self.inside.shares in
     let kept = c.loop-k.invariant in
     let below : (j : ℕ) → j < 22 → j < c.loop-k.k = λ j lt. omega (arith, c.loop-k-test.false) in
-    let weight = ap (λ t. t.weight) c.self.view_is ∙ c.requires in
-    let all : sum totals ≡ 36 * whole = c.self.invariant.shares ∙ ap (λ w. w * whole) weight in
+    let all : sum totals ≡ 36 * whole = c.self.invariant.shares in
     shares-moved c.loop-k.shares totals kept.len c.self.invariant.len kept.start
     (λ j lt. kept.moved j (below j lt)) c.if-self-ne0.false all
 

@@ -1,0 +1,13 @@
+use Rattle.std.proofs.Common.{◌≡◌, ℕ, ◌<◌, [], length, map, sum}
+use Rattle.std.specs.Prelude.{slice_index_or}
+use Rattle.race_model.specs.LocalEquations.{whole}
+use Rattle.fixed_fraction.proofs.sums.law_spreads.Given as goal
+
+-- the spreads so far
+abbrev pub invariant-loop-spread : goal.invariant-loop-spread
+invariant-loop-spread l = record {
+  wholes : (i : ℕ) → i < l.spread-index
+      → sum (slice_index_or (map (λ s. s.now) l.spreads) i []) ≡ whole;
+  lengths : (i : ℕ) → i < l.spread-index
+      → length (slice_index_or (map (λ s. s.now) l.spreads) i []) ≡ 23;
+}
