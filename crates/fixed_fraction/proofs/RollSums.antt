@@ -11,7 +11,8 @@ use Rattle.race_model.proofs.Numbers.Sums.{sum_by-map, sum_by-equal, sum_by-zero
 use Rattle.fixed_fraction.specs.Shares.{weighted_share}
 use Rattle.fixed_fraction.specs.Totals.{Totals, IsAdded, AreTotals, weighted_at}
 use Rattle.fixed_fraction.proofs.Pulls.{part_small}
-use Rattle.fixed_fraction.proofs.Shares.{sum_upto, sum_upto-same, sum_upto-zero, sum_upto-linear, sum_upto-weighted_share}
+use Rattle.fixed_fraction.proofs.Shares.{sum_upto, sum_upto-same, sum_upto-zero, sum_upto-linear}
+use Rattle.fixed_fraction.proofs.Shares.{sum_upto-weighted_share}
 use Rattle.fixed_fraction.proofs.Shares.{sum-by_places, sum_upto-without_last}
 
 -- the sum over one roll more
@@ -111,8 +112,9 @@ lent-at xs i d lt = get_or-map (λ (s : Bor (List ℕ)). s.now) xs i d [] lt
 
 -- the weights, as a list
 pub weights-by_index : (i : ℕ) → i < 21
-    → get_or (1 ∷ 2 ∷ 1 ∷ 2 ∷ 2 ∷ 1 ∷ 2 ∷ 2 ∷ 2 ∷ 1 ∷ 2 ∷ 2 ∷ 2 ∷ 2 ∷ 1 ∷ 2 ∷ 2 ∷ 2 ∷ 2 ∷ 2 ∷ 1 ∷ [])
-    i 0 ≡ weight (roll_at i)
+    → get_or
+    (1 ∷ 2 ∷ 1 ∷ 2 ∷ 2 ∷ 1 ∷ 2 ∷ 2 ∷ 2 ∷ 1 ∷ 2 ∷ 2 ∷ 2 ∷ 2 ∷ 1 ∷ 2 ∷ 2 ∷ 2 ∷ 2 ∷ 2 ∷ 1 ∷ []) i 0
+    ≡ weight (roll_at i)
 unfolding all_rolls roll_at
 weights-by_index i lt =
     get_or-map weight all_rolls i (record { first = one; second = one }) 0

@@ -35,6 +35,6 @@ pub record AreTotals (mean : Throw → ℕ) (share : Throw → ℕ → ℕ) (rol
   pub each : (k : ℕ) → k < 23 →
       slice_index totals.shares k ≡ sum_by (λ v. weight v * share v k) (take rolls all_rolls)
 
--- of the shares that the rolls lead to, by their index, the weighted sum of those of exactly k rolls
+-- of the shares that the rolls lead to, by their index, the weighted sum of those of k rolls
 abbrev pub weighted_at : List (List ℕ) → ℕ → ℕ
 weighted_at spreads k = weighted (λ v. slice_index (slice_index_or spreads (roll_index v) []) k)

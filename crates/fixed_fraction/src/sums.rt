@@ -19,18 +19,21 @@ const WEIGHTS: [u8; 21] = [
     1, 2, 1, 2, 2, 1, 2, 2, 2, 1, 2, 2, 2, 2, 1, 2, 2, 2, 2, 2, 1,
 ];
 
-/// The means and the shares of what the 21 rolls lead to, added up with the weights of these rolls:
-/// 1 for a double, else 2 (the rules of backgammon: 36 throws count equally). The weights add up to
-/// 36, so that the record of a position is one roll and a 36th of these sums, its shares moved on
-/// by one roll.
+/// The means and the shares of what the 21 rolls lead to, added up with the weights of these
+/// rolls: 1 for a double, else 2 (the rules of backgammon: 36 throws count equally). The weights
+/// add up to 36, so that the record of a position is one roll and a 36th of these sums, its shares
+/// moved on by one roll.
 #[derive(Drop)]
 pub struct Sums {
     mean: u128,
     shares: [u128; 23],
+    // no roll leads to a share of so many rolls or more
+    rolls: u8,
 }
 
 // Clauses see the sums of the weights, of the means, and of the shares of 0 to 22 rolls.
 impl Model for Sums {
+    ghost use Rattle.std.specs.Prelude.{◌≡◌, ℕ, ◌≤◌, slice_index};
     ghost use Rattle.fixed_fraction.specs.Totals.{Totals, AreSmall};
 
     ghost Value = { Totals };
@@ -38,7 +41,8 @@ impl Model for Sums {
     ghost view = { λ sums. record { weight = 36; mean = sums.mean; shares = sums.shares } };
 
     ghost invariant = { λ sums.
-        AreSmall (record { weight = 36; mean = sums.mean; shares = sums.shares }) };
+        AreSmall (record { weight = 36; mean = sums.mean; shares = sums.shares })
+        × ((k : ℕ) → sums.rolls ≤ k → slice_index sums.shares k ≡ 0) };
 }
 
 impl Sums {
@@ -61,6 +65,7 @@ impl Sums {
         Sums {
             mean: sum_of_means(means),
             shares,
+            rolls,
         }
     }
 
@@ -92,8 +97,9 @@ impl Sums {
             return None;
         }
         let mut shares = [0; 23];
-        for k in 0..22 {
-            shares[k + 1] = part_of_36(self.shares[k])?;
+        for k in 0..self.rolls.min(22) {
+            let place = usize::from(k);
+            shares[place + 1] = part_of_36(self.shares[place])?;
         }
         Some(Spread::of_whole(shares))
     }
@@ -127,7 +133,7 @@ fn law_spreads(spreads: &[&Spread; 21])
     }
 }
 
-/// The sum of what the rolls lead to, in the order of their indices, with the weights of the rolls.
+/// The sum of what the rolls lead to, in the order of their indices, with the weights of these.
 #[inline(always)]
 #[tactic(auto, unfolding(race_model::specs::LocalEquations::whole))]
 fn sum_of_means(means: &[Scaled; 21]) -> u128

@@ -18,7 +18,8 @@ loop-spread-preserved c =
           (split i n lt);
       lengths = λ i lt. ⊎_elim (λ less. c.loop-spread.invariant.lengths i less)
           (λ same.
-          ap (λ j. length (get_or (map (λ (s : Bor (List ℕ)). s.now) c.args.spreads.now) j [])) same
+          ap (λ j. length (get_or (map (λ (s : Bor (List ℕ)). s.now) c.args.spreads.now) j []))
+          same
           ∙ (ap length here ∙ c.at-start.ensures.len))
           (split i n lt);
     }

@@ -19,8 +19,9 @@ bounded : (c : goal.After-numerator) →
     c.loop-index.total + c.from.result * c.numerator.result
     ≤ sum_by weight (take (c.loop-index.index + 1) all_rolls) * (22 * whole)
 bounded c =
-    roll-bound (λ r. get_or c.args.means.now r 0) c.loop-index.index c.numerator.result c.from.result
-    c.loop-index.total (22 * whole) c.loop-index-test.true (next c) c.numerator.ensures.range
+    roll-bound (λ r. get_or c.args.means.now r 0) c.loop-index.index c.numerator.result
+    c.from.result c.loop-index.total (22 * whole) c.loop-index-test.true (next c)
+    c.numerator.ensures.range
     (c.from.ensures ∙ weights-by_index c.loop-index.index c.loop-index-test.true)
     c.loop-index.invariant.total c.loop-index.invariant.small
 
@@ -31,8 +32,9 @@ overflow_add-total c =
 pub loop-index-preserved : goal.loop-index-preserved
 loop-index-preserved c = record {
   total =
-      roll-added (λ r. get_or c.args.means.now r 0) c.loop-index.index c.numerator.result c.from.result
-      c.loop-index.total (22 * whole) c.loop-index-test.true (next c) c.numerator.ensures.range
+      roll-added (λ r. get_or c.args.means.now r 0) c.loop-index.index c.numerator.result
+      c.from.result c.loop-index.total (22 * whole) c.loop-index-test.true (next c)
+      c.numerator.ensures.range
       (c.from.ensures ∙ weights-by_index c.loop-index.index c.loop-index-test.true)
       c.loop-index.invariant.total c.loop-index.invariant.small;
   small = bounded c;

@@ -72,7 +72,8 @@ sums_of-sums-requires g c =
                   plays-beyond g.full x c.requires.1.1.1.0 c.requires.1.1.1.1.0 unfinished
                   (g.K.Keeper.means c.args.records.now)
                   agree
-                  next c.best_plays-plays.result best.len best.best i k lt (omega (arith, rolls, le)),
+                  next c.best_plays-plays.result best.len best.best i k lt
+                  (omega (arith, rolls, le)),
             ),
           ),
         ),

@@ -12,7 +12,8 @@ split k n = grind arith
 
 -- the sums of all numbers of rolls
 each : (c : goal.After-sum_of_means) (k : ℕ) → k < 23 →
-    get_or c.loop-k.shares k 0 ≡ weighted_at (map (λ (s : Bor (List ℕ)). s.now) c.args.spreads.now) k
+    get_or c.loop-k.shares k 0
+    ≡ weighted_at (map (λ (s : Bor (List ℕ)). s.now) c.args.spreads.now) k
 each c k lt = ⊎_elim
     (λ less. c.loop-k.invariant.summed k less)
     (λ more.
@@ -57,14 +58,20 @@ loop-k-preserved c =
     }
 
 pub invariant_of-result : goal.invariant_of-result
-invariant_of-result c = record {
-  len = c.loop-k.invariant.len;
-  light = omega arith;
-  mean = c.sum_of_means.ensures.bound;
-  shares =
-      shares-summed c.loop-k.shares (map (λ (s : Bor (List ℕ)). s.now) c.args.spreads.now)
-      c.loop-k.invariant.len (each c) c.law_spreads.ensures.wholes c.law_spreads.ensures.lengths;
-}
+invariant_of-result c = (
+  record {
+    len = c.loop-k.invariant.len;
+    light = omega arith;
+    mean = c.sum_of_means.ensures.bound;
+    shares =
+        shares-summed c.loop-k.shares (map (λ (s : Bor (List ℕ)). s.now) c.args.spreads.now)
+        c.loop-k.invariant.len (each c) c.law_spreads.ensures.wholes
+        c.law_spreads.ensures.lengths;
+  },
+  λ k more.
+      c.loop-k.invariant.left k
+      (omega (arith, more, c.loop-k.auto.k-end, c.min-k-end.ensures)),
+)
 
 pub returns-clause-shares : goal.returns-clause-shares
 returns-clause-shares c = each c
