@@ -94,3 +94,34 @@ two_parts (suc k) high rest some few short low =
 
     whole : high * 10 ^ suc k + rest ≡ 10 * (high * 10 ^ k) + rest
     whole = ap (λ p. high * p + rest) ten ∙ ten_times high (10 ^ k) rest
+
+-- the last three digits of a number are those after a one of the thousand and its rest
+pub three_digits : (n : ℕ) → drop 1 (decimal (1000 + n % 1000))
+    ≡ (48 + n / 100 % 10) ∷ (48 + n / 10 % 10) ∷ (48 + n % 10) ∷ []
+three_digits n =
+    ap (λ t. drop 1 t)
+    (step (1000 + n % 1000) (100 + n / 10 % 100) (n % 10) (omega arith) (omega arith) (omega arith)
+    ∙ ap (λ t. t ++ (48 + n % 10) ∷ [])
+    (step (100 + n / 10 % 100) (10 + n / 100 % 10) (n / 10 % 10) (omega arith) (omega arith)
+    (omega arith)
+    ∙ ap (λ t. t ++ (48 + n / 10 % 10) ∷ [])
+    (step (10 + n / 100 % 10) 1 (n / 100 % 10) (omega arith) (omega arith) (omega arith)
+    ∙ ap (λ t. t ++ (48 + n / 100 % 10) ∷ []) (decimal_digit 1 (omega arith)))))
+  where
+    none : (m : ℕ) → m < 10 → m / 10 ≡ 0
+    none m few = omega arith
+
+    same : (m : ℕ) → m < 10 → m % 10 ≡ m
+    same m few = omega arith
+
+    zeros : (m : ℕ) → m + 0 ≡ m
+    zeros m = omega arith
+
+    step : (m front last : ℕ) → m ≡ 10 * front + last → last < 10 → (0 < front) × (m < 10000) →
+        decimal m ≡ decimal front ++ (48 + last) ∷ []
+    step m front last e few some =
+        let low : m < 10 ^ 64 = omega (arith, some.1) in
+        last_digit m front last e some.0 low
+        ∙ ap (λ k. decimal (front + k) ++ (48 + last % 10) ∷ []) (none last few)
+        ∙ ap (λ k. decimal k ++ (48 + last % 10) ∷ []) (zeros front)
+        ∙ ap (λ k. decimal front ++ (48 + k) ∷ []) (same last few)

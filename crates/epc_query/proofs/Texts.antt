@@ -67,11 +67,10 @@ one_more_share share n before text more part are is e = record {
       ∙ ap (λ t. concat are.parts ++ t) (append-nil part)));
 }
 
--- three digits after a point, added one by one
-pub digits_added : (before whole : List ℕ) (x y z : ℕ)
-    → ((((before ++ whole) ++ codes ".") ++ x ∷ []) ++ y ∷ []) ++ z ∷ [] ≡ before ++
-    (whole ++ codes "." ++ x ∷ y ∷ z ∷ [])
-digits_added before whole x y z = simp append_assoc
+-- digits after a point, added one after the other
+pub digits_added : (before whole digits : List ℕ)
+    → ((before ++ whole) ++ codes ".") ++ digits ≡ before ++ (whole ++ codes "." ++ digits)
+digits_added before whole digits = simp append_assoc
 
 -- the texts of the first items, and then those of the others
 pub texts_split : {X : Type 0} (f : X → List ℕ) (before after : List ℕ) (xs : List X) (n : ℕ)

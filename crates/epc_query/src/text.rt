@@ -32,18 +32,20 @@ fn push_number(text: &mut Text, number: u128)
     }
     let high = number / HALF;
     text.push_str(Buffer::new().format(high));
-    push_last_digits(text, (number - high * HALF) as u64);
+    push_last_digits(text, HALF as u64, (number - high * HALF) as u64);
 }
 
-/// Adds the last 18 digits of a number, given as their value, with the zeros in front.
-fn push_last_digits(text: &mut Text, rest: u64)
-    requires few { rest < 10 ^ 18 }
+/// Adds the last digits of a number, given as their value, with the zeros in front: as many as a
+/// power of ten has zeros, 18 at most.
+fn push_last_digits(text: &mut Text, power: u64, rest: u64)
+    requires short { power ≤ 10 ^ 18 }
+    requires few { rest < power }
     requires room { array_string_len text.old + 18 ≤ 4096 }
-    ensures bytes { text.new.bytes ≡ text.old.bytes ++ drop 1 (decimal (10 ^ 18 + rest)) }
+    ensures bytes { text.new.bytes ≡ text.old.bytes ++ drop 1 (decimal (power + rest)) }
     ensures len { array_string_len text.new ≤ array_string_len text.old + 18 }
 {
     let mut buffer = Buffer::new();
-    let digits = buffer.format(HALF as u64 + rest);
+    let digits = buffer.format(power + rest);
     text.push_str(&digits[1..]);
 }
 
@@ -67,9 +69,7 @@ fn push_thousandths(text: &mut Text, number: u128)
 {
     push_number(text, number / 1000);
     text.push_str(".");
-    push_number(text, number / 100 % 10);
-    push_number(text, number / 10 % 10);
-    push_number(text, number % 10);
+    push_last_digits(text, 1000, (number % 1000) as u64);
 }
 
 /// Adds the text of a position.

@@ -8,7 +8,7 @@ use Rattle.epc_query.proofs.text.push_last_digits.Goals.{After-format-digits}
 digits : (c : After-format-digits) →
     (1 ≤ length c.format-digits.result.now) × (length c.format-digits.result.now ≤ 19)
 digits c =
-    let n = 1000000000000000000 + c.args.rest in
+    let n = c.args.power + c.args.rest in
     let same = ap length c.format-digits.ensures.text in (
       omega (arith, same, some_digit n (omega arith)),
       omega (arith, same, length-decimal-le_wide 19 n (omega arith) (omega arith) (omega arith)),
