@@ -5,12 +5,12 @@ use Rattle.std.proofs.Common.{◌≡◌, ℕ, zero, suc, ◌+◌, ◌-◌, ◌*�
 use Rattle.std.proofs.Common.{◌∙◌, subst, refl, arith, mul_assoc, min, ◌⊎◌, inl, inr}
 use Rattle.std.specs.Int.{IsGcd, bit_at, trailing_zeros, w128}
 use Rattle.std.proofs.lemmas.Nat.Bits.{bit_at-zero, bit_at-trailing_zeros}
-use Rattle.std.proofs.lemmas.Nat.{mul-mod, mul-mod_second, mod-pow-add, le-div}
+use Rattle.std.proofs.lemmas.Nat.{mul-mod, mul-mod_second, mod-pow-add, le-div, pow-add}
 use Rattle.std.proofs.Math.Nat.{mod-eq_of_lt, mul-div-le, mul-le-mul_left, mul-div_cancel'}
 use Rattle.std.proofs.Math.Nat.{dvd-mul_left_of_dvd, mod-one, eq-or-lt_of_le, dvd_of_mod-eq-zero}
-use Rattle.std.proofs.Math.Nat.{mod-eq-zero_of_dvd, dvd-mul_right, dvd-mul_left, dvd_trans, one-dvd}
+use Rattle.std.proofs.Math.Nat.{mod-eq-zero_of_dvd, dvd-mul_right, dvd_trans, one-dvd}
 use Rattle.std.proofs.Math.Nat.{mul-mod_right, mod-lt, emod_pos_of_not-dvd, eq_of_mul-eq-mul_left}
-use Rattle.std.proofs.Math.Nat.{pow-succ', pow-zero, one-mul}
+use Rattle.std.proofs.Math.Nat.{pow-succ', pow-zero, one-mul, le_of_dvd}
 use Rattle.race_model.specs.LocalEquations.{whole}
 use Rattle.fixed_fraction.specs.Ratios.{IsDivided, AreApart}
 
@@ -102,6 +102,13 @@ pub divided_positive : (a b n d : ℕ) → IsDivided a b n d → 0 < b → 0 < d
 divided_positive a b n zero is some = absurd (omega (arith, is.under))
 divided_positive a b n (suc d) is some = omega arith
 
+-- a power times what is left of a greater one is that
+power_left : (p t w : ℕ) → t ≤ w → p ^ t * p ^ (w - t) ≡ p ^ w
+power_left p t w few = sym (pow-add p t (w - t)) ∙ ap (λ k. p ^ k) (whole_left t w few)
+  where
+    whole_left : (t w : ℕ) → t ≤ w → t + (w - t) ≡ w
+    whole_left t w few = omega arith
+
 -- a number whose lowest bits are zeros is a multiple of a power of two
 low_zeros : (n t : ℕ) → ((i : ℕ) → i < t → bit_at n i ≡ 0) → n % 2 ^ t ≡ 0
 low_zeros n zero zeros = mod-one n
@@ -127,14 +134,14 @@ zeros_divide (suc n) t low few =
     mul-div_cancel' (2 ^ t) (dvd_of_mod-eq-zero (2 ^ t)
     (low_zeros (suc n) t (λ i below. lowest.2 i (omega arith))))
 
--- two numbers divided by the power of two with as many zeros as both have at their end
-pub twos_divided : (a b t : ℕ) → a < 2 ^ 128 → b < 2 ^ 128 →
-    t ≡ min (trailing_zeros w128 a) (trailing_zeros w128 b) →
-    IsDivided a b (a / 2 ^ t) (b / 2 ^ t)
-twos_divided a b t low low_b is = record {
+-- a number and a power of two divided by the power of two with as many zeros as the number has at
+-- its end, where these are no more
+pub twos_divided : (a w t : ℕ) → a < 2 ^ 128 → t ≡ min (trailing_zeros w128 a) w →
+    IsDivided a (2 ^ w) (a / 2 ^ t) (2 ^ (w - t))
+twos_divided a w t low is = record {
   factor = 2 ^ t;
   over = zeros_divide a t low (omega arith);
-  under = zeros_divide b t low_b (omega arith);
+  under = power_left 2 t w (omega arith);
 }
 
 -- a number with as many zeros at its end as the power of two is odd after that
@@ -143,27 +150,29 @@ odd_after n some low even =
     let lowest = bit_at-trailing_zeros w128 n some low in
     omega (arith, lowest.1, mod-eq-zero_of_dvd 2 even)
 
+-- a number above one divides not both of a number and its own power of zero
+pub none_left : (p n k : ℕ) → 1 < p → k ≡ 0 → AreApart p n (p ^ k)
+none_left p n k more none both =
+    let one : p ∣ 1 = subst (λ m. p ∣ m) (ap (λ m. p ^ m) none ∙ pow-zero p) both.1 in
+    omega (arith, le_of_dvd (omega arith) one)
+
 -- .. and then 2 divides not both
-pub twos_apart : (a b t : ℕ) → a < 2 ^ 128 → b < 2 ^ 128 → 0 < b →
-    t ≡ min (trailing_zeros w128 a) (trailing_zeros w128 b) →
-    AreApart 2 (a / 2 ^ t) (b / 2 ^ t)
+pub twos_apart : (a w t : ℕ) → a < 2 ^ 128 → w < 128 → t ≡ min (trailing_zeros w128 a) w →
+    AreApart 2 (a / 2 ^ t) (2 ^ (w - t))
 unfolding lib.Count.count_trailing_zeros
-twos_apart a b t low low_b some is both = by_side (eq-or-lt_of_le within)
+twos_apart a w t low few is both = by_side (eq-or-lt_of_le within)
   where
-    within : t ≤ trailing_zeros w128 b
+    within : t ≤ w
     within = omega arith
 
-    by_side : (t ≡ trailing_zeros w128 b) ⊎ (t < trailing_zeros w128 b) → ⊥
-    by_side (inl e) = odd_after b some low_b (subst (λ n. 2 ∣ b / 2 ^ n) e both.1)
+    by_side : (t ≡ w) ⊎ (t < w) → ⊥
+    by_side (inl e) = none_left 2 (a / 2 ^ t) (w - t) (omega arith) (omega arith) both
     by_side (inr l) = first a low is both.0 l
       where
-        first : (a : ℕ) → a < 2 ^ 128 →
-            t ≡ min (trailing_zeros w128 a) (trailing_zeros w128 b) → 2 ∣ a / 2 ^ t →
-            t < trailing_zeros w128 b → ⊥
+        first : (a : ℕ) → a < 2 ^ 128 → t ≡ min (trailing_zeros w128 a) w → 2 ∣ a / 2 ^ t →
+            t < w → ⊥
         first zero low is even l =
-            let all : trailing_zeros w128 0 ≡ 128 = refl in
-            let fewer = (bit_at-trailing_zeros w128 b some low_b).0 in
-            omega (arith, all, fewer)
+            let all : trailing_zeros w128 0 ≡ 128 = refl in omega (arith, all)
         first (suc a) low is even l =
             let same : t ≡ trailing_zeros w128 (suc a) = omega arith in
             odd_after (suc a) (omega arith) low (subst (λ n. 2 ∣ suc a / 2 ^ n) same even)
@@ -245,11 +254,104 @@ lowest_without n d divides twos threes = (
       (subst (λ m. g ∣ m) factors (dvd_trans g q divides))),
 )
 
--- .. and so are those that the twos, and then the threes, were taken out of
-pub lowest_taken_out : (a b m e n d : ℕ) → b ∣ 6 * whole → IsDivided a b m e → AreApart 2 m e →
-    IsDivided m e n d → AreApart 3 n d → (d ∣ 6 * whole) × IsGcd n d 1
-lowest_taken_out a b m e n d divides odd twos less threes =
-    let all = divided_twice a b m e n d odd less in
-    let within : d ∣ 6 * whole =
-    dvd_trans d (subst (λ k. d ∣ k) all.under (dvd-mul_left d all.factor)) divides in
-    (within, lowest_without n d within (apart_divided 2 m e n d less twos) threes)
+-- three divides not both of a number and a product of threes and twos, where it divides not both of
+-- the number and the threes, and two likewise
+apart_of_product : (n k s : ℕ) → AreApart 3 n (3 ^ k) → AreApart 2 n (2 ^ s) →
+    AreApart 3 n (3 ^ k * 2 ^ s) × AreApart 2 n (3 ^ k * 2 ^ s)
+apart_of_product n k s threes twos = (
+  λ both. threes (
+    both.0,
+    divides_rest 2 3 s (3 ^ k) rests_of_two (omega arith) odd
+        (subst (λ m. 3 ∣ m) (turned (3 ^ k) (2 ^ s)) both.1),
+  ),
+  λ both. twos (
+    both.0,
+    divides_rest 3 2 k (2 ^ s) rests_of_three (omega arith) no_three both.1,
+  ),
+)
+  where
+    turned : (a b : ℕ) → a * b ≡ b * a
+    turned a b = omega arith
+
+    odd : ¬ (2 ∣ 3)
+    odd even = omega (arith, mod-eq-zero_of_dvd 2 even)
+
+    no_three : ¬ (3 ∣ 2)
+    no_three three = omega (arith, mod-eq-zero_of_dvd 3 three)
+
+-- a product of no more threes and twos than the greatest denominator has divides it
+pub product_divides : (k s : ℕ) → k ≤ 45 → s ≤ 45 → 3 ^ k * 2 ^ s ∣ 6 * whole
+product_divides k s few few_twos =
+    subst (λ m. 3 ^ k * 2 ^ s ∣ m) all
+    (dvd-mul_right (3 ^ k * 2 ^ s) (3 ^ (45 - k) * 2 ^ (45 - s)))
+  where
+    crossed : (a b c d : ℕ) → a * b * (c * d) ≡ a * c * (b * d)
+    crossed a b c d = omega arith
+
+    last : (a b : ℕ) → a * b ≡ b * (a * 1)
+    last a b = omega arith
+
+    all : 3 ^ k * 2 ^ s * (3 ^ (45 - k) * 2 ^ (45 - s)) ≡ 6 * whole
+    all =
+        crossed (3 ^ k) (2 ^ s) (3 ^ (45 - k)) (2 ^ (45 - s))
+        ∙ ap (λ m. m * (2 ^ s * 2 ^ (45 - s))) (power_left 3 k 45 few)
+        ∙ ap (λ m. 3 ^ 45 * m) (power_left 2 s 45 few_twos)
+        ∙ last (3 ^ 45) (2 ^ 45)
+        ∙ sym factors
+
+-- terms that the threes, and then the twos, were taken out of are lowest
+pub lowest_taken_out : (m b n e k s : ℕ) → k ≤ 45 → s ≤ 45 → AreApart 3 m (3 ^ k) →
+    IsDivided m b n e → AreApart 2 n (2 ^ s) → IsGcd n (3 ^ k * 2 ^ s) 1
+lowest_taken_out m b n e k s few few_twos threes less twos =
+    let apart = apart_of_product n k s
+    (λ both. threes (
+      subst (λ a. 3 ∣ a) less.over (dvd-mul_left_of_dvd 3 both.0 less.factor),
+      both.1,
+    )) twos in
+    lowest_without n (3 ^ k * 2 ^ s) (product_divides k s few few_twos) apart.1 apart.0
+
+-- divided with one factor of a product, and then with the other
+pub divided_by_both : (a b c n d m e : ℕ) → IsDivided a b n d → IsDivided n c m e →
+    IsDivided a (b * c) m (d * e)
+divided_by_both a b c n d m e first second = record {
+  factor = first.factor * second.factor;
+  over = mul_assoc first.factor second.factor m ∙ ap (λ k. first.factor * k) second.over
+      ∙ first.over;
+  under = crossed first.factor second.factor d e
+      ∙ ap (λ k. k * (second.factor * e)) first.under ∙ ap (λ k. b * k) second.under;
+}
+  where
+    crossed : (f g d e : ℕ) → f * g * (d * e) ≡ f * d * (g * e)
+    crossed f g d e = omega arith
+
+-- a number that becomes small enough by the inverse of a power, and a greater power of the same,
+-- are divided by it
+pub divided_by_power : (p power inverse m count left all : ℕ) → power ≡ p ^ count →
+    power * inverse % 2 ^ 128 ≡ 1 → m < 2 ^ 128 →
+    m * inverse % 2 ^ 128 ≤ (2 ^ 128 - 1) / power → left + count ≡ all →
+    IsDivided m (p ^ all) (m * inverse % 2 ^ 128) (p ^ left)
+divided_by_power p power inverse m count left all is one low few whole = record {
+  factor = power;
+  over = quotient_by_inverse m power inverse (2 ^ 128) one low few;
+  under = ap (λ k. k * p ^ left) is ∙ sym (pow-add p count left) ∙ ap (λ k. p ^ k) turned;
+}
+  where
+    turned : count + left ≡ all
+    turned = omega (arith, whole)
+
+-- what is divided over the threes and the twos of 36 ^ 22, after a division over the threes alone,
+-- is divided over that
+pub divided_over_whole : (a n k s m e : ℕ) → s ≡ 44 → IsDivided a (3 ^ 44) n (3 ^ k) →
+    IsDivided n (3 ^ k * 2 ^ s) m e → IsDivided a whole m e
+unfolding whole
+divided_over_whole a n k s m e all first second = record {
+  factor = first.factor * second.factor;
+  over = mul_assoc first.factor second.factor m ∙ ap (λ l. first.factor * l) second.over
+      ∙ first.over;
+  under = mul_assoc first.factor second.factor e ∙ ap (λ l. first.factor * l) second.under
+      ∙ sym (mul_assoc first.factor (3 ^ k) (2 ^ s)) ∙ ap (λ l. l * 2 ^ s) first.under
+      ∙ ap (λ l. 3 ^ 44 * 2 ^ l) all ∙ whole_factors;
+}
+  where
+    whole_factors : 3 ^ 44 * 2 ^ 44 ≡ whole
+    whole_factors = refl

@@ -1,12 +1,18 @@
 -- Fractions that a common factor was taken out of.
 use Prim.Native.Nat.{◌∣◌}
-use Rattle.std.proofs.Common.{◌≡◌, ℕ, zero, suc, ◌*◌, ◌<◌, ◌≤◌, ap, arith}
+use Rattle.std.proofs.Common.{◌≡◌, ℕ, zero, suc, ◌+◌, ◌*◌, ◌%◌, ◌^◌, ◌<◌, ◌≤◌, map, refl, ap, ◌∙◌, arith}
+use Rattle.std.proofs.Common.{subst, sym, add-one}
+use Rattle.std.specs.Prelude.{slice_index_or}
 use Rattle.std.specs.Int.{IsGcd}
-use Rattle.std.proofs.Math.Nat.{le_of_mul-le-mul_left, le_of_dvd, dvd-mul_left}
+use Rattle.std.specs.List.{range_with_len}
+use Rattle.std.proofs.lemmas.List.FromFn.{get_or-map-range_with_len}
+use Rattle.std.proofs.Math.Nat.{le_of_mul-le-mul_left, le_of_dvd, mod-eq_of_lt, one-le-pow, pow-succ'}
 use Rattle.race_model.specs.LocalEquations.{whole}
 use Rattle.race_model.specs.Fractions.{IsFraction}
 use Rattle.fixed_fraction.specs.Ratios.{IsSmallRatio, IsDivided}
-use Rattle.fixed_fraction.proofs.CommonFactors.{divided_positive}
+use Rattle.fixed_fraction.specs.declared.fraction.TheConstants.{POWERS_OF_THREE}
+use Rattle.fixed_fraction.proofs.CommonFactors.{divided_positive, divided_twice, not_divided}
+use Rattle.fixed_fraction.proofs.CommonFactors.{product_divides}
 
 -- numbers that a common factor was taken out of, in lowest terms, are the fraction
 pub lowest_fraction : (a b n d : ℕ) → 0 < b → IsDivided a b n d → IsGcd n d 1 → IsFraction a b n d
@@ -19,16 +25,16 @@ lowest_fraction a b n d positive is lowest = record {
   lowest = lowest;
 }
 
--- .. and no larger
-pub small_fraction : (a b n d : ℕ) → 0 < b → a ≤ 180 * b → IsDivided a b n d → d ∣ 6 * whole →
-    IsGcd n d 1 → IsSmallRatio (record { numerator = n; denominator = d })
-unfolding whole
-small_fraction a b n d positive within is divides lowest = record {
-  positive = divided_positive a b n d is positive;
-  short = le_of_dvd (omega arith) divides;
-  within = by_factor is.factor is.over is.under;
-  lowest = lowest;
-}
+-- .. and so are numbers equal to them
+pub fraction_is : (a b n d m e : ℕ) → 0 < b → IsDivided a b n d → IsGcd n d 1 → m ≡ n → e ≡ d →
+    IsFraction a b m e
+fraction_is a b n d m e positive is lowest over under =
+    subst (λ k. IsFraction a b k e) (sym over)
+    (subst (λ k. IsFraction a b n k) (sym under) (lowest_fraction a b n d positive is lowest))
+
+-- a numerator that is at most 180 stays so, divided
+pub within_divided : (a b n d : ℕ) → 0 < b → a ≤ 180 * b → IsDivided a b n d → n ≤ 180 * d
+within_divided a b n d positive within is = by_factor is.factor is.over is.under
   where
     by_factor : (g : ℕ) → g * n ≡ a → g * d ≡ b → n ≤ 180 * d
     by_factor zero over under = absurd (omega (arith, under))
@@ -36,7 +42,103 @@ small_fraction a b n d positive within is divides lowest = record {
         let scaled : suc g * n ≤ suc g * (180 * d) = omega (arith, over, under) in
         le_of_mul-le-mul_left scaled (omega arith)
 
--- the denominator of means and shares divides six times itself
-pub whole_divides : 17324272922341479351919144385642496 ∣ 6 * whole
+-- numbers that a common factor was taken out of, in lowest terms, are a small ratio
+pub small_fraction : (a b n d : ℕ) → 0 < b → a ≤ 180 * b → IsDivided a b n d → d ∣ 6 * whole →
+    IsGcd n d 1 → IsSmallRatio (record { numerator = n; denominator = d })
 unfolding whole
-whole_divides = dvd-mul_left 17324272922341479351919144385642496 6
+small_fraction a b n d positive within is divides lowest = record {
+  positive = divided_positive a b n d is positive;
+  short = le_of_dvd (omega arith) divides;
+  within = within_divided a b n d positive within is;
+  lowest = lowest;
+}
+
+-- the powers of three, as they stand in a table, are at their places
+pub at_power : (k : ℕ) → k < 46 → slice_index_or POWERS_OF_THREE k 0 ≡ 3 ^ k
+at_power k few =
+    ap (λ xs. slice_index_or xs k 0) table
+    ∙ get_or-map-range_with_len (λ k. 3 ^ k) 0 46 k k 0 few (omega arith)
+  where
+    table : POWERS_OF_THREE ≡ map (λ k. 3 ^ k) (range_with_len 0 46)
+    table = refl
+
+-- a product of threes and twos, no more of each than the greatest denominator has, fits 128 bits
+pub no_bit_lost : (k s : ℕ) → k ≤ 45 → s ≤ 45 → 3 ^ k * 2 ^ s % 2 ^ 128 ≡ 3 ^ k * 2 ^ s
+unfolding whole
+no_bit_lost k s few few_twos = mod-eq_of_lt (omega (arith, most))
+  where
+    most : 3 ^ k * 2 ^ s ≤ 6 * whole
+    most = le_of_dvd (omega arith) (product_divides k s few few_twos)
+
+-- such a product is not zero
+pub some_product : (k s : ℕ) → 0 < 3 ^ k * 2 ^ s
+some_product k s =
+    positive (3 ^ k) (2 ^ s) (one-le-pow k 3 (omega arith)) (one-le-pow s 2 (omega arith))
+  where
+    positive : (a b : ℕ) → 0 < a → 0 < b → 0 < a * b
+    positive zero b none more = absurd (omega arith)
+    positive (suc a) b some more = omega arith
+
+-- a numerator over it that is at most 180, in lowest terms
+pub small_ratio : (n k s : ℕ) → k ≤ 45 → s ≤ 45 → n ≤ 180 * (3 ^ k * 2 ^ s) →
+    IsGcd n (3 ^ k * 2 ^ s) 1 →
+    IsSmallRatio (record { numerator = n; denominator = 3 ^ k * 2 ^ s })
+small_ratio n k s few few_twos within lowest =
+    small_fraction n (3 ^ k * 2 ^ s) n (3 ^ k * 2 ^ s) (some_product k s) within
+    (not_divided n (3 ^ k * 2 ^ s)) (product_divides k s few few_twos) lowest
+
+-- the denominator of means and shares is not zero
+pub some_whole : 0 < whole
+unfolding whole
+some_whole = omega arith
+
+-- .. and neither is that of effective pip counts
+pub some_six : 0 < 6 * whole
+unfolding whole
+some_six = omega arith
+
+-- at most 22 rolls are at most 180 of any kind
+pub mean_within : (rolls : ℕ) → rolls ≤ 22 * whole → rolls ≤ 180 * whole
+mean_within rolls few = omega arith
+
+-- .. and so are 49/6 of them
+pub epc_within : (rolls : ℕ) → rolls ≤ 22 * whole → 49 * rolls ≤ 180 * (6 * whole)
+epc_within rolls few = omega arith
+
+-- 49 times the numerator of at most 22 rolls, divided, fits 128 bits
+pub numerator_fits : (rolls n d : ℕ) → rolls ≤ 22 * whole → IsDivided rolls whole n d →
+    49 * n < 2 ^ 128
+unfolding whole
+numerator_fits rolls n d few is = by_factor is.factor is.over is.under
+  where
+    by_factor : (g : ℕ) → g * n ≡ rolls → g * d ≡ whole → 49 * n < 2 ^ 128
+    by_factor zero over under = absurd (omega (arith, under))
+    by_factor (suc g) over under =
+        let less : n ≤ rolls = omega (arith, over) in
+        omega (arith, less)
+
+-- a mean's terms by 49 and by 6, and then divided, are those of its effective pip count, divided
+pub scaled_divided : (rolls n k s m e : ℕ) → IsDivided rolls whole n (3 ^ k * 2 ^ s) →
+    IsDivided (49 * n) (3 ^ (k + 1) * 2 ^ (s + 1)) m e → IsDivided (49 * rolls) (6 * whole) m e
+scaled_divided rolls n k s m e first second =
+    divided_twice (49 * rolls) (6 * whole) (49 * n) (3 ^ (k + 1) * 2 ^ (s + 1)) m e
+    (record {
+      factor = first.factor;
+      over = turned first.factor 49 n ∙ ap (λ l. 49 * l) first.over;
+      under = ap (λ l. first.factor * l) six ∙ turned first.factor 6 (3 ^ k * 2 ^ s)
+          ∙ ap (λ l. 6 * l) first.under;
+    })
+    second
+  where
+    turned : (f p n : ℕ) → f * (p * n) ≡ p * (f * n)
+    turned f p n = omega arith
+
+    product : (a b : ℕ) → 3 * a * (2 * b) ≡ 6 * (a * b)
+    product a b = omega arith
+
+    one_more : (p k : ℕ) → p ^ (k + 1) ≡ p * p ^ k
+    one_more p k = ap (λ l. p ^ l) (add-one k) ∙ pow-succ' p k
+
+    six : 3 ^ (k + 1) * 2 ^ (s + 1) ≡ 6 * (3 ^ k * 2 ^ s)
+    six = ap (λ l. l * 2 ^ (s + 1)) (one_more 3 k) ∙ ap (λ l. 3 * 3 ^ k * l) (one_more 2 s)
+        ∙ product (3 ^ k) (2 ^ s)

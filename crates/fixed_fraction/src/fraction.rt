@@ -1,13 +1,63 @@
-ghost use Prim.Native.Nat.{◌∣◌};
-ghost use Rattle.std.specs.Prelude.{◌≡◌, ◌*◌, ◌<◌, ◌≤◌, slice_index};
+ghost use Rattle.std.specs.Prelude.{◌≡◌, ◌*◌, ◌^◌, ◌<◌, ◌≤◌, slice_index};
+ghost use Rattle.std.specs.Int.{IsGcd};
 ghost use Rattle.race_model.specs.LocalEquations.{whole};
 ghost use Rattle.race_model.specs.Fractions.{IsFraction, IsMean, IsEffectivePips, IsThousandths};
 ghost use Rattle.fixed_fraction.specs.Ratios.{Ratio, IsSmallRatio};
 
-use crate::scaled::{Scaled, WHOLE};
+use crate::scaled::Scaled;
 use crate::spread::Spread;
-use crate::terms::{Terms, without_threes, without_twos};
+use crate::terms::{Terms, lowest, without_common};
 use std::marker::Model;
+
+/// Three to the power of 0 to 45.
+const POWERS_OF_THREE: [u128; 46] = [
+    1,
+    3,
+    9,
+    27,
+    81,
+    243,
+    729,
+    2187,
+    6561,
+    19683,
+    59049,
+    177147,
+    531441,
+    1594323,
+    4782969,
+    14348907,
+    43046721,
+    129140163,
+    387420489,
+    1162261467,
+    3486784401,
+    10460353203,
+    31381059609,
+    94143178827,
+    282429536481,
+    847288609443,
+    2541865828329,
+    7625597484987,
+    22876792454961,
+    68630377364883,
+    205891132094649,
+    617673396283947,
+    1853020188851841,
+    5559060566555523,
+    16677181699666569,
+    50031545098999707,
+    150094635296999121,
+    450283905890997363,
+    1350851717672992089,
+    4052555153018976267,
+    12157665459056928801,
+    36472996377170786403,
+    109418989131512359209,
+    328256967394537077627,
+    984770902183611232881,
+    2954312706550833698643,
+];
 
 /// A fraction in lowest terms, as replies print it: its denominator is 1
 /// to 6 * 36 ^ 22, and its value at most 180 (this project's profile).
@@ -60,17 +110,33 @@ pub fn mean(rolls: Scaled) -> Fraction
     ensures value { IsMean rolls result.numerator result.denominator }
     ensures ratio { IsSmallRatio result }
 {
-    reduced(rolls.numerator(), WHOLE)
+    reduced(rolls.numerator())
 }
 
 /// The effective pip count of a mean number of rolls: 49/6 of it, since an average
 /// roll is worth 49/6 pips with doubles counted fourfold (the GNU Backgammon manual).
-#[tactic(auto, unfolding(race_model::specs::LocalEquations::whole))]
 pub fn epc(rolls: Scaled) -> Fraction
     ensures value { IsEffectivePips rolls result.numerator result.denominator }
     ensures ratio { IsSmallRatio result }
 {
-    reduced(49 * rolls.numerator(), 6 * WHOLE)
+    mean_and_epc(rolls).1
+}
+
+/// The mean number of rolls as a fraction, and its effective pip count, which takes little more
+/// once there is the mean in lowest terms.
+pub fn mean_and_epc(rolls: Scaled) -> (Fraction, Fraction)
+    ensures mean { IsMean rolls result.0.numerator result.0.denominator }
+    ensures epc { IsEffectivePips rolls result.1.numerator result.1.denominator }
+    ensures mean_ratio { IsSmallRatio result.0 }
+    ensures epc_ratio { IsSmallRatio result.1 }
+{
+    let mean = lowest(rolls.numerator());
+    let epc = without_common(Terms {
+        numerator: 49 * mean.numerator,
+        threes: mean.threes + 1,
+        twos: mean.twos + 1,
+    });
+    (fraction_of(mean), fraction_of(epc))
 }
 
 /// The share of exactly `k` rolls as a fraction; 0 from 23 rolls on.
@@ -80,7 +146,7 @@ pub fn share(spread: &Spread, k: u8) -> Fraction
         result.denominator }
     ensures ratio { IsSmallRatio result }
 {
-    reduced(spread.at(k), WHOLE)
+    reduced(spread.at(k))
 }
 
 /// The fraction in thousandths, rounded to the nearest, and
@@ -106,22 +172,36 @@ pub fn thousandths_of(numerator: u128, denominator: u128) -> u64
     (1000 * units + (2000 * rest + denominator) / (2 * denominator)) as u64
 }
 
-/// A numerator over a denominator in lowest terms. The denominator is a product of twos and
-/// threes, so that these alone can be taken out.
-fn reduced(numerator: u128, denominator: u128) -> Fraction
-    requires positive { 0 < denominator }
-    requires divides { denominator ∣ 6 * whole }
-    requires within { numerator ≤ 180 * denominator }
-    ensures value { IsFraction numerator denominator result.numerator result.denominator }
+/// A numerator over 36 ^ 22 in lowest terms.
+fn reduced(numerator: u128) -> Fraction
+    requires { numerator ≤ 180 * whole }
+    ensures value { IsFraction numerator whole result.numerator result.denominator }
     ensures ratio { IsSmallRatio result }
 {
-    let odd = without_twos(Terms {
-        numerator,
-        denominator,
-    });
-    let lowest = without_threes(odd);
+    let lowest = lowest(numerator);
+    fraction_of(lowest)
+}
+
+/// Lowest terms as a fraction.
+fn fraction_of(terms: Terms) -> Fraction
+    requires threes { terms.threes ≤ 45 }
+    requires twos { terms.twos ≤ 45 }
+    requires within { terms.numerator ≤ 180 * (3 ^ terms.threes * 2 ^ terms.twos) }
+    requires lowest { IsGcd terms.numerator (3 ^ terms.threes * 2 ^ terms.twos) 1 }
+    ensures numerator { result.numerator ≡ terms.numerator }
+    ensures denominator { result.denominator ≡ 3 ^ terms.threes * 2 ^ terms.twos }
+    ensures ratio { IsSmallRatio result }
+{
     Fraction {
-        numerator: lowest.numerator,
-        denominator: lowest.denominator,
+        numerator: terms.numerator,
+        denominator: power_of_three(terms.threes) << terms.twos,
     }
+}
+
+/// Three to the power of up to 45.
+fn power_of_three(exponent: u32) -> u128
+    requires { exponent ≤ 45 }
+    ensures { result ≡ 3 ^ exponent }
+{
+    POWERS_OF_THREE[exponent as usize]
 }

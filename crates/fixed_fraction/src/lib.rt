@@ -5,7 +5,7 @@
 //! lowest terms, and that thousandths round half up.
 #![tactic(auto)]
 
-pub use fraction::{Fraction, epc, mean, share, thousandths, thousandths_of};
+pub use fraction::{Fraction, epc, mean, mean_and_epc, share, thousandths, thousandths_of};
 pub use scaled::{MOST, Scaled, WHOLE, pull};
 pub use spread::Spread;
 pub use sums::{Sums, law_sums};

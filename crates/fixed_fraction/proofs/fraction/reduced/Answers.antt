@@ -1,30 +1,13 @@
-use Rattle.fixed_fraction.proofs.CommonFactors.{divided_twice, lowest_taken_out}
-use Rattle.fixed_fraction.proofs.Fractions.{lowest_fraction, small_fraction}
+use Rattle.race_model.specs.LocalEquations.{whole}
+use Rattle.fixed_fraction.proofs.Fractions.{some_whole, within_divided, fraction_is}
 use Rattle.fixed_fraction.proofs.fraction.reduced.Goals as goal
 
-pub invariant_of-result : goal.invariant_of-result
-invariant_of-result c =
-    let odd = c.without_twos-odd.ensures in
-    let less = c.without_threes-lowest.ensures in
-    let lowest = lowest_taken_out _ _ _ _ _ _ c.requires.divides odd.divided odd.apart
-    less.divided less.apart in
-    small_fraction _ _ _ _ c.requires.positive c.requires.within
-    (divided_twice _ _ _ _ _ _ odd.divided less.divided) lowest.0 lowest.1
+pub fraction_of-requires-clause-within : goal.fraction_of-requires-clause-within
+fraction_of-requires-clause-within c =
+    within_divided c.args.numerator whole _ _ some_whole c.requires c.lowest-lowest.ensures.divided
 
 pub returns-clause-value : goal.returns-clause-value
 returns-clause-value c =
-    let odd = c.without_twos-odd.ensures in
-    let less = c.without_threes-lowest.ensures in
-    let lowest = lowest_taken_out _ _ _ _ _ _ c.requires.divides odd.divided odd.apart
-    less.divided less.apart in
-    lowest_fraction _ _ _ _ c.requires.positive
-    (divided_twice _ _ _ _ _ _ odd.divided less.divided) lowest.1
-
-pub returns-clause-ratio : goal.returns-clause-ratio
-returns-clause-ratio c =
-    let odd = c.without_twos-odd.ensures in
-    let less = c.without_threes-lowest.ensures in
-    let lowest = lowest_taken_out _ _ _ _ _ _ c.requires.divides odd.divided odd.apart
-    less.divided less.apart in
-    small_fraction _ _ _ _ c.requires.positive c.requires.within
-    (divided_twice _ _ _ _ _ _ odd.divided less.divided) lowest.0 lowest.1
+    let told = c.fraction_of.ensures in
+    fraction_is c.args.numerator whole _ _ _ _ some_whole c.lowest-lowest.ensures.divided
+    c.lowest-lowest.ensures.lowest told.numerator told.denominator

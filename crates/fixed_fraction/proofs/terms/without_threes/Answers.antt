@@ -1,14 +1,17 @@
-use Rattle.fixed_fraction.specs.Ratios.{IsDivided}
-use Rattle.fixed_fraction.proofs.CommonFactors.{divided_twice, divided_positive}
+use Rattle.std.proofs.Common.{refl, arith}
+use Rattle.fixed_fraction.proofs.CommonFactors.{divided_twice, none_left}
 use Rattle.fixed_fraction.proofs.terms.without_threes.Goals as goal
 
 pub loop-next-preserved : goal.loop-next-preserved
 loop-next-preserved c =
-    let told = c.in-Some.ensures.some in
-    let more : IsDivided c.loop-next.less.numerator c.loop-next.less.denominator
-    c.in-Some.next.numerator c.in-Some.next.denominator =
-    record { factor = 3; over = told.0; under = told.1 } in
+    let told = c.in-Some.ensures in
     record {
-      divided = divided_twice _ _ _ _ _ _ c.loop-next.invariant.divided more;
-      positive = divided_positive _ _ _ _ more c.loop-next.invariant.positive;
+      twos = omega (arith, told.twos);
+      threes = omega (arith, told.threes);
+      divided = divided_twice _ _ _ _ _ _ c.loop-next.invariant.divided told.some;
     }
+
+pub returns-clause-apart : goal.returns-clause-apart
+returns-clause-apart c = λ both.
+    none_left 3 c.loop-next.less.numerator c.loop-next.less.threes (omega arith)
+    (omega (arith, c.in_default.ensures.none refl both.0)) both
