@@ -1,7 +1,9 @@
 -- A query that is read from a line, accepted or refused.
-use Rattle.std.proofs.Common.{ℕ, List, IfOk}
+use Rattle.std.proofs.Common.{ℕ, ◌≤◌, List, IfOk}
+use Rattle.race_model.specs.Positions.{Board, pips}
 use Rattle.race_model.specs.Files.{bound_of}
-use Rattle.race_model.specs.Queries.{Query, IsQuery, HasTooMany, of_over_bound, of_finished, of_no_result, IsAccepted}
+use Rattle.race_model.specs.Queries.{Query, mean_query, IsQuery, HasTooMany, IsAccepted}
+use Rattle.race_model.specs.Queries.{of_over_bound, of_finished, of_no_result}
 use Rattle.certificate.specs.declared.query_fault.QueryFault.{QueryFault}
 use Rattle.certificate.specs.declared.query_fault.QueryFault.TheVariants.{OverBound, Finished, NotLegal, Memory, Read}
 use Rattle.epc_query.specs.Answers.{IsReplyTo}
@@ -20,7 +22,14 @@ accepted_query bound line q is few can =
           can.result;
     }
 
--- the reply to one that it refuses says why
+-- .. and one of a mean where its position is of at most the bound
+pub accepted_mean : (bound : ℕ) (line : List ℕ) (x : Board) → IsQuery line (mean_query x)
+    → ¬ HasTooMany (mean_query x) → pips x ≤ bound → IsAccepted bound line (mean_query x)
+accepted_mean bound line x is few within =
+    accepted_query bound line (mean_query x) is few
+    (record { within = within; unfinished = λ none. none; result = tt })
+
+-- the reply to a query that it refuses says why
 pub refused_heard : (bound : ℕ) (line : List ℕ) (q : Query) (fault : QueryFault) → IsQuery line q
     → ¬ HasTooMany q → IsFaultOf bound q fault
     → IfOk (stop_of fault) (IsHeard bound line)

@@ -1,8 +1,9 @@
 //! The answer to a line.
-ghost use Rattle.std.specs.Prelude.{◌≡◌, ℕ, ◌<◌, ◌≤◌, List, Err, IfOk, IfErr, OnOk};
+ghost use Rattle.std.specs.Prelude.{◌≡◌, ℕ, ◌<◌, ◌≤◌, List, None, Err, IfSome, IfOk, IfErr, OnOk};
 ghost use Rattle.race_model.specs.Positions.{pips};
 ghost use Rattle.race_model.specs.Ranks.{rank as rank_of};
-ghost use Rattle.race_model.specs.Files.{bound_of};
+ghost use Rattle.race_model.specs.Files.{bound_of, mean as mean_of};
+ghost use Rattle.race_model.specs.Fractions.{IsMean, IsEffectivePips};
 ghost use Rattle.race_model.specs.Queries.{IsAccepted};
 ghost use Rattle.db_reader.specs.Telling.{WhereTold};
 ghost use Rattle.certificate.specs.Databases.{Stays};
@@ -16,7 +17,7 @@ use crate::query::{LineFault, Query, read_query};
 use crate::reply::{Refusal, Reply};
 use certificate::{Checked, QueryFault};
 use db_reader::Table;
-use fixed_fraction::{epc, mean};
+use fixed_fraction::{Fraction, mean_and_epc};
 use home_board::Position;
 use ranking::Ranks;
 use std::alloc::Global;
@@ -57,11 +58,8 @@ fn ask<T: Table>(alloc: Global, checked: &mut Checked<T>, query: Query) -> Resul
 {
     match query {
         Query::Mean(position) => {
-            let rolls = checked.scaled(&position)?;
-            Ok(Reply::Mean {
-                mean: mean(rolls),
-                epc: epc(rolls),
-            })
+            let (mean, epc) = mean_and_epc(checked.scaled(&position)?);
+            Ok(Reply::Mean { mean, epc })
         }
         Query::Dist(position) => Ok(Reply::Dist(checked.spread(&position)?)),
         Query::Play(position, roll) => {
@@ -80,6 +78,25 @@ fn ask<T: Table>(alloc: Global, checked: &mut Checked<T>, query: Query) -> Resul
             let rank = rank(checked, &position)?;
             Ok(Reply::Rank(rank))
         }
+    }
+}
+
+/// The mean number of rolls of a position of at most the bound, and its effective pip count; none
+/// where a record could not be read, or holds numbers that no accepted record can hold.
+pub(crate) fn known_mean<T: Table>(
+    checked: &mut Checked<T>,
+    position: &Position,
+) -> Option<(Fraction, Fraction)>
+    requires { pips position.now ≤ checked.old.bound }
+    ensures mean { WhereTold checked.old.told (λ file. IfSome result (λ known.
+        IsMean (mean_of file position.now) known.0.numerator known.0.denominator)) }
+    ensures epc { WhereTold checked.old.told (λ file. IfSome result (λ known.
+        IsEffectivePips (mean_of file position.now) known.1.numerator known.1.denominator)) }
+    ensures stays { Stays checked.old checked.new (result ≡ None) }
+{
+    match checked.scaled(position) {
+        Ok(rolls) => Some(mean_and_epc(rolls)),
+        Err(_) => None,
     }
 }
 

@@ -7,11 +7,12 @@ ghost use Rattle.db_reader.specs.Telling.{WhereTold};
 ghost use Rattle.certificate.specs.Databases.{Stays};
 ghost use Rattle.epc_query.specs.Runs.{HasReplies, IsStoppedAt, IsFirstFeed, IsAnswered};
 
-use crate::answer::{Stop, answer_line};
+use crate::answer::{Stop, answer_line, known_mean};
 use crate::line_buffer::{LineBuffer, whole_line};
+use crate::query::read_mean;
 use crate::run_fault::RunFault;
-use crate::text::Text;
-use crate::writing::write_reply_by;
+use crate::text::{Text, put_mean};
+use crate::writing::{write_line, write_reply_by};
 use certificate::Checked;
 use db_layout::WriteFault;
 use db_reader::Table;
@@ -19,8 +20,41 @@ use race_model::laws;
 use std::alloc::Global;
 use std::io::Write;
 
-/// Writes the reply to a line, by way of a text that the lines share.
+/// Writes the reply to a line, by way of a text that the lines share. A mean is written as it
+/// stands, since a `Reply` has room for much more, which would be cleared and copied.
 fn answer<T: Table, W: Write>(
+    alloc: Global,
+    checked: &mut Checked<T>,
+    line: &[u8],
+    text: &mut Text,
+    writer: &mut W,
+) -> Result<(), RunFault>
+    ensures answered { WhereTold checked.old.told (λ file. MatchResult result
+        (λ _. HasReplies file (line.now ∷ []) (W.contents writer.old) (W.contents writer.new))
+        (IsStoppedAt file (line.now ∷ []) (W.contents writer.old) (W.contents writer.new))) }
+    ensures stays { Stays checked.old checked.new (result ≡ Err RunFault.Table) }
+{
+    crate::laws::law_reply_text();
+    let bound = checked.bound();
+    let Some(position) = read_mean(line) else {
+        return answer_any(alloc, checked, line, text, writer);
+    };
+    if position.pips() > bound {
+        return answer_any(alloc, checked, line, text, writer);
+    }
+    let Some(known) = known_mean(checked, &position) else {
+        return Err(RunFault::Table);
+    };
+    put_mean(text, known.0, known.1);
+    match write_line(text, writer) {
+        Ok(()) => Ok(()),
+        Err(WriteFault) => Err(RunFault::Write),
+    }
+}
+
+/// Writes the reply to a line of any kind, by way of a text that the lines share.
+#[inline(never)]
+fn answer_any<T: Table, W: Write>(
     alloc: Global,
     checked: &mut Checked<T>,
     line: &[u8],

@@ -1,7 +1,7 @@
 //! What a line of input asks.
 ghost use Rattle.std.specs.Prelude.{◌≡◌, ◌≢◌, ℕ, ◌<◌, List, [], ◌∷◌, ◌++◌, ◌==◌, length, position, IfSome, MatchOption};
 ghost use Rattle.race_model.specs.Dice.{Throw};
-ghost use Rattle.race_model.specs.Queries.{IsRollText, words};
+ghost use Rattle.race_model.specs.Queries.{mean_query, IsQuery, HasTooMany, IsRollText, words};
 ghost use Rattle.epc_query.specs.Readings.{kind_text, IsPositionReading, IsThrowReading};
 ghost use Rattle.epc_query.specs.Readings.{IsResultReading, IsRestReading, IsReading, both};
 
@@ -65,6 +65,21 @@ pub fn read_query(line: &[u8]) -> Result<Query, LineFault>
     match read_kind(word) {
         Some(kind) => read_rest(kind, rest),
         None => Err(LineFault::BadLine),
+    }
+}
+
+/// The position whose mean a line asks for, where it asks for one and is not refused by what
+/// stands there: what `read_query` tells too, without a look at the words of other kinds.
+pub(crate) fn read_mean(line: &[u8]) -> Option<Position>
+    ensures { IfSome result (λ position. IsQuery line.now (mean_query position)
+        × (¬ HasTooMany (mean_query position))) }
+{
+    let [b'm', b'e', b'a', b'n', b' ', rest @ ..] = line else {
+        return None;
+    };
+    match read_position(rest) {
+        Ok(position) => Some(position),
+        Err(_) => None,
     }
 }
 

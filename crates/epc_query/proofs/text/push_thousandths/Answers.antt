@@ -1,5 +1,5 @@
-use Rattle.std.proofs.Common.{◌≡◌, ◌/◌, ◌%◌, ◌+◌, ◌∷◌, ◌++◌, [], drop, ap, ◌∙◌, arith}
-use Rattle.std.specs.Prelude.{decimal, codes}
+use Rattle.std.proofs.Common.{◌/◌, ◌%◌, ◌+◌, ◌∷◌, [], ◌∙◌}
+use Rattle.std.specs.Prelude.{decimal}
 use Rattle.epc_query.proofs.Decimals.{three_digits}
 use Rattle.epc_query.proofs.Texts.{digits_added}
 use Rattle.epc_query.proofs.text.push_thousandths.Goals as goal

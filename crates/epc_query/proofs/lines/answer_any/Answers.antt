@@ -1,0 +1,22 @@
+use Rattle.std.proofs.Common.{arith}
+use Rattle.epc_query.proofs.Runs.{one_reply, one_part}
+use Rattle.epc_query.proofs.lines.answer_any.Goals as goal
+
+pub returns-in-Ok-write_reply_by-clause-answered :
+    goal.returns-in-Ok-write_reply_by-clause-answered
+returns-in-Ok-write_reply_by-clause-answered g c = λ file t.
+    let told = (c.in-Ok.ensures {u = tt}).reply file t in
+    let wrote = (c.in-Ok-write_reply_by.ensures {u = tt}).all in
+    one_reply file c.args.line.now _ _ _
+    (c.law_reply_text.ensures file c.args.line.now c.in-Ok.reply wrote.0 told wrote.1) wrote.2
+
+pub returns-in-Ok-clause-answered : goal.returns-in-Ok-clause-answered
+returns-in-Ok-clause-answered g c = λ file t.
+    let told = (c.in-Ok.ensures {u = tt}).reply file t in
+    let wrote = (c.in-Err.ensures {u = tt}).part in
+    let line = c.args.line.now in (
+      1,
+      omega arith,
+      one_part file line _ _ _
+          (c.law_reply_text.ensures file line c.in-Ok.reply wrote.0 told wrote.1) wrote.2,
+    )
