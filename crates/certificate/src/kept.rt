@@ -51,10 +51,9 @@ impl<const ROOM: usize> AcceptedMeans<ROOM> {
 
 /// The place of a rank.
 #[tactic(auto, unfolding(crate::specs::KeptMeans::kept_place))]
-fn kept_place(rank: u16, room: usize) -> usize
-    requires { rank < room + room }
+pub fn kept_place(rank: u16, room: usize) -> usize
     ensures value { result ≡ kept_place room rank }
-    ensures range { result < room }
+    ensures range { rank < room + room → result < room }
     ensures few { result ≤ rank }
 {
     let rank = usize::from(rank);

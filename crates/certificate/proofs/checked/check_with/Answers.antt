@@ -2,7 +2,7 @@ use Rattle.std.proofs.Common.{Err, refl, sym, ap, ◌∙◌}
 use Rattle.std.proofs.lemmas.Bool.{false≢true}
 use Rattle.db_reader.proofs.Failures.{rose_as, err-same}
 use Rattle.certificate.proofs.FileTests.{none-of_right}
-use Rattle.certificate.proofs.checked.check.Goals as goal
+use Rattle.certificate.proofs.checked.check_with.Goals as goal
 
 pub invariant_of-result : goal.invariant_of-result
 invariant_of-result g c =
