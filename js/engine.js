@@ -150,8 +150,8 @@ export class Engine {
 
     // Checks the file that lies there with the proved checker, and opens it.
     open() {
-        const status = this.call("bearoff_open", this.atDatabase, BigInt(this.file), BigInt(this.fileBytes), this.atOutput,
-            BigInt(FAULT_BYTES), this.atTold);
+        const status = this.call("bearoff_open_on_large_stack", this.atDatabase, BigInt(this.file), BigInt(this.fileBytes),
+            this.atOutput, BigInt(FAULT_BYTES), this.atTold);
         if (status !== 0) throw new DamagedError(status, this.text(this.output, this.number(this.told)));
     }
 

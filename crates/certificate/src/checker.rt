@@ -30,7 +30,9 @@ const ROOM_TO_44: usize = 26314;
 const ROOM_TO_58: usize = 35798;
 
 /// The header of a table whose records meet the local equations, or the first fault. It takes no
-/// memory, and adds a stored number to others only where it was accepted before.
+/// memory, and adds a stored number to others only where it was accepted before. Accepted shares
+/// are kept decoded, or not; where they are, one room serves all bounds, so that there is one such
+/// checker in a module.
 // so that the room of `check` is no larger than its result
 #[inline(never)]
 pub fn check_records<T: Table, const DECODED: bool>(
@@ -54,43 +56,19 @@ pub fn check_records<T: Table, const DECODED: bool>(
         Err(TableFault::Read) => return Err(CheckFault::Read),
     };
     let count = usize::from(header.count);
-    if count <= ROOM_TO_8 {
-        check_in::<T, DECODED, ROOM_TO_8, ROWS_TO_8>(table, ranks, header)
+    if DECODED {
+        check_under::<T, DecodedShares<ROOM_TO_58>, ROOM_TO_58, ROWS_TO_58>(table, ranks, header)
+    } else if count <= ROOM_TO_8 {
+        check_under::<T, RecordedShares, ROOM_TO_8, ROWS_TO_8>(table, ranks, header)
     } else if count <= ROOM_TO_44 {
-        check_in::<T, DECODED, ROOM_TO_44, ROWS_TO_58>(table, ranks, header)
+        check_under::<T, RecordedShares, ROOM_TO_44, ROWS_TO_58>(table, ranks, header)
     } else {
-        check_in::<T, DECODED, ROOM_TO_58, ROWS_TO_58>(table, ranks, header)
+        check_under::<T, RecordedShares, ROOM_TO_58, ROWS_TO_58>(table, ranks, header)
     }
 }
 
 /// The same, where the table has accepted this header, with room for what is kept of so many
-/// ranks, and with so many rows for the best plays.
-fn check_in<T: Table, const DECODED: bool, const ROOM: usize, const ROWS: usize>(
-    table: &mut T,
-    ranks: &Ranks,
-    header: Header,
-) -> Result<Header, CheckFault>
-    requires header { T.accepted table.old ≡ Some header }
-    requires room { header.count ≤ ROOM + ROOM }
-    requires near { (r : ℕ) → r < header.count → HasRoom ROOM r }
-    requires rows { (r : ℕ) → r < header.count → HasRows ROWS r }
-    requires small { ROOM ≤ 46062 }
-    requires few { ROWS ≤ 11452 }
-    requires file { WhereTold (T.tells table.old)
-        (λ file. HasHeader file header) }
-    ensures header { IfOk result (λ same. same ≡ header) }
-    ensures local { WhereTold (T.tells table.old) (λ file. OnOk result (IsLocal file)) }
-    ensures first { WhereTold (T.tells table.old) (λ file. IfErr result (IsFirst file)) }
-    ensures stays { TableStays ⟦<T as Table>⟧ table.old table.new (result ≡ Err CheckFault.Read) }
-{
-    if DECODED {
-        check_under::<T, DecodedShares<ROOM>, ROOM, ROWS>(table, ranks, header)
-    } else {
-        check_under::<T, RecordedShares, ROOM, ROWS>(table, ranks, header)
-    }
-}
-
-/// The same, where shares are found in this way.
+/// ranks, and with so many rows for the best plays, where shares are found in this way.
 // so that its room is on the stack while it checks, and not while the header is read or its
 // caller goes on
 #[inline(never)]
