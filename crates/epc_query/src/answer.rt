@@ -17,7 +17,7 @@ use crate::query::{LineFault, Query, read_query};
 use crate::reply::{Refusal, Reply};
 use certificate::{Checked, QueryFault};
 use db_reader::Table;
-use fixed_fraction::{Fraction, mean_and_epc};
+use fixed_fraction::{Fraction, epc, mean, mean_and_epc};
 use home_board::Position;
 use ranking::Ranks;
 use std::alloc::Global;
@@ -58,8 +58,11 @@ fn ask<T: Table>(alloc: Global, checked: &mut Checked<T>, query: Query) -> Resul
 {
     match query {
         Query::Mean(position) => {
-            let (mean, epc) = mean_and_epc(checked.scaled(&position)?);
-            Ok(Reply::Mean { mean, epc })
+            let rolls = checked.scaled(&position)?;
+            Ok(Reply::Mean {
+                mean: mean(rolls),
+                epc: epc(rolls),
+            })
         }
         Query::Dist(position) => Ok(Reply::Dist(checked.spread(&position)?)),
         Query::Play(position, roll) => {
