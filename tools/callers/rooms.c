@@ -1,6 +1,7 @@
 /*
  * A room that is too small by one byte is too small, and one of exactly the size of the file is enough: for
- * bearoff_build and each bound, and for bearoff_upgrade and each bound of a file of version 1.
+ * bearoff_build and each bound, and for bearoff_upgrade and each bound of a file of version 1. What was built is opened by
+ * bearoff_open and by bearoff_open_on_large_stack.
  * usage: rooms [STEP]       each bound, or each STEPth from 58 down
  * Where a room is too small the status is BEAROFF_SHORT, and the room for the file and the count stay as they were. All
  * rooms stand between guards. It needs a thread with a stack of its own, since a build needs 20 MB.
@@ -62,6 +63,23 @@ static size_t try_rooms(int bound, size_t old_length, uint8_t *file) {
     return size;
 }
 
+/* the file that was built is opened by both calls, and one with a wrong share is refused by both */
+static void try_openings(int bound, size_t size) {
+    static bearoff_database one, other;
+    uint8_t line[BEAROFF_LINE];
+    size_t needed;
+    expect(bearoff_open(&one, built, size, line, sizeof line, &needed) == BEAROFF_OK, "bearoff_open", bound, (long)size);
+    expect(bearoff_open_on_large_stack(&other, built, size, line, sizeof line, &needed) == BEAROFF_OK,
+           "bearoff_open_on_large_stack", bound, (long)size);
+    expect(!memcmp(&one, &other, offsetof(bearoff_database, ranks) + sizeof one.ranks), "two structs of one file", bound,
+           (long)size);
+    built[size - 1] ^= 1;
+    expect(bearoff_open(&one, built, size, line, sizeof line, &needed) == BEAROFF_BAD_SPREAD, "a wrong share", bound, 0);
+    expect(bearoff_open_on_large_stack(&other, built, size, line, sizeof line, &needed) == BEAROFF_BAD_SPREAD,
+           "a wrong share, on a large stack", bound, 0);
+    built[size - 1] ^= 1;
+}
+
 static void *try_all(void *none) {
     size_t filled;
     for (int bound = 58; bound >= 0; bound -= step) {
@@ -70,6 +88,7 @@ static void *try_all(void *none) {
         if (bound == 44) expect(size == 11209796, "the size", bound, (long)size);
         if (bound == 8) expect(size == 32 + 426 * 64, "the size", bound, (long)size);
         if (!size) continue;
+        if (bound > 0) try_openings(bound, size);
         if (bound > 44) {
             expect(call_with(bound, size, MOST, MOST, &filled) == BEAROFF_NOT_OLD, "the upgrade of version 2", bound, 0);
         } else {
