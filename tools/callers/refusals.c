@@ -164,14 +164,12 @@ static void round_off(number numerator, number denominator, int wanted, const ch
     let_go(told);
 }
 
-typedef uint32_t (*opening)(bearoff_database *, const uint8_t *, size_t, uint8_t *, size_t, size_t *);
-
-/* opens bytes by a call, with so much room for the line */
-static uint32_t open_by(opening call, bearoff_database *database, const uint8_t *bytes, size_t length, size_t room,
-                        const char *line, const char *what) {
+/* opens bytes with so much room for the line */
+static uint32_t open_with(bearoff_database *database, const uint8_t *bytes, size_t length, size_t room,
+                          const char *line, const char *what) {
     uint8_t *buffer = guarded(room);
     size_t *needed = (size_t *)guarded(sizeof *needed);
-    uint32_t status = call(database, bytes, length, buffer, room, needed);
+    uint32_t status = bearoff_open(database, bytes, length, buffer, room, needed);
     size_t count = strlen(line);
     expect(*needed == count, what, (long)*needed);
     if (count <= room) {
@@ -183,18 +181,6 @@ static uint32_t open_by(opening call, bearoff_database *database, const uint8_t 
     expect(guards_stand(database, sizeof *database), what, -4);
     let_go(buffer);
     let_go(needed);
-    return status;
-}
-
-/* opens bytes by both calls, which say the same and leave the same */
-static uint32_t open_with(bearoff_database *database, const uint8_t *bytes, size_t length, size_t room,
-                          const char *line, const char *what) {
-    bearoff_database *other = (bearoff_database *)guarded(sizeof *other);
-    memcpy(other, database, sizeof *other);
-    uint32_t status = open_by(bearoff_open, database, bytes, length, room, line, what);
-    expect(open_by(bearoff_open_on_large_stack, other, bytes, length, room, line, what) == status, what, -5);
-    expect(!memcmp(other, database, offsetof(bearoff_database, ranks) + sizeof other->ranks), what, -6);
-    let_go(other);
     return status;
 }
 
