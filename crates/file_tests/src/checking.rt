@@ -1,8 +1,8 @@
 //! Files with known bytes, and what the checker says of them.
 ghost use Rattle.std.specs.Prelude.{◌≡◌, length};
 
-use crate::given::{WHOLE_BYTES, accepted, compact_database, database};
-use certificate::{CheckFault, Checked, QueryFault, check, check_on_large_stack, fault_line};
+use crate::given::{WHOLE_BYTES, accepted};
+use certificate::{CheckFault, QueryFault, check, fault_line};
 use db_layout::HeaderFault;
 use db_reader::trial::FailOnce;
 use db_reader::{Table, Whole};
@@ -49,20 +49,9 @@ fn compact_fault_of_front(count: usize) -> Option<CheckFault> {
     fault_of(&file[..count.min(164)])
 }
 
-/// The fault of a table, and none where it is accepted, as both checkers say: `Read`, which bytes
-/// never have, where they differ.
+/// The fault of a table, and none where it is accepted.
 fn fault_of(file: &[u8]) -> Option<CheckFault> {
-    let fault = fault_in(check(Whole::new(file)));
-    if fault_in(check_on_large_stack(Whole::new(file))) == fault {
-        fault
-    } else {
-        Some(CheckFault::Read)
-    }
-}
-
-/// The fault of a table that was refused, and none of one that was accepted.
-fn fault_in<T: Table + Drop>(checked: Result<Checked<T>, (T, CheckFault)>) -> Option<CheckFault> {
-    match checked {
+    match check(Whole::new(file)) {
         Ok(_) => None,
         Err((_, fault)) => Some(fault),
     }
@@ -247,15 +236,6 @@ fn the_version_and_the_answers_of_version_2(rt: HostRuntime) -> Result<(), Fail>
     assert_eq!(rt; checked.spread(&aces(0)?)?.at(0), fixed_fraction::WHOLE);
     let checked = accepted(Whole::new(&old))?;
     assert_eq!(rt; checked.version(), 1);
-    Ok(())
-}
-
-#[test]
-fn built_files_of_8_pips(rt: HostRuntime) -> Result<(), Fail> {
-    let file = database(rt.alloc(), 8)?;
-    assert_eq!(rt; fault_of(file.as_slice()), None);
-    let file = compact_database(rt.alloc(), 8)?;
-    assert_eq!(rt; fault_of(file.as_slice()), None);
     Ok(())
 }
 
