@@ -89,14 +89,13 @@ fn push_share(text: &mut Text, spread: &Spread, k: u8)
         × (text.new.bytes ≡ text.old.bytes ++ part) }
     ensures len { array_string_len text.new ≤ array_string_len text.old + 130 }
 {
-    let share = share(spread, k);
-    if share.numerator() == 0 {
+    if spread.at(k) == 0 {
         return;
     }
     text.push_str(" ");
     push_number(text, u128::from(k));
     text.push_str(":");
-    push_fraction(text, share);
+    push_fraction(text, share(spread, k));
 }
 
 /// Adds the moves of a play, each after a space.
