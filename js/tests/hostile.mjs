@@ -205,11 +205,16 @@ async function refuseDamages() {
     const long = new Uint8Array(21_000_000);
     long.set(eight);
     const damaged = [new Uint8Array(0), eight.slice(0, 20), eight.slice(0, -1), Uint8Array.of(...eight, 0), long];
-    for (let place = 0; place < eight.length; place += place < 40 ? 1 : 467) {
-        const other = eight.slice();
+    const changed = (file, place) => {
+        const other = file.slice();
         other[place] ^= 1 + (place % 7);
         damaged.push(other);
-    }
+    };
+    for (let place = 0; place < eight.length; place += place < 40 ? 1 : 467) changed(eight, place);
+    // a large file is opened by another call: a mean, a play and two shares
+    const race = new Uint8Array(bytesOf("race.db"));
+    const record = 32 + 426 * 20000;
+    for (const place of [record + 15, record + 21, record + 200, race.length - 1]) changed(race, place);
     const faults = new Set();
     const own = mkdtempSync(join(tmpdir(), "damaged-"));
     for (const [number, other] of damaged.entries()) {
