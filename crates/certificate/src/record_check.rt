@@ -89,10 +89,8 @@ fn add_numbers<S: LowerShares<ROOM>, const ROOM: usize>(
     ensures refused { OnErr result (¬ ((mean_of view.now ≤ 22 * whole)
         × (sum (take rolls (S.shares shares.now rank view.now)) ≡ whole))) }
 {
-    // a copy, whose parts stay known while sums are written
-    let view = view.copied();
-    let mean = mean_in(&view).ok_or(ReadFault)?;
-    if shares.add(sums, roll.weight(), mean, rank, &view, rolls) {
+    let mean = mean_in(view).ok_or(ReadFault)?;
+    if shares.add(sums, roll.weight(), mean, rank, view, rolls) {
         Ok(())
     } else {
         Err(ReadFault)

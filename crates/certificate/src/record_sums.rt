@@ -58,9 +58,11 @@ impl RecordSums {
         ensures added { IsTrue result →
             IsAdded self.old weight mean (take rolls (shares_of view.now)) self.new }
     {
+        // a copy, whose parts stay known while sums are written
+        let view = view.copied();
         self.weight += weight;
         self.mean += u128::from(weight) * mean.numerator();
-        add_shares(&mut self.shares, weight, view, rolls)
+        add_shares(&mut self.shares, weight, &view, rolls)
     }
 
     /// Adds a mean, and the shares of an accepted record of fewer than so many rolls, with the
