@@ -2,7 +2,7 @@ use Rattle.std.proofs.Common.{Err, refl, sym, ap, ◌∙◌}
 use Rattle.std.proofs.lemmas.Bool.{false≢true}
 use Rattle.db_reader.proofs.Failures.{rose_as, err-same}
 use Rattle.certificate.proofs.FileTests.{none-of_right}
-use Rattle.certificate.proofs.checked.check_with.Goals as goal
+use Rattle.certificate.proofs.checked.check_on_large_stack.Goals as goal
 
 pub invariant_of-result : goal.invariant_of-result
 invariant_of-result g c =
@@ -30,6 +30,6 @@ returns-in-Err-clause-exactly g c file told same =
     let said = c.in-Err.ensures {u = tt} in (
       λ is. absurd (false≢true is),
       λ right. absurd (none-of_right file (g.T.Table.failures c.args.table)
-          (g.T.Table.failures c.check_records.new.table) c.in-Err.fault (said.first file told)
+          (g.T.Table.failures c.check_records.new.table) c.in-Err.first (said.first file told)
           (rose_as (said.cause file told) (ap Err) err-same) same right),
     )
