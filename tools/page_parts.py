@@ -2,8 +2,9 @@
 and the version in the file VERSION.
 
 The scripts in WEB, and those of the package in js/ beside it, are modules that name each other by `import` and `export`;
-here they become one script each for the page and for its worker, in the order in which they rest on each other, in a function of their own. The page's policy
-lets run and style what was put into it, by its hash, and nothing else.
+here they become one script each for the page and for its worker, in the order in which they rest on each other, in a
+function of their own and without their comments. The page's policy lets run and style what was put into it, by its hash,
+and nothing else.
 """
 import base64
 import gzip
@@ -14,6 +15,7 @@ import sys
 from pathlib import Path
 
 MOST_BYTES = 400_000
+COMMENT = re.compile(r"^[ \t]*//.*\n", re.MULTILINE)
 IMPORT = re.compile(r'^import \{[^}]*\} from "(\.\.?/[\w/]+\.js)";\n', re.MULTILINE)
 
 
@@ -36,7 +38,7 @@ def script(module, start):
     twice = sorted({word for word in names if names.count(word) > 1})
     if twice:
         sys.exit(f"page: two modules name the same: {', '.join(twice)}")
-    body = "\n".join(re.sub(r"^export ", "", text, flags=re.M) for text in parts.values())
+    body = "\n".join(re.sub(r"^export ", "", COMMENT.sub("", text), flags=re.M) for text in parts.values())
     return f'(() => {{\n"use strict";\n{body}\n{start}\n}})();'
 
 
