@@ -190,8 +190,8 @@ uint32_t bearoff_open(bearoff_database *database, const uint8_t *bytes, size_t l
 
 /*
  * The same as bearoff_open, for a processor that has neither a byte swap nor an addition with
- * carry, as WebAssembly, where it is a tenth faster to 44 pips: it keeps the shares that it has
- * accepted, and needs 14 MB of stack. Elsewhere take bearoff_open.
+ * carry, as WebAssembly: it keeps the shares that it has accepted, and needs 14 MB of stack.
+ * Elsewhere take bearoff_open.
  */
 uint32_t bearoff_open_on_large_stack(bearoff_database *database, const uint8_t *bytes,
                                      size_t length, uint8_t *line, size_t room, size_t *needed);
