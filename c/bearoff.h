@@ -17,9 +17,8 @@
  * Threads. Each call may be made from any thread; calls that only read a database may share it.
  *
  * Stack. bearoff_open and bearoff_upgrade need less than BEAROFF_OPEN_STACK bytes of stack,
- * bearoff_build and bearoff_open_on_large_stack less than BEAROFF_BUILD_STACK, every other call
- * less than 128 KB. Threads whose stack is smaller have to be given more before they make such a
- * call.
+ * bearoff_build less than BEAROFF_BUILD_STACK, every other call less than 128 KB. Threads whose
+ * stack is smaller have to be given more before they make such a call.
  *
  * Refusals. Each call but bearoff_thousandths returns a status; where it isn't BEAROFF_OK nothing
  * that the caller lends was changed, except for what the call's comment says.
@@ -187,14 +186,6 @@ uint32_t bearoff_library_version(uint16_t *major, uint16_t *minor, uint16_t *pat
  */
 uint32_t bearoff_open(bearoff_database *database, const uint8_t *bytes, size_t length,
                       uint8_t *line, size_t room, size_t *needed);
-
-/*
- * The same as bearoff_open, for a processor that has neither a byte swap nor an addition with
- * carry, as WebAssembly: it keeps the shares that it has accepted, and needs 14 MB of stack.
- * Elsewhere take bearoff_open.
- */
-uint32_t bearoff_open_on_large_stack(bearoff_database *database, const uint8_t *bytes,
-                                     size_t length, uint8_t *line, size_t room, size_t *needed);
 
 /*
  * The version of the database's file: 1, or 2 where the records leave out the shares that are

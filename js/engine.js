@@ -19,9 +19,6 @@ const OLD_FILE_BYTES = 11209796;
 const UPGRADE_BYTES = 7608420;
 const LAST_OLD_BOUND = 44;
 
-// From so many bytes on the checker that keeps what it has accepted is faster; its room takes some milliseconds to clear.
-const LARGE_FILE_BYTES = 1 << 20;
-
 const ENCODER = new TextEncoder();
 const DECODER = new TextDecoder();
 
@@ -153,8 +150,7 @@ export class Engine {
 
     // Checks the file that lies there with the proved checker, and opens it.
     open() {
-        const name = this.fileBytes < LARGE_FILE_BYTES ? "bearoff_open" : "bearoff_open_on_large_stack";
-        const status = this.call(name, this.atDatabase, BigInt(this.file), BigInt(this.fileBytes), this.atOutput,
+        const status = this.call("bearoff_open", this.atDatabase, BigInt(this.file), BigInt(this.fileBytes), this.atOutput,
             BigInt(FAULT_BYTES), this.atTold);
         if (status !== 0) throw new DamagedError(status, this.text(this.output, this.number(this.told)));
     }

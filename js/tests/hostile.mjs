@@ -211,7 +211,7 @@ async function refuseDamages() {
         damaged.push(other);
     };
     for (let place = 0; place < eight.length; place += place < 40 ? 1 : 467) changed(eight, place);
-    // a large file is opened by another call: a mean, a play and two shares
+    // and of a large file a mean, a play and two shares
     const race = new Uint8Array(bytesOf("race.db"));
     const record = 32 + 426 * 20000;
     for (const place of [record + 15, record + 21, record + 200, race.length - 1]) changed(race, place);

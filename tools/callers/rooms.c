@@ -1,7 +1,7 @@
 /*
  * A room that is too small by one byte is too small, and one of exactly the size of the file is enough: for
  * bearoff_build and each bound, and for bearoff_upgrade and each bound of a file of version 1. What was built is opened by
- * bearoff_open and by bearoff_open_on_large_stack, and so are files with a wrong byte, each of 3 pips among them.
+ * bearoff_open, and a file with a wrong byte is refused, each of 3 pips among them.
  * usage: rooms [STEP]       each bound, or each STEPth from 58 down
  * Where a room is too small the status is BEAROFF_SHORT, and the room for the file and the count stay as they were. All
  * rooms stand between guards. It needs a thread with a stack of its own, since a build needs 20 MB.
@@ -63,28 +63,20 @@ static size_t try_rooms(int bound, size_t old_length, uint8_t *file) {
     return size;
 }
 
-/* what the file that was built is refused for, by both calls: they say the same and leave the same */
-static uint32_t open_both(int bound, size_t size) {
-    static bearoff_database one, other;
-    uint8_t line[BEAROFF_LINE], other_line[BEAROFF_LINE];
-    size_t needed = MARK, other_needed = MARK;
-    memset(line, MARK, sizeof line);
-    memset(other_line, MARK, sizeof other_line);
-    uint32_t status = bearoff_open(&one, built, size, line, sizeof line, &needed);
-    uint32_t other_status = bearoff_open_on_large_stack(&other, built, size, other_line, sizeof other_line, &other_needed);
-    expect(status == other_status, "two statuses of one file", bound, (long)other_status);
-    expect(needed == other_needed && !memcmp(line, other_line, sizeof line), "two lines of one file", bound, (long)needed);
-    expect(!memcmp(&one, &other, offsetof(bearoff_database, ranks) + sizeof one.ranks), "two structs of one file", bound,
-           (long)status);
-    return status;
+/* what the file that was built is refused for */
+static uint32_t open_built(size_t size) {
+    static bearoff_database database;
+    uint8_t line[BEAROFF_LINE];
+    size_t needed;
+    return bearoff_open(&database, built, size, line, sizeof line, &needed);
 }
 
 /* the whole file, and it with one bit changed: in the last share, or, of 3 pips, in each byte in turn */
 static void try_openings(int bound, size_t size) {
-    expect(open_both(bound, size) == BEAROFF_OK, "the file that was built", bound, (long)size);
+    expect(open_built(size) == BEAROFF_OK, "the file that was built", bound, (long)size);
     for (size_t place = bound == 3 ? 0 : size - 1; place < size; place++) {
         built[place] ^= 1;
-        expect(open_both(bound, size) >= BEAROFF_TOO_SHORT, "a wrong byte", bound, (long)place);
+        expect(open_built(size) >= BEAROFF_TOO_SHORT, "a wrong byte", bound, (long)place);
         built[place] ^= 1;
     }
 }

@@ -1,4 +1,4 @@
-ghost use Rattle.std.specs.Prelude.{◌≡◌, ◌<◌, ◌≤◌, ◌↔◌, IsTrue, Some, IsOk, IfOk, IfErr, OnOk, length};
+ghost use Rattle.std.specs.Prelude.{◌≡◌, ◌<◌, ◌≤◌, ◌↔◌, IsTrue, Some, length};
 ghost use Rattle.race_model.specs.Ranks.{count_to};
 ghost use Rattle.race_model.specs.Versions.{version_number};
 ghost use Rattle.race_model.specs.Files.{version_of, bound_of};
@@ -12,7 +12,7 @@ ghost use Rattle.bearoff_c.specs.Refusals.{open_refusal, status_of};
 use crate::database::Database;
 use crate::refusal::{OK, Refusal};
 use crate::text::put_text;
-use certificate::{CheckFault, Checked, check, check_on_large_stack, fault_line};
+use certificate::{CheckFault, Checked, check, fault_line};
 use db_layout::HeaderFault;
 use db_reader::Whole;
 use ranking::RankTable;
@@ -39,60 +39,7 @@ pub extern "C" fn bearoff_open<'a>(
     ensures read { result < 28 }
     ensures none { result ≡ 0 → (needed.new ≡ 0) × (line.new ≡ line.old) }
 {
-    answer(check(Whole::new(bytes)), database, bytes, line, needed)
-}
-
-/// Checks the bytes of a file and opens a database over them, as `bearoff_open` does, and keeps
-/// shares that it has accepted: that is faster where a processor has neither a byte swap nor an
-/// addition with carry, as in WebAssembly, and needs 14 MB of stack.
-#[unsafe(no_mangle)]
-pub extern "C" fn bearoff_open_on_large_stack<'a>(
-    database: &mut Database<'a>,
-    bytes: &'a [u8],
-    line: &mut [u8],
-    needed: &mut usize,
-) -> u32
-    ensures right { (result ≡ 0) ↔ IsRight bytes.now }
-    ensures opened { IsTrue database.new.is_open ↔ (result ≡ 0) }
-    ensures bytes { result ≡ 0 → database.new.bytes.now ≡ bytes.now }
-    ensures bound { result ≡ 0 → database.new.bound ≡ bound_of bytes.now }
-    ensures fault { ¬ (result ≡ 0) → (fault : Fault) × IsFirst bytes.now fault
-        × (result ≡ fault_status fault) × HasText (line_of fault) line.old line.new needed.new }
-    ensures read { result < 28 }
-    ensures none { result ≡ 0 → (needed.new ≡ 0) × (line.new ≡ line.old) }
-{
-    answer(
-        check_on_large_stack(Whole::new(bytes)),
-        database,
-        bytes,
-        line,
-        needed,
-    )
-}
-
-/// Opens a database over bytes that were accepted, or tells why they were refused.
-fn answer<'a>(
-    checked: Result<Checked<Whole<'a>>, (Whole<'a>, CheckFault)>,
-    database: &mut Database<'a>,
-    bytes: &'a [u8],
-    line: &mut [u8],
-    needed: &mut usize,
-) -> u32
-    requires told { IfOk checked (λ accepted. accepted.told ≡ Some bytes.now) }
-    requires right { OnOk checked (IsRight bytes.now) }
-    requires exactly { IsOk checked ↔ IsRight bytes.now }
-    requires first { IfErr checked (λ refused. IsFirst bytes.now refused.1) }
-    requires read { IfErr checked (λ refused. ¬ (refused.1 ≡ CheckFault.Read)) }
-    ensures right { (result ≡ 0) ↔ IsRight bytes.now }
-    ensures opened { IsTrue database.new.is_open ↔ (result ≡ 0) }
-    ensures bytes { result ≡ 0 → database.new.bytes.now ≡ bytes.now }
-    ensures bound { result ≡ 0 → database.new.bound ≡ bound_of bytes.now }
-    ensures fault { ¬ (result ≡ 0) → (fault : Fault) × IsFirst bytes.now fault
-        × (result ≡ fault_status fault) × HasText (line_of fault) line.old line.new needed.new }
-    ensures read { result < 28 }
-    ensures none { result ≡ 0 → (needed.new ≡ 0) × (line.new ≡ line.old) }
-{
-    match checked {
+    match check(Whole::new(bytes)) {
         Ok(checked) => {
             *database = opened(bytes, &checked);
             *needed = 0;

@@ -1,8 +1,7 @@
--- What is kept of the accepted ranks, with one more.
-use Rattle.std.proofs.Common.{◌≡◌, ◌≢◌, ⊎_elim, ℕ, ◌+◌, ◌-◌, ◌<◌, ◌≤◌, List, sym, subst, ◌∙◌, arith}
+-- The means that are kept, with one more.
+use Rattle.std.proofs.Common.{◌≡◌, ◌≢◌, ⊎_elim, ℕ, ◌+◌, ◌-◌, ◌<◌, ◌≤◌, List, sym, ap, ◌∙◌, arith}
 use Rattle.std.proofs.lemmas.Bool.{cases_lt, lt-ltb, le-ltb}
-use Rattle.race_model.specs.Files.{mean_at, record_at}
-use Rattle.certificate.specs.RecordNumbers.{shares_of}
+use Rattle.race_model.specs.Files.{mean_at}
 use Rattle.certificate.specs.KeptMeans.{kept_place, kept_mean}
 
 -- the place of a rank below the room
@@ -27,39 +26,16 @@ places_apart room r n below near e = ⊎_elim
     omega (arith, kept_place-high room r high, kept_place-high room n past))
     (cases_lt r room)
 
--- what is known of what is kept is known of one rank more
-pub kept_more : (room rank : ℕ) (Before After : ℕ → Type 0) → After rank
-    → ((r : ℕ) → kept_place room r ≢ kept_place room rank → Before r → After r)
-    → ((r : ℕ) → r < rank → rank ≤ r + room → Before r)
-    → (r : ℕ) → r < rank + 1 → rank + 1 ≤ r + room → After r
-kept_more room rank Before After here others are r lt near = ⊎_elim
-    (λ less. others r (places_apart room r rank less (omega arith)) (are r less (omega arith)))
-    (λ more.
-    let same : r ≡ rank = omega arith in
-    subst After (sym same) here)
-    (cases_lt r rank)
-
--- where the means were those of the file, they still are
+-- where they were those of the file, they still are
 pub accepted-mean_more : (f before after : List ℕ) (room rank : ℕ)
     → kept_mean room after rank ≡ mean_at f rank
     → ((r : ℕ) → kept_place room r ≢ kept_place room rank →
     kept_mean room after r ≡ kept_mean room before r)
     → ((r : ℕ) → r < rank → rank ≤ r + room → kept_mean room before r ≡ mean_at f r)
     → (r : ℕ) → r < rank + 1 → rank + 1 ≤ r + room → kept_mean room after r ≡ mean_at f r
-accepted-mean_more f before after room rank here others are =
-    kept_more room rank (λ r. kept_mean room before r ≡ mean_at f r)
-    (λ r. kept_mean room after r ≡ mean_at f r) here (λ r other is. others r other ∙ is) are
-
--- and so are the shares that are found
-pub accepted-shares_more : (f : List ℕ) (before after : ℕ → List ℕ → List ℕ) (room rank : ℕ)
-    → after rank (record_at f rank) ≡ shares_of (record_at f rank)
-    → ((r : ℕ) (bytes : List ℕ) → kept_place room r ≢ kept_place room rank →
-    after r bytes ≡ before r bytes)
-    → ((r : ℕ) → r < rank → rank ≤ r + room →
-    before r (record_at f r) ≡ shares_of (record_at f r))
-    → (r : ℕ) → r < rank + 1 → rank + 1 ≤ r + room →
-    after r (record_at f r) ≡ shares_of (record_at f r)
-accepted-shares_more f before after room rank here others are =
-    kept_more room rank (λ r. before r (record_at f r) ≡ shares_of (record_at f r))
-    (λ r. after r (record_at f r) ≡ shares_of (record_at f r)) here
-    (λ r other is. others r (record_at f r) other ∙ is) are
+accepted-mean_more f before after room rank here others are r lt near = ⊎_elim
+    (λ less. others r (places_apart room r rank less (omega arith)) ∙ are r less (omega arith))
+    (λ more.
+    let same : r ≡ rank = omega arith in
+    ap (kept_mean room after) same ∙ (here ∙ ap (mean_at f) (sym same)))
+    (cases_lt r rank)

@@ -23,11 +23,6 @@ pub record AreBounded (totals : Totals) : Type 0 where
   pub mean : totals.mean ≤ totals.weight * (22 * whole)
   pub shares : (k : ℕ) → k < 23 → slice_index totals.shares k ≤ totals.weight * whole
 
--- 23 shares of at most the whole
-pub record AreShares (shares : List ℕ) : Type 0 where
-  pub len : length shares ≡ 23
-  pub small : (k : ℕ) → k < 23 → slice_index shares k ≤ whole
-
 -- the mean of a record is that of these sums
 pub record IsMeanOf (x : Board) (mean : ℕ) (sums : Totals) : Type 0 where
   pub at_end : IsFinished x → mean ≡ 0

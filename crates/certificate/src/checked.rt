@@ -94,42 +94,9 @@ pub fn check<T: Table>(mut table: T) -> Result<Checked<T>, (T, CheckFault)>
 {
     laws::law_right();
     let ranks = Ranks::new();
-    let header = match check_records::<T, false>(&mut table, &ranks) {
+    let header = match check_records(&mut table, &ranks) {
         Ok(header) => header,
         Err(fault) => return Err((table, fault)),
-    };
-    // a `match` with this result would have room for a second one on the stack
-    Ok(Checked {
-        table,
-        header,
-        ranks,
-    })
-}
-
-/// Checks a table, as `check` does, and keeps the shares of the accepted records decoded: that is
-/// faster where a processor has neither a byte swap nor an addition with carry, as in WebAssembly.
-/// It takes no memory but the stack, of which it needs 14 MB.
-// so that its room is not part of its caller's
-#[inline(never)]
-pub fn check_on_large_stack<T: Table>(mut table: T) -> Result<Checked<T>, (T, CheckFault)>
-    ensures told { IfOk result (λ checked. checked.told ≡ T.tells table) }
-    ensures back { IfErr result (λ refused. T.tells refused.0 ≡ T.tells table) }
-    ensures right { WhereTold (T.tells table) (λ file. OnOk result (IsRight file)) }
-    ensures exactly { WhereTold (T.tells table) (λ file.
-        IfErr result (λ refused. T.failures refused.0 ≡ T.failures table) →
-        IsOk result ↔ IsRight file) }
-    ensures first { WhereTold (T.tells table)
-        (λ file. IfErr result (λ refused. IsFirst file refused.1)) }
-    ensures ok_cause { WhereTold (T.tells table)
-        (λ _. IfOk result (λ checked. checked.failures ≡ T.failures table)) }
-    ensures err_cause { WhereTold (T.tells table) (λ _. IfErr result (λ refused. RoseWhere
-        (refused.1 ≡ CheckFault.Read) (T.failures table) (T.failures refused.0))) }
-{
-    laws::law_right();
-    let ranks = Ranks::new();
-    let header = match check_records::<T, true>(&mut table, &ranks) {
-        Ok(header) => header,
-        Err(first) => return Err((table, first)),
     };
     // a `match` with this result would have room for a second one on the stack
     Ok(Checked {

@@ -13,7 +13,6 @@ ghost use Rattle.certificate.specs.KeptMeans.{HasRoom};
 use crate::check_fault::{CheckFault, fault_at};
 use crate::kept::LowerRecords;
 use crate::record_check::check_record;
-use crate::shares::{DecodedShares, LowerShares, RecordedShares};
 use db_layout::Header;
 use db_reader::{Record, Table, TableFault};
 use least_plays::{ROWS_TO_8, ROWS_TO_58};
@@ -30,15 +29,10 @@ const ROOM_TO_44: usize = 26314;
 const ROOM_TO_58: usize = 35798;
 
 /// The header of a table whose records meet the local equations, or the first fault. It takes no
-/// memory, and adds a stored number to others only where it was accepted before. Accepted shares
-/// are kept decoded, or not; where they are, one room serves all bounds, so that there is one such
-/// checker in a module.
+/// memory, and adds a stored number to others only where it was accepted before.
 // so that the room of `check` is no larger than its result
 #[inline(never)]
-pub fn check_records<T: Table, const DECODED: bool>(
-    table: &mut T,
-    ranks: &Ranks,
-) -> Result<Header, CheckFault>
+pub fn check_records<T: Table>(table: &mut T, ranks: &Ranks) -> Result<Header, CheckFault>
     ensures stays { T.tells table.new ≡ T.tells table.old }
     ensures accepted { IfOk result (λ header. T.accepted table.new ≡ Some header) }
     ensures local { WhereTold (T.tells table.old) (λ file. OnOk result (IsLocal file)) }
@@ -56,23 +50,21 @@ pub fn check_records<T: Table, const DECODED: bool>(
         Err(TableFault::Read) => return Err(CheckFault::Read),
     };
     let count = usize::from(header.count);
-    if DECODED {
-        check_under::<T, DecodedShares<ROOM_TO_58>, ROOM_TO_58, ROWS_TO_58>(table, ranks, header)
-    } else if count <= ROOM_TO_8 {
-        check_under::<T, RecordedShares, ROOM_TO_8, ROWS_TO_8>(table, ranks, header)
+    if count <= ROOM_TO_8 {
+        check_under::<T, ROOM_TO_8, ROWS_TO_8>(table, ranks, header)
     } else if count <= ROOM_TO_44 {
-        check_under::<T, RecordedShares, ROOM_TO_44, ROWS_TO_58>(table, ranks, header)
+        check_under::<T, ROOM_TO_44, ROWS_TO_58>(table, ranks, header)
     } else {
-        check_under::<T, RecordedShares, ROOM_TO_58, ROWS_TO_58>(table, ranks, header)
+        check_under::<T, ROOM_TO_58, ROWS_TO_58>(table, ranks, header)
     }
 }
 
-/// The same, where the table has accepted this header, with room for what is kept of so many
-/// ranks, and with so many rows for the best plays, where shares are found in this way.
+/// The same, where the table has accepted this header, with room for the means of so many ranks,
+/// and with so many rows for the best plays.
 // so that its room is on the stack while it checks, and not while the header is read or its
 // caller goes on
 #[inline(never)]
-fn check_under<T: Table, S: LowerShares<ROOM>, const ROOM: usize, const ROWS: usize>(
+fn check_under<T: Table, const ROOM: usize, const ROWS: usize>(
     table: &mut T,
     ranks: &Ranks,
     header: Header,
@@ -91,19 +83,11 @@ fn check_under<T: Table, S: LowerShares<ROOM>, const ROOM: usize, const ROWS: us
     ensures stays { TableStays ⟦<T as Table>⟧ table.old table.new (result ≡ Err CheckFault.Read) }
 {
     let mut lower: LowerRecords<ROOM, ROWS> = LowerRecords::new();
-    let mut shares = S::new();
     let mut own = Record::new();
     let mut room = Record::new();
     for rank in 0..header.count {
         if let Err(fault) = check_record(
-            table,
-            ranks,
-            header,
-            rank,
-            &mut lower,
-            &mut shares,
-            &mut own,
-            &mut room,
+            table, ranks, header, rank, &mut lower, &mut own, &mut room,
         ) {
             return Err(fault_at(rank, fault));
         }

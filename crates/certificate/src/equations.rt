@@ -2,7 +2,6 @@
 //! for the rolls.
 ghost use Rattle.std.specs.Prelude.{◌≡◌, ℕ, ◌<◌, ◌≤◌, ◌↔◌, IsTrue, IfSome, IfNone};
 ghost use Rattle.race_model.specs.Positions.{IsFinished};
-ghost use Rattle.race_model.specs.LocalEquations.{whole};
 ghost use Rattle.race_model.specs.Files.{mean_of, share_of};
 ghost use Rattle.certificate.specs.RecordNumbers.{IsMeanOf, IsShareOf};
 
@@ -27,8 +26,7 @@ pub fn has_mean(position: &Position, view: &RecordView<'_>, sums: &RecordSums) -
 /// no roll for the finished position.
 fn has_share(position: &Position, view: &RecordView<'_>, sums: &RecordSums, k: u8) -> bool
     requires { k ≤ 22 }
-    ensures equal { IsTrue result ↔ IsShareOf position.now (share_of view.now) sums.now k }
-    ensures small { IsTrue result → share_of view.now k ≤ whole }
+    ensures { IsTrue result ↔ IsShareOf position.now (share_of view.now) sums.now k }
 {
     let stored = view.spread(k);
     if position.is_finished() {
@@ -45,7 +43,6 @@ fn has_share(position: &Position, view: &RecordView<'_>, sums: &RecordSums, k: u
 pub fn wrong_share(position: &Position, view: &RecordView<'_>, sums: &RecordSums) -> Option<u8>
     ensures right { IfNone result
         ((k : ℕ) → k ≤ 22 → IsShareOf position.now (share_of view.now) sums.now k) }
-    ensures small { IfNone result ((k : ℕ) → k ≤ 22 → share_of view.now k ≤ whole) }
     ensures few { IfSome result (λ k. k ≤ 22) }
     ensures wrong { IfSome result (λ k. ¬ IsShareOf position.now (share_of view.now) sums.now k) }
     ensures earlier { IfSome result

@@ -51,9 +51,10 @@ impl<const ROOM: usize> AcceptedMeans<ROOM> {
 
 /// The place of a rank.
 #[tactic(auto, unfolding(crate::specs::KeptMeans::kept_place))]
-pub fn kept_place(rank: u16, room: usize) -> usize
+fn kept_place(rank: u16, room: usize) -> usize
+    requires { rank < room + room }
     ensures value { result ≡ kept_place room rank }
-    ensures range { rank < room + room → result < room }
+    ensures range { result < room }
     ensures few { result ≤ rank }
 {
     let rank = usize::from(rank);

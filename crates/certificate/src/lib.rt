@@ -7,7 +7,6 @@
 //! least mean over all strategies; the builder of a database is not trusted.
 #![tactic(auto)]
 
-mod accepted_shares;
 mod check_fault;
 mod checked;
 mod checker;
@@ -19,12 +18,11 @@ mod plays;
 mod query_fault;
 mod record_check;
 mod record_sums;
-mod shares;
 mod upgrade_fault;
 mod upgrading;
 
 pub use check_fault::CheckFault;
-pub use checked::{Checked, check, check_on_large_stack};
+pub use checked::{Checked, check};
 pub use lines::fault_line;
 pub use numbers::spread_in;
 pub use query_fault::QueryFault;

@@ -37,7 +37,7 @@ pub fn spread_in(view: &RecordView<'_>) -> Option<Spread>
 }
 
 /// What stands in a record for the shares of 0 to 22 rolls.
-pub fn shares_in(view: &RecordView<'_>) -> [u128; 23]
+fn shares_in(view: &RecordView<'_>) -> [u128; 23]
     ensures { result ≡ shares_of view.now }
 {
     let mut shares = [0; 23];

@@ -2,9 +2,9 @@
 ghost use Rattle.std.specs.Prelude.{◌≡◌, ℕ, ◌+◌, ◌*◌, ◌<◌, ◌≤◌, List, slice_index, Some, Err, sum, take};
 ghost use Rattle.std.specs.Prelude.{IsErrAnd, IfOk, IfErr, OnOk, OnErr};
 ghost use Rattle.race_model.specs.Positions.{Board, IsPosition, IsFinished, pips};
-ghost use Rattle.race_model.specs.Dice.{Throw, roll_at, weight};
+ghost use Rattle.race_model.specs.Dice.{roll_at, weight};
 ghost use Rattle.race_model.specs.Ranks.{rank as rank_of, at_rank};
-ghost use Rattle.race_model.specs.Files.{record_at, mean_of, mean_at, play};
+ghost use Rattle.race_model.specs.Files.{mean_of, mean_at, play};
 ghost use Rattle.race_model.specs.Plays.{Legal};
 ghost use Rattle.race_model.specs.BestPlays.{IsBestPlay};
 ghost use Rattle.race_model.specs.LocalEquations.{whole, IsPlayed, IsBest, IsLocalAt};
@@ -15,7 +15,7 @@ ghost use Rattle.db_reader.specs.TableStays.{TableStays};
 ghost use Rattle.db_reader.specs.Reads.{HasHeader, HasRecord};
 ghost use Rattle.certificate.specs.PlayFaults.{FirstOfPlays};
 ghost use Rattle.certificate.specs.KeptMeans.{HasRoom};
-ghost use Rattle.certificate.specs.LowerRecords.{IsLower, AreFound};
+ghost use Rattle.certificate.specs.LowerRecords.{IsLower};
 ghost use Rattle.certificate.specs.RecordNumbers.{shares_of, AreSumsOf};
 ghost use Rattle.certificate.specs.RecordFaults.{IsFirstFaultAt, of_record};
 
@@ -24,7 +24,6 @@ use crate::kept::LowerRecords;
 use crate::numbers::{mean_in, plays_in};
 use crate::plays::{PlayFault, check_recorded};
 use crate::record_sums::RecordSums;
-use crate::shares::LowerShares;
 use db_layout::{Header, RecordView, most_rolls};
 use db_reader::{ReadFault, Record, Table};
 use fixed_fraction::law_sums;
@@ -74,23 +73,23 @@ pub enum RecordFault {
 
 /// Adds the mean of a record, and its shares of fewer than so many rolls, with the weight of a
 /// roll, where they are what an accepted record can hold that has no other share.
-fn add_numbers<S: LowerShares<ROOM>, const ROOM: usize>(
+fn add_numbers(
     sums: &mut RecordSums,
     roll: Roll,
-    shares: &S,
-    rank: u16,
     view: &RecordView<'_>,
     rolls: u8,
 ) -> Result<(), ReadFault>
     requires light { sums.old.weight + weight roll ≤ 36 }
     requires few { rolls ≤ 23 }
     ensures added { OnOk result (IsAdded sums.old (weight roll) (mean_of view.now)
-        (take rolls (S.shares shares.now rank view.now)) sums.new) }
+        (take rolls (shares_of view.now)) sums.new) }
     ensures refused { OnErr result (¬ ((mean_of view.now ≤ 22 * whole)
-        × (sum (take rolls (S.shares shares.now rank view.now)) ≡ whole))) }
+        × (sum (take rolls (shares_of view.now)) ≡ whole))) }
 {
-    let mean = mean_in(view).ok_or(ReadFault)?;
-    if shares.add(sums, roll.weight(), mean, rank, view, rolls) {
+    // a copy, whose parts stay known while sums are written
+    let view = view.copied();
+    let mean = mean_in(&view).ok_or(ReadFault)?;
+    if sums.add(roll.weight(), mean, &view, rolls) {
         Ok(())
     } else {
         Err(ReadFault)
@@ -100,14 +99,13 @@ fn add_numbers<S: LowerShares<ROOM>, const ROOM: usize>(
 /// The sums of what is recorded for the 21 rolls, where each is the rank of a result with the
 /// least recorded mean; of the finished position, which has no lower records, the sums of
 /// nothing.
-fn sum_plays<T: Table, S: LowerShares<ROOM>, const ROOM: usize>(
+fn sum_plays<T: Table>(
     table: &mut T,
     ranks: &Ranks,
     position: &Position,
     rank: u16,
     best: &[u16; 21],
     recorded: &[u16; 21],
-    shares: &S,
     room: &mut Record,
 ) -> Result<RecordSums, RefusedPlay>
     requires position { IsPosition position.now }
@@ -119,10 +117,6 @@ fn sum_plays<T: Table, S: LowerShares<ROOM>, const ROOM: usize>(
         HasRecord (T.accepted table.old) (rank_of y) }
     requires lower { WhereTold (T.tells table.old)
         (λ file. (z : Board) → IsPosition z → rank_of z < rank → IsLocalAt file z) }
-    requires found { WhereTold (T.tells table.old) (λ file. (v : Throw) → (y : Board) →
-        ¬ IsFinished position.now → Legal position.now v y →
-        S.shares shares.now (rank_of y) (record_at file (rank_of y))
-        ≡ shares_of (record_at file (rank_of y))) }
     requires results { (i : ℕ) → i < 21 →
         (y : Board) × (Legal position.now (roll_at i) y) × (rank_of y ≡ slice_index best.now i) }
     requires best { WhereTold (T.tells table.old) (λ file. (i : ℕ) → i < 21 →
@@ -153,8 +147,7 @@ fn sum_plays<T: Table, S: LowerShares<ROOM>, const ROOM: usize>(
         if position.is_finished() {
             continue;
         }
-        let view = table.lend(recorded, room);
-        if let Err(_) = add_numbers(&mut sums, roll, shares, recorded, &view, rolls) {
+        if let Err(_) = add_numbers(&mut sums, roll, &table.lend(recorded, room), rolls) {
             return Err(RefusedPlay {
                 roll: index,
                 fault: PlayFault::Read,
@@ -165,17 +158,16 @@ fn sum_plays<T: Table, S: LowerShares<ROOM>, const ROOM: usize>(
 }
 
 /// Tests the record of a rank of a table in which each record of lower rank was accepted, and
-/// keeps of it what the records of higher rank are tested by, where there is room for so many
-/// ranks.
+/// keeps of it what the records of higher rank are tested by, where there is room for the
+/// means of so many ranks.
 // a function of its own, since a browser makes a function fast only between two calls of it
 #[inline(never)]
-pub fn check_record<T: Table, S: LowerShares<ROOM>, const ROOM: usize, const ROWS: usize>(
+pub fn check_record<T: Table, const ROOM: usize, const ROWS: usize>(
     table: &mut T,
     ranks: &Ranks,
     header: Header,
     rank: u16,
     lower: &mut LowerRecords<ROOM, ROWS>,
-    shares: &mut S,
     own: &mut Record,
     room: &mut Record,
 ) -> Result<(), RecordFault>
@@ -190,10 +182,7 @@ pub fn check_record<T: Table, S: LowerShares<ROOM>, const ROOM: usize, const ROW
     requires lower { WhereTold (T.tells table.old)
         (λ file. (z : Board) → IsPosition z → rank_of z < rank → IsLocalAt file z) }
     requires kept { IsLower (T.tells table.old) lower.old rank }
-    requires found { AreFound ROOM (T.tells table.old) (S.shares shares.old) rank }
     ensures kept { OnOk result (IsLower (T.tells table.old) lower.new (rank + 1)) }
-    ensures found { OnOk result
-        (AreFound ROOM (T.tells table.old) (S.shares shares.new) (rank + 1)) }
     ensures local { WhereTold (T.tells table.old)
         (λ file. OnOk result (IsLocalAt file (at_rank rank))) }
     ensures first { WhereTold (T.tells table.old)
@@ -209,9 +198,7 @@ pub fn check_record<T: Table, S: LowerShares<ROOM>, const ROOM: usize, const ROW
     let position = ranks.unrank(rank).unwrap();
     let best = lower.best_plays(ranks, &position);
     let recorded = plays_in(&table.lend(rank, own));
-    let sums = match sum_plays(
-        table, ranks, &position, rank, &best, &recorded, &*shares, room,
-    ) {
+    let sums = match sum_plays(table, ranks, &position, rank, &best, &recorded, room) {
         Ok(sums) => sums,
         Err(refused) => return Err(refused.of_record()),
     };
@@ -223,7 +210,6 @@ pub fn check_record<T: Table, S: LowerShares<ROOM>, const ROOM: usize, const ROW
         Some(k) => Err(RecordFault::Spread { k }),
         None => {
             lower.accept(rank, view.mean());
-            shares.accept(rank, &view);
             Ok(())
         }
     }

@@ -5,7 +5,6 @@ ghost use Rattle.race_model.specs.LocalEquations.{whole};
 ghost use Rattle.fixed_fraction.specs.Totals.{IsAdded};
 ghost use Rattle.certificate.specs.RecordNumbers.{shares_of};
 
-use crate::accepted_shares::AcceptedShares;
 use db_layout::RecordView;
 use fixed_fraction::{MOST, Scaled, WHOLE};
 use std::marker::Model;
@@ -58,24 +57,9 @@ impl RecordSums {
         ensures added { IsTrue result →
             IsAdded self.old weight mean (take rolls (shares_of view.now)) self.new }
     {
-        // a copy, whose parts stay known while sums are written
-        let view = view.copied();
         self.weight += weight;
         self.mean += u128::from(weight) * mean.numerator();
-        add_shares(&mut self.shares, weight, &view, rolls)
-    }
-
-    /// Adds a mean, and the shares of an accepted record of fewer than so many rolls, with the
-    /// weight of a roll. All weights together are at most 36, so no sum leaves 128 bits.
-    #[tactic(auto, unfolding(race_model::specs::LocalEquations::whole))]
-    pub fn add_accepted(&mut self, weight: u8, mean: Scaled, shares: &AcceptedShares, rolls: u8)
-        requires light { self.old.weight + weight ≤ 36 }
-        requires few { rolls ≤ 23 }
-        ensures { IsAdded self.old weight mean (take rolls shares.now) self.new }
-    {
-        self.weight += weight;
-        self.mean += u128::from(weight) * mean.numerator();
-        add_decoded(&mut self.shares, weight, shares.shares(), rolls);
+        add_shares(&mut self.shares, weight, view, rolls)
     }
 
     /// Whether a number is one roll and a 36th of the means, and no more than 22 rolls. It is
@@ -93,8 +77,7 @@ impl RecordSums {
     #[tactic(auto, unfolding(race_model::specs::LocalEquations::whole))]
     pub fn is_later_share(&self, k: u8, number: u128) -> bool
         requires { k ≤ 22 }
-        ensures equal { IsTrue result ↔ (36 * number ≡ slice_index self.now.shares k) }
-        ensures small { IsTrue result → number ≤ whole }
+        ensures { IsTrue result ↔ (36 * number ≡ slice_index self.now.shares k) }
     {
         number <= WHOLE && 36 * number == self.shares[usize::from(k)]
     }
@@ -148,41 +131,4 @@ fn add_weighed(shares: &mut [u128; 23], weight: u8, view: &RecordView<'_>, rolls
         shares[usize::from(k)] += u128::from(weight) * share;
     }
     left == 0
-}
-
-/// Adds shares of fewer than so many rolls with a weight. The weights 1 and 2, which most are, are
-/// told to the compiler, since they need no product.
-fn add_decoded(sums: &mut [u128; 23], weight: u8, shares: &[u128; 23], rolls: u8)
-    requires small { (k : ℕ) → k < 23 → slice_index sums.old k ≤ 36 * whole }
-    requires shares { (k : ℕ) → k < 23 → slice_index shares.now k ≤ whole }
-    requires light { weight ≤ 36 }
-    requires few { rolls ≤ 23 }
-    ensures added { (k : ℕ) → k < 23 → slice_index sums.new k
-        ≡ slice_index sums.old k + weight * slice_index (take rolls shares.now) k }
-    ensures bounded { (k : ℕ) → k < 23 →
-        slice_index sums.new k ≤ slice_index sums.old k + weight * whole }
-{
-    match weight {
-        1 => add_decoded_weighed(sums, 1, shares, rolls),
-        2 => add_decoded_weighed(sums, 2, shares, rolls),
-        _ => add_decoded_weighed(sums, weight, shares, rolls),
-    }
-}
-
-/// The same, for each weight alike.
-#[inline(always)]
-#[tactic(auto, unfolding(race_model::specs::LocalEquations::whole))]
-fn add_decoded_weighed(sums: &mut [u128; 23], weight: u8, shares: &[u128; 23], rolls: u8)
-    requires small { (k : ℕ) → k < 23 → slice_index sums.old k ≤ 36 * whole }
-    requires shares { (k : ℕ) → k < 23 → slice_index shares.now k ≤ whole }
-    requires light { weight ≤ 36 }
-    requires few { rolls ≤ 23 }
-    ensures added { (k : ℕ) → k < 23 → slice_index sums.new k
-        ≡ slice_index sums.old k + weight * slice_index (take rolls shares.now) k }
-    ensures bounded { (k : ℕ) → k < 23 →
-        slice_index sums.new k ≤ slice_index sums.old k + weight * whole }
-{
-    for k in 0..usize::from(rolls) {
-        sums[k] += u128::from(weight) * shares[k];
-    }
 }

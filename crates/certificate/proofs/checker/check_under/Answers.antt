@@ -28,11 +28,8 @@ check_record-requires g c =
                     (λ file told. c.requires.file file (sym before.stays.told ∙ told)),
                     (
                       (λ file told. before.lower file (sym before.stays.told ∙ told)),
-                      (
-                        subst (λ told. IsLower told c.loop-rank.lower c.loop-rank.rank)
-                            (sym before.stays.told) before.kept,
-                        λ file told. before.found file (sym before.stays.told ∙ told),
-                      ),
+                      subst (λ told. IsLower told c.loop-rank.lower c.loop-rank.rank)
+                          (sym before.stays.told) before.kept,
                     ),
                   ),
                 ),
@@ -68,7 +65,6 @@ loop-rank-preserved g c =
       kept =
           subst (λ told. IsLower told c.check_record.new.lower (c.loop-rank.rank + 1))
           before.stays.told fine.kept;
-      found = λ file told. fine.found file (before.stays.told ∙ told);
       lower = λ file told. accepted-more file c.loop-rank.rank (before.lower file told)
           (fine.local file (before.stays.told ∙ told));
     }
@@ -87,6 +83,5 @@ loop-rank-init g c = record {
     known = c.new-lower.ensures (kept_mean g.row.ROOM c.new-lower.result.means);
     means_are = λ file told r lt near. absurd (omega arith);
   };
-  found = λ file told r lt near. absurd (omega arith);
   lower = λ file told z at lt. absurd (omega arith);
 }

@@ -5,7 +5,7 @@ use Rattle.race_model.specs.Ranks.{rank}
 use Rattle.race_model.specs.LocalEquations.{IsLocalAt}
 use Rattle.db_reader.specs.Telling.{WhereTold}
 use Rattle.db_reader.specs.TableStays.{TableStays}
-use Rattle.certificate.specs.LowerRecords.{IsLower, AreFound}
+use Rattle.certificate.specs.LowerRecords.{IsLower}
 use Rattle.certificate.proofs.checker.check_under.Given as goal
 
 -- the records of lower rank are accepted, and no read failed
@@ -13,8 +13,6 @@ abbrev pub invariant-loop-rank : goal.invariant-loop-rank
 invariant-loop-rank g l = record {
   stays : TableStays g.T.Table l.fn.table l.table ⊥;
   kept : IsLower (g.T.Table.tells l.fn.table) l.lower l.rank;
-  found : AreFound g.row.ROOM (g.T.Table.tells l.fn.table) (g.S.LowerShares.shares l.shares)
-      l.rank;
   lower : WhereTold (g.T.Table.tells l.fn.table)
       (λ file. (z : Board) → IsPosition z → rank z < l.rank → IsLocalAt file z);
 }

@@ -1,13 +1,12 @@
 use Rattle.std.proofs.Common.{◌≡◌, ◌<◌, refl, ◌∙◌, arith}
-use Rattle.std.proofs.lemmas.Bool.{eqb-true}
 use Rattle.race_model.specs.Files.{share_of}
 use Rattle.race_model.specs.LocalEquations.{whole}
 use Rattle.certificate.proofs.EquationTests.{whole-literal, share-at_end}
 use Rattle.certificate.proofs.equations.has_share.Goals as goal
 use Rattle.certificate.proofs.equations.has_share.Goals.{then-k-eq0, else-k-eq0}
 
-pub returns-then-is_finished-clause-equal : goal.returns-then-is_finished-clause-equal
-returns-then-is_finished-clause-equal c =
+pub returns-then-is_finished : goal.returns-then-is_finished
+returns-then-is_finished c =
     let expected : (c.args.k ≡ 0 → c.if-k-eq0.result ≡ whole)
     × (0 < c.args.k → c.if-k-eq0.result ≡ 0) =
     elim c.if-k-eq0.branch [
@@ -21,12 +20,3 @@ returns-then-is_finished-clause-equal c =
     c.spread-stored.result c.if-k-eq0.result ((c.if-is_finished.ensures {u = tt}).value.0 refl)
     (c.spread-stored.ensures.share c.requires) (λ none. expected.0 none)
     (λ later. expected.1 later)
-
-pub returns-then-is_finished-clause-small : goal.returns-then-is_finished-clause-small
-returns-then-is_finished-clause-small c equal =
-    let is = eqb-true c.spread-stored.result c.if-k-eq0.result equal in
-    let read = c.spread-stored.ensures.share c.requires in
-    elim c.if-k-eq0.branch [
-      | then-k-eq0 w ↦ omega (arith, read, is, w.result-is, whole-literal)
-      | else-k-eq0 w ↦ omega (arith, read, is, w.result-is)
-    ]

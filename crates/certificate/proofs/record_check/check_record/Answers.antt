@@ -22,11 +22,11 @@ use Rattle.db_reader.specs.Reads.{HasRecord}
 use Rattle.db_reader.proofs.Failures.{rose_then, rose_as, table_as, table_more, err-same}
 use Rattle.std.proofs.lemmas.Bool.{false≢true}
 use Rattle.certificate.specs.KeptMeans.{kept_mean}
-use Rattle.certificate.specs.RecordNumbers.{shares_of, IsMeanOf, IsShareOf}
+use Rattle.certificate.specs.RecordNumbers.{IsMeanOf, IsShareOf}
 use Rattle.certificate.specs.RecordFaults.{IsFirstFaultAt, of_record}
 use Rattle.certificate.proofs.Accepted.{play-of_lent}
-use Rattle.certificate.proofs.RecordBytes.{mean-of_record, get_or-plays_of, get_or-shares_of}
-use Rattle.certificate.proofs.KeptMeans.{accepted-mean_more, accepted-shares_more}
+use Rattle.certificate.proofs.RecordBytes.{mean-of_record, get_or-plays_of}
+use Rattle.certificate.proofs.KeptMeans.{accepted-mean_more}
 use Rattle.certificate.proofs.RecordTests.{IsSummed, first-refused, wrong-mean, wrong-share, right-numbers}
 use Rattle.certificate.proofs.record_check.check_record.Given.{Over}
 use Rattle.certificate.proofs.record_check.check_record.Goals.{After-has_mean, After-unwrap-position}
@@ -260,33 +260,6 @@ sum_plays-requires-clause-best g c file told i lt =
     let near = c.requires.near z there (omega (arith, ranked)) in
     c.requires.kept.means_are file now (rank z) (omega (arith, ranked)) (omega arith))
     (c.best_plays-best.ensures.best i lt)
-
-pub sum_plays-requires-clause-found : goal.sum_plays-requires-clause-found
-sum_plays-requires-clause-found g c file told v y unfinished legal =
-    let x = c.unwrap-position.result in
-    let here = (goal.at.sum_plays-requires-clause-found g c).After-unwrap-position in
-    let is = ranked g here in
-    let now = sym (c.in_default.ensures {u = tt}).stays ∙ told in
-    let there = legal_position x v y (at g here) legal in
-    let below = legal_lower x v y (at g here) unfinished legal in
-    let taken = (rank_bound x (pips y + 24) (at g here)).1 (legal_takes x v y legal) in
-    let near = c.requires.near y there (omega (arith, is)) in
-    c.requires.found file now (rank y) (omega (arith, is)) (omega arith)
-
-pub accept-requires-in-None-clause-small : goal.accept-requires-in-None-clause-small
-accept-requires-in-None-clause-small g c k lt =
-    let small = (c.in-None.ensures {u = tt}).small k (omega arith) in
-    omega (arith, get_or-shares_of c.lend-view.result k lt, small)
-
-pub returns-in-None-clause-found : goal.returns-in-None-clause-found
-returns-in-None-clause-found g c file told =
-    let at = (goal.at.returns-in-None-clause-found g c).After-has_mean in
-    let after = g.S.LowerShares.shares c.accept-in-None.new.self in
-    accepted-shares_more file (g.S.LowerShares.shares c.args.shares.now) after g.row.ROOM
-    c.args.rank
-    (subst (λ b. after c.args.rank b ≡ shares_of b) (lent g at file told)
-    c.accept-in-None.ensures.found)
-    c.accept-in-None.ensures.others (c.requires.found file told)
 
 pub returns-in-None-clause-kept : goal.returns-in-None-clause-kept
 returns-in-None-clause-kept g c = record {

@@ -2,11 +2,11 @@
 use Rattle.std.proofs.Common.{◌≡◌, ℕ, ◌+◌, ◌*◌, ◌<◌, ◌≤◌, List, Some, slice_index, get_or, sum, take, refl}
 use Rattle.std.proofs.Common.{sym, ap, subst, ◌∙◌, arith, below_more}
 use Rattle.race_model.specs.Positions.{Board, IsPosition, IsFinished, pips}
-use Rattle.race_model.specs.Dice.{Throw, roll_at, weight}
-use Rattle.race_model.specs.LocalEquations.{recorded, whole, IsPlayed, IsBest, IsLocalAt}
+use Rattle.race_model.specs.Dice.{roll_at, weight}
+use Rattle.race_model.specs.LocalEquations.{whole, IsPlayed, IsBest, IsLocalAt}
 use Rattle.race_model.specs.Ranks.{rank}
 use Rattle.race_model.specs.Plays.{Legal}
-use Rattle.race_model.specs.Files.{record_at, mean_of, mean_at, play}
+use Rattle.race_model.specs.Files.{mean_of, mean_at, play}
 use Rattle.race_model.specs.Horizon.{most_rolls}
 use Rattle.race_model.specs.BestPlays.{IsBestPlay}
 use Rattle.race_model.proofs.Plays.Results.{legal_position, legal_pips}
@@ -35,19 +35,6 @@ module _ (g : Over) (c : After-check_recorded g) where
 
   rolls_are : c.most_rolls-rolls.result ≡ most_rolls (pips c.args.position.now)
   rolls_are = c.most_rolls-rolls.ensures ∙ ap most_rolls c.pips.ensures.value
-
--- the shares that are found for a play are those that were lent of it
-found_lent : (g : Over) (c : After-check_recorded g) → (file : List ℕ)
-    → g.T.Table.tells c.args.table.now ≡ Some file → ¬ IsFinished c.args.position.now
-    → (v : Throw) → IsPlayed file c.args.position.now v → (bytes : List ℕ) (p : ℕ)
-    → bytes ≡ record_at file p → p ≡ play file c.args.position.now v
-    → g.S.LowerShares.shares c.args.shares.now p bytes ≡ shares_of bytes
-found_lent g c file told unfinished v played bytes p lent is =
-    let found = g.S.LowerShares.shares c.args.shares.now in
-    subst (λ b. found p b ≡ shares_of b) (sym lent)
-    (subst (λ r. found r (record_at file r) ≡ shares_of (record_at file r))
-    (played.ranked ∙ sym is)
-    (c.requires.found file told v (recorded file c.args.position.now v) unfinished played.legal))
 
 -- where it is accepted, the plays of one roll more are played and least
 held_more : (g : Over) (c : In_default g) →
@@ -133,20 +120,15 @@ returns-in-Err-add_numbers-clause-stays g c =
           let lower = subst (λ r. (z : Board) → IsPosition z → rank z < r
           → IsLocalAt file z) c.requires.rank
           (c.requires.lower file told) in
-          let bytes = c.lend-view.result in
-          let v = c.unwrap-roll.result in
-          let number = slice_index c.args.recorded.now c.from-place.result in
-          let lent = c.lend-view.ensures file (fine.stays.told ∙ now) in
-          let played = (fine.right file now read).0 in
+          let bytes = c.lend.result in
           absurd ((c.in-Err-add_numbers.ensures {u = tt}).refused
-          (subst
-          (λ xs. (mean_of bytes ≤ 22 * whole) × (sum (take c.most_rolls-rolls.result xs) ≡ whole))
-          (sym (found_lent g at file told unfinished v played bytes number lent read))
           (subst
           (λ n. (mean_of bytes ≤ 22 * whole) × (sum (take n (shares_of bytes)) ≡ whole))
           (sym (rolls_are g at))
-          (play-lent file x c.requires.position c.requires.short lower unfinished v played bytes
-          number lent read))));
+          (play-lent file x c.requires.position c.requires.short lower unfinished
+          c.unwrap-roll.result
+          (fine.right file now read).0 bytes (slice_index c.args.recorded.now c.from-place.result)
+          (c.lend.ensures file (fine.stays.told ∙ now)) read)));
     }
 
 pub loop-index-preserved : goal.loop-index-preserved
@@ -162,7 +144,7 @@ loop-index-preserved g c =
     let within =
     c.law_sums.ensures.within i c.loop-index.sums.weight c.loop-index-test.true before.light in
     let added = (c.in_default-add_numbers.ensures {u = tt}).added in
-    let bytes = c.lend-view.result in
+    let bytes = c.lend.result in
     record {
       stays = table_more before.stays fine.stays (λ e. cc);
       others = λ bytes other ready. fine.others bytes other (before.others bytes other ready);
@@ -173,13 +155,11 @@ loop-index-preserved g c =
           omega (arith, within.1, more);
       totals = λ file told unfinished.
           let read = recorded_is g after file told in
-          let lent = c.lend-view.ensures file
+          let lent = c.lend.ensures file
           (fine.stays.told ∙ (before.stays.told ∙ told)) in
           let number = slice_index c.args.recorded.now c.from-place.result in
           let mean = lent-mean file bytes x v number lent read in
-          let played = (fine.right file (before.stays.told ∙ told) read).0 in
-          let found = g.S.LowerShares.shares c.args.shares.now number bytes in
-          let some = take c.most_rolls-rolls.result found in
+          let some = take c.most_rolls-rolls.result (shares_of bytes) in
           let numbers = subst (λ m. IsAdded c.loop-index.sums (weight v) m some
           c.add_numbers.new.sums)
           mean added in
@@ -194,11 +174,9 @@ loop-index-preserved g c =
           c.add_numbers.new.sums some c.loop-index-test.true
           (before.totals file told unfinished)
           (λ k few.
-          ap (λ xs. get_or (take c.most_rolls-rolls.result xs) k 0)
-          (found_lent g after file told unfinished v played bytes number lent read)
-          ∙ ap (λ n. get_or (take n (shares_of bytes)) k 0) (rolls_are g after)
-          ∙ lent-share file x c.requires.position c.requires.short lower unfinished v played bytes
-          number lent read k few
+          ap (λ n. get_or (take n (shares_of bytes)) k 0) (rolls_are g after)
+          ∙ lent-share file x c.requires.position c.requires.short lower unfinished v
+          (fine.right file (before.stays.told ∙ told) read).0 bytes number lent read k few
           ∙ ap (λ v. recorded_share file x v k) roll)
           here;
     }
