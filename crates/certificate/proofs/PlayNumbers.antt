@@ -11,6 +11,7 @@ use Rattle.race_model.specs.LocalEquations.{recorded, whole, IsPlayed, IsLocalAt
 use Rattle.race_model.proofs.Plays.Results.{legal_position, legal_pips}
 use Rattle.race_model.proofs.Strategies.Horizons.{ends_in_22, ends_in_most}
 use Rattle.race_model.proofs.RightFiles.Bounded.{recorded_lower, mean_at_most}
+use Rattle.fixed_fraction.proofs.Shares.{share_at_most_sum}
 use Rattle.certificate.specs.RecordNumbers.{shares_of, recorded_mean, recorded_share}
 use Rattle.certificate.proofs.RecordBytes.{mean-of_record, share-of_record, get_or-first_shares, sum-first_shares}
 use Rattle.certificate.proofs.Lower.{count_of-beyond, shares_whole}
@@ -73,6 +74,17 @@ module _ (f : List ℕ) (x : Board) (at : IsPosition x) (short : pips x ≤ 58)
       sum-first_shares bytes (most_rolls (pips x)) beyond
           ∙ (ap (λ b. sum (shares_of b)) same ∙ play-total),
     )
+
+    -- each of which is at most the whole
+    pub play-small : (k : ℕ) → k < 23 → share_of bytes k ≤ whole
+    play-small k lt =
+        let n = most_rolls (pips x) in
+        omega (
+          arith,
+          get_or-first_shares bytes n beyond k lt,
+          share_at_most_sum (take n (shares_of bytes)) k,
+          play-lent.1,
+        )
 
     -- the shares that were lent are those that are recorded for the throw
     pub lent-share : (k : ℕ) → k < 23

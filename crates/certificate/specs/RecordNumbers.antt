@@ -1,6 +1,6 @@
 -- The numbers of a record, and the mean and spread equations over sums of what is recorded for the
 -- rolls.
-use Rattle.std.specs.Prelude.{◌≡◌, ℕ, zero, suc, ◌+◌, ◌*◌, ◌<◌, ◌≤◌, List, length, map, slice_index}
+use Rattle.std.specs.Prelude.{◌≡◌, ℕ, zero, suc, ◌+◌, ◌*◌, ◌^◌, ◌<◌, ◌≤◌, List, length, map, slice_index}
 use Rattle.std.specs.List.{range_with_len}
 use Rattle.race_model.specs.Positions.{Board, IsFinished}
 use Rattle.race_model.specs.Dice.{Throw}
@@ -16,12 +16,16 @@ plays_of bytes = map (play_of bytes) (range_with_len 0 21)
 unfoldable pub shares_of : List ℕ → List ℕ
 shares_of bytes = map (share_of bytes) (range_with_len 0 23)
 
--- sums of means of at most 22 rolls and of shares of at most the whole, with a weight of at most 36
+-- what no share that is added is more than
+unfoldable pub share_room : ℕ
+share_room = 2 ^ 114
+
+-- sums of means of at most 22 rolls and of shares of at most that, with a weight of at most 36
 pub record AreBounded (totals : Totals) : Type 0 where
   pub len : length totals.shares ≡ 23
   pub light : totals.weight ≤ 36
   pub mean : totals.mean ≤ totals.weight * (22 * whole)
-  pub shares : (k : ℕ) → k < 23 → slice_index totals.shares k ≤ totals.weight * whole
+  pub shares : (k : ℕ) → k < 23 → slice_index totals.shares k ≤ totals.weight * share_room
 
 -- the mean of a record is that of these sums
 pub record IsMeanOf (x : Board) (mean : ℕ) (sums : Totals) : Type 0 where

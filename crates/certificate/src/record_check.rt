@@ -4,7 +4,7 @@ ghost use Rattle.std.specs.Prelude.{IsErrAnd, IfOk, IfErr, OnOk, OnErr};
 ghost use Rattle.race_model.specs.Positions.{Board, IsPosition, IsFinished, pips};
 ghost use Rattle.race_model.specs.Dice.{roll_at, weight};
 ghost use Rattle.race_model.specs.Ranks.{rank as rank_of, at_rank};
-ghost use Rattle.race_model.specs.Files.{mean_of, mean_at, play};
+ghost use Rattle.race_model.specs.Files.{mean_of, share_of, mean_at, play};
 ghost use Rattle.race_model.specs.Plays.{Legal};
 ghost use Rattle.race_model.specs.BestPlays.{IsBestPlay};
 ghost use Rattle.race_model.specs.LocalEquations.{whole, IsPlayed, IsBest, IsLocalAt};
@@ -72,7 +72,7 @@ pub enum RecordFault {
 }
 
 /// Adds the mean of a record, and its shares of fewer than so many rolls, with the weight of a
-/// roll, where they are what an accepted record can hold that has no other share.
+/// roll, where the mean is one that an accepted record can hold.
 fn add_numbers(
     sums: &mut RecordSums,
     roll: Roll,
@@ -81,19 +81,15 @@ fn add_numbers(
 ) -> Result<(), ReadFault>
     requires light { sums.old.weight + weight roll ≤ 36 }
     requires few { rolls ≤ 23 }
-    ensures added { OnOk result (IsAdded sums.old (weight roll) (mean_of view.now)
-        (take rolls (shares_of view.now)) sums.new) }
-    ensures refused { OnErr result (¬ ((mean_of view.now ≤ 22 * whole)
-        × (sum (take rolls (shares_of view.now)) ≡ whole))) }
+    ensures weights { OnOk result (sums.new.weight ≡ sums.old.weight + weight roll) }
+    ensures added { OnOk result (((k : ℕ) → k < rolls → share_of view.now k ≤ whole) →
+        IsAdded sums.old (weight roll) (mean_of view.now) (take rolls (shares_of view.now))
+        sums.new) }
+    ensures refused { OnErr result (¬ (mean_of view.now ≤ 22 * whole)) }
 {
-    // a copy, whose parts stay known while sums are written
-    let view = view.copied();
-    let mean = mean_in(&view).ok_or(ReadFault)?;
-    if sums.add(roll.weight(), mean, &view, rolls) {
-        Ok(())
-    } else {
-        Err(ReadFault)
-    }
+    let mean = mean_in(view).ok_or(ReadFault)?;
+    sums.add(roll.weight(), mean, view, rolls);
+    Ok(())
 }
 
 /// The sums of what is recorded for the 21 rolls, where each is the rank of a result with the

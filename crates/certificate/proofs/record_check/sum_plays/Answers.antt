@@ -15,7 +15,7 @@ use Rattle.fixed_fraction.specs.Totals.{IsAdded, AreTotals}
 use Rattle.db_reader.proofs.Failures.{table_more}
 use Rattle.certificate.specs.PlayFaults.{Applies}
 use Rattle.certificate.specs.RecordNumbers.{shares_of, recorded_mean, recorded_share}
-use Rattle.certificate.proofs.PlayNumbers.{play-lent, lent-mean, lent-share}
+use Rattle.certificate.proofs.PlayNumbers.{play-lent, play-small, lent-mean, lent-share}
 use Rattle.certificate.proofs.record_check.sum_plays.Given.{Over}
 use Rattle.certificate.proofs.record_check.sum_plays.Goals.{After-check_recorded, In_default}
 use Rattle.certificate.proofs.record_check.sum_plays.Goals as goal
@@ -122,13 +122,10 @@ returns-in-Err-add_numbers-clause-stays g c =
           (c.requires.lower file told) in
           let bytes = c.lend.result in
           absurd ((c.in-Err-add_numbers.ensures {u = tt}).refused
-          (subst
-          (λ n. (mean_of bytes ≤ 22 * whole) × (sum (take n (shares_of bytes)) ≡ whole))
-          (sym (rolls_are g at))
           (play-lent file x c.requires.position c.requires.short lower unfinished
           c.unwrap-roll.result
           (fine.right file now read).0 bytes (slice_index c.args.recorded.now c.from-place.result)
-          (c.lend.ensures file (fine.stays.told ∙ now)) read)));
+          (c.lend.ensures file (fine.stays.told ∙ now)) read).0);
     }
 
 pub loop-index-preserved : goal.loop-index-preserved
@@ -143,7 +140,7 @@ loop-index-preserved g c =
     let roll = roll_is g after in
     let within =
     c.law_sums.ensures.within i c.loop-index.sums.weight c.loop-index-test.true before.light in
-    let added = (c.in_default-add_numbers.ensures {u = tt}).added in
+    let add = c.in_default-add_numbers.ensures {u = tt} in
     let bytes = c.lend.result in
     record {
       stays = table_more before.stays fine.stays (λ e. cc);
@@ -151,7 +148,7 @@ loop-index-preserved g c =
       held = λ file told.
           held_more g at.In_default (roll_is g after) file told (recorded_is g after file told);
       light =
-          let more = added.weights ∙ ap (λ v. c.loop-index.sums.weight + weight v) roll in
+          let more = add.weights ∙ ap (λ v. c.loop-index.sums.weight + weight v) roll in
           omega (arith, within.1, more);
       totals = λ file told unfinished.
           let read = recorded_is g after file told in
@@ -160,15 +157,20 @@ loop-index-preserved g c =
           let number = slice_index c.args.recorded.now c.from-place.result in
           let mean = lent-mean file bytes x v number lent read in
           let some = take c.most_rolls-rolls.result (shares_of bytes) in
+          let lower = subst (λ r. (z : Board) → IsPosition z → rank z < r
+          → IsLocalAt file z) c.requires.rank
+          (c.requires.lower file told) in
+          let most = most_rolls-most (pips x) c.requires.short in
+          let added = add.added (λ k less.
+          play-small file x c.requires.position c.requires.short lower unfinished v
+          (fine.right file (before.stays.told ∙ told) read).0 bytes number lent read k
+          (omega (arith, rolls_are g after, most))) in
           let numbers = subst (λ m. IsAdded c.loop-index.sums (weight v) m some
           c.add_numbers.new.sums)
           mean added in
           let here = subst (λ v. IsAdded c.loop-index.sums (weight v) (recorded_mean file x v)
           some c.add_numbers.new.sums)
           roll numbers in
-          let lower = subst (λ r. (z : Board) → IsPosition z → rank z < r
-          → IsLocalAt file z) c.requires.rank
-          (c.requires.lower file told) in
           c.law_sums.ensures.next (recorded_mean file x)
           (recorded_share file x) i c.loop-index.sums
           c.add_numbers.new.sums some c.loop-index-test.true
