@@ -1,11 +1,13 @@
 -- What is recorded of a position where it and each position of lower rank meet the equations.
-use Rattle.std.proofs.Common.{◌≡◌, ⊎_elim, ℕ, zero, suc, ◌+◌, ◌*◌, ◌<◌, ◌≤◌, List, map, length}
+use Rattle.std.proofs.Common.{◌≡◌, ⊎_elim, ℕ, zero, suc, ◌+◌, ◌*◌, ◌<◌, ◌≤◌, List, [], ◌∷◌, map, length}
 use Rattle.std.proofs.Common.{get_or, sum, refl, sym, ap, ◌∙◌, arith}
 use Rattle.std.specs.List.{range_with_len}
 use Rattle.std.proofs.lemmas.List.Elements.{All-map}
 use Rattle.std.proofs.lemmas.List.Sums.{sum-map}
-use Rattle.race_model.specs.Positions.{Board, IsPosition, IsFinished}
-use Rattle.race_model.specs.Dice.{Throw, all_rolls, weight}
+use Rattle.race_model.specs.Positions.{Board, IsPosition, IsFinished, checkers}
+use Rattle.race_model.specs.Dice.{Die, number, Throw, all_rolls, weight}
+use Rattle.race_model.specs.Plays.{Step, Run, Legal, in_order, in_reverse, double}
+use Rattle.race_model.proofs.Plays.Steps.{Change, moved, borne_off, changed}
 use Rattle.race_model.specs.Ranks.{rank}
 use Rattle.race_model.specs.Files.{record_at, share_of, play, spread, spread_at}
 use Rattle.race_model.specs.LocalEquations.{recorded, whole, IsPlayed, IsLocalAt}
@@ -75,6 +77,63 @@ count_of-beyond f (suc n) x ends at meets (suc k) beyond few = ⊎_elim
         (ap (λ r. spread_at f r k) (sym (played f x at meets unfinished v).ranked) ∙ each v)
         ∙ omega arith) in
         omega (arith, ((meets x at (omega arith)).shares (suc k) few).1 unfinished, none)
+
+-- where no throw leads to a share of k rolls there is none of one roll more
+none_after : (f : List ℕ) (x : Board) (at : IsPosition x) (meets : Meets f x)
+    (unfinished : ¬ IsFinished x) (k : ℕ) → suc k ≤ 22
+    → ((v : Throw) → spread f (recorded f x v) k ≡ 0) → spread f x (suc k) ≡ 0
+none_after f x at meets unfinished k few each =
+    let none = sum_by-zero (λ v. weight v * spread_at f (play f x v) k) all_rolls (λ v.
+    ap (λ n. weight v * n)
+    (ap (λ r. spread_at f r k) (sym (played f x at meets unfinished v).ranked) ∙ each v)
+    ∙ omega arith) in
+    omega (arith, ((meets x at (omega arith)).shares (suc k) few).1 unfinished, none)
+
+-- a step takes one checker off at most
+step_takes : (x : Board) (d : Die) (y : Board) → Step x d y → checkers x ≤ checkers y + 1
+step_takes x d y s = by (changed x d y s)
+  where
+    by : Change x (number d) y → checkers x ≤ checkers y + 1
+    by (moved l) = omega (arith, l.checkers_lost)
+    by (borne_off t positive why top l) = omega (arith, l.checkers_lost)
+
+-- dice take one each at most
+run_takes : (dice : List Die) (x y : Board) → Run x dice y
+    → checkers x ≤ checkers y + length dice
+run_takes [] x y same = omega (arith, ap (λ z. checkers z) same)
+run_takes (d ∷ dice) x y run = ⊎_elim
+    (λ stays. omega (arith, ap (λ z. checkers z) stays.1))
+    (λ goes.
+    let first = step_takes x d goes.1.0 goes.1.1.0 in
+    let rest = run_takes dice goes.1.0 y goes.1.1.1 in
+    omega arith)
+    run
+
+-- a throw takes four off at most
+pub throw_takes : (x : Board) (v : Throw) (y : Board) → Legal x v y → checkers x ≤ checkers y + 4
+throw_takes x v y (in_order apart run) =
+    omega (arith, run_takes (v.first ∷ v.second ∷ []) x y run)
+throw_takes x v y (in_reverse apart run) =
+    omega (arith, run_takes (v.second ∷ v.first ∷ []) x y run)
+throw_takes x v y (double same run) =
+    omega (arith, run_takes (v.first ∷ v.first ∷ v.first ∷ v.first ∷ []) x y run)
+
+-- so no share is recorded before all checkers can be off
+pub count_of-before : (f : List ℕ) (x : Board) → IsPosition x → Meets f x
+    → (k : ℕ) → 4 * k < checkers x → k ≤ 22 → spread f x k ≡ 0
+count_of-before f x at meets zero less few =
+    ((meets x at (omega arith)).shares zero few).1 (λ end. omega (arith, end, less))
+count_of-before f x at meets (suc k) less few =
+    let unfinished : ¬ IsFinished x = λ end. omega (arith, end, less) in
+    none_after f x at meets unfinished k few (λ v.
+    count_of-before f (recorded f x v) (after_is f x at meets unfinished v)
+    (after_meets f x at meets unfinished v) k
+    (omega (
+      arith,
+      throw_takes x v (recorded f x v) (played f x at meets unfinished v).legal,
+      less,
+    ))
+    (omega arith))
 
 -- the shares of the finished position: the whole at 0 rolls
 abbrev end_share : ℕ → ℕ

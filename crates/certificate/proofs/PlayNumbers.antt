@@ -1,7 +1,7 @@
 -- What the record of a play can hold, where each record of lower rank was accepted.
-use Rattle.std.proofs.Common.{◌≡◌, ℕ, zero, suc, ◌*◌, ◌<◌, ◌≤◌, List, get_or, sum, take, sym, ap}
+use Rattle.std.proofs.Common.{◌≡◌, ℕ, zero, suc, ◌+◌, ◌*◌, ◌<◌, ◌≤◌, List, get_or, sum, take, sym, ap}
 use Rattle.std.proofs.Common.{subst, ◌∙◌, arith}
-use Rattle.race_model.specs.Positions.{Board, IsPosition, IsFinished, pips}
+use Rattle.race_model.specs.Positions.{Board, IsPosition, IsFinished, checkers, pips}
 use Rattle.race_model.specs.Dice.{Throw}
 use Rattle.race_model.specs.Ranks.{rank}
 use Rattle.race_model.specs.Files.{record_at, mean_of, share_of, mean_at, play, spread, spread_at}
@@ -14,7 +14,7 @@ use Rattle.race_model.proofs.RightFiles.Bounded.{recorded_lower, mean_at_most}
 use Rattle.fixed_fraction.proofs.Shares.{share_at_most_sum}
 use Rattle.certificate.specs.RecordNumbers.{shares_of, recorded_mean, recorded_share}
 use Rattle.certificate.proofs.RecordBytes.{mean-of_record, share-of_record, get_or-first_shares, sum-first_shares}
-use Rattle.certificate.proofs.Lower.{count_of-beyond, shares_whole}
+use Rattle.certificate.proofs.Lower.{count_of-beyond, count_of-before, throw_takes, shares_whole}
 
 module _ (f : List ℕ) (x : Board) (at : IsPosition x) (short : pips x ≤ 58)
     (lower : (z : Board) → IsPosition z → rank z < rank x → IsLocalAt f z)
@@ -57,6 +57,13 @@ module _ (f : List ℕ) (x : Board) (at : IsPosition x) (short : pips x ≤ 58)
           count_of-beyond f n (recorded f x v) (ends unfinished v (recorded f x v) played.legal)
           after_is after_meets k (omega arith) (omega arith)
 
+  -- .. or at so few that not all checkers can be off
+  pub play-before : (k : ℕ) → 4 * k + 4 < checkers x → k < 23 → spread_at f (play f x v) k ≡ 0
+  play-before k less few =
+      subst (λ r. spread_at f r k ≡ 0) played.ranked
+      (count_of-before f (recorded f x v) after_is after_meets k
+      (omega (arith, throw_takes x v (recorded f x v) played.legal, less)) (omega arith))
+
   -- so what was lent of it can be added, by its first shares
   module _ (bytes : List ℕ) (p : ℕ) (lent : bytes ≡ record_at f p) (is : p ≡ play f x v) where
     same : bytes ≡ record_at f (play f x v)
@@ -65,6 +72,10 @@ module _ (f : List ℕ) (x : Board) (at : IsPosition x) (short : pips x ≤ 58)
     beyond : (k : ℕ) → most_rolls (pips x) ≤ k → k < 23 → share_of bytes k ≡ 0
     beyond k le lt =
         ap (λ b. share_of b k) same ∙ share-of_record f (play f x v) k ∙ play-beyond k le lt
+
+    pub lent-before : (k : ℕ) → 4 * k + 4 < checkers x → k < 23 → share_of bytes k ≡ 0
+    lent-before k less lt =
+        ap (λ b. share_of b k) same ∙ share-of_record f (play f x v) k ∙ play-before k less lt
 
     pub play-lent : (mean_of bytes ≤ 22 * whole)
         × (sum (take (most_rolls (pips x)) (shares_of bytes)) ≡ whole)

@@ -1,7 +1,7 @@
 //! The check of one record, with records of lower rank that were accepted.
 ghost use Rattle.std.specs.Prelude.{◌≡◌, ℕ, ◌+◌, ◌*◌, ◌<◌, ◌≤◌, List, slice_index, Some, Err, sum, take};
 ghost use Rattle.std.specs.Prelude.{IsErrAnd, IfOk, IfErr, OnOk, OnErr};
-ghost use Rattle.race_model.specs.Positions.{Board, IsPosition, IsFinished, pips};
+ghost use Rattle.race_model.specs.Positions.{Board, IsPosition, IsFinished, checkers, pips};
 ghost use Rattle.race_model.specs.Dice.{roll_at, weight};
 ghost use Rattle.race_model.specs.Ranks.{rank as rank_of, at_rank};
 ghost use Rattle.race_model.specs.Files.{mean_of, share_of, mean_at, play};
@@ -77,19 +77,31 @@ fn add_numbers(
     sums: &mut RecordSums,
     roll: Roll,
     view: &RecordView<'_>,
+    first: u8,
     rolls: u8,
 ) -> Result<(), ReadFault>
     requires light { sums.old.weight + weight roll ≤ 36 }
     requires few { rolls ≤ 23 }
+    requires order { first ≤ rolls }
     ensures weights { OnOk result (sums.new.weight ≡ sums.old.weight + weight roll) }
     ensures added { OnOk result (((k : ℕ) → k < rolls → share_of view.now k ≤ whole) →
+        ((k : ℕ) → k < first → share_of view.now k ≡ 0) →
         IsAdded sums.old (weight roll) (mean_of view.now) (take rolls (shares_of view.now))
         sums.new) }
     ensures refused { OnErr result (¬ (mean_of view.now ≤ 22 * whole)) }
 {
     let mean = mean_in(view).ok_or(ReadFault)?;
-    sums.add(roll.weight(), mean, view, rolls);
+    sums.add(roll.weight(), mean, view, first, rolls);
     Ok(())
+}
+
+/// At how many rolls, up to some number, a play can have its first share: a roll takes four
+/// checkers off at most.
+fn first_share(position: &Position, rolls: u8) -> u8
+    ensures order { result ≤ rolls }
+    ensures none { (k : ℕ) → k < result → 4 * k + 4 < checkers position.now }
+{
+    (position.checkers().saturating_sub(1) / 4).min(rolls)
 }
 
 /// The sums of what is recorded for the 21 rolls, where each is the rank of a result with the
@@ -131,6 +143,7 @@ fn sum_plays<T: Table>(
     law_sums();
     // no play has a share from there on
     let rolls = most_rolls(position.pips());
+    let first = first_share(position, rolls);
     let mut sums = RecordSums::new();
     for index in 0..21 {
         let roll = Roll::from_index(index).unwrap();
@@ -143,7 +156,7 @@ fn sum_plays<T: Table>(
         if position.is_finished() {
             continue;
         }
-        if let Err(_) = add_numbers(&mut sums, roll, &table.lend(recorded, room), rolls) {
+        if let Err(_) = add_numbers(&mut sums, roll, &table.lend(recorded, room), first, rolls) {
             return Err(RefusedPlay {
                 roll: index,
                 fault: PlayFault::Read,

@@ -54,18 +54,20 @@ impl RecordSums {
     /// roll. A share of 2 ^ 114 or more, which no accepted record has, is cut, so that no sum
     /// leaves 128 bits whatever is read: all weights together are at most 36.
     #[tactic(auto, unfolding(race_model::specs::LocalEquations::whole, crate::specs::RecordNumbers::share_room))]
-    pub fn add(&mut self, weight: u8, mean: Scaled, view: &RecordView<'_>, rolls: u8)
+    pub fn add(&mut self, weight: u8, mean: Scaled, view: &RecordView<'_>, first: u8, rolls: u8)
         requires light { self.old.weight + weight ≤ 36 }
         requires few { rolls ≤ 23 }
+        requires order { first ≤ rolls }
         ensures weight { self.new.weight ≡ self.old.weight + weight }
         ensures added { ((k : ℕ) → k < rolls → share_of view.now k ≤ whole) →
+            ((k : ℕ) → k < first → share_of view.now k ≡ 0) →
             IsAdded self.old weight mean (take rolls (shares_of view.now)) self.new }
     {
         // a copy, whose parts stay known while sums are written
         let view = view.copied();
         self.weight += weight;
         self.mean += u128::from(weight) * mean.numerator();
-        add_shares(&mut self.shares, weight, &view, rolls);
+        add_shares(&mut self.shares, weight, &view, first, rolls);
     }
 
     /// Whether a number is one roll and a 36th of the means, and no more than 22 rolls. It is
@@ -91,38 +93,42 @@ impl RecordSums {
 
 /// Adds the shares of a record of fewer than so many rolls with a weight, each cut to 114 bits. The
 /// weights 1 and 2, which most are, are told to the compiler, since they need no product.
-fn add_shares(shares: &mut [u128; 23], weight: u8, view: &RecordView<'_>, rolls: u8)
+fn add_shares(shares: &mut [u128; 23], weight: u8, view: &RecordView<'_>, first: u8, rolls: u8)
     requires small { (k : ℕ) → k < 23 → slice_index shares.old k ≤ 36 * share_room }
     requires light { weight ≤ 36 }
     requires few { rolls ≤ 23 }
-    ensures added { ((k : ℕ) → k < rolls → share_of view.now k ≤ whole) → (k : ℕ) → k < 23 →
+    requires order { first ≤ rolls }
+    ensures added { ((k : ℕ) → k < rolls → share_of view.now k ≤ whole) →
+        ((k : ℕ) → k < first → share_of view.now k ≡ 0) → (k : ℕ) → k < 23 →
         slice_index shares.new k
         ≡ slice_index shares.old k + weight * slice_index (take rolls (shares_of view.now)) k }
     ensures bounded { (k : ℕ) → k < 23 →
         slice_index shares.new k ≤ slice_index shares.old k + weight * share_room }
 {
     match weight {
-        1 => add_weighed(shares, 1, view, rolls),
-        2 => add_weighed(shares, 2, view, rolls),
-        _ => add_weighed(shares, weight, view, rolls),
+        1 => add_weighed(shares, 1, view, first, rolls),
+        2 => add_weighed(shares, 2, view, first, rolls),
+        _ => add_weighed(shares, weight, view, first, rolls),
     }
 }
 
 /// The same, for each weight alike.
 #[inline(always)]
 #[tactic(auto, unfolding(race_model::specs::LocalEquations::whole, crate::specs::RecordNumbers::share_room))]
-fn add_weighed(shares: &mut [u128; 23], weight: u8, view: &RecordView<'_>, rolls: u8)
+fn add_weighed(shares: &mut [u128; 23], weight: u8, view: &RecordView<'_>, first: u8, rolls: u8)
     requires small { (k : ℕ) → k < 23 → slice_index shares.old k ≤ 36 * share_room }
     requires light { weight ≤ 36 }
     requires few { rolls ≤ 23 }
-    ensures added { ((k : ℕ) → k < rolls → share_of view.now k ≤ whole) → (k : ℕ) → k < 23 →
+    requires order { first ≤ rolls }
+    ensures added { ((k : ℕ) → k < rolls → share_of view.now k ≤ whole) →
+        ((k : ℕ) → k < first → share_of view.now k ≡ 0) → (k : ℕ) → k < 23 →
         slice_index shares.new k
         ≡ slice_index shares.old k + weight * slice_index (take rolls (shares_of view.now)) k }
     ensures bounded { (k : ℕ) → k < 23 →
         slice_index shares.new k ≤ slice_index shares.old k + weight * share_room }
 {
     // of which there are 23: so the compiler leaves the view's own test out
-    for k in 0..rolls.min(23) {
+    for k in first..rolls.min(23) {
         let told = view.spread(k);
         let share = cut(told);
         shares[usize::from(k)] += u128::from(weight) * share;

@@ -15,7 +15,7 @@ use Rattle.fixed_fraction.specs.Totals.{IsAdded, AreTotals}
 use Rattle.db_reader.proofs.Failures.{table_more}
 use Rattle.certificate.specs.PlayFaults.{Applies}
 use Rattle.certificate.specs.RecordNumbers.{shares_of, recorded_mean, recorded_share}
-use Rattle.certificate.proofs.PlayNumbers.{play-lent, play-small, lent-mean, lent-share}
+use Rattle.certificate.proofs.PlayNumbers.{play-lent, play-small, lent-before, lent-mean, lent-share}
 use Rattle.certificate.proofs.record_check.sum_plays.Given.{Over}
 use Rattle.certificate.proofs.record_check.sum_plays.Goals.{After-check_recorded, In_default}
 use Rattle.certificate.proofs.record_check.sum_plays.Goals as goal
@@ -164,7 +164,12 @@ loop-index-preserved g c =
           let added = add.added (λ k less.
           play-small file x c.requires.position c.requires.short lower unfinished v
           (fine.right file (before.stays.told ∙ told) read).0 bytes number lent read k
-          (omega (arith, rolls_are g after, most))) in
+          (omega (arith, rolls_are g after, most)))
+          (λ k less.
+          lent-before file x c.requires.position c.requires.short lower unfinished v
+          (fine.right file (before.stays.told ∙ told) read).0 bytes number lent read k
+          (c.first_share-first.ensures.none k less)
+          (omega (arith, c.first_share-first.ensures.order, rolls_are g after, most))) in
           let numbers = subst (λ m. IsAdded c.loop-index.sums (weight v) m some
           c.add_numbers.new.sums)
           mean added in

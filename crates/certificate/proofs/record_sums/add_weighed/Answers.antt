@@ -1,5 +1,5 @@
 -- The shares of a record, added one after another.
-use Rattle.std.proofs.Common.{◌≡◌, ⊎_elim, ℕ, ◌+◌, ◌*◌, ◌<◌, ◌≤◌, List, length, get_or, set, take, sym}
+use Rattle.std.proofs.Common.{◌≡◌, ⊎_elim, ℕ, ◌+◌, ◌*◌, ◌<◌, ◌≤◌, List, length, get_or, set, take, refl, sym}
 use Rattle.std.proofs.Common.{ap, ◌∙◌, arith, rules, below_more}
 use Rattle.std.proofs.lemmas.Bool.{cases_lt}
 use Rattle.std.proofs.lemmas.List.{length-take, get_or-take, get_or_past, get_or-set_same, get_or-set_other}
@@ -43,6 +43,21 @@ module _ (start xs bytes : List ℕ) (weight k share : ℕ) (long : length xs �
         most,
       )
 
+pub loop-k-init : goal.loop-k-init
+loop-k-init c =
+    let bytes = c.args.view.now in
+    record {
+      len = search rules;
+      added = λ small early j lt.
+          let none : c.args.weight * get_or (shares_of bytes) j 0 ≡ c.args.weight * 0 =
+          ap (λ n. c.args.weight * n)
+          (get_or-shares_of bytes j (omega (arith, lt, c.requires.order, c.requires.few))
+          ∙ early j lt) in
+          omega (arith, none);
+      others = λ j le. refl;
+      bounded = λ j. omega arith;
+    }
+
 pub loop-k-preserved : goal.loop-k-preserved
 loop-k-preserved c =
     let bytes = c.args.view.now in
@@ -59,11 +74,11 @@ loop-k-preserved c =
     ap (λ n. get_or xs k 0 + n * share) c.from.ensures in
     rw c.from-in-loop-k.ensures (record {
       len = search rules;
-      added = λ small.
+      added = λ small early.
           let whole_is = small k (omega (arith, c.loop-k-test.true)) in
           let same = c.cut-share.ensures.same (omega (arith, is, whole_is)) in
           added-more start xs bytes c.args.weight k share before.len lt here value (same ∙ is) sums
-          (before.added small);
+          (before.added small early);
       others = λ j le.
           get_or-set_other xs k j value 0 (omega arith) ∙ before.others j (omega arith);
       bounded = bounded-more start xs bytes c.args.weight k share before.len lt here value sums
@@ -71,7 +86,7 @@ loop-k-preserved c =
     })
 
 pub returns-clause-added : goal.returns-clause-added
-returns-clause-added c small j lt =
+returns-clause-added c small early j lt =
     let bytes = c.args.view.now in
     let before = c.loop-k.invariant in
     let end : c.loop-k.k ≡ c.args.rolls = omega (
@@ -85,7 +100,7 @@ returns-clause-added c small j lt =
     (λ first.
     let same : c.args.weight * get_or (shares_of bytes) j 0 ≡ c.args.weight * get_or some j 0 =
     ap (λ n. c.args.weight * n) (sym (get_or-take c.args.rolls (shares_of bytes) j 0 first)) in
-    omega (arith, before.added small j (omega (arith, end, first)), same))
+    omega (arith, before.added small early j (omega (arith, end, first)), same))
     (λ later.
     let none : c.args.weight * get_or some j 0 ≡ c.args.weight * 0 =
     ap (λ n. c.args.weight * n)

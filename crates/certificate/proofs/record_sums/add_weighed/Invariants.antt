@@ -8,7 +8,8 @@ use Rattle.certificate.proofs.record_sums.add_weighed.Given as goal
 abbrev pub invariant-loop-k : goal.invariant-loop-k
 invariant-loop-k l = record {
   len : length l.shares ≡ 23;
-  added : ((k : ℕ) → k < l.rolls → share_of l.view k ≤ whole) → (j : ℕ) → j < l.k
+  added : ((k : ℕ) → k < l.rolls → share_of l.view k ≤ whole)
+      → ((k : ℕ) → k < l.first → share_of l.view k ≡ 0) → (j : ℕ) → j < l.k
       → get_or l.shares j 0
       ≡ get_or l.fn.shares j 0 + l.weight * get_or (shares_of l.view) j 0;
   others : (j : ℕ) → l.k ≤ j → get_or l.shares j 0 ≡ get_or l.fn.shares j 0;
