@@ -1,4 +1,4 @@
-ghost use Rattle.std.specs.Prelude.{◌≡◌, ℕ, ◌<◌, ◌≤◌, ◌↔◌, Err, slice_index, IsOk, IfOk, IfErr, OnOk};
+ghost use Rattle.std.specs.Prelude.{◌≡◌, ℕ, ◌<◌, ◌≤◌, ◌↔◌, Err, slice_index, IsTrue, IsOk, IfOk, IfErr, OnOk};
 ghost use Rattle.race_model.specs.Positions.{IsPosition, IsFinished, pips};
 ghost use Rattle.race_model.specs.Plays.{Legal};
 ghost use Rattle.race_model.specs.Ranks.{rank as rank_of, count_to};
@@ -27,7 +27,7 @@ use crate::query_fault::QueryFault;
 use crate::upgrade_fault::UpgradeFault;
 use crate::upgrading::write_upgrade;
 use db_layout::{COMPACT_VERSION, Header};
-use db_reader::{Record, Table};
+use db_reader::{Record, Table, Whole};
 use fixed_fraction::{Fraction, Scaled, Spread, epc, mean};
 use home_board::Position;
 use legal_plays::{Play, Roll, play_to};
@@ -104,6 +104,14 @@ pub fn check<T: Table>(mut table: T) -> Result<Checked<T>, (T, CheckFault)>
         header,
         ranks,
     })
+}
+
+/// Whether some bytes are a right database: whether every mean in them is the least over all
+/// strategies, the recorded plays reach it, and the recorded shares are those of these plays.
+pub fn is_right(bytes: &[u8]) -> bool
+    ensures { IsTrue result ↔ IsRight bytes.now }
+{
+    check(Whole::new(bytes)).is_ok()
 }
 
 impl<T: Table> Checked<T> {
