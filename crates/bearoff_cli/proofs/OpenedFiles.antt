@@ -1,5 +1,5 @@
 -- What was read of a reader that tells what it has left.
-use Rattle.std.proofs.Common.{◌≡◌, ℕ, suc, ◌≤◌, List, [], ◌∷◌, take, length, Option, Some, Result, Ok, Err, IfOk}
+use Rattle.std.proofs.Common.{◌≡◌, ℕ, suc, ◌≤◌, List, [], ◌∷◌, take, length, Option, Some, Result, Ok, Err, IfOk, IfErr}
 use Rattle.std.proofs.Common.{refl, subst, sym, arith}
 use Rattle.std.proofs.lemmas.List.{take_all, take-append-le}
 use Rattle.std.specs.Io.KnownBytes.{Appends, Consumes, IsAtEnd}
@@ -9,8 +9,9 @@ use Rattle.race_model.specs.Versions.{Version, full, compact, version_number}
 use Rattle.race_model.specs.Files.{version_of, bound_of}
 use Rattle.race_model.specs.RightFiles.{IsRight}
 use Rattle.db_reader.specs.Telling.{WhereTold}
+use Rattle.certificate.specs.Upgrades.{WritesUpgrade}
 use Rattle.epc_query.proofs.Runs.{read_all, read_front}
-use Rattle.bearoff_cli.specs.FileAnswers.{IsReadFrom, SaysLevels, SaysUpgraded, WritesLevels, count_line}
+use Rattle.bearoff_cli.specs.FileAnswers.{IsHandedTo, IsReadFrom, SaysLevels, SaysUpgraded, WritesLevels, count_line}
 use Rattle.bearoff_cli.specs.declared.act.Done.TheVariants.{Upgraded}
 
 -- a list of no length is none
@@ -57,18 +58,37 @@ is_full full other = refl
 is_full compact other = absurd (other refl)
 
 -- the line of what was read and upgraded
-pub upgrade_read : {A E F : Type 0} (remaining : F → Option (List ℕ)) (file : List ℕ)
+pub upgrade_read : {A E F W : Type 0} (remaining : F → Option (List ℕ))
+    (contents : W → Option (List ℕ)) (file : List ℕ)
     (old new : Option (List ℕ)) (r : Result A E) (pips positions : ℕ) → IsReadFrom remaining file
-    → IsRight file → version_of file ≡ full → pips ≡ bound_of file
+    → IsRight file → version_of file ≡ full → IsHandedTo contents (WritesUpgrade file)
+    → pips ≡ bound_of file
     → positions ≡ count_to (bound_of file)
     → OnOk r (Appends old new (count_line Upgraded pips positions))
-    → OnOk r (SaysUpgraded remaining old new)
-upgrade_read remaining file old new (Ok x) pips positions read right version p q h = record {
+    → OnOk r (SaysUpgraded remaining contents old new)
+upgrade_read remaining contents file old new (Ok x) pips positions read right version handed p q h = record {
   file = file;
   read = read;
   right = right;
   version_is = version;
+  handed = handed;
   written = subst (λ n. Appends old new (count_line Upgraded (bound_of file) n)) q
       (subst (λ n. Appends old new (count_line Upgraded n positions)) p h);
 }
-upgrade_read remaining file old new (Err e) pips positions read right version p q h = tt
+upgrade_read remaining contents file old new (Err e) pips positions read right version handed p q h = tt
+
+-- what was handed to a writer, where the end of the file is Ok only if that is
+pub handed : {W A B E : Type 0} (contents : W → Option (List ℕ))
+    (Writes : Option (List ℕ) → Option (List ℕ) → Type 0) (before after : W)
+    (written : Result A E) (result : Result B E)
+    → OnOk written (Writes (contents before) (contents after))
+    → IfErr written (λ fault. result ≡ Err fault) → OnOk result (IsHandedTo contents Writes)
+handed contents Writes before after (Ok x) (Ok y) is same = (before, after, is)
+handed contents Writes before after (Ok x) (Err e) is same = tt
+handed contents Writes before after (Err e) result is same =
+    subst (λ r. OnOk r (IsHandedTo contents Writes)) (sym same) tt
+
+-- what holds is so at Ok
+pub at_ok : {A E : Type 0} {P : Type 0} (r : Result A E) → P → OnOk r P
+at_ok (Ok x) p = p
+at_ok (Err e) p = tt

@@ -91,50 +91,50 @@ no_help kind refused says memory shown =
     subst (λ b. IsNot b) (sym shown ∙ refuses) tt
 
 -- what is done for the request that was read is done for this one
-pub same_done : {F : Type 0} (remaining : F → Option (List ℕ)) (request given : Request)
+pub same_done : {F W : Type 0} (remaining : F → Option (List ℕ)) (contents : W → Option (List ℕ)) (request given : Request)
     (input left old new : Option (List ℕ)) → IsSame request given
-    → IsDone remaining given input left old new → IsDone remaining request input left old new
-same_done remaining Default given input left old new is h =
-    subst (λ r. IsDone remaining r input left old new) (sym is) h
-same_done remaining (Build pips path) Default input left old new is h = absurd is
-same_done remaining (Build pips path) (Build q other) input left old new is h =
-    subst (λ p. IsDone remaining (Build p path) input left old new) is.0 h
-same_done remaining (Build pips path) (Check other) input left old new is h = absurd is
-same_done remaining (Build pips path) (Query other some) input left old new is h = absurd is
-same_done remaining (Build pips path) (Audit other) input left old new is h = absurd is
-same_done remaining (Build pips path) (Upgrade b a) input left old new is h = absurd is
-same_done remaining (Check path) Default input left old new is h = absurd is
-same_done remaining (Check path) (Build q other) input left old new is h = absurd is
-same_done remaining (Check path) (Check other) input left old new is h = h
-same_done remaining (Check path) (Query other some) input left old new is h = absurd is
-same_done remaining (Check path) (Audit other) input left old new is h = absurd is
-same_done remaining (Check path) (Upgrade b a) input left old new is h = absurd is
-same_done remaining (Query path None) Default input left old new is h = absurd is
-same_done remaining (Query path None) (Build q other) input left old new is h = absurd is
-same_done remaining (Query path None) (Check other) input left old new is h = absurd is
-same_done remaining (Query path None) (Query other None) input left old new is h = h
-same_done remaining (Query path None) (Query other (Some records)) input left old new is h =
+    → IsDone remaining contents given input left old new → IsDone remaining contents request input left old new
+same_done remaining contents Default given input left old new is h =
+    subst (λ r. IsDone remaining contents r input left old new) (sym is) h
+same_done remaining contents (Build pips path) Default input left old new is h = absurd is
+same_done remaining contents (Build pips path) (Build q other) input left old new is h =
+    subst (λ p. IsDone remaining contents (Build p path) input left old new) is.0 h
+same_done remaining contents (Build pips path) (Check other) input left old new is h = absurd is
+same_done remaining contents (Build pips path) (Query other some) input left old new is h = absurd is
+same_done remaining contents (Build pips path) (Audit other) input left old new is h = absurd is
+same_done remaining contents (Build pips path) (Upgrade b a) input left old new is h = absurd is
+same_done remaining contents (Check path) Default input left old new is h = absurd is
+same_done remaining contents (Check path) (Build q other) input left old new is h = absurd is
+same_done remaining contents (Check path) (Check other) input left old new is h = h
+same_done remaining contents (Check path) (Query other some) input left old new is h = absurd is
+same_done remaining contents (Check path) (Audit other) input left old new is h = absurd is
+same_done remaining contents (Check path) (Upgrade b a) input left old new is h = absurd is
+same_done remaining contents (Query path None) Default input left old new is h = absurd is
+same_done remaining contents (Query path None) (Build q other) input left old new is h = absurd is
+same_done remaining contents (Query path None) (Check other) input left old new is h = absurd is
+same_done remaining contents (Query path None) (Query other None) input left old new is h = h
+same_done remaining contents (Query path None) (Query other (Some records)) input left old new is h =
     absurd (subst (λ r. IsNone r) (sym is.1) tt)
-same_done remaining (Query path None) (Audit other) input left old new is h = absurd is
-same_done remaining (Query path None) (Upgrade b a) input left old new is h = absurd is
-same_done remaining (Query path (Some records)) Default input left old new is h = absurd is
-same_done remaining (Query path (Some records)) (Build q other) input left old new is h = absurd is
-same_done remaining (Query path (Some records)) (Check other) input left old new is h = absurd is
-same_done remaining (Query path (Some records)) (Query other some) input left old new is h = tt
-same_done remaining (Query path (Some records)) (Audit other) input left old new is h = absurd is
-same_done remaining (Query path (Some records)) (Upgrade b a) input left old new is h = absurd is
-same_done remaining (Audit path) Default input left old new is h = absurd is
-same_done remaining (Audit path) (Build q other) input left old new is h = absurd is
-same_done remaining (Audit path) (Check other) input left old new is h = absurd is
-same_done remaining (Audit path) (Query other some) input left old new is h = absurd is
-same_done remaining (Audit path) (Audit other) input left old new is h = h
-same_done remaining (Audit path) (Upgrade b a) input left old new is h = absurd is
-same_done remaining (Upgrade before after) Default input left old new is h = absurd is
-same_done remaining (Upgrade before after) (Build q other) input left old new is h = absurd is
-same_done remaining (Upgrade before after) (Check other) input left old new is h = absurd is
-same_done remaining (Upgrade before after) (Query other some) input left old new is h = absurd is
-same_done remaining (Upgrade before after) (Audit other) input left old new is h = absurd is
-same_done remaining (Upgrade before after) (Upgrade b a) input left old new is h = h
+same_done remaining contents (Query path None) (Audit other) input left old new is h = absurd is
+same_done remaining contents (Query path None) (Upgrade b a) input left old new is h = absurd is
+same_done remaining contents (Query path (Some records)) Default input left old new is h = absurd is
+same_done remaining contents (Query path (Some records)) (Build q other) input left old new is h = absurd is
+same_done remaining contents (Query path (Some records)) (Check other) input left old new is h = absurd is
+same_done remaining contents (Query path (Some records)) (Query other some) input left old new is h = tt
+same_done remaining contents (Query path (Some records)) (Audit other) input left old new is h = absurd is
+same_done remaining contents (Query path (Some records)) (Upgrade b a) input left old new is h = absurd is
+same_done remaining contents (Audit path) Default input left old new is h = absurd is
+same_done remaining contents (Audit path) (Build q other) input left old new is h = absurd is
+same_done remaining contents (Audit path) (Check other) input left old new is h = absurd is
+same_done remaining contents (Audit path) (Query other some) input left old new is h = absurd is
+same_done remaining contents (Audit path) (Audit other) input left old new is h = h
+same_done remaining contents (Audit path) (Upgrade b a) input left old new is h = absurd is
+same_done remaining contents (Upgrade before after) Default input left old new is h = absurd is
+same_done remaining contents (Upgrade before after) (Build q other) input left old new is h = absurd is
+same_done remaining contents (Upgrade before after) (Check other) input left old new is h = absurd is
+same_done remaining contents (Upgrade before after) (Query other some) input left old new is h = absurd is
+same_done remaining contents (Upgrade before after) (Audit other) input left old new is h = absurd is
+same_done remaining contents (Upgrade before after) (Upgrade b a) input left old new is h = h
 
 -- what holds of each input that is told, at Ok
 pub told_done : {A E : Type 0} (r : Result A E) (input : Option (List ℕ)) (P : List ℕ → Type 0)

@@ -7,6 +7,7 @@ use Rattle.race_model.specs.Files.{version_of, bound_of}
 use Rattle.race_model.specs.RightFiles.{IsRight}
 use Rattle.race_model.specs.Levels.{IsLevelLine}
 use Rattle.db_reader.specs.Telling.{WhereTold}
+use Rattle.certificate.specs.Upgrades.{WritesUpgrade}
 use Rattle.bearoff_cli.specs.InputAnswers.{AreAnswered}
 use Rattle.bearoff_cli.specs.declared.act.Done.{Done}
 use Rattle.bearoff_cli.specs.declared.act.Done.TheVariants.{Built, Checked, Upgraded}
@@ -15,6 +16,12 @@ use Rattle.bearoff_cli.specs.declared.act.Done.TheVariants.{Built, Checked, Upgr
 abbrev pub IsReadFrom : {F : Type 0} → (F → Option (List ℕ)) → List ℕ → Type 0
 IsReadFrom {F} remaining bytes =
     (opened : F) × WhereTold (remaining opened) (λ left. bytes ≡ take 20000001 left)
+
+-- a writer was handed bytes, of which this holds
+abbrev pub IsHandedTo : {W : Type 0} → (W → Option (List ℕ))
+    → (Option (List ℕ) → Option (List ℕ) → Type 0) → Type 0
+IsHandedTo {W} contents Writes =
+    (before : W) × (after : W) × Writes (contents before) (contents after)
 
 -- the replies over the database in some opened file were written
 pub record AreAnsweredFrom {F : Type 0} (remaining : F → Option (List ℕ)) (given : List ℕ)
@@ -43,13 +50,14 @@ pub record SaysRight {F : Type 0} (remaining : F → Option (List ℕ))
   pub written : Appends old new (count_line Checked (bound_of file) (count_to (bound_of file)))
 
 -- the line of an upgraded database was written: an opened file is right and of version 1, and has
--- this bound
-pub record SaysUpgraded {F : Type 0} (remaining : F → Option (List ℕ))
-    (old new : Option (List ℕ)) : Type 0 where
+-- this bound, and its upgrade was handed to the writer of a file
+pub record SaysUpgraded {F W : Type 0} (remaining : F → Option (List ℕ))
+    (contents : W → Option (List ℕ)) (old new : Option (List ℕ)) : Type 0 where
   pub file : List ℕ
   pub read : IsReadFrom remaining file
   pub right : IsRight file
   pub version_is : version_of file ≡ full
+  pub handed : IsHandedTo contents (WritesUpgrade file)
   pub written : Appends old new (count_line Upgraded (bound_of file) (count_to (bound_of file)))
 
 -- the bytes are the lines of the first so many pip counts of a file, from 0 on

@@ -7,8 +7,10 @@ use Rattle.command_line.specs.Asked.{IsPlain, Writes}
 use Rattle.command_line.specs.declared.words.Request.{Request}
 use Rattle.command_line.specs.declared.words.Request.TheVariants.{Default, Build, Check, Query, Audit, Upgrade}
 use Rattle.db_reader.specs.Telling.{WhereTold}
+use Rattle.retrograde.specs.BuiltBytes.{WritesBuilt}
+use Rattle.retrograde.specs.UsualVersion.{usual_version}
 use Rattle.bearoff_cli.specs.InputAnswers.{AreAnsweredOver}
-use Rattle.bearoff_cli.specs.FileAnswers.{AreAnsweredFrom, SaysRight, SaysUpgraded, SaysLevels, count_line}
+use Rattle.bearoff_cli.specs.FileAnswers.{AreAnsweredFrom, IsHandedTo, SaysRight, SaysUpgraded, SaysLevels, count_line}
 use Rattle.bearoff_cli.specs.declared.act.Done.TheVariants.{Built}
 
 -- the words are these of the request: the name of the command, an option with its number before the
@@ -29,15 +31,16 @@ Asks words (Upgrade before after) = IsPlain before.now × IsPlain after.now
 -- what was read of the input and of an opened file and written to the output, where the request was
 -- fulfilled. Nothing is said of the answers by pages: what a seek and a read give, no contract of
 -- the library says together
-abbrev pub IsDone : {F : Type 0} → (F → Option (List ℕ)) → Request → Option (List ℕ)
-    → Option (List ℕ) → Option (List ℕ) → Option (List ℕ) → Type 0
-IsDone remaining Default input left old new =
+abbrev pub IsDone : {F W : Type 0} → (F → Option (List ℕ)) → (W → Option (List ℕ)) → Request
+    → Option (List ℕ) → Option (List ℕ) → Option (List ℕ) → Option (List ℕ) → Type 0
+IsDone remaining contents Default input left old new =
     WhereTold input (λ given. AreAnsweredOver 8 given left old new)
-IsDone remaining (Build pips path) input left old new =
-    (pips ≤ 58) × Appends old new (count_line Built pips (count_to pips))
-IsDone remaining (Check path) input left old new = SaysRight remaining old new
-IsDone remaining (Query path None) input left old new =
+IsDone remaining contents (Build pips path) input left old new =
+    (pips ≤ 58) × IsHandedTo contents (WritesBuilt (usual_version pips) pips)
+    × Appends old new (count_line Built pips (count_to pips))
+IsDone remaining contents (Check path) input left old new = SaysRight remaining old new
+IsDone remaining contents (Query path None) input left old new =
     WhereTold input (λ given. AreAnsweredFrom remaining given left old new)
-IsDone remaining (Query path (Some records)) input left old new = Unit {0}
-IsDone remaining (Audit path) input left old new = SaysLevels remaining old new
-IsDone remaining (Upgrade before after) input left old new = SaysUpgraded remaining old new
+IsDone remaining contents (Query path (Some records)) input left old new = Unit {0}
+IsDone remaining contents (Audit path) input left old new = SaysLevels remaining old new
+IsDone remaining contents (Upgrade before after) input left old new = SaysUpgraded remaining contents old new

@@ -6,6 +6,7 @@ ghost use Rattle.race_model.specs.RightFiles.{IsRight};
 ghost use Rattle.race_model.specs.Ranks.{count_to};
 ghost use Rattle.db_reader.specs.Telling.{WhereTold};
 ghost use Rattle.db_layout.specs.Writes.{AppendsPart};
+ghost use Rattle.exit_status.specs.Causes.{of_check};
 ghost use Rattle.exit_status.specs.Lines.{error_line};
 ghost use Rattle.exit_status.specs.Statuses.{status_of};
 ghost use Rattle.exit_status.specs.declared.fault.Fault.{Fault};
@@ -13,7 +14,9 @@ ghost use Rattle.command_line.specs.declared.words.Request.{Request};
 ghost use Rattle.certificate.specs.CheckFaults.{IsFirst};
 ghost use Rattle.bearoff_cli.specs.Faults.{IsFaultIn, IsFaultOf, IsOwnFault, IsRefusalOf};
 ghost use Rattle.bearoff_cli.specs.InputAnswers.{AreAnswered, AreAnsweredOver};
-ghost use Rattle.bearoff_cli.specs.FileAnswers.{AreAnsweredFrom, SaysRight, SaysUpgraded, SaysLevels};
+ghost use Rattle.bearoff_cli.specs.FileAnswers.{AreAnsweredFrom, IsHandedTo, SaysRight, SaysUpgraded, SaysLevels};
+ghost use Rattle.retrograde.specs.BuiltBytes.{WritesBuilt};
+ghost use Rattle.retrograde.specs.UsualVersion.{usual_version};
 ghost use Rattle.bearoff_cli.specs.FileAnswers.{WritesLevels, count_line, count_text};
 ghost use Rattle.bearoff_cli.specs.RefusedFiles.{KeepsIfRefused, KeepsIfTold};
 ghost use Rattle.bearoff_cli.specs.Requests.{Asks, IsDone};
@@ -40,7 +43,7 @@ use retrograde::build;
 use std::alloc::Global;
 use std::convert::AsStr;
 use std::fs;
-use std::io::{Read, Write};
+use std::io::{BufWriter, Read, Write};
 use std::rt::Files;
 
 /// The pip bound of the database that is built where no word is given.
@@ -73,7 +76,7 @@ pub fn act<R: Files, S: AsStr, I: Read, O: Write, E: Write>(
         × AppendsPart (E.contents errors.old) (E.contents errors.new) (error_line fault)
         × IsFaultOf R.File.remaining request fault) }
     ensures done { (request : Request) → Asks (map S.text words.entry.now) request → result ≡ 0
-        → IsDone R.File.remaining request (I.remaining input.old) (I.remaining input.new)
+        → IsDone R.File.remaining ⟦<BufWriter<R::File> as Write>⟧.contents request (I.remaining input.old) (I.remaining input.new)
         (O.contents output.old) (O.contents output.new) }
 {
     match perform(rt, alloc, words, input, output) {
@@ -119,7 +122,7 @@ fn perform<R: Files, S: AsStr, I: Read, O: Write>(
     ensures fault { (request : Request) → Asks (map S.text words.entry.now) request
         → IfErr result (λ refusal. IsRefusalOf R.File.remaining request refusal) }
     ensures done { (request : Request) → Asks (map S.text words.entry.now) request
-        → OnOk result (IsDone R.File.remaining request
+        → OnOk result (IsDone R.File.remaining ⟦<BufWriter<R::File> as Write>⟧.contents request
         (I.remaining input.old) (I.remaining input.new)
         (O.contents output.old) (O.contents output.new)) }
 {
@@ -155,7 +158,7 @@ fn fulfil<R: Files, I: Read, O: Write>(
     ensures refused { KeepsIfRefused result (O.contents output.old) (O.contents output.new) }
     ensures fault { IfErr result
         (λ fault. IsFaultOf R.File.remaining request.entry fault) }
-    ensures done { OnOk result (IsDone R.File.remaining request.entry (I.remaining input.old)
+    ensures done { OnOk result (IsDone R.File.remaining ⟦<BufWriter<R::File> as Write>⟧.contents request.entry (I.remaining input.old)
         (I.remaining input.new) (O.contents output.old) (O.contents output.new)) }
 {
     match request {
@@ -263,6 +266,7 @@ fn reply<T: Table + Drop, I: Read, O: Write>(
     output: &mut O,
 ) -> Result<(), Fault>
     ensures refused { KeepsIfRefused result (O.contents output.old) (O.contents output.new) }
+    ensures refusal { IfErr told (λ refused. result ≡ Err (of_check refused.1)) }
     ensures fault { (file : List ℕ) → IfErr told (λ refused. IsFirst file refused.1)
         → IfErr result (λ fault. IsFaultIn file fault) }
     ensures answers { (file : List ℕ) → OnOk told (IsRight file)
@@ -284,6 +288,7 @@ fn accepted<T: Table>(
     told: &mut Result<Checked<T>, (T, CheckFault)>,
 ) -> Result<&mut Checked<T>, Fault>
     ensures checked { IfOk result (λ checked. told.old ≡ Ok checked.now) }
+    ensures refused { IfErr told.old (λ refused. result ≡ Err (of_check refused.1)) }
     ensures fault { (file : List ℕ) → IfErr told.old (λ refused. IsFirst file refused.1)
         → IfErr result (λ fault. IsFaultIn file fault) }
 {
@@ -304,6 +309,7 @@ fn write_database<R: Files, O: Write>(
 ) -> Result<(), Fault>
     ensures refused { KeepsIfRefused result (O.contents output.old) (O.contents output.new) }
     ensures over { 58 < pips → result ≡ Err Fault.OverBound }
+    ensures handed { OnOk result (IsHandedTo ⟦<BufWriter<R::File> as Write>⟧.contents (WritesBuilt (usual_version pips) pips)) }
     ensures built { OnOk result (Appends (O.contents output.old) (O.contents output.new)
         (count_line Built pips (count_to pips))) }
 {
@@ -358,6 +364,7 @@ fn write_levels<T: Table + Drop, O: Write>(
     output: &mut O,
 ) -> Result<(), Fault>
     ensures refused { KeepsIfRefused result (O.contents output.old) (O.contents output.new) }
+    ensures refusal { IfErr told (λ refused. result ≡ Err (of_check refused.1)) }
     ensures fault { (file : List ℕ) → IfErr told (λ refused. IsFirst file refused.1)
         → IfErr result (λ fault. IsFaultIn file fault) }
     ensures levels { (file : List ℕ) → OnOk told (IsRight file)
@@ -403,7 +410,7 @@ fn upgrade_database<R: Files, O: Write>(
     ensures refused { KeepsIfRefused result (O.contents output.old) (O.contents output.new) }
     ensures fault { IfErr result (λ fault. IsOwnFault R.File.remaining fault) }
     ensures upgraded { OnOk result
-        (SaysUpgraded R.File.remaining (O.contents output.old) (O.contents output.new)) }
+        (SaysUpgraded R.File.remaining ⟦<BufWriter<R::File> as Write>⟧.contents (O.contents output.old) (O.contents output.new)) }
 {
     let bytes = read_file(rt, alloc, old)?;
     let mut told = check(Whole::new(bytes.as_slice()));

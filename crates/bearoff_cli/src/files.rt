@@ -3,7 +3,7 @@ ghost use Rattle.std.specs.Prelude.{◌≡◌, ◌≤◌, length, take, IfOk, If
 ghost use Rattle.std.specs.Io.KnownBytes.{Consumes, IsAtEnd, Keeps};
 ghost use Rattle.exit_status.specs.Statuses.{status_of};
 ghost use Rattle.exit_status.specs.declared.fault.Fault.TheVariants.{File};
-ghost use Rattle.bearoff_cli.specs.FileAnswers.{IsReadFrom};
+ghost use Rattle.bearoff_cli.specs.FileAnswers.{IsHandedTo, IsReadFrom};
 ghost use Rattle.race_model.specs.Versions.{full};
 ghost use Rattle.db_reader.specs.Telling.{WhereTold};
 ghost use Rattle.retrograde.specs.BuiltBytes.{WritesBuilt};
@@ -17,7 +17,7 @@ use exit_status::Fault;
 use retrograde::build;
 use std::alloc::Global;
 use std::fs;
-use std::io::{Read, Write};
+use std::io::{BufWriter, Read, Write};
 use std::rt::Files;
 
 /// How many bytes one read moves.
@@ -123,7 +123,9 @@ fn read_block<'a, F: Read>(file: &mut F, block: &'a mut [u8; BLOCK]) -> Result<&
 /// Writes the database of a pip bound into a file, which takes the place of an old one once it is
 /// complete (`draft`). `Open` where it can't be made, and `Write` where a write fails: then the
 /// old file stays, or, where the bytes go straight into it, it may hold a prefix of the database.
-pub fn build_file<R: Files>(rt: &R, alloc: Global, pips: u8, path: &str) -> Result<(), Fault> {
+pub fn build_file<R: Files>(rt: &R, alloc: Global, pips: u8, path: &str) -> Result<(), Fault>
+    ensures built { OnOk result (IsHandedTo ⟦<BufWriter<R::File> as Write>⟧.contents (WritesBuilt (usual_version pips) pips)) }
+{
     let mut draft = begin(rt, alloc, path)?;
     let written = build_into(alloc, pips, &mut draft.writer);
     draft.finish(rt, written)
@@ -147,6 +149,8 @@ pub fn upgrade_file<R: Files, T: Table>(
     checked: &mut Checked<T>,
     path: &str,
 ) -> Result<(), Fault>
+    ensures upgraded { WhereTold checked.old.told
+        (λ file. OnOk result (IsHandedTo ⟦<BufWriter<R::File> as Write>⟧.contents (WritesUpgrade file))) }
     ensures fault { checked.old.version ≡ full → IfErr result (λ fault. status_of fault ≡ 1) }
     ensures stays { (checked.new.told ≡ checked.old.told)
         × (checked.new.bound ≡ checked.old.bound) }

@@ -12,3 +12,6 @@ pub returns-clause-answers : goal.returns-clause-answers
 returns-clause-answers g c file told given read =
     c.reply.ensures.answers file (c.check.ensures.right file told)
     (equal-ok (λ (d : Database). d.told) _ _ c.check.result c.check.ensures.told told) given read
+
+pub returns-clause-fault : goal.returns-clause-fault
+returns-clause-fault g c file told = c.reply.ensures.fault file (c.check.ensures.first file told)

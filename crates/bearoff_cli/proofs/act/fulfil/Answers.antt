@@ -1,6 +1,7 @@
 -- What is done for a request is what its function did.
 use Rattle.std.proofs.Common.{◌≡◌, None, ap, ◌∙◌, subst, sym}
 use Rattle.std.specs.Prelude.{OnOk}
+use Rattle.std.specs.Io.Buffered.{writer_contents}
 use Rattle.command_line.specs.declared.words.Request.TheVariants.{Query}
 use Rattle.bearoff_cli.specs.Requests.{IsDone}
 use Rattle.bearoff_cli.proofs.Requests.{told_done}
@@ -14,7 +15,8 @@ pub returns-in-Query-default-None-clause-done : goal.returns-in-Query-default-No
 returns-in-Query-default-None-clause-done g c =
     let here = c.in-Query-default-None in
     let none : here.cache ≡ None = rw here.is at here.cache-is in
-    subst (λ request. OnOk c.answer_file.result (IsDone g.R.File.Read.remaining request
+    subst (λ request. OnOk c.answer_file.result (IsDone g.R.File.Read.remaining
+    (writer_contents g.R.File.Write.contents) request
     (g.I.Read.remaining c.args.input.now) (g.I.Read.remaining c.answer_file.new.input)
     (g.O.Write.contents c.args.output.now) (g.O.Write.contents c.answer_file.new.output)))
     (sym (here.is ∙ ap (λ cache. Query here.path cache) none))

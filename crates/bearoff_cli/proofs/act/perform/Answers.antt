@@ -2,6 +2,7 @@
 use Rattle.std.proofs.Common.{◌≡◌, IfOk, IfErr, true, subst, sym, ◌∙◌}
 use Rattle.clap.specs.Words.{kind_of}
 use Rattle.clap.specs.declared.error.kind.ErrorKind.TheVariants.{OutOfMemory}
+use Rattle.std.specs.Io.Buffered.{writer_contents}
 use Rattle.bearoff_cli.specs.Requests.{IsDone}
 use Rattle.bearoff_cli.proofs.Requests.{IsSame, IsNot, read_as, same_done, no_help}
 use Rattle.bearoff_cli.proofs.act.perform.Goals as goal
@@ -10,6 +11,7 @@ use Rattle.bearoff_cli.proofs.act.perform.Goals.{in-Ok+in_ok-fulfil-in-Ok, in-Er
 pub returns-clause-done : goal.returns-clause-done
 returns-clause-done g c request asks =
     let remaining = g.R.File.Read.remaining in
+    let contents = (writer_contents g.R.File.Write.contents) in
     let given = g.I.Read.remaining c.args.input.now in
     let old = g.O.Write.contents c.args.output.now in
     let words = c.read_words.ensures in
@@ -20,11 +22,11 @@ returns-clause-done g c request asks =
           let same = subst (λ r. IfOk r (λ read. IsSame request read)) w.in-Ok.is gives.0 in
           let left = w.fulfil.new.input in
           let new = w.fulfil.new.output in
-          let done = same_done remaining request w.in-Ok.request given (g.I.Read.remaining left) old
+          let done = same_done remaining contents request w.in-Ok.request given (g.I.Read.remaining left) old
           (g.O.Write.contents new) same w.in_ok-fulfil-in-Ok.ensures.done in
-          subst (λ input. IsDone remaining request given (g.I.Read.remaining input) old
+          subst (λ input. IsDone remaining contents request given (g.I.Read.remaining input) old
           (g.O.Write.contents c.match-read_words.output)) (sym w.input-is)
-          (subst (λ output. IsDone remaining request given (g.I.Read.remaining left) old
+          (subst (λ output. IsDone remaining contents request given (g.I.Read.remaining left) old
           (g.O.Write.contents output)) (sym w.output-is) done)
       | in-Err-3+in_ok-write_help-in-Err-3 w ↦
           let memory =

@@ -1,6 +1,7 @@
 -- The line of the bytes that were read, which are a right database of version 1.
 use Rattle.std.proofs.Common.{◌≡◌, Some, Err, IfOk, inl, inr, rules, ap, ◌∙◌, subst, sym}
 use Rattle.std.specs.Prelude.{OnOk}
+use Rattle.std.specs.Io.Buffered.{writer_contents}
 use Rattle.std.proofs.lemmas.Result.{IfOk-weaker}
 use Rattle.race_model.specs.Ranks.{count_to}
 use Rattle.race_model.specs.Files.{version_of}
@@ -25,7 +26,8 @@ returns-clause-upgraded g c =
     is_full (version_of file) (λ e. c.if-version-eq-COMPACT_VERSION.false (version ∙ e)) in
     let bound = c.bound.ensures.bound ∙ (c.bound.ensures.right file
     (c.in_ok-upgrade_file.ensures.stays.0 ∙ told)).1 in
-    upgrade_read g.R.File.Read.remaining file _ _ c.write_count.result _ _ read right old bound
+    upgrade_read g.R.File.Read.remaining (writer_contents g.R.File.Write.contents) file _ _ c.write_count.result _ _ read right old
+    (c.in_ok-upgrade_file.ensures.upgraded file told) bound
     (c.positions.ensures ∙ ap count_to (sym c.bound.ensures.bound ∙ bound))
     c.write_count.ensures.all
 

@@ -1,0 +1,14 @@
+-- The built file was handed to the writer of the file that was begun.
+use Rattle.std.specs.Io.Buffered.{writer_contents}
+use Rattle.retrograde.specs.BuiltBytes.{WritesBuilt}
+use Rattle.retrograde.specs.UsualVersion.{usual_version}
+use Rattle.bearoff_cli.proofs.OpenedFiles.{handed}
+use Rattle.bearoff_cli.proofs.files.build_file.Goals as goal
+
+pub returns : goal.returns
+returns g c = record {
+  built = handed (writer_contents g.R.File.Write.contents)
+      (WritesBuilt (usual_version c.args.pips) c.args.pips) c.in_ok-draft.draft.writer
+      c.build_into-written.new.output c.build_into-written.result c.finish.result
+      c.build_into-written.ensures.built c.finish.ensures.fault;
+}
