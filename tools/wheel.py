@@ -24,12 +24,16 @@ def main(python, version, program, library, to):
     if field(project, "version") != version:
         sys.exit(f"wheel: python/pyproject.toml is not of version {version}")
     info = f"bearoff-{version}.dist-info"
+    # the text of the package's docstring, which is its page
+    description = (python / "bearoff" / "__init__.py").read_text().split('"""')[1]
     metadata = f"""Metadata-Version: 2.1
 Name: bearoff
 Version: {version}
 Summary: {field(project, "description")}
 Requires-Python: {field(project, "requires-python")}
-"""
+Description-Content-Type: text/x-rst
+
+{description}"""
     platforms = TAG.split("-")[2].split(".")
     tags = "".join(f"Tag: py3-none-{platform}\n" for platform in platforms)
     wheel = f"Wheel-Version: 1.0\nGenerator: bearoff\nRoot-Is-Purelib: false\n{tags}"
