@@ -7,11 +7,11 @@ ghost use Rattle.exit_status.specs.declared.fault.Fault.TheVariants.{Write};
 use exit_status::Fault;
 use itoa::Buffer;
 use std::alloc::{AllocError, Global};
-use std::fs;
 use std::fs::{Metadata, OpenFile, OpenOptions};
 use std::io::{BufWriter, ErrorKind};
 use std::os::unix::fs::{MetadataExt, OpenOptionsExt, lchown};
 use std::rt::Files;
+use std::{fs, io};
 
 /// How many bytes one write moves.
 const BLOCK: usize = 65536;
@@ -22,6 +22,10 @@ const NAMES: u16 = u16::MAX;
 
 /// How many symbolic links are followed, one after another, as by the system.
 const LINKS: u8 = 40;
+
+/// How often a file is begun anew whose name was given to another one before it was begun, as by
+/// another run that put its new file there.
+const TRIES: u16 = 1000;
 
 /// A file that is being written, by blocks.
 #[derive(Drop)]
@@ -46,38 +50,68 @@ struct Names {
     folder: String,
 }
 
-/// Begins to write a file. `Open` where it can't be opened or made, and `Memory` where there is
-/// no room; then it is as it was.
+/// Begins to write a file. `Open` where it can't be opened or made, or where its name is given to
+/// other files again and again meanwhile, and `Memory` where there is no room; then it is as it was.
 ///
 /// The bytes go straight into what is no plain file, as a device or a pipe, into a plain file that
 /// is an open one's name in `/dev` or `/proc`, and where a new file could not take the place of the
-/// old one: in a folder that can't be written, or with another owner, group, permissions or device.
+/// old one: in a folder that can't be written, or of which no name can be taken away, or with
+/// another owner, group, permissions or device.
 pub fn begin<R: Files>(rt: &R, alloc: Global, path: &str) -> Result<Draft<R>, Fault>
+    ensures { IfErr result (λ fault. status_of fault ≡ 1) }
+{
+    for _ in 0..TRIES {
+        if let Some(draft) = begin_once(rt, alloc, path)? {
+            return Ok(draft);
+        }
+    }
+    Err(Fault::Open)
+}
+
+/// Begins to write a file; none where its name was given to another file meanwhile.
+fn begin_once<R: Files>(rt: &R, alloc: Global, path: &str) -> Result<Option<Draft<R>>, Fault>
     ensures { IfErr result (λ fault. status_of fault ≡ 1) }
 {
     match OpenOptions::new().write(true).open(rt, path) {
         Ok(old) => begin_over(rt, alloc, path, old),
-        Err(error) if error.kind() == ErrorKind::NotFound => begin_anew(rt, alloc, path),
+        Err(error) if error.kind() == ErrorKind::NotFound => {
+            Ok(Some(begin_anew(rt, alloc, path)?))
+        }
         Err(_) => Err(Fault::Open),
     }
 }
 
-/// Begins to write a file that is there.
-fn begin_over<R: Files>(rt: &R, alloc: Global, path: &str, old: R::File) -> Result<Draft<R>, Fault>
+/// Begins to write a file that is there; none where its name is another one's by now.
+fn begin_over<R: Files>(
+    rt: &R,
+    alloc: Global,
+    path: &str,
+    old: R::File,
+) -> Result<Option<Draft<R>>, Fault>
     ensures { IfErr result (λ fault. status_of fault ≡ 1) }
 {
     let Ok(told) = old.metadata() else {
         return Err(Fault::Open);
     };
     if told.is_file() {
-        if let Some(draft) = begin_beside(rt, alloc, path, &told)? {
-            return Ok(draft);
+        if let Some(place) = place_of(rt, alloc, path)? {
+            if !is_name_of(fs::symlink_metadata(rt, place.as_str()), &told)? {
+                return Ok(None);
+            }
+            if can_be_replaced(rt, place.as_str()) {
+                if let Some(draft) = begin_beside(rt, alloc, place, &told)? {
+                    return Ok(Some(draft));
+                }
+            }
+        }
+        if !is_name_of(fs::metadata(rt, path), &told)? {
+            return Ok(None);
         }
         if old.set_len(0).is_err() {
             return Err(Fault::Open);
         }
     }
-    straight(alloc, old)
+    Ok(Some(straight(alloc, old)?))
 }
 
 /// Begins to write a file that is not there.
@@ -100,17 +134,11 @@ fn begin_anew<R: Files>(rt: &R, alloc: Global, path: &str) -> Result<Draft<R>, F
 fn begin_beside<R: Files>(
     rt: &R,
     alloc: Global,
-    path: &str,
+    place: String,
     old: &Metadata,
 ) -> Result<Option<Draft<R>>, Fault>
     ensures { IfErr result (λ fault. status_of fault ≡ 1) }
 {
-    let Some(place) = place_of(rt, alloc, path)? else {
-        return Ok(None);
-    };
-    if !is_name_of(rt, place.as_str(), old)? {
-        return Ok(None);
-    }
     let Some((file, names)) = create_beside(rt, alloc, place, 0o600)? else {
         return Ok(None);
     };
@@ -162,13 +190,24 @@ fn linked(alloc: Global, link: &str, target: &str) -> Result<String, AllocError>
     Ok(name)
 }
 
-/// Whether a name, with no link followed, is that of a file.
-fn is_name_of<R: Files>(rt: &R, name: &str, file: &Metadata) -> Result<bool, Fault>
+/// Whether what the system tells of a name is that it is the one of a file.
+fn is_name_of(named: io::Result<Metadata>, file: &Metadata) -> Result<bool, Fault>
     ensures { IfErr result (λ fault. status_of fault ≡ 1) }
 {
-    match fs::symlink_metadata(rt, name) {
+    match named {
         Ok(told) => Ok((told.dev(), told.ino()) == (file.dev(), file.ino())),
+        Err(error) if error.kind() == ErrorKind::NotFound => Ok(false),
         Err(_) => Err(Fault::Open),
+    }
+}
+
+/// Whether the name of a file can be given to another one: not in a folder that can't be written,
+/// nor in one to which names can be added alone. The system tells that of a name first where it is
+/// asked to remove a folder, and a file stays whatever it tells.
+fn can_be_replaced<R: Files>(rt: &R, name: &str) -> bool {
+    match fs::remove_dir(rt, name) {
+        Ok(()) => true,
+        Err(error) => error.kind() != ErrorKind::PermissionDenied,
     }
 }
 
