@@ -5,14 +5,17 @@
 
 use act::act;
 use exit_status::{Fault, write_fault};
+use std::fs::File;
+use std::os::fd::AsRawFd;
 use std::process::ExitCode;
-use std::{env, io};
+use std::{env, fs, io};
 
 pub mod act;
 pub mod draft;
 pub mod files;
 
 fn main(rt: HostRuntime) -> ExitCode {
+    let _standing = stand_ins(&rt);
     let words = match words_of(&rt) {
         Ok(words) => words,
         Err(fault) => {
@@ -28,6 +31,19 @@ fn main(rt: HostRuntime) -> ExitCode {
         &mut rt.stdout(),
         &mut rt.stderr(),
     ))
+}
+
+/// The root folder, once in the place of each standard stream that is closed, so that no file that
+/// is opened later becomes that stream: it can't be read and can't be written.
+fn stand_ins(rt: &HostRuntime) -> [Option<File>; 3] {
+    let mut standing = [None, None, None];
+    for place in &mut standing {
+        match fs::open(rt, "/") {
+            Ok(folder) if folder.as_raw_fd() < 3 => *place = Some(folder),
+            _ => break,
+        }
+    }
+    standing
 }
 
 /// The words after the program's own name. One that is no UTF-8 text names no file that could be
