@@ -263,7 +263,9 @@ fn query_command<'a>(alloc: Global) -> Result<Command<'a>, AllocError>
         .long("cache")
         .value_name("N")
         .value_parser(value_parser!(u16).range(1..65536))
-        .help("Keeps at most N records in memory, 1 to 65535, and not the whole file");
+        .help(
+            "Keeps at most N records in memory, 1 to 65535; these answers are tested, not proved",
+        );
     file_command(
         alloc,
         "query",
