@@ -1,4 +1,5 @@
 mod Levels
 mod OpenedFiles
 mod Requests
+mod StoppedRuns
 mod ToldFaults

@@ -3,7 +3,7 @@ use Rattle.std.proofs.Common.{◌≡◌, ℕ, suc, ◌≤◌, List, [], ◌∷�
 use Rattle.std.proofs.Common.{refl, subst, sym, arith}
 use Rattle.std.proofs.lemmas.List.{take_all, take-append-le}
 use Rattle.std.specs.Io.KnownBytes.{Appends, Consumes, IsAtEnd}
-use Rattle.std.specs.Prelude.{OnOk}
+use Rattle.std.specs.Prelude.{OnErr, OnOk, true, is_err}
 use Rattle.race_model.specs.Ranks.{count_to}
 use Rattle.race_model.specs.Versions.{Version, full, compact, version_number}
 use Rattle.race_model.specs.Files.{version_of, bound_of}
@@ -11,6 +11,7 @@ use Rattle.race_model.specs.RightFiles.{IsRight}
 use Rattle.db_reader.specs.Telling.{WhereTold}
 use Rattle.certificate.specs.Upgrades.{WritesUpgrade}
 use Rattle.epc_query.proofs.Runs.{read_all, read_front}
+use Rattle.bearoff_cli.proofs.Requests.{IsNot}
 use Rattle.bearoff_cli.specs.FileAnswers.{IsHandedTo, IsReadFrom, SaysLevels, SaysUpgraded, WritesLevels, count_line}
 use Rattle.bearoff_cli.specs.declared.act.Done.TheVariants.{Upgraded}
 
@@ -92,3 +93,13 @@ handed contents Writes before after (Err e) result is same =
 pub at_ok : {A E : Type 0} {P : Type 0} (r : Result A E) → P → OnOk r P
 at_ok (Ok x) p = p
 at_ok (Err e) p = tt
+
+-- what follows from what holds at Err
+pub err-weaker : {A E P Q : Type 0} (r : Result A E) → (P → Q) → OnErr r P → OnErr r Q
+err-weaker (Ok x) f p = tt
+err-weaker (Err e) f p = f p
+
+-- what holds at Err holds where there is one
+pub at_err : {A E P : Type 0} (r : Result A E) → OnErr r P → is_err r ≡ true → P
+at_err (Ok x) p is = absurd (subst (λ b. IsNot b) is tt)
+at_err (Err e) p is = p

@@ -25,10 +25,6 @@ abbrev IsNoList : {T : Type 0} → List T → Type 0
 IsNoList [] = Unit {0}
 IsNoList (x ∷ xs) = ⊥
 
-abbrev IsNone : {T : Type 0} → Option T → Type 0
-IsNone None = Unit {0}
-IsNone (Some x) = ⊥
-
 no_texts : {S T : Type 0} (f : S → T) (xs : List S) → map f xs ≡ [] → length xs ≡ 0
 no_texts f [] none = refl
 no_texts f (x ∷ xs) none = absurd (subst (λ ys. IsNoList ys) (sym none) tt)
@@ -90,54 +86,77 @@ no_help kind refused says memory shown =
     ) in
     subst (λ b. IsNot b) (sym shown ∙ refuses) tt
 
+-- what is said of a request whatever its files are named is said of this one, where it is said of the
+-- one that was read
+pub of_same : (Says : Request → Type 0)
+    → ((n : ℕ) (p q : _) → Says (Build n p) → Says (Build n q))
+    → ((p q : _) → Says (Check p) → Says (Check q))
+    → ((p q : _) (r : Option ℕ) → Says (Query p r) → Says (Query q r))
+    → ((p q : _) → Says (Audit p) → Says (Audit q))
+    → ((p q r s : _) → Says (Upgrade p q) → Says (Upgrade r s))
+    → (request given : Request) → IsSame request given → Says given → Says request
+of_same Says build check query audit upgrade Default given is h =
+    subst Says (sym is) h
+of_same Says build check query audit upgrade (Build pips path) Default is h = absurd is
+of_same Says build check query audit upgrade (Build pips path) (Build q other) is h =
+    subst (λ n. Says (Build n path)) is.0 (build q other path h)
+of_same Says build check query audit upgrade (Build pips path) (Check other) is h = absurd is
+of_same Says build check query audit upgrade (Build pips path) (Query other some) is h = absurd is
+of_same Says build check query audit upgrade (Build pips path) (Audit other) is h = absurd is
+of_same Says build check query audit upgrade (Build pips path) (Upgrade b a) is h = absurd is
+of_same Says build check query audit upgrade (Check path) Default is h = absurd is
+of_same Says build check query audit upgrade (Check path) (Build q other) is h = absurd is
+of_same Says build check query audit upgrade (Check path) (Check other) is h =
+    check other path h
+of_same Says build check query audit upgrade (Check path) (Query other some) is h = absurd is
+of_same Says build check query audit upgrade (Check path) (Audit other) is h = absurd is
+of_same Says build check query audit upgrade (Check path) (Upgrade b a) is h = absurd is
+of_same Says build check query audit upgrade (Query path records) Default is h = absurd is
+of_same Says build check query audit upgrade (Query path records) (Build q other) is h = absurd is
+of_same Says build check query audit upgrade (Query path records) (Check other) is h = absurd is
+of_same Says build check query audit upgrade (Query path records) (Query other some) is h =
+    subst (λ r. Says (Query path r)) is.1 (query other path some h)
+of_same Says build check query audit upgrade (Query path records) (Audit other) is h = absurd is
+of_same Says build check query audit upgrade (Query path records) (Upgrade b a) is h = absurd is
+of_same Says build check query audit upgrade (Audit path) Default is h = absurd is
+of_same Says build check query audit upgrade (Audit path) (Build q other) is h = absurd is
+of_same Says build check query audit upgrade (Audit path) (Check other) is h = absurd is
+of_same Says build check query audit upgrade (Audit path) (Query other some) is h = absurd is
+of_same Says build check query audit upgrade (Audit path) (Audit other) is h =
+    audit other path h
+of_same Says build check query audit upgrade (Audit path) (Upgrade b a) is h = absurd is
+of_same Says build check query audit upgrade (Upgrade before after) Default is h = absurd is
+of_same Says build check query audit upgrade (Upgrade before after) (Build q other) is h = absurd is
+of_same Says build check query audit upgrade (Upgrade before after) (Check other) is h = absurd is
+of_same Says build check query audit upgrade (Upgrade before after) (Query other some) is h = absurd is
+of_same Says build check query audit upgrade (Upgrade before after) (Audit other) is h = absurd is
+of_same Says build check query audit upgrade (Upgrade before after) (Upgrade b a) is h =
+    upgrade b a before after h
+
 -- what is done for the request that was read is done for this one
-pub same_done : {F W : Type 0} (remaining : F → Option (List ℕ)) (contents : W → Option (List ℕ)) (request given : Request)
-    (input left old new : Option (List ℕ)) → IsSame request given
-    → IsDone remaining contents given input left old new → IsDone remaining contents request input left old new
-same_done remaining contents Default given input left old new is h =
-    subst (λ r. IsDone remaining contents r input left old new) (sym is) h
-same_done remaining contents (Build pips path) Default input left old new is h = absurd is
-same_done remaining contents (Build pips path) (Build q other) input left old new is h =
-    subst (λ p. IsDone remaining contents (Build p path) input left old new) is.0 h
-same_done remaining contents (Build pips path) (Check other) input left old new is h = absurd is
-same_done remaining contents (Build pips path) (Query other some) input left old new is h = absurd is
-same_done remaining contents (Build pips path) (Audit other) input left old new is h = absurd is
-same_done remaining contents (Build pips path) (Upgrade b a) input left old new is h = absurd is
-same_done remaining contents (Check path) Default input left old new is h = absurd is
-same_done remaining contents (Check path) (Build q other) input left old new is h = absurd is
-same_done remaining contents (Check path) (Check other) input left old new is h = h
-same_done remaining contents (Check path) (Query other some) input left old new is h = absurd is
-same_done remaining contents (Check path) (Audit other) input left old new is h = absurd is
-same_done remaining contents (Check path) (Upgrade b a) input left old new is h = absurd is
-same_done remaining contents (Query path None) Default input left old new is h = absurd is
-same_done remaining contents (Query path None) (Build q other) input left old new is h = absurd is
-same_done remaining contents (Query path None) (Check other) input left old new is h = absurd is
-same_done remaining contents (Query path None) (Query other None) input left old new is h = h
-same_done remaining contents (Query path None) (Query other (Some records)) input left old new is h =
-    absurd (subst (λ r. IsNone r) (sym is.1) tt)
-same_done remaining contents (Query path None) (Audit other) input left old new is h = absurd is
-same_done remaining contents (Query path None) (Upgrade b a) input left old new is h = absurd is
-same_done remaining contents (Query path (Some records)) Default input left old new is h = absurd is
-same_done remaining contents (Query path (Some records)) (Build q other) input left old new is h = absurd is
-same_done remaining contents (Query path (Some records)) (Check other) input left old new is h = absurd is
-same_done remaining contents (Query path (Some records)) (Query other some) input left old new is h = tt
-same_done remaining contents (Query path (Some records)) (Audit other) input left old new is h = absurd is
-same_done remaining contents (Query path (Some records)) (Upgrade b a) input left old new is h = absurd is
-same_done remaining contents (Audit path) Default input left old new is h = absurd is
-same_done remaining contents (Audit path) (Build q other) input left old new is h = absurd is
-same_done remaining contents (Audit path) (Check other) input left old new is h = absurd is
-same_done remaining contents (Audit path) (Query other some) input left old new is h = absurd is
-same_done remaining contents (Audit path) (Audit other) input left old new is h = h
-same_done remaining contents (Audit path) (Upgrade b a) input left old new is h = absurd is
-same_done remaining contents (Upgrade before after) Default input left old new is h = absurd is
-same_done remaining contents (Upgrade before after) (Build q other) input left old new is h = absurd is
-same_done remaining contents (Upgrade before after) (Check other) input left old new is h = absurd is
-same_done remaining contents (Upgrade before after) (Query other some) input left old new is h = absurd is
-same_done remaining contents (Upgrade before after) (Audit other) input left old new is h = absurd is
-same_done remaining contents (Upgrade before after) (Upgrade b a) input left old new is h = h
+pub same_done : {F W : Type 0} (remaining : F → Option (List ℕ)) (contents : W → Option (List ℕ))
+    (request given : Request) (input left old new : Option (List ℕ)) → IsSame request given
+    → IsDone remaining contents given input left old new
+    → IsDone remaining contents request input left old new
+same_done remaining contents request given input left old new =
+    of_same (λ r. IsDone remaining contents r input left old new) (λ n p q h. h) (λ p q h. h)
+    of_query (λ p q h. h) (λ p q r s h. h) request given
+  where
+    of_query : (p q : _) (r : Option ℕ)
+        → IsDone remaining contents (Query p r) input left old new
+        → IsDone remaining contents (Query q r) input left old new
+    of_query p q None h = h
+    of_query p q (Some n) h = h
 
 -- what holds of each input that is told, at Ok
 pub told_done : {A E : Type 0} (r : Result A E) (input : Option (List ℕ)) (P : List ℕ → Type 0)
     → WhereTold input (λ given. IfOk r (λ _. P given)) → OnOk r (WhereTold input P)
 told_done (Ok x) input P h = h
 told_done (Err e) input P h = tt
+
+-- .. and at Err
+pub told_left : {A E : Type 0} (r : Result A E) (input : Option (List ℕ))
+    (P : List ℕ → E → Type 0) → WhereTold input (λ given. IfErr r (P given))
+    → IfErr r (λ e. WhereTold input (λ given. P given e))
+told_left (Ok x) input P h = tt
+told_left (Err e) input P h = h

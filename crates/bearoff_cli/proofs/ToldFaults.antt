@@ -1,12 +1,16 @@
 -- What the faults of the parts say of a file.
-use Rattle.std.proofs.Common.{◌≡◌, ℕ, List, Option, Result, Ok, Err, IfErr, Some, None, inl, inr, refl, subst, sym}
-use Rattle.std.proofs.Common.{◌∙◌, arith}
-use Rattle.std.specs.Prelude.{◌↔◌}
+use Rattle.std.proofs.Common.{◌≡◌, ℕ, List, Option, Result, Ok, Err, IfOk, IfErr, Some, None, inl, inr, refl, subst, sym}
+use Rattle.std.proofs.Common.{◌∙◌, ◌<◌, arith}
+use Rattle.std.specs.Prelude.{◌↔◌, ◌⊎◌, OnOk}
 use Rattle.race_model.specs.Versions.{Version, full, compact}
 use Rattle.certificate.specs.declared.upgrade_fault.UpgradeFault.{UpgradeFault}
 use Rattle.certificate.specs.declared.upgrade_fault.UpgradeFault.TheVariants.{NotOld as IsNotOld, Read as OldRead}
 use Rattle.certificate.specs.declared.upgrade_fault.UpgradeFault.TheVariants.{Write as NewWrite}
+use Rattle.race_model.specs.RightFiles.{IsRight}
+use Rattle.db_layout.proofs.Known.{appends_none}
+use Rattle.db_reader.specs.Telling.{RoseWhere}
 use Rattle.certificate.specs.CheckFaults.{IsFirst}
+use Rattle.certificate.proofs.FileTests.{none-of_right}
 use Rattle.certificate.specs.declared.check_fault.CheckFault.{CheckFault}
 use Rattle.certificate.specs.declared.check_fault.CheckFault.TheVariants.{Header, Play, NotLeast, Mean, Spread}
 use Rattle.certificate.specs.declared.check_fault.CheckFault.TheVariants.{Read as TableRead}
@@ -14,6 +18,7 @@ use Rattle.epc_query.specs.declared.run_fault.RunFault.{RunFault}
 use Rattle.epc_query.specs.declared.run_fault.RunFault.TheVariants.{Read as InputRead, Write as OutputWrite, Table}
 use Rattle.epc_query.specs.declared.run_fault.RunFault.TheVariants.{Memory as NoMemoryLeft, Turns as NoTurns}
 use Rattle.exit_status.specs.Causes.{of_check, of_run, of_upgrade}
+use Rattle.exit_status.specs.Lines.{error_line}
 use Rattle.exit_status.specs.Statuses.{status_of}
 use Rattle.exit_status.specs.declared.fault.Fault.{Fault}
 use Rattle.exit_status.specs.declared.fault.Fault.TheVariants.{Open, File, Read, Write, Memory, Turns, OverBound}
@@ -21,8 +26,12 @@ use Rattle.exit_status.specs.declared.fault.Fault.TheVariants.{Refused, NotOld}
 use Rattle.bearoff_cli.specs.FileAnswers.{IsReadFrom}
 use Rattle.command_line.specs.declared.words.Request.{Request}
 use Rattle.command_line.specs.declared.words.Request.TheVariants.{Default, Build, Check, Query, Audit, Upgrade}
-use Rattle.bearoff_cli.specs.Faults.{IsFaultIn, IsOwnFault, IsFaultOf}
-use Rattle.bearoff_cli.proofs.Requests.{IsSame}
+use Rattle.bearoff_cli.specs.Faults.{IsFaultIn, IsOwnFault, IsFaultOf, IsRefused}
+use Rattle.bearoff_cli.specs.StoppedRuns.{IsRefusalOf, Leaves}
+use Rattle.bearoff_cli.specs.Tellings.{IsToldBy}
+use Rattle.bearoff_cli.specs.declared.act.Refusal.{Refusal}
+use Rattle.bearoff_cli.specs.declared.act.Refusal.TheVariants.{Words, Failed}
+use Rattle.bearoff_cli.proofs.Requests.{IsSame, of_same}
 
 -- the first fault that a check found
 pub check_in : (file : List ℕ) (cause : CheckFault) → IsFirst file cause
@@ -74,51 +83,136 @@ old_status IsNotOld version r is says old =
 old_status OldRead version r is says old = refl
 old_status NewWrite version r is says old = refl
 
+abbrev IsRead : CheckFault → Type 0
+IsRead TableRead = Unit {0}
+IsRead (Header fault) = ⊥
+IsRead (Play rank roll) = ⊥
+IsRead (NotLeast rank roll) = ⊥
+IsRead (Mean rank) = ⊥
+IsRead (Spread rank k) = ⊥
+
+-- by no other fault a read failed
+no_read : (fault : CheckFault) → ¬ (IsRead fault) → RoseWhere (fault ≡ TableRead) 0 0
+no_read fault isnt = record {
+  rose = λ e. absurd (isnt (subst (λ f. IsRead f) (sym e) tt));
+  same = λ other. refl;
+}
+
+-- a right file is refused where a read failed alone
+refused_status : (file : List ℕ) (cause : CheckFault) → IsRight file → IsFirst file cause
+    → status_of (of_check cause) ≡ 1
+refused_status file TableRead right first = refl
+refused_status file (Header fault) right first =
+    absurd (none-of_right file 0 0 (Header fault) first (no_read (Header fault) (λ x. x)) refl right)
+refused_status file (Play rank roll) right first =
+    absurd (none-of_right file 0 0 (Play rank roll) first (no_read (Play rank roll) (λ x. x)) refl right)
+refused_status file (NotLeast rank roll) right first =
+    absurd (none-of_right file 0 0 (NotLeast rank roll) first (no_read (NotLeast rank roll) (λ x. x)) refl right)
+refused_status file (Mean rank) right first =
+    absurd (none-of_right file 0 0 (Mean rank) first (no_read (Mean rank) (λ x. x)) refl right)
+refused_status file (Spread rank k) right first =
+    absurd (none-of_right file 0 0 (Spread rank k) first (no_read (Spread rank k) (λ x. x)) refl right)
+
+-- .. so a command over it fails by no database
+pub right_status : {A C T : Type 0} (N : Type 0) (file : List ℕ) (told : Result C (T × CheckFault))
+    (r : Result A Fault) → IsRight file
+    → IfErr told (λ refused. IsFirst file refused.1)
+    → IfErr told (λ refused. (r ≡ Err (of_check refused.1)) × N)
+    → OnOk told (IfErr r (λ fault. status_of fault ≡ 1))
+    → IfErr r (λ fault. status_of fault ≡ 1)
+right_status N file (Ok checked) r right first refusal status = status
+right_status N file (Err refused) r right first refusal status =
+    rw refusal.0 (refused_status file refused.1 right first)
+
+-- a check refuses a database, or could not read it
+check_status : (cause : CheckFault) → (status_of (of_check cause) ≡ 1) ⊎ IsRefused (of_check cause)
+check_status TableRead = inl refl
+check_status (Header fault) = inr tt
+check_status (Play rank roll) = inr tt
+check_status (NotLeast rank roll) = inr tt
+check_status (Mean rank) = inr tt
+check_status (Spread rank k) = inr tt
+
+-- .. so a command over a table fails by no database, or it was refused
+pub told_status : {A C T : Type 0} (N : Type 0) (told : Result C (T × CheckFault)) (r : Result A Fault)
+    → IfErr told (λ refused. (r ≡ Err (of_check refused.1)) × N)
+    → OnOk told (IfErr r (λ fault. status_of fault ≡ 1))
+    → IfErr r (λ fault. (status_of fault ≡ 1) ⊎ IsRefused fault)
+told_status N (Ok checked) (Ok x) refusal status = tt
+told_status N (Ok checked) (Err fault) refusal status = inl status
+told_status N (Err refused) r refusal status = rw refusal.0 (check_status refused.1)
+
 -- want of memory may come to each request
 pub memory_of : {F : Type 0} (remaining : F → Option (List ℕ)) (request : Request)
     → IsFaultOf remaining request Memory
-memory_of remaining Default = tt
-memory_of remaining (Build pips path) = tt
+memory_of remaining Default = refl
+memory_of remaining (Build pips path) = inl refl
 memory_of remaining (Check path) = inl refl
 memory_of remaining (Query path None) = inl refl
-memory_of remaining (Query path (Some records)) = tt
+memory_of remaining (Query path (Some records)) = inl refl
 memory_of remaining (Audit path) = inl refl
 memory_of remaining (Upgrade before after) = inl refl
 
-abbrev IsNone : {T : Type 0} → Option T → Type 0
-IsNone None = Unit {0}
-IsNone (Some x) = ⊥
+-- .. before anything was written
+pub nothing_of : {F : Type 0} (remaining : F → Option (List ℕ)) (request : Request)
+    (input left old : Option (List ℕ)) (fault : Fault)
+    → Leaves remaining request input left old old fault
+nothing_of remaining Default input left old fault = λ given told. inl refl
+nothing_of remaining (Build pips path) input left old fault = (0, appends_none old)
+nothing_of remaining (Check path) input left old fault = inl refl
+nothing_of remaining (Query path None) input left old fault = λ given told. inl refl
+nothing_of remaining (Query path (Some records)) input left old fault = tt
+nothing_of remaining (Audit path) input left old fault = inl refl
+nothing_of remaining (Upgrade before after) input left old fault = inl refl
 
--- the fault of the request that was read is one of this one
+-- the fault of the request that was read, and what was written for it, are those of this one
 pub same_fault : {F : Type 0} (remaining : F → Option (List ℕ)) (request given : Request)
-    (fault : Fault) → IsSame request given → IsFaultOf remaining given fault
-    → IsFaultOf remaining request fault
-same_fault remaining Default given fault is h = tt
-same_fault remaining (Build pips path) given fault is h = tt
-same_fault remaining (Check path) Default fault is h = absurd is
-same_fault remaining (Check path) (Build q other) fault is h = absurd is
-same_fault remaining (Check path) (Check other) fault is h = h
-same_fault remaining (Check path) (Query other some) fault is h = absurd is
-same_fault remaining (Check path) (Audit other) fault is h = absurd is
-same_fault remaining (Check path) (Upgrade b a) fault is h = absurd is
-same_fault remaining (Query path None) Default fault is h = absurd is
-same_fault remaining (Query path None) (Build q other) fault is h = absurd is
-same_fault remaining (Query path None) (Check other) fault is h = absurd is
-same_fault remaining (Query path None) (Query other None) fault is h = h
-same_fault remaining (Query path None) (Query other (Some records)) fault is h =
-    absurd (subst (λ r. IsNone r) (sym is.1) tt)
-same_fault remaining (Query path None) (Audit other) fault is h = absurd is
-same_fault remaining (Query path None) (Upgrade b a) fault is h = absurd is
-same_fault remaining (Query path (Some records)) given fault is h = tt
-same_fault remaining (Audit path) Default fault is h = absurd is
-same_fault remaining (Audit path) (Build q other) fault is h = absurd is
-same_fault remaining (Audit path) (Check other) fault is h = absurd is
-same_fault remaining (Audit path) (Query other some) fault is h = absurd is
-same_fault remaining (Audit path) (Audit other) fault is h = h
-same_fault remaining (Audit path) (Upgrade b a) fault is h = absurd is
-same_fault remaining (Upgrade before after) Default fault is h = absurd is
-same_fault remaining (Upgrade before after) (Build q other) fault is h = absurd is
-same_fault remaining (Upgrade before after) (Check other) fault is h = absurd is
-same_fault remaining (Upgrade before after) (Query other some) fault is h = absurd is
-same_fault remaining (Upgrade before after) (Audit other) fault is h = absurd is
-same_fault remaining (Upgrade before after) (Upgrade b a) fault is h = h
+    (input left old new : Option (List ℕ)) (fault : Fault) → IsSame request given
+    → IsFaultOf remaining given fault × Leaves remaining given input left old new fault
+    → IsFaultOf remaining request fault × Leaves remaining request input left old new fault
+same_fault remaining request given input left old new fault =
+    of_same (λ r. IsFaultOf remaining r fault × Leaves remaining r input left old new fault)
+    (λ n p q h. h) (λ p q h. h) of_query (λ p q h. h) (λ p q r s h. h) request given
+  where
+    of_query : (p q : _) (r : Option ℕ)
+        → IsFaultOf remaining (Query p r) fault × Leaves remaining (Query p r) input left old new fault
+        → IsFaultOf remaining (Query q r) fault × Leaves remaining (Query q r) input left old new fault
+    of_query p q None h = h
+    of_query p q (Some n) h = h
+
+-- .. where that fault is the refusal
+pub same_refusal : {A F : Type 0} (remaining : F → Option (List ℕ)) (request given : Request)
+    (input left old new : Option (List ℕ)) (ended : Result A Fault) (r : Result A Refusal)
+    → IsSame request given → IfErr ended (λ fault. IsFaultOf remaining given fault)
+    → IfErr ended (λ fault. Leaves remaining given input left old new fault)
+    → IfOk ended (λ done. r ≡ Ok done) → IfErr ended (λ fault. r ≡ Err (Failed fault))
+    → IfErr r (λ refusal. IsRefusalOf remaining request input left old new refusal)
+same_refusal remaining request given input left old new (Ok x) r same fault leaves done failed =
+    rw done tt
+same_refusal remaining request given input left old new (Err e) r same fault leaves done failed =
+    rw failed (same_fault remaining request given input left old new e same (fault, leaves))
+
+-- what was done where no refusal came is done
+pub done_if : {A P Q : Type 0} (ended : Result A Fault) (r : Result A Refusal) → OnOk ended P
+    → (P → Q) → IfErr ended (λ fault. r ≡ Err (Failed fault)) → OnOk r Q
+done_if (Ok x) (Ok y) p f failed = f p
+done_if (Ok x) (Err e) p f failed = tt
+done_if (Err e) r p f failed = rw failed tt
+
+-- the end of a request that was refused, as it was told
+pub told_end : {A F : Type 0} (remaining : F → Option (List ℕ)) (request : Request)
+    (input left old new : Option (List ℕ)) (r : Result A Refusal) (status : ℕ)
+    (Line : List ℕ → Type 0) (Same : Type 0) → OnOk r ((status ≡ 0) × Same)
+    → IfErr r (λ refusal. IsToldBy refusal status Line)
+    → IfErr r (λ refusal. IsRefusalOf remaining request input left old new refusal)
+    → 0 < status
+    → (fault : Fault) × ((status ≡ status_of fault) × Line (error_line fault)
+    × IsFaultOf remaining request fault × Leaves remaining request input left old new fault)
+told_end remaining request input left old new (Ok x) status Line Same silent told refusal some =
+    absurd (omega (arith, silent.0, some))
+told_end remaining request input left old new (Err (Words e)) status Line Same silent told refusal
+    some =
+    absurd refusal
+told_end remaining request input left old new (Err (Failed e)) status Line Same silent told refusal
+    some =
+    (e, (told.0, told.1, refusal.0, refusal.1))

@@ -1,5 +1,5 @@
 -- Which fault is told where a command fails. Source: this project's profile.
-use Rattle.std.specs.Prelude.{◌≡◌, ℕ, ◌⊎◌, List, Option, Some, None}
+use Rattle.std.specs.Prelude.{◌≡◌, ℕ, ◌<◌, ◌⊎◌, List, Option, Some, None}
 use Rattle.race_model.specs.Versions.{compact}
 use Rattle.race_model.specs.Files.{version_of}
 use Rattle.race_model.specs.RightFiles.{IsRight}
@@ -32,18 +32,26 @@ abbrev pub IsOwnFault : {F : Type 0} → (F → Option (List ℕ)) → Fault →
 IsOwnFault remaining fault = (status_of fault ≡ 1)
     ⊎ ((file : List ℕ) × IsReadFrom remaining file × IsFaultIn file fault)
 
--- the fault of a request that failed. Nothing is said of the answers by pages, nor where no file is
--- read
+-- a database was refused
+abbrev pub IsRefused : Fault → Type 0
+IsRefused Open = ⊥
+IsRefused File = ⊥
+IsRefused Read = ⊥
+IsRefused Write = ⊥
+IsRefused Memory = ⊥
+IsRefused Turns = ⊥
+IsRefused OverBound = ⊥
+IsRefused (Refused cause) = Unit {0}
+IsRefused NotOld = ⊥
+
+-- the fault of a request that failed. Which fault a refused database has is not said of the answers
+-- by pages
 abbrev pub IsFaultOf : {F : Type 0} → (F → Option (List ℕ)) → Request → Fault → Type 0
-IsFaultOf remaining Default fault = Unit {0}
-IsFaultOf remaining (Build pips path) fault = Unit {0}
+IsFaultOf remaining Default fault = status_of fault ≡ 1
+IsFaultOf remaining (Build pips path) fault =
+    (status_of fault ≡ 1) ⊎ ((fault ≡ OverBound) × (58 < pips))
 IsFaultOf remaining (Check path) fault = IsOwnFault remaining fault
 IsFaultOf remaining (Query path None) fault = IsOwnFault remaining fault
-IsFaultOf remaining (Query path (Some records)) fault = Unit {0}
+IsFaultOf remaining (Query path (Some records)) fault = (status_of fault ≡ 1) ⊎ IsRefused fault
 IsFaultOf remaining (Audit path) fault = IsOwnFault remaining fault
 IsFaultOf remaining (Upgrade before after) fault = IsOwnFault remaining fault
-
--- .. where its words are not wrong
-abbrev pub IsRefusalOf : {F : Type 0} → (F → Option (List ℕ)) → Request → Refusal → Type 0
-IsRefusalOf remaining request (Words error) = ⊥
-IsRefusalOf remaining request (Failed fault) = IsFaultOf remaining request fault

@@ -3,3 +3,5 @@ pub mod FileAnswers
 pub mod InputAnswers
 pub mod RefusedFiles
 pub mod Requests
+pub mod StoppedRuns
+pub mod Tellings

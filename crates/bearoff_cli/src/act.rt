@@ -1,6 +1,7 @@
 //! The whole program, over the files of a system, a reader and two writers.
-ghost use Rattle.std.specs.Prelude.{◌≡◌, ℕ, ◌<◌, ◌≤◌, List, map, Some, Ok, Err, IfOk, IfErr, OnOk, suc};
+ghost use Rattle.std.specs.Prelude.{◌≡◌, ℕ, ◌<◌, ◌≤◌, ◌⊎◌, List, map, Some, Ok, Err, IfOk, IfErr, OnOk, OnErr, suc};
 ghost use Rattle.std.specs.Io.KnownBytes.{Appends};
+ghost use Rattle.race_model.specs.BuiltFile.{IsBuilt};
 ghost use Rattle.race_model.specs.Files.{bound_of};
 ghost use Rattle.race_model.specs.RightFiles.{IsRight};
 ghost use Rattle.race_model.specs.Ranks.{count_to};
@@ -10,9 +11,11 @@ ghost use Rattle.exit_status.specs.Causes.{of_check};
 ghost use Rattle.exit_status.specs.Lines.{error_line};
 ghost use Rattle.exit_status.specs.Statuses.{status_of};
 ghost use Rattle.exit_status.specs.declared.fault.Fault.{Fault};
+ghost use Rattle.exit_status.specs.declared.fault.Fault.TheVariants.{OverBound};
 ghost use Rattle.command_line.specs.declared.words.Request.{Request};
 ghost use Rattle.certificate.specs.CheckFaults.{IsFirst};
-ghost use Rattle.bearoff_cli.specs.Faults.{IsFaultIn, IsFaultOf, IsOwnFault, IsRefusalOf};
+ghost use Rattle.bearoff_cli.specs.Tellings.{IsToldBy};
+ghost use Rattle.bearoff_cli.specs.Faults.{IsFaultIn, IsFaultOf, IsOwnFault, IsRefused};
 ghost use Rattle.bearoff_cli.specs.InputAnswers.{AreAnswered, AreAnsweredOver};
 ghost use Rattle.bearoff_cli.specs.FileAnswers.{AreAnsweredFrom, IsHandedTo, SaysRight, SaysUpgraded, SaysLevels};
 ghost use Rattle.retrograde.specs.BuiltBytes.{WritesBuilt};
@@ -20,6 +23,8 @@ ghost use Rattle.retrograde.specs.UsualVersion.{usual_version};
 ghost use Rattle.bearoff_cli.specs.FileAnswers.{WritesLevels, count_line, count_text};
 ghost use Rattle.bearoff_cli.specs.RefusedFiles.{KeepsIfRefused, KeepsIfTold};
 ghost use Rattle.bearoff_cli.specs.Requests.{Asks, IsDone};
+ghost use Rattle.bearoff_cli.specs.StoppedRuns.{AreStopped, IsNothingOr, IsRefusalOf, Leaves};
+ghost use Rattle.bearoff_cli.specs.StoppedRuns.{SaysRightPart, SaysUpgradedPart, WritesLevelPart};
 ghost use Rattle.bearoff_cli.specs.declared.act.Done.TheVariants.{Built};
 ghost use Rattle.bearoff_cli.specs.declared.act.Refusal.TheVariants.{Failed};
 
@@ -31,7 +36,7 @@ use certificate::{CheckFault, Checked, check};
 use clap::Error;
 use clap::error::ErrorKind;
 use command_line::{Request, read_words};
-use db_layout::{COMPACT_VERSION, write_bytes};
+use db_layout::{COMPACT_VERSION, WriteFault, write_bytes};
 use db_reader::{FileSource, Paged, Table, Whole};
 use epc_query::laws::law_level_text;
 use epc_query::{audit_level, run, write_level};
@@ -74,21 +79,53 @@ pub fn act<R: Files, S: AsStr, I: Read, O: Write, E: Write>(
     ensures fault { (request : Request) → Asks (map S.text words.entry.now) request → 0 < result
         → (fault : Fault) × ((result ≡ status_of fault)
         × AppendsPart (E.contents errors.old) (E.contents errors.new) (error_line fault)
-        × IsFaultOf R.File.remaining request fault) }
+        × IsFaultOf R.File.remaining request fault
+        × Leaves R.File.remaining request (I.remaining input.old) (I.remaining input.new)
+        (O.contents output.old) (O.contents output.new) fault) }
     ensures done { (request : Request) → Asks (map S.text words.entry.now) request → result ≡ 0
-        → IsDone R.File.remaining ⟦<BufWriter<R::File> as Write>⟧.contents request (I.remaining input.old) (I.remaining input.new)
+        → IsDone R.File.remaining ⟦<BufWriter<R::File> as Write>⟧.contents request
+        (I.remaining input.old) (I.remaining input.new)
         (O.contents output.old) (O.contents output.new) }
 {
-    match perform(rt, alloc, words, input, output) {
-        Ok(()) => 0,
+    tell(perform(rt, alloc, words, input, output), errors).status
+}
+
+/// What the program told of its end.
+#[derive(Drop)]
+struct Told {
+    /// The exit status.
+    status: u8,
+
+    /// Whether the line on the errors, where there is one, was written.
+    line: Result<(), WriteFault>,
+}
+
+/// Tells the end of the program: nothing where it did what was asked for, and else why it didn't,
+/// by a line or, of wrong words, by the text of `clap`.
+fn tell<E: Write>(ended: Result<(), Refusal>, errors: &mut E) -> Told
+    ensures silent { OnOk ended
+        ((result.status ≡ 0) × (E.contents errors.new ≡ E.contents errors.old)) }
+    ensures told { IfErr ended (λ refusal. IsToldBy refusal result.status
+        (λ line. AppendsPart (E.contents errors.old) (E.contents errors.new) line)) }
+    ensures whole { OnOk result.line (IfErr ended (λ refusal. IsToldBy refusal result.status
+        (λ line. Appends (E.contents errors.old) (E.contents errors.new) line))) }
+{
+    match ended {
+        Ok(()) => Told {
+            status: 0,
+            line: Ok(()),
+        },
         Err(Refusal::Words(error)) => {
-            let _ = write!(errors, "{error}");
-            2
+            let written = write!(errors, "{error}");
+            Told {
+                status: 2,
+                line: written.map_err(|_| WriteFault),
+            }
         }
-        Err(Refusal::Failed(fault)) => {
-            let _ = write_fault(&fault, errors);
-            fault.status()
-        }
+        Err(Refusal::Failed(fault)) => Told {
+            status: fault.status(),
+            line: write_fault(&fault, errors),
+        },
     }
 }
 
@@ -102,14 +139,6 @@ enum Refusal {
     Failed(Fault),
 }
 
-impl From<Fault> for Refusal {
-    ghost from_gives = { λ fault refusal. refusal ≡ Failed fault };
-
-    fn from(fault: Fault) -> Self {
-        Refusal::Failed(fault)
-    }
-}
-
 /// Does what the words ask for. A help text that they ask for is written to the output.
 fn perform<R: Files, S: AsStr, I: Read, O: Write>(
     rt: &R,
@@ -120,21 +149,33 @@ fn perform<R: Files, S: AsStr, I: Read, O: Write>(
 ) -> Result<(), Refusal>
     ensures refused { KeepsIfTold result (O.contents output.old) (O.contents output.new) }
     ensures fault { (request : Request) → Asks (map S.text words.entry.now) request
-        → IfErr result (λ refusal. IsRefusalOf R.File.remaining request refusal) }
+        → IfErr result (λ refusal. IsRefusalOf R.File.remaining request
+        (I.remaining input.old) (I.remaining input.new)
+        (O.contents output.old) (O.contents output.new) refusal) }
     ensures done { (request : Request) → Asks (map S.text words.entry.now) request
         → OnOk result (IsDone R.File.remaining ⟦<BufWriter<R::File> as Write>⟧.contents request
         (I.remaining input.old) (I.remaining input.new)
         (O.contents output.old) (O.contents output.new)) }
 {
     match read_words(alloc, words) {
-        Ok(request) => fulfil(rt, alloc, request, input, output)?,
+        Ok(request) => refused(fulfil(rt, alloc, request, input, output)),
         Err(error) if error.kind() == ErrorKind::OutOfMemory => {
-            return Err(Refusal::Failed(Fault::Memory));
+            Err(Refusal::Failed(Fault::Memory))
         }
-        Err(error) if error.use_stderr() => return Err(Refusal::Words(error)),
-        Err(error) => write_help(&error, output)?,
+        Err(error) if error.use_stderr() => Err(Refusal::Words(error)),
+        Err(error) => refused(write_help(&error, output)),
     }
-    Ok(())
+}
+
+/// A fault as a refusal.
+fn refused(ended: Result<(), Fault>) -> Result<(), Refusal>
+    ensures done { IfOk ended (λ done. result ≡ Ok done) }
+    ensures fault { IfErr ended (λ fault. result ≡ Err (Failed fault)) }
+{
+    match ended {
+        Ok(()) => Ok(()),
+        Err(fault) => Err(Refusal::Failed(fault)),
+    }
 }
 
 /// Writes a help text or the version.
@@ -158,7 +199,10 @@ fn fulfil<R: Files, I: Read, O: Write>(
     ensures refused { KeepsIfRefused result (O.contents output.old) (O.contents output.new) }
     ensures fault { IfErr result
         (λ fault. IsFaultOf R.File.remaining request.entry fault) }
-    ensures done { OnOk result (IsDone R.File.remaining ⟦<BufWriter<R::File> as Write>⟧.contents request.entry (I.remaining input.old)
+    ensures left { IfErr result (Leaves R.File.remaining request.entry (I.remaining input.old)
+        (I.remaining input.new) (O.contents output.old) (O.contents output.new)) }
+    ensures done { OnOk result (IsDone R.File.remaining
+        ⟦<BufWriter<R::File> as Write>⟧.contents request.entry (I.remaining input.old)
         (I.remaining input.new) (O.contents output.old) (O.contents output.new)) }
 {
     match request {
@@ -182,7 +226,11 @@ fn answer_default<I: Read, O: Write>(
     input: &mut I,
     output: &mut O,
 ) -> Result<(), Fault>
-    ensures refused { KeepsIfRefused result (O.contents output.old) (O.contents output.new) }
+    ensures status { IfErr result (λ fault. status_of fault ≡ 1) }
+    ensures left { WhereTold (I.remaining input.old) (λ given. IfErr result
+        (λ fault. (O.contents output.new ≡ O.contents output.old)
+        ⊎ ((file : List ℕ) × IsBuilt (usual_version 8) 8 file × AreStopped file given
+        (I.remaining input.new) (O.contents output.old) (O.contents output.new) fault))) }
     ensures answers { WhereTold (I.remaining input.old)
         (λ given. IfOk result (λ _. AreAnsweredOver 8 given (I.remaining input.new)
         (O.contents output.old) (O.contents output.new))) }
@@ -203,6 +251,10 @@ fn answer_file<R: Files, I: Read, O: Write>(
 ) -> Result<(), Fault>
     ensures refused { KeepsIfRefused result (O.contents output.old) (O.contents output.new) }
     ensures fault { IfErr result (λ fault. IsOwnFault R.File.remaining fault) }
+    ensures left { WhereTold (I.remaining input.old) (λ given. IfErr result
+        (λ fault. IsNothingOr R.File.remaining (λ file. AreStopped file given
+        (I.remaining input.new) (O.contents output.old) (O.contents output.new) fault)
+        (O.contents output.old) (O.contents output.new))) }
     ensures answers { WhereTold (I.remaining input.old)
         (λ given. IfOk result (λ _. AreAnsweredFrom R.File.remaining given (I.remaining input.new)
         (O.contents output.old) (O.contents output.new))) }
@@ -221,12 +273,13 @@ fn answer_pages<R: Files, I: Read, O: Write>(
     input: &mut I,
     output: &mut O,
 ) -> Result<(), Fault>
-    ensures { KeepsIfRefused result (O.contents output.old) (O.contents output.new) }
+    ensures refused { KeepsIfRefused result (O.contents output.old) (O.contents output.new) }
+    ensures fault { IfErr result (λ fault. (status_of fault ≡ 1) ⊎ IsRefused fault) }
 {
+    let room = stack_room(alloc)?;
     let Ok(file) = fs::open(rt, path) else {
         return Err(Fault::Open);
     };
-    let room = stack_room(alloc)?;
     match Paged::new(alloc, FileSource::new(file), affordable(alloc, records)) {
         Ok(pages) => {
             drop(room);
@@ -247,8 +300,15 @@ fn answer_lines<T: Table + Drop, I: Read, O: Write>(
     output: &mut O,
 ) -> Result<(), Fault>
     ensures refused { KeepsIfRefused result (O.contents output.old) (O.contents output.new) }
+    ensures statuses { IfErr result (λ fault. (status_of fault ≡ 1) ⊎ IsRefused fault) }
+    ensures right { WhereTold (T.tells table)
+        (λ file. IsRight file → IfErr result (λ fault. status_of fault ≡ 1)) }
     ensures fault { WhereTold (T.tells table)
         (λ file. IfErr result (λ fault. IsFaultIn file fault)) }
+    ensures left { WhereTold (T.tells table) (λ file. WhereTold (I.remaining input.old)
+        (λ given. IfErr result (λ fault. (O.contents output.new ≡ O.contents output.old)
+        ⊎ AreStopped file given (I.remaining input.new) (O.contents output.old)
+        (O.contents output.new) fault))) }
     ensures answers { WhereTold (T.tells table) (λ file. WhereTold (I.remaining input.old)
         (λ given. IfOk result (λ _. AreAnswered file given (I.remaining input.new)
         (O.contents output.old) (O.contents output.new)))) }
@@ -266,9 +326,15 @@ fn reply<T: Table + Drop, I: Read, O: Write>(
     output: &mut O,
 ) -> Result<(), Fault>
     ensures refused { KeepsIfRefused result (O.contents output.old) (O.contents output.new) }
-    ensures refusal { IfErr told (λ refused. result ≡ Err (of_check refused.1)) }
+    ensures refusal { IfErr told (λ refused. (result ≡ Err (of_check refused.1))
+        × (O.contents output.new ≡ O.contents output.old)) }
+    ensures status { OnOk told (IfErr result (λ fault. status_of fault ≡ 1)) }
     ensures fault { (file : List ℕ) → IfErr told (λ refused. IsFirst file refused.1)
         → IfErr result (λ fault. IsFaultIn file fault) }
+    ensures left { (file : List ℕ) → OnOk told (IsRight file)
+        → IfOk told (λ checked. checked.told ≡ Some file) → WhereTold (I.remaining input.old)
+        (λ given. OnOk told (IfErr result (AreStopped file given (I.remaining input.new)
+        (O.contents output.old) (O.contents output.new)))) }
     ensures answers { (file : List ℕ) → OnOk told (IsRight file)
         → IfOk told (λ checked. checked.told ≡ Some file) → WhereTold (I.remaining input.old)
         (λ given. IfOk result (λ _. AreAnswered file given (I.remaining input.new)
@@ -309,7 +375,12 @@ fn write_database<R: Files, O: Write>(
 ) -> Result<(), Fault>
     ensures refused { KeepsIfRefused result (O.contents output.old) (O.contents output.new) }
     ensures over { 58 < pips → result ≡ Err Fault.OverBound }
-    ensures handed { OnOk result (IsHandedTo ⟦<BufWriter<R::File> as Write>⟧.contents (WritesBuilt (usual_version pips) pips)) }
+    ensures fault { IfErr result
+        (λ fault. (status_of fault ≡ 1) ⊎ ((fault ≡ OverBound) × (58 < pips))) }
+    ensures left { OnErr result (AppendsPart (O.contents output.old) (O.contents output.new)
+        (count_line Built pips (count_to pips))) }
+    ensures handed { OnOk result (IsHandedTo ⟦<BufWriter<R::File> as Write>⟧.contents
+        (WritesBuilt (usual_version pips) pips)) }
     ensures built { OnOk result (Appends (O.contents output.old) (O.contents output.new)
         (count_line Built pips (count_to pips))) }
 {
@@ -330,6 +401,9 @@ fn check_database<R: Files, O: Write>(
 ) -> Result<(), Fault>
     ensures refused { KeepsIfRefused result (O.contents output.old) (O.contents output.new) }
     ensures fault { IfErr result (λ fault. IsOwnFault R.File.remaining fault) }
+    ensures left { OnErr result (IsNothingOr R.File.remaining (λ file. SaysRightPart file
+        (O.contents output.old) (O.contents output.new))
+        (O.contents output.old) (O.contents output.new)) }
     ensures right { OnOk result
         (SaysRight R.File.remaining (O.contents output.old) (O.contents output.new)) }
 {
@@ -349,6 +423,9 @@ fn audit_database<R: Files, O: Write>(
 ) -> Result<(), Fault>
     ensures refused { KeepsIfRefused result (O.contents output.old) (O.contents output.new) }
     ensures fault { IfErr result (λ fault. IsOwnFault R.File.remaining fault) }
+    ensures left { OnErr result (IsNothingOr R.File.remaining (λ file. WritesLevelPart file
+        (O.contents output.old) (O.contents output.new))
+        (O.contents output.old) (O.contents output.new)) }
     ensures levels { OnOk result
         (SaysLevels R.File.remaining (O.contents output.old) (O.contents output.new)) }
 {
@@ -364,9 +441,13 @@ fn write_levels<T: Table + Drop, O: Write>(
     output: &mut O,
 ) -> Result<(), Fault>
     ensures refused { KeepsIfRefused result (O.contents output.old) (O.contents output.new) }
-    ensures refusal { IfErr told (λ refused. result ≡ Err (of_check refused.1)) }
+    ensures refusal { IfErr told (λ refused. (result ≡ Err (of_check refused.1))
+        × (O.contents output.new ≡ O.contents output.old)) }
     ensures fault { (file : List ℕ) → IfErr told (λ refused. IsFirst file refused.1)
         → IfErr result (λ fault. IsFaultIn file fault) }
+    ensures left { (file : List ℕ) → IfOk told (λ checked. checked.told ≡ Some file)
+        → OnOk told (OnErr result (WritesLevelPart file (O.contents output.old)
+        (O.contents output.new))) }
     ensures levels { (file : List ℕ) → OnOk told (IsRight file)
         → IfOk told (λ checked. checked.told ≡ Some file)
         → OnOk result (IsRight file × WritesLevels file (suc (bound_of file))
@@ -382,6 +463,8 @@ fn write_each_level<T: Table, O: Write>(
     output: &mut O,
 ) -> Result<(), Fault>
     ensures status { IfErr result (λ fault. status_of fault ≡ 1) }
+    ensures part { WhereTold checked.old.told (λ file. OnErr result
+        (WritesLevelPart file (O.contents output.old) (O.contents output.new))) }
     ensures levels { WhereTold checked.old.told (λ file. OnOk result
         (WritesLevels file (suc (bound_of file)) (O.contents output.old) (O.contents output.new))) }
 {
@@ -409,8 +492,12 @@ fn upgrade_database<R: Files, O: Write>(
 ) -> Result<(), Fault>
     ensures refused { KeepsIfRefused result (O.contents output.old) (O.contents output.new) }
     ensures fault { IfErr result (λ fault. IsOwnFault R.File.remaining fault) }
+    ensures left { OnErr result (IsNothingOr R.File.remaining (λ file. SaysUpgradedPart file
+        (O.contents output.old) (O.contents output.new))
+        (O.contents output.old) (O.contents output.new)) }
     ensures upgraded { OnOk result
-        (SaysUpgraded R.File.remaining ⟦<BufWriter<R::File> as Write>⟧.contents (O.contents output.old) (O.contents output.new)) }
+        (SaysUpgraded R.File.remaining ⟦<BufWriter<R::File> as Write>⟧.contents
+        (O.contents output.old) (O.contents output.new)) }
 {
     let bytes = read_file(rt, alloc, old)?;
     let mut told = check(Whole::new(bytes.as_slice()));
@@ -432,6 +519,8 @@ enum Done {
 /// Writes what was done, with the pip bound and the number of positions.
 fn write_count<O: Write>(done: Done, pips: u8, positions: u16, output: &mut O) -> Result<(), Fault>
     ensures status { IfErr result (λ fault. status_of fault ≡ 1) }
+    ensures part { OnErr result (AppendsPart (O.contents output.old) (O.contents output.new)
+        (count_line done pips positions)) }
     ensures all { OnOk result (Appends (O.contents output.old) (O.contents output.new)
         (count_line done pips positions)) }
 {

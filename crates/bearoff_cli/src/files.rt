@@ -20,8 +20,9 @@ use std::fs;
 use std::io::{BufWriter, Read, Write};
 use std::rt::Files;
 
-/// How many bytes one read moves.
-const BLOCK: usize = 65536;
+/// How many bytes one read moves. They lie on the stack, which can't grow while room is kept for a
+/// check (`stack_room`), beyond the 128 KB that the system gives a program at its start.
+const BLOCK: usize = 32768;
 
 /// How many bytes of stack a check or a build needs at most, beside the 128 KB that the system
 /// gives a program at its start.
@@ -35,16 +36,17 @@ const KEPT_RECORD: usize = 640;
 /// (this project's profile).
 const MOST_BYTES: usize = 20_000_001;
 
-/// The bytes of a file, at most 20,000,001 of them. `Open` where it can't be opened, `File` where
-/// a read fails, `Memory` where there is no room.
+/// The bytes of a file, at most 20,000,001 of them. `Memory` where there is no room for the stack
+/// that a check needs, `Open` where the file can't be opened, `File` where a read fails, and `Memory`
+/// where there is no room for the bytes.
 pub fn read_file<R: Files>(rt: &R, alloc: Global, path: &str) -> Result<Vec<u8>, Fault>
     ensures status { IfErr result (λ fault. status_of fault ≡ 1) }
     ensures read { IfOk result (λ bytes. IsReadFrom R.File.remaining bytes.items) }
 {
+    let _room = stack_room(alloc)?;
     let Ok(mut file) = fs::open(rt, path) else {
         return Err(Fault::Open);
     };
-    let _room = stack_room(alloc)?;
     read_bytes(alloc, &mut file)
 }
 
@@ -124,8 +126,11 @@ fn read_block<'a, F: Read>(file: &mut F, block: &'a mut [u8; BLOCK]) -> Result<&
 /// complete (`draft`). `Open` where it can't be made, and `Write` where a write fails: then the
 /// old file stays, or, where the bytes go straight into it, it may hold a prefix of the database.
 pub fn build_file<R: Files>(rt: &R, alloc: Global, pips: u8, path: &str) -> Result<(), Fault>
-    ensures built { OnOk result (IsHandedTo ⟦<BufWriter<R::File> as Write>⟧.contents (WritesBuilt (usual_version pips) pips)) }
+    ensures fault { pips ≤ 58 → IfErr result (λ fault. status_of fault ≡ 1) }
+    ensures built { OnOk result (IsHandedTo ⟦<BufWriter<R::File> as Write>⟧.contents
+        (WritesBuilt (usual_version pips) pips)) }
 {
+    probe_stack(alloc)?;
     let mut draft = begin(rt, alloc, path)?;
     let written = build_into(alloc, pips, &mut draft.writer);
     draft.finish(rt, written)
@@ -133,6 +138,7 @@ pub fn build_file<R: Files>(rt: &R, alloc: Global, pips: u8, path: &str) -> Resu
 
 /// Writes the database of a pip bound, to its last byte.
 fn build_into<O: Write>(alloc: Global, pips: u8, output: &mut O) -> Result<(), Fault>
+    ensures fault { pips ≤ 58 → IfErr result (λ fault. status_of fault ≡ 1) }
     ensures built { OnOk result (WritesBuilt (usual_version pips) pips (O.contents output.old)
         (O.contents output.new)) }
 {
@@ -150,7 +156,8 @@ pub fn upgrade_file<R: Files, T: Table>(
     path: &str,
 ) -> Result<(), Fault>
     ensures upgraded { WhereTold checked.old.told
-        (λ file. OnOk result (IsHandedTo ⟦<BufWriter<R::File> as Write>⟧.contents (WritesUpgrade file))) }
+        (λ file. OnOk result (IsHandedTo ⟦<BufWriter<R::File> as Write>⟧.contents
+        (WritesUpgrade file))) }
     ensures fault { checked.old.version ≡ full → IfErr result (λ fault. status_of fault ≡ 1) }
     ensures stays { (checked.new.told ≡ checked.old.told)
         × (checked.new.bound ≡ checked.old.bound) }

@@ -2,6 +2,7 @@
 use Rattle.std.proofs.Common.{ℕ, List, Option, Result, Ok, Err, IfOk, subst, sym}
 use Rattle.bearoff_cli.specs.InputAnswers.{AreAnswered}
 use Rattle.bearoff_cli.specs.FileAnswers.{IsReadFrom, AreAnsweredFrom}
+use Rattle.bearoff_cli.proofs.StoppedRuns.{read_stopped}
 use Rattle.bearoff_cli.proofs.act.answer_file.Goals as goal
 
 -- over the database that was read
@@ -19,3 +20,12 @@ returns-clause-answers g c given left =
     (sym c.as_slice.ensures.value) c.in_ok-file.ensures.read in
     over_read g.R.File.Read.remaining c.as_slice.result.now given _ _ _ c.answer_lines.result read
     (c.answer_lines.ensures.answers _ c.new.ensures.tells given left)
+
+pub returns-clause-left : goal.returns-clause-left
+returns-clause-left g c given left =
+    let read = subst (λ bytes. IsReadFrom g.R.File.Read.remaining bytes)
+    (sym c.as_slice.ensures.value) c.in_ok-file.ensures.read in
+    read_stopped g.R.File.Read.remaining c.as_slice.result.now given
+    (g.I.Read.remaining c.answer_lines.new.input) (g.O.Write.contents c.args.output.now)
+    (g.O.Write.contents c.answer_lines.new.output) c.answer_lines.result read
+    (c.answer_lines.ensures.left _ c.new.ensures.tells given left)

@@ -1,10 +1,11 @@
 -- What is done for a request is what its function did.
 use Rattle.std.proofs.Common.{◌≡◌, None, ap, ◌∙◌, subst, sym}
-use Rattle.std.specs.Prelude.{OnOk}
+use Rattle.std.specs.Prelude.{IfErr, OnOk}
 use Rattle.std.specs.Io.Buffered.{writer_contents}
 use Rattle.command_line.specs.declared.words.Request.TheVariants.{Query}
 use Rattle.bearoff_cli.specs.Requests.{IsDone}
-use Rattle.bearoff_cli.proofs.Requests.{told_done}
+use Rattle.bearoff_cli.specs.StoppedRuns.{Leaves}
+use Rattle.bearoff_cli.proofs.Requests.{told_done, told_left}
 use Rattle.bearoff_cli.proofs.act.fulfil.Goals as goal
 
 pub returns-in-Default-clause-done : goal.returns-in-Default-clause-done
@@ -21,3 +22,17 @@ returns-in-Query-default-None-clause-done g c =
     (g.O.Write.contents c.args.output.now) (g.O.Write.contents c.answer_file.new.output)))
     (sym (here.is ∙ ap (λ cache. Query here.path cache) none))
     (told_done c.answer_file.result _ _ c.answer_file.ensures.answers)
+
+pub returns-in-Default-clause-left : goal.returns-in-Default-clause-left
+returns-in-Default-clause-left g c =
+    rw c.in-Default.is (told_left c.answer_default.result _ _ c.answer_default.ensures.left)
+
+pub returns-in-Query-default-None-clause-left : goal.returns-in-Query-default-None-clause-left
+returns-in-Query-default-None-clause-left g c =
+    let here = c.in-Query-default-None in
+    let none : here.cache ≡ None = rw here.is at here.cache-is in
+    subst (λ request. IfErr c.answer_file.result (Leaves g.R.File.Read.remaining request
+    (g.I.Read.remaining c.args.input.now) (g.I.Read.remaining c.answer_file.new.input)
+    (g.O.Write.contents c.args.output.now) (g.O.Write.contents c.answer_file.new.output)))
+    (sym (here.is ∙ ap (λ cache. Query here.path cache) none))
+    (told_left c.answer_file.result _ _ c.answer_file.ensures.left)

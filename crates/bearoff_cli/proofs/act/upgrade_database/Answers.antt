@@ -7,7 +7,10 @@ use Rattle.race_model.specs.Ranks.{count_to}
 use Rattle.race_model.specs.Files.{version_of}
 use Rattle.race_model.specs.RightFiles.{IsRight}
 use Rattle.bearoff_cli.specs.FileAnswers.{IsReadFrom}
-use Rattle.bearoff_cli.proofs.OpenedFiles.{is_full, upgrade_read}
+use Rattle.bearoff_cli.specs.StoppedRuns.{SaysUpgradedPart}
+use Rattle.bearoff_cli.specs.declared.act.Done.TheVariants.{Upgraded}
+use Rattle.bearoff_cli.proofs.OpenedFiles.{err-weaker, is_full, upgrade_read}
+use Rattle.bearoff_cli.proofs.StoppedRuns.{line_part, read_part}
 use Rattle.bearoff_cli.proofs.act.upgrade_database.Goals as goal
 
 pub returns-clause-upgraded : goal.returns-clause-upgraded
@@ -30,6 +33,33 @@ returns-clause-upgraded g c =
     (c.in_ok-upgrade_file.ensures.upgraded file told) bound
     (c.positions.ensures ∙ ap count_to (sym c.bound.ensures.bound ∙ bound))
     c.write_count.ensures.all
+
+pub returns-clause-left : goal.returns-clause-left
+returns-clause-left g c =
+    let file = c.as_slice.result.now in
+    let read = subst (λ bytes. IsReadFrom g.R.File.Read.remaining bytes)
+    (sym c.as_slice.ensures.value) c.in_ok-bytes.ensures.read in
+    let accepted = c.in_ok-checked.ensures.checked in
+    let told = subst (λ r. IfOk r (λ checked. checked.told ≡ Some file)) accepted
+    (IfOk-weaker c.check-told.result _ _ (λ checked is. is ∙ c.new.ensures.tells)
+    c.check-told.ensures.told) in
+    let right = subst (λ r. OnOk r (IsRight file)) accepted
+    (c.check-told.ensures.right file c.new.ensures.tells) in
+    let version = c.version.ensures.version file told in
+    let full =
+    is_full (version_of file) (λ e. c.if-version-eq-COMPACT_VERSION.false (version ∙ e)) in
+    let bound = c.bound.ensures.bound ∙ (c.bound.ensures.right file
+    (c.in_ok-upgrade_file.ensures.stays.0 ∙ told)).1 in
+    let old = g.O.Write.contents c.args.output.now in
+    let new = g.O.Write.contents c.write_count.new.output in
+    read_part g.R.File.Read.remaining (λ f. SaysUpgradedPart f old new) file old new
+    c.write_count.result read right (err-weaker c.write_count.result
+    (λ part. (
+      full,
+      line_part old new Upgraded file _ _ bound
+          (c.positions.ensures ∙ ap count_to (sym c.bound.ensures.bound ∙ bound)) part,
+    ))
+    c.write_count.ensures.part)
 
 pub returns-in_err-checked-clause-fault : goal.returns-in_err-checked-clause-fault
 returns-in_err-checked-clause-fault g c =

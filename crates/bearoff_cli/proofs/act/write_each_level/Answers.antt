@@ -1,9 +1,12 @@
-use Rattle.std.proofs.Common.{◌≡◌, ◌+◌, suc, [], ◌∷◌, ◌++◌, add-one, arith, rules, subst, ◌∙◌}
+use Rattle.std.proofs.Common.{◌≡◌, ◌+◌, suc, [], ◌∷◌, ◌++◌, add-one, arith, rules, subst, sym, ◌∙◌}
 use Rattle.std.specs.Io.KnownBytes.{Appends}
+use Rattle.db_layout.specs.Writes.{AppendsPart}
 use Rattle.race_model.specs.Files.{bound_of}
 use Rattle.epc_query.specs.Texts.{level_text}
 use Rattle.bearoff_cli.specs.FileAnswers.{WritesLevels}
 use Rattle.bearoff_cli.proofs.Levels.{next_level}
+use Rattle.bearoff_cli.proofs.OpenedFiles.{at_err}
+use Rattle.bearoff_cli.proofs.StoppedRuns.{levels_and_part, levels_part}
 use Rattle.bearoff_cli.proofs.act.write_each_level.Goals as goal
 
 pub loop-pips-preserved : goal.loop-pips-preserved
@@ -39,3 +42,36 @@ returns-clause-levels g c file told =
     ) in
     subst (λ n. WritesLevels file n (g.O.Write.contents c.args.output.now)
     (g.O.Write.contents c.loop-pips.output)) all (c.loop-pips.invariant.levels file told)
+
+pub returns-in_default-clause-part : goal.returns-in_default-clause-part
+returns-in_default-clause-part g c file told =
+    let p = c.loop-pips.pips in
+    let right = c.bound-pips-end.ensures.right file told in
+    levels_part file p (g.O.Write.contents c.args.output.now)
+    (g.O.Write.contents c.loop-pips.output) (omega (
+      arith,
+      right.1,
+      c.bound-pips-end.ensures.bound,
+      c.loop-pips-test.true,
+      c.loop-pips.auto.pips-end,
+    )) (c.loop-pips.invariant.levels file told)
+
+pub returns-then-is_err-clause-part : goal.returns-then-is_err-clause-part
+returns-then-is_err-clause-part g c file told =
+    let mid = g.O.Write.contents c.loop-pips.output in
+    let new = g.O.Write.contents c.write_level.new.writer in
+    let p = c.loop-pips.pips in
+    let line = level_text c.in-Ok.level in
+    let right = c.bound-pips-end.ensures.right file told in
+    let level = c.in-Ok.ensures.level file (c.loop-pips.invariant.told ∙ told) in
+    let part : AppendsPart mid new (line ++ 10 ∷ []) =
+    at_err c.write_level.result c.write_level.ensures.part
+    (sym c.is_err.ensures.value ∙ c.if-is_err.true) in
+    levels_and_part file p (g.O.Write.contents c.args.output.now) mid new line (omega (
+      arith,
+      right.1,
+      c.bound-pips-end.ensures.bound,
+      c.loop-pips-test.true,
+      c.loop-pips.auto.pips-end,
+    )) (c.loop-pips.invariant.levels file told) (c.law_level_text.ensures file p c.in-Ok.level level)
+    part

@@ -5,10 +5,9 @@ use Rattle.retrograde.specs.UsualVersion.{usual_version}
 use Rattle.bearoff_cli.proofs.OpenedFiles.{handed}
 use Rattle.bearoff_cli.proofs.files.build_file.Goals as goal
 
-pub returns : goal.returns
-returns g c = record {
-  built = handed (writer_contents g.R.File.Write.contents)
-      (WritesBuilt (usual_version c.args.pips) c.args.pips) c.in_ok-draft.draft.writer
-      c.build_into-written.new.output c.build_into-written.result c.finish.result
-      c.build_into-written.ensures.built c.finish.ensures.fault;
-}
+pub returns-clause-built : goal.returns-clause-built
+returns-clause-built g c =
+    handed (writer_contents g.R.File.Write.contents)
+    (WritesBuilt (usual_version c.args.pips) c.args.pips) c.in_ok-draft.draft.writer
+    c.build_into-written.new.output c.build_into-written.result c.finish.result
+    c.build_into-written.ensures.built c.finish.ensures.fault

@@ -1,0 +1,97 @@
+-- What stands in the output where a command failed, from what its parts wrote.
+use Rattle.std.proofs.Common.{◌≡◌, ℕ, ◌+◌, suc, ◌≤◌, ◌⊎◌, inl, inr, List, ◌∷◌, [], ◌++◌, Option, Result, Ok, Err}
+use Rattle.std.proofs.Common.{IfOk, IfErr, refl, subst, arith}
+use Rattle.std.specs.Prelude.{OnOk, OnErr}
+use Rattle.std.specs.Io.KnownBytes.{Appends}
+use Rattle.race_model.specs.BuiltFile.{IsBuilt}
+use Rattle.race_model.specs.Files.{bound_of}
+use Rattle.race_model.specs.Levels.{IsLevelLine}
+use Rattle.race_model.specs.Ranks.{count_to}
+use Rattle.race_model.specs.RightFiles.{IsRight}
+use Rattle.retrograde.specs.UsualVersion.{usual_version}
+use Rattle.db_layout.specs.Writes.{AppendsPart}
+use Rattle.epc_query.proofs.Held.{part_after, part_all}
+use Rattle.exit_status.specs.declared.fault.Fault.{Fault}
+use Rattle.bearoff_cli.specs.FileAnswers.{IsReadFrom, WritesLevels, count_line}
+use Rattle.bearoff_cli.specs.StoppedRuns.{AreStopped, IsNothingOr, WritesLevelPart}
+use Rattle.bearoff_cli.specs.declared.act.Done.{Done}
+
+-- whole lines of pip counts are a part of all lines
+pub levels_part : (file : List ℕ) (count : ℕ) (old new : Option (List ℕ))
+    → count ≤ suc (bound_of file) → WritesLevels file count old new → WritesLevelPart file old new
+levels_part file count old new within written = record {
+  count = count;
+  within = within;
+  lines = written.lines;
+  levels = written.levels;
+  written = part_all old new written.lines written.written;
+}
+
+-- .. and so are they with a part of the next one
+pub levels_and_part : (file : List ℕ) (p : ℕ) (old mid new : Option (List ℕ)) (line : List ℕ)
+    → p ≤ bound_of file → WritesLevels file p old mid → IsLevelLine file p line
+    → AppendsPart mid new (line ++ 10 ∷ []) → WritesLevelPart file old new
+levels_and_part file p old mid new line within before is part = record {
+  count = suc p;
+  within = omega (arith, within);
+  lines = before.lines ++ (line ++ 10 ∷ []);
+  levels = (before.lines, line, before.levels, is, refl);
+  written = part_after old mid new before.lines (line ++ 10 ∷ []) before.written part;
+}
+
+-- a part of the line of a pip count and a number of positions that are those of a file
+pub line_part : (old new : Option (List ℕ)) (done : Done) (file : List ℕ) (pips positions : ℕ)
+    → pips ≡ bound_of file → positions ≡ count_to (bound_of file)
+    → AppendsPart old new (count_line done pips positions)
+    → AppendsPart old new (count_line done (bound_of file) (count_to (bound_of file)))
+line_part old new done file pips positions p q h =
+    subst (λ n. AppendsPart old new (count_line done (bound_of file) n)) q
+    (subst (λ n. AppendsPart old new (count_line done n positions)) p h)
+
+-- what was written of a database that was read
+pub read_part : {A F : Type 0} (remaining : F → Option (List ℕ)) (Says : List ℕ → Type 0)
+    (file : List ℕ) (old new : Option (List ℕ)) (r : Result A Fault) → IsReadFrom remaining file
+    → IsRight file → OnErr r (Says file) → OnErr r (IsNothingOr remaining Says old new)
+read_part remaining Says file old new (Ok x) read right says = tt
+read_part remaining Says file old new (Err e) read right says = inr (file, read, right, says)
+
+-- .. where it was accepted; where it was refused, nothing was written
+pub told_part : {A C D F : Type 0} (Refuses : D → Type 0) (remaining : F → Option (List ℕ))
+    (Says : List ℕ → Type 0) (file : List ℕ) (old new : Option (List ℕ)) (told : Result C D)
+    (r : Result A Fault) → IsReadFrom remaining file → OnOk told (IsRight file)
+    → IfErr told (λ d. Refuses d × (new ≡ old)) → OnOk told (OnErr r (Says file))
+    → OnErr r (IsNothingOr remaining Says old new)
+told_part Refuses remaining Says file old new (Ok c) r read right refused says =
+    read_part remaining Says file old new r read right says
+told_part Refuses remaining Says file old new (Err d) (Ok x) read right refused says = tt
+told_part Refuses remaining Says file old new (Err d) (Err e) read right refused says = inl refused.1
+
+-- what stopped, where the database was accepted; where it was refused, nothing was written
+pub told_stopped : {A C D : Type 0} (N : Type 0) (Refuses : D → Type 0) (Stops : Fault → Type 0)
+    (told : Result C D) (r : Result A Fault) → IfErr told (λ d. Refuses d × N)
+    → OnOk told (IfErr r Stops) → IfErr r (λ fault. N ⊎ Stops fault)
+told_stopped N Refuses Stops (Ok c) (Ok x) refused stops = tt
+told_stopped N Refuses Stops (Ok c) (Err e) refused stops = inr stops
+told_stopped N Refuses Stops (Err d) (Ok x) refused stops = tt
+told_stopped N Refuses Stops (Err d) (Err e) refused stops = inl refused.1
+
+-- .. over a database that was read
+pub read_stopped : {A F : Type 0} (remaining : F → Option (List ℕ)) (file given : List ℕ)
+    (left old new : Option (List ℕ)) (r : Result A Fault) → IsReadFrom remaining file
+    → IfErr r (λ fault. (new ≡ old) ⊎ AreStopped file given left old new fault)
+    → IfErr r (λ fault.
+    IsNothingOr remaining (λ f. AreStopped f given left old new fault) old new)
+read_stopped remaining file given left old new (Ok x) read stops = tt
+read_stopped remaining file given left old new (Err e) read (inl same) = inl same
+read_stopped remaining file given left old new (Err e) read (inr stops) =
+    inr (file, read, stops.right, stops)
+
+-- .. and over the built one
+pub built_stopped : {A : Type 0} (file given : List ℕ) (left old new : Option (List ℕ))
+    (r : Result A Fault) → IsBuilt (usual_version 8) 8 file
+    → IfErr r (λ fault. (new ≡ old) ⊎ AreStopped file given left old new fault)
+    → IfErr r (λ fault. (new ≡ old) ⊎ ((f : List ℕ) × IsBuilt (usual_version 8) 8 f
+    × AreStopped f given left old new fault))
+built_stopped file given left old new (Ok x) built stops = tt
+built_stopped file given left old new (Err e) built (inl same) = inl same
+built_stopped file given left old new (Err e) built (inr stops) = inr (file, built, stops)
