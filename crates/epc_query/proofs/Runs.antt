@@ -19,8 +19,8 @@ use Rattle.db_layout.specs.Writes.{AppendsPart}
 use Rattle.db_layout.proofs.Known.{appends_none, appends_kept, appends_twice}
 use Rattle.epc_query.specs.declared.run_fault.RunFault.{RunFault}
 use Rattle.epc_query.specs.declared.run_fault.RunFault.TheVariants.{Read, Write, Table, Memory, Turns}
-use Rattle.epc_query.specs.Runs.{AreReplies, HasReplies, HasPart, IsMovesLine, IsStoppedAt}
-use Rattle.epc_query.specs.Runs.{IsRunStopped, IsFirstFeed, IsAnswered}
+use Rattle.epc_query.specs.Runs.{AreReplies, HasReplies, HasPart, IsMovesLine, IsRecordsLine}
+use Rattle.epc_query.specs.Runs.{IsStoppedAt, IsRunStopped, IsFirstFeed, IsAnswered}
 use Rattle.epc_query.proofs.Held.{appends_same, part_after, part_all}
 
 -- no replies
@@ -83,11 +83,11 @@ stopped_longer f lines more old new Write (n, low, is) = (
   subst (λ ls. HasPart f ls old new)
       (sym (take-append-le n lines more low)) is,
 )
-stopped_longer f lines more old new Table (n, low, is) = (
+stopped_longer f lines more old new Table (n, low, records, is) = (
   n,
   omega (arith, low, length-append lines more),
-  subst (λ ls. HasReplies f ls old new)
-      (sym (take-append-le n lines more (omega arith))) is,
+  subst (IsRecordsLine f) (sym (get_or_append_left lines more [] n low)) records,
+  subst (λ ls. HasReplies f ls old new) (sym (take-append-le n lines more (omega arith))) is,
 )
 stopped_longer f lines more old new Memory (n, low, moves, is) = (
   n,
@@ -108,12 +108,15 @@ stopped_after f lines line old mid new Write has (n, low, is) = (
   subst (λ ls. HasPart f ls old new) (sym (take-append-add lines (line ∷ []) n))
       (more_part f lines (take n (line ∷ [])) old mid new has is),
 )
-stopped_after f lines line old mid new Table has (n, low, is) = (
-  length lines + n,
-  omega (arith, low, length-append lines (line ∷ [])),
-  subst (λ ls. HasReplies f ls old new) (sym (take-append-add lines (line ∷ []) n))
-      (more_replies f lines (take n (line ∷ [])) old mid new has is),
+stopped_after f lines line old mid new Table has (zero, low, records, is) = (
+  length lines + 0,
+  omega (arith, length-append lines (line ∷ [])),
+  subst (IsRecordsLine f)
+      (sym (get_or_push lines line [] (length lines + 0) (omega arith))) records,
+  subst (λ ls. HasReplies f ls old new) (sym (take-append-add lines (line ∷ []) 0))
+      (more_replies f lines [] old mid new has is),
 )
+stopped_after f lines line old mid new Table has (suc n, low, records, is) = absurd (omega arith)
 stopped_after f lines line old mid new Memory has (zero, low, moves, is) = (
   length lines + 0,
   omega (arith, length-append lines (line ∷ [])),
@@ -127,6 +130,7 @@ stopped_after f lines line old mid new Memory has (suc n, low, moves, is) = absu
 pub record IsHeardAs (f line other : List ℕ) : Type 0 where
   pub replies : (reply : List ℕ) → IsReply f line reply → IsReply f other reply
   pub moves : IsMovesLine f line → IsMovesLine f other
+  pub records : IsRecordsLine f line → IsRecordsLine f other
 
 pub replies_as : (f line other : List ℕ) (old new : Option (List ℕ)) → IsHeardAs f line other
     → HasReplies f (line ∷ []) old new → HasReplies f (other ∷ []) old new
@@ -163,9 +167,13 @@ stopped_as f line other old new Write same (suc zero, low, is) =
       },
     )
 stopped_as f line other old new Write same (suc (suc n), low, is) = absurd (omega arith)
-stopped_as f line other old new Table same (zero, low, is) =
-    (0, low, record { text = is.text; replies = is.replies; written = is.written })
-stopped_as f line other old new Table same (suc n, low, is) = absurd (omega arith)
+stopped_as f line other old new Table same (zero, low, records, is) = (
+  0,
+  low,
+  same.records records,
+  record { text = is.text; replies = is.replies; written = is.written },
+)
+stopped_as f line other old new Table same (suc n, low, records, is) = absurd (omega arith)
 stopped_as f line other old new Memory same (zero, low, moves, is) = (
   0,
   low,
@@ -268,6 +276,7 @@ module _ (short : (line : List ℕ) (q : Query) → IsQuery line q → length li
   long_alike f line other long long_other = record {
     replies = λ reply is. alike reply is;
     moves = λ w. absurd (not_asked line w.0 long w.1.query);
+    records = λ w. absurd (not_asked line w.0 long w.1.query);
   }
     where
       alike : (reply : List ℕ) → IsReply f line reply → IsReply f other reply
@@ -287,6 +296,7 @@ module _ (short : (line : List ℕ) (q : Query) → IsQuery line q → length li
   itself f line other e = record {
     replies = λ reply is. subst (λ l. IsReply f l reply) e is;
     moves = λ w. subst (IsMovesLine f) e w;
+    records = λ w. subst (IsRecordsLine f) e w;
   }
 
   -- without its carriage return a piece is at most one byte shorter

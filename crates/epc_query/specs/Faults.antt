@@ -29,15 +29,24 @@ AsksMoves (loss_query x v y) = ⊥
 AsksMoves (moves_query x v) = Unit {0}
 AsksMoves (rank_query x) = ⊥
 
+-- the query is answered by what records hold, as each but one for a rank
+abbrev pub AsksRecords : Query → Type 0
+AsksRecords (mean_query x) = Unit {0}
+AsksRecords (dist_query x) = Unit {0}
+AsksRecords (play_query x v) = Unit {0}
+AsksRecords (loss_query x v y) = Unit {0}
+AsksRecords (moves_query x v) = Unit {0}
+AsksRecords (rank_query x) = ⊥
+
 -- the query is refused so: the first cause that applies, in this order; want of memory and of a
--- read come only to a
--- query that would be answered, and want of memory only to a list of moves
+-- read come only to a query that would be answered, want of memory only to a list of moves, and
+-- want of a read only where records are asked for
 abbrev pub IsFaultOf : ℕ → Query → QueryFault → Type 0
 IsFaultOf bound q OverBound = bound < pips (subject q)
 IsFaultOf bound q Finished = (pips (subject q) ≤ bound) × AsksOfFinished q
 IsFaultOf bound q NotLegal = (pips (subject q) ≤ bound) × (¬ AsksOfFinished q) × (¬ HasResult q)
 IsFaultOf bound q Memory = IsAnswerable bound q × AsksMoves q
-IsFaultOf bound q Read = IsAnswerable bound q
+IsFaultOf bound q Read = IsAnswerable bound q × AsksRecords q
 
 -- a refused query as the answer to its line: a reply, or a stop for want of memory or of a read
 abbrev pub stop_of : QueryFault → Result Reply Stop
@@ -57,8 +66,8 @@ IsHeard bound line (Loss lost) = (q : Query) × IsAccepted bound line q
 IsHeard bound line (Moves choices) = (q : Query) × IsAccepted bound line q
 IsHeard bound line (Rank number) = (q : Query) × IsAccepted bound line q
 
--- a line is stopped only where it is accepted, and for want of memory only where it asks for a
--- list of moves
+-- a line is stopped only where it is accepted: for want of memory where it asks for a list of
+-- moves, and for want of a read where it asks for what records hold
 abbrev pub IsStopOf : ℕ → List ℕ → Stop → Type 0
 IsStopOf bound line NoMemory = (q : Query) × IsAccepted bound line q × AsksMoves q
-IsStopOf bound line NoRead = (q : Query) × IsAccepted bound line q
+IsStopOf bound line NoRead = (q : Query) × IsAccepted bound line q × AsksRecords q

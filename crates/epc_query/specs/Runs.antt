@@ -7,7 +7,7 @@ use Rattle.race_model.specs.Queries.{Query, IsAccepted}
 use Rattle.race_model.specs.Replies.{IsReply}
 use Rattle.race_model.specs.InputLines.{rest_of, whole_lines, lines_of, HasNoFeed}
 use Rattle.db_layout.specs.Writes.{AppendsPart}
-use Rattle.epc_query.specs.Faults.{AsksMoves}
+use Rattle.epc_query.specs.Faults.{AsksMoves, AsksRecords}
 use Rattle.epc_query.specs.declared.run_fault.RunFault.{RunFault}
 use Rattle.epc_query.specs.declared.run_fault.RunFault.TheVariants.{Read, Write, Table, Memory, Turns}
 
@@ -34,14 +34,19 @@ pub record HasPart (f : List ℕ) (lines : List (List ℕ)) (old new : Option (L
 abbrev pub IsMovesLine : List ℕ → List ℕ → Type 0
 IsMovesLine f line = (q : Query) × IsAccepted (bound_of f) line q × AsksMoves q
 
+-- the line asks for what records hold, and is not refused
+abbrev pub IsRecordsLine : List ℕ → List ℕ → Type 0
+IsRecordsLine f line = (q : Query) × IsAccepted (bound_of f) line q × AsksRecords q
+
 -- the answers to these lines stopped so: at a fault of the table, or for want of memory, the
--- replies to the lines before
--- one of them were written; at a fault of the writer, a prefix of the replies to some of the first
+-- replies to the lines before one of them were written, which asks for it; at a fault of the
+-- writer, a prefix of the replies to some of the first
 abbrev pub IsStoppedAt : List ℕ → List (List ℕ) → Option (List ℕ) → Option (List ℕ) → RunFault
     → Type 0
 IsStoppedAt f lines old new Read = ⊥
 IsStoppedAt f lines old new Write = (n : ℕ) × (n ≤ length lines) × HasPart f (take n lines) old new
-IsStoppedAt f lines old new Table = (n : ℕ) × (n < length lines)
+IsStoppedAt f lines old new Table =
+    (n : ℕ) × (n < length lines) × IsRecordsLine f (slice_index_or lines n [])
     × HasReplies f (take n lines) old new
 IsStoppedAt f lines old new Memory =
     (n : ℕ) × (n < length lines) × IsMovesLine f (slice_index_or lines n [])

@@ -120,7 +120,8 @@ fn rank<T: Table>(checked: &Checked<T>, position: &Position) -> Result<u16, Quer
 /// Answers a line, which comes without its line feed: with what the database says, or why it is
 /// refused. It is stopped as `Memory` only at a line that asks for a list of moves and has no
 /// refusal, and as `Read` where a record could not be read, or, read again, holds numbers that no
-/// accepted record can hold. The database stays as it was.
+/// accepted record can hold: at no line that is refused, and at none that asks for a rank. The
+/// database stays as it was.
 pub fn answer_line<T: Table>(
     alloc: Global,
     checked: &mut Checked<T>,

@@ -28,11 +28,11 @@ const MOST_TURNS: u64 = 1 << 40;
 /// `turns` reads, and at most 2 ^ 40.
 ///
 /// Refused as `Read` where the reader failed, as `Write` where the writer failed or took no byte,
-/// as `Table` where a record could not be read, as `Memory` where there was none for a list of
-/// moves, and as `Turns` where there were so many reads and no end yet, each of which gave a
-/// byte. At each fault but `Write` the replies to all lines before it were written in full, and
-/// at `Write` a prefix of the replies. It takes no memory but at a line that asks for a list of
-/// moves.
+/// as `Table` where a record could not be read at a line that asks for one, as `Memory` where
+/// there was none for a list of moves, and as `Turns` where there were so many reads and no end
+/// yet, each of which gave a byte. At each fault but `Write` the replies to all lines before it
+/// were written in full, and at `Write` a prefix of the replies. It takes no memory but at a line
+/// that asks for a list of moves.
 pub fn run<T: Table, R: Read, W: Write>(
     alloc: Global,
     checked: &mut Checked<T>,
