@@ -398,6 +398,46 @@ int main(int count, char **words) {
     expect(bearoff_upgrade(bytes, 31, bytes, 0, bytes, 0, filled) == BEAROFF_TOO_SHORT, "upgrade of 31 bytes", 0);
     let_go(filled);
 
+    /* one number that the caller changes after it was checked, against the rule: what stands on it is refused, and nothing
+     * that was lent is changed */
+    expect(open_with(database, bytes, length, 0, "", "open") == BEAROFF_OK, "open once more", 0);
+    bearoff_position dearer = {{0, 1, 1, 0, 0, 0}};
+    uint16_t fours_at = 0, dearer_at = 0;
+    expect(bearoff_rank(database, &fours, &fours_at) == BEAROFF_OK && fours_at, "the rank of two fours", fours_at);
+    expect(bearoff_rank(database, &dearer, &dearer_at) == BEAROFF_OK && dearer_at, "the rank of a result", dearer_at);
+    const struct {
+        size_t place, size;
+        uint8_t byte;
+        uint32_t play;
+        const char *what;
+    } changes[] = {
+        {32 + 426 * (size_t)dearer_at, 16, 0, BEAROFF_OK, "a mean less than that after the recorded play"},
+        {32 + 426 * (size_t)dearer_at, 16, 255, BEAROFF_OK, "a mean over 22 rolls after a play"},
+        {32 + 426 * (size_t)fours_at + 18, 2, 0, BEAROFF_CHANGED, "a play to where the roll doesn't lead"},
+    };
+    for (size_t i = 0; i < sizeof changes / sizeof *changes; i++) {
+        uint8_t kept[16], *changed = bytes + changes[i].place;
+        bearoff_recorded_play *told_play = (bearoff_recorded_play *)guarded(sizeof *told_play);
+        bearoff_fraction *told_loss = (bearoff_fraction *)guarded(sizeof *told_loss);
+        bearoff_result *told_results = (bearoff_result *)guarded(2 * sizeof *told_results);
+        size_t *told_count = (size_t *)guarded(sizeof *told_count);
+        memcpy(kept, changed, changes[i].size);
+        memset(changed, changes[i].byte, changes[i].size);
+        expect(bearoff_play(database, &fours, 2, 1, told_play) == changes[i].play, changes[i].what, 1);
+        expect(!changes[i].play || untouched(told_play, sizeof *told_play), changes[i].what, 2);
+        expect(bearoff_loss(database, &fours, 2, 1, &dearer, told_loss) == BEAROFF_CHANGED, changes[i].what, 3);
+        expect(bearoff_results(database, &fours, 2, 1, told_results, 2, told_count) == BEAROFF_CHANGED, changes[i].what, 4);
+        expect(untouched(told_loss, sizeof *told_loss) && untouched(told_results, 2 * sizeof *told_results) &&
+               untouched(told_count, sizeof *told_count), changes[i].what, 5);
+        expect(answer_with(database, "loss 0,0,0,2,0,0 21 0,1,1,0,0,0", 64, 0, changes[i].what) == BEAROFF_CHANGED,
+               changes[i].what, 6);
+        memcpy(changed, kept, changes[i].size);
+        let_go(told_play);
+        let_go(told_loss);
+        let_go(told_results);
+        let_go(told_count);
+    }
+
     /* bytes that the caller changes after they were checked, against the rule: no call steps outside them */
     expect(open_with(database, bytes, length, 0, "", "open") == BEAROFF_OK, "open at last", 0);
     memset(bytes + 32 + 426 * 19, 0xFF, 426);
