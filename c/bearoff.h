@@ -179,10 +179,10 @@ uint32_t bearoff_library_version(uint16_t *major, uint16_t *minor, uint16_t *pat
 /*
  * Checks `length` bytes and opens a database over them. 0.2 s for 44 pips; needs 1.5 MB of stack.
  * BEAROFF_OK exactly where they are a right database of at most 58 pips. Any other status, 16 to
- * 27, names the first fault, and the database is not open, whatever it was before; the fault's
- * line, as in `mean rank 1`, stands in `line` without a zero at its end where all of it has room,
- * and `*needed` is how many bytes it has, at most BEAROFF_LINE. Where there is no fault `line`
- * stays as it was, and `*needed` is 0.
+ * 27, names the first fault, and the database is not open, whatever it was before, and else as it
+ * was; the fault's line, as in `mean rank 1`, stands in `line` without a zero at its end where all
+ * of it has room, and `*needed` is how many bytes it has, at most BEAROFF_LINE. Where there is no
+ * fault `line` stays as it was, and `*needed` is 0.
  */
 uint32_t bearoff_open(bearoff_database *database, const uint8_t *bytes, size_t length,
                       uint8_t *line, size_t room, size_t *needed);

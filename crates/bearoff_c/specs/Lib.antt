@@ -8,3 +8,4 @@ pub mod ResultLists
 pub mod RoundedPips
 pub mod Places
 pub mod Listed
+pub mod Closing

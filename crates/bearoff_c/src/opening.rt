@@ -7,6 +7,7 @@ ghost use Rattle.certificate.specs.declared.check_fault.CheckFault.{CheckFault a
 ghost use Rattle.certificate.specs.CheckFaults.{IsFirst, line_of};
 ghost use Rattle.bearoff_c.specs.FileFaults.{fault_status};
 ghost use Rattle.bearoff_c.specs.Buffers.{HasText};
+ghost use Rattle.bearoff_c.specs.Closing.{IsElseSame};
 ghost use Rattle.bearoff_c.specs.Refusals.{open_refusal, status_of};
 
 use crate::database::Database;
@@ -20,9 +21,9 @@ use ranking::RankTable;
 /// Checks the bytes of a file and opens a database over them. The status is 0 exactly where they
 /// are a right database of at most 58 pips; then the database answers for as long as neither it
 /// nor the bytes are changed. Any other status, 16 to 27, names the first fault of the bytes, and
-/// the database is not open; the line of the fault, without a line feed, stands in `line` where
-/// there is room for all of it, and else `line` stays as it was. `needed` is how many bytes the
-/// line has, at most 32, and 0 where there is no fault.
+/// the database is not open, and else as it was; the line of the fault, without a line feed, stands
+/// in `line` where there is room for all of it, and else `line` stays as it was. `needed` is how
+/// many bytes the line has, at most 32, and 0 where there is no fault.
 #[unsafe(no_mangle)]
 pub extern "C" fn bearoff_open<'a>(
     database: &mut Database<'a>,
@@ -38,6 +39,8 @@ pub extern "C" fn bearoff_open<'a>(
         × (result ≡ fault_status fault) × HasText (line_of fault) line.old line.new needed.new }
     ensures read { result < 28 }
     ensures none { result ≡ 0 → (needed.new ≡ 0) × (line.new ≡ line.old) }
+    ensures most { needed.new ≤ 32 }
+    ensures left { ¬ (result ≡ 0) → IsElseSame database.old database.new }
 {
     match check(Whole::new(bytes)) {
         Ok(checked) => {

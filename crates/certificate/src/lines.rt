@@ -14,7 +14,8 @@ use itoa::Buffer;
 /// roll I`, `not-least rank R roll I`, `mean rank R`, `spread rank R k K`, or `read` (this
 /// project's profile).
 pub fn fault_line(fault: &CheckFault) -> ArrayString<64>
-    ensures { result.bytes ≡ line_of fault.now }
+    ensures text { result.bytes ≡ line_of fault.now }
+    ensures len { array_string_len result ≤ 32 }
 {
     match *fault {
         CheckFault::Header(fault) => header_line(fault),
@@ -30,7 +31,8 @@ pub fn fault_line(fault: &CheckFault) -> ArrayString<64>
 
 /// The text of a fault of the header.
 fn header_line(fault: HeaderFault) -> ArrayString<64>
-    ensures { result.bytes ≡ header_line (test_of fault) }
+    ensures text { result.bytes ≡ header_line (test_of fault) }
+    ensures len { array_string_len result ≤ 32 }
 {
     text_line(match fault {
         HeaderFault::TooShort => "header too-short",
@@ -47,7 +49,8 @@ fn header_line(fault: HeaderFault) -> ArrayString<64>
 /// A text.
 fn text_line(text: &str) -> ArrayString<64>
     requires { length text.now ≤ 32 }
-    ensures { result.bytes ≡ text.now }
+    ensures bytes { result.bytes ≡ text.now }
+    ensures len { array_string_len result ≡ length text.now }
 {
     let mut line = ArrayString::new();
     line.push_str(text);
@@ -69,7 +72,8 @@ fn rank_line(text: &str, rank: u16) -> ArrayString<64>
 fn numbers_line(text: &str, rank: u16, name: &str, number: u8) -> ArrayString<64>
     requires text { length text.now ≤ 32 }
     requires name { length name.now ≤ 8 }
-    ensures { result.bytes ≡ text.now ++ decimal rank ++ name.now ++ decimal number }
+    ensures bytes { result.bytes ≡ text.now ++ decimal rank ++ name.now ++ decimal number }
+    ensures len { array_string_len result ≤ length text.now + length name.now + 8 }
 {
     let mut line = rank_line(text, rank);
     line.push_str(name);
