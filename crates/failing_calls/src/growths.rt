@@ -1,6 +1,6 @@
 //! Calls that take memory, while a growth of memory is refused from outside, and a few short
 //! trials by a word.
-use crate::inputs::{answer_endless, fail_reads};
+use crate::inputs::{answer_endless, answer_many, fail_reads};
 use crate::texts::{Text, fail_flush};
 use crate::wrong::{accepted, database};
 use certificate::{Checked, QueryFault, check};
@@ -254,6 +254,8 @@ fn try_flushes(alloc: Global, file: &[u8]) -> Outcome {
         Text::Replies,
         Text::Level,
         Text::Build,
+        Text::BuildCompact,
+        Text::Upgrade,
     ] {
         if fail_flush(alloc, file, text) != Ok(0) {
             return Outcome::Wrong;
@@ -268,7 +270,10 @@ fn try_reads(alloc: Global, file: &[u8]) -> Outcome {
     Outcome::Whole.or_wrong(fail_reads(alloc, file, 17) == Ok(21))
 }
 
-/// An input that never ends: as many reads as turns.
+/// An input that never ends: as many reads as turns; and one of many lines, each by a read of its
+/// own.
 fn try_turns(alloc: Global, file: &[u8]) -> Outcome {
-    Outcome::Whole.or_wrong(answer_endless(alloc, file) == Ok(1000))
+    let is_right =
+        answer_endless(alloc, file) == Ok(1000) && answer_many(alloc, file) == Ok(100_000);
+    Outcome::Whole.or_wrong(is_right)
 }

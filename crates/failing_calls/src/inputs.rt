@@ -73,6 +73,23 @@ impl Read for Endless {
     }
 }
 
+/// A reader that gives a line feed a read, so many times.
+#[derive(Drop)]
+struct Feeds {
+    left: u64,
+}
+
+impl Read for Feeds {
+    fn read(&mut self, buf: &mut [u8]) -> io::Result<usize> {
+        if self.left == 0 || buf.is_empty() {
+            return Ok(0);
+        }
+        self.left -= 1;
+        buf[0] = b'\n';
+        Ok(1)
+    }
+}
+
 /// Fails each read of an input in turn, which comes in parts of so many bytes, and lets the reads
 /// run out there: the replies to all whole lines so far have to be written, and all where no read
 /// fails. It gives the number of reads.
@@ -134,6 +151,18 @@ pub(crate) fn answer_endless(alloc: Global, file: &[u8]) -> Result<u64, Wrong> {
         Ok(reader.reads)
     } else {
         Err(Wrong::At(0))
+    }
+}
+
+/// Answers an input of 100,000 lines, each of which comes by a read of its own. It gives how many
+/// were answered.
+pub(crate) fn answer_many(alloc: Global, file: &[u8]) -> Result<u64, Wrong> {
+    let mut checked = database(file)?;
+    let mut reader = Feeds { left: 100_000 };
+    let mut written = Vec::new(alloc);
+    match run(alloc, &mut checked, &mut reader, &mut written, 1 << 40) {
+        Ok(count) if written.len() == 100_000 * "error bad-line\n".len() => Ok(count),
+        _ => Err(Wrong::At(0)),
     }
 }
 

@@ -8,7 +8,7 @@
 
 use crate::damage::report_damage;
 use crate::growths::try_growths;
-use crate::inputs::{answer_each_byte, answer_endless, fail_reads};
+use crate::inputs::{answer_each_byte, answer_endless, answer_many, fail_reads};
 use crate::sources::{Query, fail_check, fail_query, fail_run};
 use crate::texts::{Text, fail_flush, fail_writes};
 use crate::wrong::Wrong;
@@ -133,5 +133,7 @@ fn report_inputs(rt: &impl Print, alloc: Global, file: &[u8]) -> io::Result<()> 
     println!(rt; "each byte before a line and after it")?;
     report(rt, "run", answer_each_byte(alloc, file))?;
     println!(rt; "that never ends")?;
-    report(rt, "run", answer_endless(alloc, file))
+    report(rt, "run", answer_endless(alloc, file))?;
+    println!(rt; "a line a read")?;
+    report(rt, "run", answer_many(alloc, file))
 }

@@ -6,7 +6,8 @@ use crate::given::{accepted, assert_replies, compact_database, database, pages, 
 use certificate::{CheckFault, check};
 use db_reader::trial::{FailAt, FailOnce};
 use db_reader::{
-    FileSource, Paged, PagedFault, SliceSource, Source, SourceFault, Table, TableFault, Whole,
+    FileSource, Paged, PagedFault, Record, SliceSource, Source, SourceFault, Table, TableFault,
+    Whole,
 };
 use std::process::Abort;
 use std::rt::Files;
@@ -66,6 +67,27 @@ fn a_record_is_read_once_where_there_is_room(rt: HostRuntime) -> Result<(), Fail
     assert_replies(&rt, &mut checked);
     let source = checked.into_table().into_source();
     assert!(rt; source.records > 64);
+    Ok(())
+}
+
+/// Loads the record of a rank, where the table has one.
+fn load<T: Table>(table: &mut T, rank: u16) -> Result<(), Fail> {
+    let header = table.header()?;
+    if rank < header.count {
+        table.load(rank, &mut Record::new())?;
+    }
+    Ok(())
+}
+
+#[test]
+fn the_records_used_last_are_kept(rt: HostRuntime) -> Result<(), Fail> {
+    let file = database(rt.alloc(), 3)?;
+    let mut table = pages(rt.alloc(), Counting::new(file.as_slice()), 2)?;
+    // read are 0, 1, 2 in the place of 1, 1 in that of 2, and 2 in that of 0
+    for rank in [0, 1, 0, 2, 0, 1, 2, 1] {
+        load(&mut table, rank)?;
+    }
+    assert_eq!(rt; table.into_source().records, 5);
     Ok(())
 }
 

@@ -35,6 +35,22 @@ fn whole_lines_are_flushed_before_the_next_read(rt: HostRuntime) -> Result<(), F
 }
 
 #[test]
+fn all_lines_of_a_read_are_flushed(rt: HostRuntime) -> Result<(), Fail> {
+    let mut pipe = RefuseAt::never(rt.alloc(), usize::MAX);
+    let mut input = Vec::new(rt.alloc());
+    for _ in 0..240 {
+        input.extend_from_slice(b"rank 0,0,0,0,0,1\n")?;
+    }
+    assert_eq!(rt;
+        answered(rt.alloc(), input.as_slice(), &mut pipe, 1)?,
+        Err(RunFault::Turns)
+    );
+    assert_eq!(rt; pipe.written.len(), 240 * "rank 19\n".len());
+    assert_eq!(rt; pipe.flushed, pipe.written.len());
+    Ok(())
+}
+
+#[test]
 fn one_call_of_write_for_each_reply(rt: HostRuntime) -> Result<(), Fail> {
     let lines: [&[u8]; 8] = [
         b"mean 0,0,0,0,0,1\n",
