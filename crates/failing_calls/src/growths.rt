@@ -273,7 +273,7 @@ fn try_reads(alloc: Global, file: &[u8]) -> Outcome {
 /// An input that never ends: as many reads as turns; and one of many lines, each by a read of its
 /// own.
 fn try_turns(alloc: Global, file: &[u8]) -> Outcome {
-    let is_right =
-        answer_endless(alloc, file) == Ok(1000) && answer_many(alloc, file) == Ok(100_000);
+    let is_right = answer_endless(alloc, file) == Ok(1000)
+        && answer_many(alloc, file) == Ok(100_000);
     Outcome::Whole.or_wrong(is_right)
 }

@@ -9,6 +9,8 @@ mod answering;
 #[cfg(test)]
 mod building;
 #[cfg(test)]
+mod changing;
+#[cfg(test)]
 mod checking;
 #[cfg(test)]
 mod given;
