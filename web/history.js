@@ -8,6 +8,7 @@ export class Past {
     constructor(window) {
         this.window = window;
         this.current = window.location.hash; // the address as the page knows it
+        this.written = this.current; // what the page last wrote or read there
         this.timer = null;
         this.isStep = false; // whether what is written now is a step
     }
@@ -31,21 +32,25 @@ export class Past {
         if (this.window.location.hash !== this.current) this.write(this.current, false);
     }
 
+    // An address that something else has set stays, since the page is still to be told of it.
     write(link, isStep) {
+        if (this.window.location.hash !== this.written) return;
         try {
             if (isStep) this.window.history.pushState(null, "", link);
             else this.window.history.replaceState(null, "", link);
         } catch {
             // too many in a while: what comes next, or the link that is copied, writes it
         }
+        this.written = this.window.location.hash;
     }
 
     // Whether the address was changed by something else than the page: by Back, Forward, or a reader who typed one.
     isElsewhere() {
-        if (this.window.location.hash === this.current) return false;
+        this.written = this.window.location.hash;
+        if (this.written === this.current) return false;
         this.window.clearTimeout(this.timer);
         this.timer = null;
-        this.current = this.window.location.hash;
+        this.current = this.written;
         return true;
     }
 }
