@@ -84,6 +84,17 @@ class AnyPage {
         }
         return performance.now() - start;
     }
+
+    // Brings an element into sight, once it is there, and says where its middle is.
+    async aim(selector) {
+        await this.until(`document.querySelector(${JSON.stringify(selector)})`);
+        return this.value(`(() => {
+            const element = document.querySelector(${JSON.stringify(selector)});
+            element.scrollIntoView({ block: "center", behavior: "instant" });
+            const box = element.getBoundingClientRect();
+            return { x: box.x + box.width / 2, y: box.y + box.height / 2 };
+        })()`);
+    }
 }
 
 export class Browser extends Program {
@@ -159,14 +170,12 @@ export class Page extends AnyPage {
     }
 
     // A click in the middle of an element, once it is there.
-    async click(selector, { shift = false, button = "left" } = {}) {
-        await this.until(`document.querySelector(${JSON.stringify(selector)})`);
-        const { x, y } = await this.value(`(() => {
-            const element = document.querySelector(${JSON.stringify(selector)});
-            element.scrollIntoView({ block: "center", behavior: "instant" });
-            const box = element.getBoundingClientRect();
-            return { x: box.x + box.width / 2, y: box.y + box.height / 2 };
-        })()`);
+    async click(selector, words = {}) {
+        await this.press(await this.aim(selector), words);
+    }
+
+    // A click at a place of the window, whatever stands there.
+    async press({ x, y }, { shift = false, button = "left" } = {}) {
         for (const type of ["mousePressed", "mouseReleased"]) {
             await this.send("Input.dispatchMouseEvent", { type, x, y, button, clickCount: 1, modifiers: shift ? 8 : 0 });
         }
@@ -210,6 +219,10 @@ export class Page extends AnyPage {
             marginTop: 0.4, marginBottom: 0.4, marginLeft: 0.4, marginRight: 0.4,
         });
         return Buffer.from(data, "base64");
+    }
+
+    async close() {
+        await this.browser.send("Target.closeTarget", { targetId: this.targetId });
     }
 
     // What went wrong in the page, and what its policy refused.

@@ -100,7 +100,7 @@ const answer = {
 };
 const figures = (tree) => all(build(document, h("div", {}, tree)), "dd").map((node) => node.textContent.trim().split(" ")[0]);
 equal("numbers", figures(numbers(answer)), ["6", "1.250", "10.208", "4.208", "5/4", "245/24"]);
-equal("numbers that come", figures(numbers(undefined, true)), ["\u2026", "\u2026", "\u2026", "\u2026"]);
+equal("numbers that come", figures(numbers(undefined, true)), Array(6).fill("\u2026"));
 equal("numbers that don't", figures(numbers(undefined, false)), ["\u2013", "\u2013", "\u2013", "\u2013"]);
 const over = (pips, bound) => textOf(numbers({ refusal: "Over.", status: 4, bound, standing: { pips } }));
 equal("over 44", [over(50, 44).includes("50 pips. Over."), over(50, 44).includes("58 pips has it")], [true, true]);

@@ -2,9 +2,10 @@
 // it shows with the program's replies: page_drive.mjs PAGE PROGRAM FOLDER [PICTURES [PART..]], where the folder has the
 // program's files eight and race.db. With a folder for pictures it leaves one for each width and colours there; with
 // words for parts it drives those alone, and with BROWSERS=chromium that browser alone. Says what went wrong, and fails.
-import { execFileSync } from "node:child_process";
+import { execFileSync, spawn } from "node:child_process";
 import { readFileSync, writeFileSync } from "node:fs";
 import { createServer } from "node:http";
+import { availableParallelism } from "node:os";
 import { join, resolve } from "node:path";
 import { pathToFileURL } from "node:url";
 import { started } from "./browser.mjs";
@@ -593,6 +594,88 @@ async function driveLessons(browser) {
     equal("nothing went wrong", page.troubles(), []);
 }
 
+// Keeps where each thing that can be clicked stands in the page, from the first drawing on, and moved where it isn't
+// there any more or is another element.
+const PLACES = `window.places = { first: null, count: 0, seen: 0, moved: [] };
+new MutationObserver(() => {
+    const things = () => [...document.querySelectorAll("main a, main button, main input, main select, main summary, main [role=spinbutton]")];
+    const nameOf = (thing) => thing.dataset.key || thing.id || thing.localName;
+    const placeOf = (thing) => {
+        const { left, top, width } = thing.getBoundingClientRect();
+        return width > 0 ? [left + scrollX, top + scrollY] : null;
+    };
+    if (!document.querySelector('[data-key="lesson 1"]')) return;
+    if (document.body.dataset.ready) places.seen += 1;
+    places.first ||= new Map(things().map((thing) => [thing, placeOf(thing)]).filter(([, place]) => place));
+    places.count = Math.max(places.count, places.first.size);
+    for (const [thing, place] of places.first) {
+        const now = thing.isConnected ? placeOf(thing) : null;
+        const far = now ? Math.max(Math.abs(now[0] - place[0]), Math.abs(now[1] - place[1])) : Infinity;
+        if (far < 1) continue;
+        places.moved.push(nameOf(thing) + (now ? " by " + far.toFixed(0) : " is gone"));
+        places.first.delete(thing);
+    }
+}).observe(document, { subtree: true, childList: true, characterData: true, attributes: true });`;
+
+// Nothing that can be clicked moves while the database is built and the first answers come, and beside the board nor
+// while another position is answered; so what was aimed at is what is clicked.
+async function driveStill(browser) {
+    for (const [width, height, mobile] of [[1280, 900, false], [768, 1024, true], [360, 780, true]]) {
+        const page = await browser.open(address, { width, height, mobile, before: PLACES });
+        await page.until(`${READY} && ${KNOWN} && document.querySelector(".rolls .next")`);
+        const told = await page.value("[places.count > 40, places.seen > 1, places.moved.length, places.moved.slice(0, 3)]");
+        equal(`${width} x ${height}: what moved while the page began`, told, [true, true, 0, []]);
+        if (mobile) continue;
+        await page.value('document.querySelector(\'[data-key="Remove 6"]\').click()');
+        await page.until(`document.getElementById("said").textContent.startsWith("36 pips") && document.querySelector(".rolls .next")`);
+        equal(`${width} x ${height}: what moved with another position`, await page.value("places.moved.slice(0, 3)"), []);
+    }
+}
+
+// Keeps a processor busy, until the test has ended at the latest.
+const BUSY = "const parent = process.ppid; while (process.ppid === parent);";
+
+// A click on a lesson opens it, whenever it comes: what is aimed at before the database is open is clicked at each tenth
+// millisecond from when the page is ready to half a second later, and another lesson as soon as that one is open; at each
+// other of these times on a busy machine.
+async function driveClicks(browser) {
+    const lost = [];
+    const isOpen = (number) => `location.hash.includes("lesson=${number}&") && document.querySelector("#coach h2")?.textContent
+        === document.querySelector('[data-key="lesson ${number}"]').textContent`;
+    const clickAt = async (offset, number) => {
+        const page = await browser.open(address);
+        const place = await page.aim(`[data-key="lesson ${number}"]`);
+        const early = !(await page.value("document.body.dataset.ready"));
+        await page.until(READY);
+        await wait(offset);
+        await page.press(place);
+        const opened = async (what, which) => {
+            const isLost = await page.until(isOpen(which), 3000).then(() => false, () => true);
+            if (isLost) lost.push(`${what} at ${offset} ms`);
+            return !isLost;
+        };
+        const next = number % 12 + 1;
+        if (await opened("the first", number)) {
+            await page.click(`[data-key="lesson ${next}"]`);
+            await opened("the second", next);
+        }
+        equal("nothing went wrong", page.troubles(), []);
+        await page.close();
+        return early;
+    };
+    let early = 0;
+    for (const isBusy of [false, true]) {
+        const loops = Array.from({ length: isBusy ? availableParallelism() : 0 }, () => spawn(process.execPath, ["-e", BUSY]));
+        try {
+            for (let offset = isBusy ? 10 : 0; offset <= 500; offset += 20) early += await clickAt(offset, offset / 10 % 12 + 1);
+        } finally {
+            for (const loop of loops) loop.kill();
+        }
+    }
+    equal("clicks on lessons that were lost", lost, []);
+    equal("aimed at before the page was ready", early > 40, true);
+}
+
 const TEACHING = encodeURI("#t=What wastage is&at=0,0,0,4,4,1&roll=31&p=0,0,0,4,4,1&c=Nine on the high points&p=2,2,2,2,2,2&c=Two on each point&p=15,0,0,0,0,0&c=Fifteen on the ace point");
 
 // A telephone and a tablet: the plays of a tapped roll are in sight with a board, and so is what they lose exactly.
@@ -689,7 +772,7 @@ const OWN = {
         await driveFiles(page);
     },
     moments: driveMoments, older: driveOlder, hosted: driveHosted, touch: driveTouch, print: drivePrint,
-    audit: driveAudit, pictures: takePictures, drill: driveDrill, lessons: driveLessons,
+    audit: driveAudit, pictures: takePictures, drill: driveDrill, lessons: driveLessons, still: driveStill, clicks: driveClicks,
 };
 
 // Those in which each browser is.

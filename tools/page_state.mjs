@@ -581,6 +581,34 @@ async function addresses() {
     soon.window.go(-1);
     equal("is undone", soon.board[0], 1);
 
+    part = "an address that is set before the page is told of it";
+    const kept = await Used.open("#at=1,0,0,0,0,0");
+    const set = (hash) => kept.window.history.pushState(null, "", hash);
+    kept.window.pass(1000);
+    kept.click("Add 1");
+    kept.click("Add 1");
+    set("#at=0,0,0,0,0,1");
+    kept.window.pass(1000);
+    equal("it stays when what followed a change is written", kept.window.location.hash, "#at=0,0,0,0,0,1");
+    kept.window.go(0);
+    equal("then it is on the board", kept.board, [0, 0, 0, 0, 0, 1]);
+    kept.window.pass(1000);
+    set("#at=0,0,0,0,1,0");
+    kept.click("Add 1");
+    equal("it stays when the board changes", kept.window.location.hash, "#at=0,0,0,0,1,0");
+    kept.window.go(0);
+    equal("and is on the board", kept.board, [0, 0, 0, 0, 1, 0]);
+    kept.window.pass(1000);
+    kept.click("Add 1");
+    kept.click("Add 1");
+    set("#at=2,0,0,0,1,0");
+    kept.window.pass(1000);
+    kept.window.go(0);
+    equal("one that is the board's own", [kept.board, kept.window.location.hash], [[2, 0, 0, 0, 1, 0], "#at=2,0,0,0,1,0"]);
+    kept.click("Add 1");
+    kept.window.pass(1000);
+    equal("is followed by the next", kept.window.location.hash, "#at=3,0,0,0,1,0");
+
     part = "a link that is set in an open page";
     const open = await Used.open();
     open.window.pass(1000);

@@ -22,7 +22,8 @@ const SAVING = 60000; // milliseconds that a picture is there for the browser to
 export function put(document, shown) {
     const at = (name) => document.getElementById(name);
     // what isn't known yet keeps the room that it had, so that nothing jumps
-    at("chances").style.minHeight = shown.isKnown ? "" : `${at("chances").offsetHeight}px`;
+    const room = at("chances").offsetHeight;
+    at("chances").style.minHeight = shown.isKnown || room === 0 ? "" : `${room}px`;
     for (const [name, tree] of Object.entries(shown.trees)) draw(document, at(name), tree);
     for (const [name, text] of Object.entries(shown.texts)) {
         if (at(name).textContent !== text) at(name).textContent = text;

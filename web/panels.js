@@ -28,11 +28,19 @@ const figures = (pips, mean, effective, wastage) => h("dl", { class: "figures" }
     figure("EPC", effective, "pips", "Effective pip count: 49/6 pips for each roll of the mean"),
     figure("Wastage", wastage, "pips", "The effective pip count less the pip count"));
 
-// Pip count, mean, effective pip count and wastage. Without an answer, whether one comes.
+// The mean and the effective pip count as fractions.
+const fractions = (mean, effective) => h("details", { class: "exact" }, h("summary", {}, "As fractions"),
+    h("dl", {}, h("dt", {}, "Mean"), h("dd", {}, mean),
+        h("dt", {}, "Effective pip count"), h("dd", {}, effective)));
+
+// Pip count, mean, effective pip count and wastage. Without an answer, whether one comes; what comes has its room.
 export function numbers(answer, isComing = true) {
     if (!answer) {
         const text = isComing ? COMING : "\u2013";
-        return [figures(text, text, text, text), !isComing && h("p", { class: "hint" }, "No database is open.")];
+        return [
+            figures(text, text, text, text),
+            isComing ? fractions(text, text) : h("p", { class: "hint" }, "No database is open."),
+        ];
     }
     if (answer.refusal) {
         const { status, standing, bound } = answer;
@@ -45,9 +53,7 @@ export function numbers(answer, isComing = true) {
     const { standing, mean, effective, wastage } = answer;
     return [
         figures(standing.pips, mean.text, effective.text, wastage.text),
-        h("details", { class: "exact" }, h("summary", {}, "As fractions"),
-            h("dl", {}, h("dt", {}, "Mean"), h("dd", {}, mean.exact),
-                h("dt", {}, "Effective pip count"), h("dd", {}, effective.exact))),
+        fractions(mean.exact, effective.exact),
     ];
 }
 
@@ -118,6 +124,7 @@ export function rolls(list, chosen, isHidden, stop, act) {
         const isChosen = sameRoll(dice, chosen);
         return h("button", {
             type: "button", "aria-pressed": String(isChosen), "data-key": `roll ${dice.join("")}`,
+            class: dice[0] === dice[1] ? "double" : null,
             click: ({ currentTarget }) => act.roll(isChosen ? null : dice, currentTarget),
         },
             dicePicture(dice), " ",

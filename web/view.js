@@ -21,6 +21,7 @@ export function view(state, act) {
     const chosen = chosenOf(state)?.plays;
     const isHidden = hides(state) || hidesNumbers(state);
     const isEstimated = hidesNumbers(state);
+    const hasChances = !isEstimated && (answer ? !answer.refusal : isComing(state));
     const hasRolls = answer ? !answer.refusal && answer.standing.checkers > 0 : isComing(state);
     return {
         trees: {
@@ -29,7 +30,7 @@ export function view(state, act) {
             training: training(state, act),
             numbers: asksNumber(state) ? asked : isEstimated ? estimateField(state, act)
                 : [numbers(answer, isComing(state)), thumb(points, answer), estimateTold(state)],
-            chances: answer && !answer.refusal && !isEstimated ? chances(answer.distribution) : [],
+            chances: answer && hasChances ? chances(answer.distribution) : [],
             grid: rolls(list, roll, (dice) => hides(state, dice), stops.rolls, act),
             plays: [
                 plays({
@@ -56,6 +57,7 @@ export function view(state, act) {
             lesson: !state.title,
             trouble: !state.trouble,
             wider: !(answer?.status === 4 && answer.bound < 58 && answer.standing.pips <= 58) || state.loads > 0,
+            chances: !hasChances,
             rolls: !hasRolls,
             keeping: state.kept.length === 0,
             why: !typed,
