@@ -2,7 +2,7 @@
 ghost use Rattle.std.specs.Prelude.{◌≡◌, length};
 
 use crate::given::{WHOLE_BYTES, accepted};
-use certificate::{CheckFault, QueryFault, check, fault_line};
+use certificate::{CheckFault, QueryFault, check, fault_line, is_right};
 use db_layout::HeaderFault;
 use db_reader::trial::FailOnce;
 use db_reader::{Table, Whole};
@@ -244,6 +244,7 @@ fn a_record_of_ones(rt: HostRuntime) {
     let file = record_of_ones();
     let fault = CheckFault::Play { rank: 1, roll: 0 };
     assert_eq!(rt; fault_of(&file), Some(fault));
+    assert_eq!(rt; (is_right(&file), is_right(&bound_one())), (false, true));
 }
 
 #[test]
