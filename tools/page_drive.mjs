@@ -573,7 +573,7 @@ async function driveLessons(browser) {
                 equal(`${title}, step ${step}: closed`, await page.value('Boolean(document.querySelector(".answers"))'), false);
                 await page.click('[data-key="answer"]');
                 await page.until('document.querySelector(".answers").textContent.length > 0');
-                await page.until('document.querySelector(".figure")');
+                await page.until(`document.querySelector(".figure") && ${KNOWN}`);
                 if (isNumber) equal(`${title}, step ${step}: its number`, (await page.value(SHOWN)).figures[2], ask(`mean ${position}`).split(" ")[4]);
             }
             last = !(await page.value('Boolean(document.querySelector(\'[data-key="next step"]\'))'));
@@ -667,13 +667,13 @@ async function driveClicks(browser) {
     for (const isBusy of [false, true]) {
         const loops = Array.from({ length: isBusy ? availableParallelism() : 0 }, () => spawn(process.execPath, ["-e", BUSY]));
         try {
-            for (let offset = isBusy ? 10 : 0; offset <= 500; offset += 20) early += await clickAt(offset, offset / 10 % 12 + 1);
+            for (let offset = isBusy ? 10 : 0; offset <= 500 && lost.length < 5; offset += 20) early += await clickAt(offset, offset / 10 % 12 + 1);
         } finally {
             for (const loop of loops) loop.kill();
         }
     }
     equal("clicks on lessons that were lost", lost, []);
-    equal("aimed at before the page was ready", early > 40, true);
+    if (lost.length === 0) equal("aimed at before the page was ready", early > 40, true);
 }
 
 const TEACHING = encodeURI("#t=What wastage is&at=0,0,0,4,4,1&roll=31&p=0,0,0,4,4,1&c=Nine on the high points&p=2,2,2,2,2,2&c=Two on each point&p=15,0,0,0,0,0&c=Fifteen on the ace point");
