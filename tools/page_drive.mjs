@@ -650,7 +650,7 @@ async function driveClicks(browser) {
         await wait(offset);
         await page.press(place);
         const opened = async (what, which) => {
-            const isLost = await page.until(isOpen(which), 3000).then(() => false, () => true);
+            const isLost = await page.until(isOpen(which), 10000).then(() => false, () => true);
             if (isLost) lost.push(`${what} at ${offset} ms`);
             return !isLost;
         };
