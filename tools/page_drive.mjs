@@ -665,9 +665,12 @@ async function driveClicks(browser) {
     };
     let early = 0;
     for (const isBusy of [false, true]) {
-        const loops = Array.from({ length: isBusy ? availableParallelism() : 0 }, () => spawn(process.execPath, ["-e", BUSY]));
+        const count = isBusy ? availableParallelism() : 0;
+        const loops = Array.from({ length: count }, () => spawn(process.execPath, ["-e", BUSY]));
         try {
-            for (let offset = isBusy ? 10 : 0; offset <= 500 && lost.length < 5; offset += 20) early += await clickAt(offset, offset / 10 % 12 + 1);
+            for (let offset = isBusy ? 10 : 0; offset <= 500 && lost.length < 5; offset += 20) {
+                early += await clickAt(offset, offset / 10 % 12 + 1);
+            }
         } finally {
             for (const loop of loops) loop.kill();
         }
