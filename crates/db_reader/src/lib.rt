@@ -2,7 +2,7 @@
 //! the bytes of a header and of a record, and on `race_model` for what a database file is. The
 //! crates above read by the trait `Table` alone, and may use that a table which tells its bytes
 //! answers the header and the records of these bytes, and fails only where it says so. `Whole` is
-//! the table over bytes in memory; a table over a file would be one more.
+//! the table over bytes in memory, and `Paged` the one over pages of a source, as of a file.
 #![tactic(auto)]
 
 pub use file_source::FileSource;
