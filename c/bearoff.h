@@ -10,7 +10,9 @@
  * and the struct bearoff_database; neither may be changed, and the bytes may not go away, for as
  * long as the database is used. The struct may be copied or moved. There is nothing to close.
  * Where the bytes are changed all the same no call reads outside them: where it reads is told by
- * the struct alone. An answer may then be wrong, or be refused with BEAROFF_CHANGED.
+ * the struct alone. An answer may then be wrong, or be refused with BEAROFF_CHANGED. While another
+ * thread is changing the bytes that a call is given, any call may have any status from 0 to 28, of
+ * which 28 has no other meaning, whatever its comment says; and it writes what is lent to it alone.
  * Pointers are not NULL, also where a length is 0. A struct that is made by BEAROFF_CLOSED, or of
  * zeros, is a database that is not open, and each call says so.
  *
