@@ -11,8 +11,8 @@
  * long as the database is used. The struct may be copied or moved. There is nothing to close.
  * Where the bytes are changed all the same no call reads outside them: where it reads is told by
  * the struct alone. An answer may then be wrong, or be refused with BEAROFF_CHANGED. While another
- * thread is changing the bytes that a call is given, any call may have any status from 0 to 28, of
- * which 28 has no other meaning, whatever its comment says; and it writes what is lent to it alone.
+ * thread is changing the bytes, any call that is given them may have any status from 0 to 28, and
+ * 28 at no other time, whatever its comment says; it still writes nothing but what is lent to it.
  * Pointers are not NULL, also where a length is 0. A struct that is made by BEAROFF_CLOSED, or of
  * zeros, is a database that is not open, and each call says so.
  *
