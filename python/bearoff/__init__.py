@@ -16,7 +16,7 @@ come as arrays, by rising rank, which `memoryview` and numpy read without a copy
 
 from ._library import __version__
 from .database import Database
-from .errors import BadArgument, BearoffError, Changed, Damaged, NoLibrary, Refused
+from .errors import BadArgument, BearoffError, Changed, Damaged, NoLibrary, NoRace, Refused
 from .exact import WEIGHTS, WHOLE
 from .positions import Choice, EffectivePips, Move, Play, Position
 
@@ -32,6 +32,7 @@ __all__ = [
     "EffectivePips",
     "Move",
     "NoLibrary",
+    "NoRace",
     "Play",
     "Position",
     "Refused",

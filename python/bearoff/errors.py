@@ -34,6 +34,20 @@ class BadArgument(BearoffError):
     """What was given is no position, roll, rank, pip bound, line or file at all."""
 
 
+class NoRace(BadArgument):
+    """A text is no bearoff race, or can't be read as one, or a race can't be written. `reason` is one of
+    `bearoff.notation.REASONS`; the message says what is wrong, and of which text.
+    """
+
+    def __init__(self, reason: str, line: str) -> None:
+        super().__init__(line)
+        self.reason = reason
+        self.line = line
+
+    def __reduce__(self) -> Tuple[Type[NoRace], Tuple[str, str]]:
+        return type(self), (self.reason, self.line)
+
+
 class Refused(BearoffError):
     """The library gave no answer. `status` is the number that it gave instead, as in ``bearoff.h``.
 
