@@ -92,6 +92,8 @@ export type RefusalCode =
     | "no-module"
     /** The module was stopped by the machine that runs it, and this database answers nothing more. */
     | "trapped"
+    /** A text is no bearoff race: a `NoRaceError` of `bearoff/notation`. */
+    | "malformed" | "bar" | "outside" | "contact" | "other-side"
     /** The module says what no caller of this package can bring about. */
     | "changed"
     | "short"
