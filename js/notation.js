@@ -92,7 +92,8 @@ export function fromXgid(text) {
     FIELDS.forEach(([name, pattern], place) => {
         if (!pattern.test(fields[place])) refuse("malformed", `${name} of the XGID can't be ${fields[place] || "empty"}`, text);
     });
-    const [, , turn, dice, , , crawford, length] = fields;
+    const [, , turn, dice, one, other, crawford, length] = fields;
+    checkMatch("XGID", Number(length), [Number(one), Number(other)], text);
     if (Number(length) > 0 && Number(crawford) > 1) {
         refuse("malformed", `Crawford and Jacoby of the XGID can't be ${crawford} in a match`, text);
     }
@@ -112,6 +113,11 @@ const LABELLED = whole(
     `(?:GNU Backgammon${GAP}+)?Position ID${GAP}*:${GAP}*${PART}(?:${GAP}+Match ID${GAP}*:${GAP}*${PART})?`);
 const PLAIN = whole(`${PART}(?:(?::|${GAP}+)${PART})?`);
 
+// The parts of a Match ID that are read, each by its first bit and how many it has: the player on roll, whether it is the
+// Crawford game, the state of the game, the player who has to move, whether a double is offered, and a resignation, the
+// dice, the match length and the scores.
+const MATCH = [[6, 1], [7, 1], [8, 3], [11, 1], [12, 1], [13, 2], [15, 3], [18, 3], [21, 15], [36, 15], [51, 15]];
+
 export function fromGnubg(text) {
     const bare = bareOf(text);
     const told = LABELLED.exec(bare) ?? PLAIN.exec(bare);
@@ -121,15 +127,29 @@ export function fromGnubg(text) {
     if (match === undefined) return raceOf(mine, theirs, [0, 0], null, text);
     const bits = bitsOf(match, 12, "a Match ID", text);
     const number = (first, count) => bits.slice(first, first + count).reduceRight((all, bit) => 2 * all + bit, 0);
-    const [onRoll, doubled, one, other] = [number(6, 1), number(12, 1), number(15, 3), number(18, 3)];
-    if (number(8, 3) !== 1) refuse("malformed", "by the Match ID no game is being played", text);
+    const [onRoll, crawford, state, turn, doubled, resigned, one, other, length, ...scores] = MATCH.map((part) => number(...part));
+    checkMatch("Match ID", length, scores, text);
+    if (crawford === 1 && length === 0) refuse("malformed", "by the Match ID it is the Crawford game of no match", text);
+    if (state !== 1) refuse("malformed", "by the Match ID no game is being played", text);
     if (one > 6 || other > 6 || (one === 0) !== (other === 0) || (doubled === 1 && one > 0)) {
         refuse("malformed", `the dice of the Match ID can't be ${one} and ${other}${doubled ? " at a double" : ""}`, text);
     }
-    if (number(11, 1) !== (onRoll ^ doubled) && number(13, 2) === 0) {
+    if (turn !== (onRoll ^ doubled) && (doubled === 1 || resigned === 0)) {
         refuse("malformed", "the Match ID has one player on roll and lets the other one move", text);
     }
     return raceOf(mine, theirs, [one, other], onRoll ? "bottom" : "top", text);
+}
+
+const LONGEST_MATCH = 64;
+
+// Refuses a match that isn't played on. A length of 0 is no match.
+function checkMatch(what, length, scores, text) {
+    if (length > LONGEST_MATCH) refuse("malformed", `the match length of the ${what} can't be ${length}`, text);
+    for (const score of scores) {
+        if (length > 0 && score >= length) {
+            refuse("malformed", `a score of the ${what} can't be ${score} in a match to ${length}`, text);
+        }
+    }
 }
 
 // The player on roll and the other one, of a Position ID: for each point of the other player, and then of the one on roll,

@@ -105,7 +105,8 @@ def from_xgid(text: str) -> Race:
     for (name, pattern), field in zip(_FIELDS, fields):
         if not re.fullmatch(pattern, field):
             _refuse("malformed", f"{name} of the XGID can't be {field or 'empty'}", text)
-    _, _, turn, dice, _, _, crawford, length, _ = fields
+    _, _, turn, dice, one, other, crawford, length, _ = fields
+    _match("XGID", int(length), (int(one), int(other)), text)
     if int(length) > 0 and int(crawford) > 1:
         _refuse("malformed", f"Crawford and Jacoby of the XGID can't be {crawford} in a match", text)
     if dice in ("B", "R"):
@@ -125,6 +126,12 @@ _LABELLED = re.compile(
 _PLAIN = re.compile(rf"([^:{_SPACE}]+)(?:(?::|{_GAP}+)([^:{_SPACE}]+))?")
 
 
+# the parts of a Match ID that are read, each by its first bit and how many it has: the player on roll, whether it is the
+# Crawford game, the state of the game, the player who has to move, whether a double is offered, and a resignation, the
+# dice, the match length and the scores
+_MATCH = ((6, 1), (7, 1), (8, 3), (11, 1), (12, 1), (13, 2), (15, 3), (18, 3), (21, 15), (36, 15), (51, 15))
+
+
 def from_gnubg(text: str) -> Race:
     """The race of a Position ID, alone or with a Match ID behind a colon or a space, or both as GNU Backgammon prints
     them above its board. The Position ID is seen by the player on roll.
@@ -135,38 +142,52 @@ def from_gnubg(text: str) -> Race:
     mine, theirs = _sides_of(told[1][:-2] if told[1].endswith("==") else told[1], text)
     if not told[2]:
         return _race(mine, theirs, (0, 0), None, text)
-    bits = _bits(told[2], 12, "a Match ID", text)
-    on_roll, state, turn, doubled, resigned, one, other = (
-        sum(bits[first + place] << place for place in range(count))
-        for first, count in ((6, 1), (8, 3), (11, 1), (12, 1), (13, 2), (15, 3), (18, 3))
+    bits = _number(told[2], 12, "a Match ID", text)
+    on_roll, crawford, state, turn, doubled, resigned, one, other, length, *scores = (
+        bits >> first & (1 << count) - 1 for first, count in _MATCH
     )
+    _match("Match ID", length, scores, text)
+    if crawford and not length:
+        _refuse("malformed", "by the Match ID it is the Crawford game of no match", text)
     if state != 1:
         _refuse("malformed", "by the Match ID no game is being played", text)
     if one > 6 or other > 6 or (one == 0) != (other == 0) or (doubled and one):
         _refuse("malformed", f"the dice of the Match ID can't be {one} and {other}{' at a double' * doubled}", text)
-    if turn != on_roll ^ doubled and not resigned:
+    if turn != on_roll ^ doubled and (doubled or not resigned):
         _refuse("malformed", "the Match ID has one player on roll and lets the other one move", text)
     return _race(mine, theirs, (one, other), "bottom" if on_roll else "top", text)
+
+
+_LONGEST_MATCH = 64
+
+
+def _match(what: str, length: int, scores: Sequence[int], text: str) -> None:
+    """Refuses a match that isn't played on. A length of 0 is no match."""
+    if length > _LONGEST_MATCH:
+        _refuse("malformed", f"the match length of the {what} can't be {length}", text)
+    for score in scores:
+        if 0 < length <= score:
+            _refuse("malformed", f"a score of the {what} can't be {score} in a match to {length}", text)
 
 
 def _sides_of(position: str, text: str) -> Tuple[_Side, _Side]:
     """The player on roll and the other one, of a Position ID: for each point of the other player, and then of the
     one on roll, as many ones as checkers and a zero, the bars last.
     """
-    bits = _bits(position, 14, "a Position ID", text)
-    counts = [len(ones) for ones in "".join(map(str, bits)).split("0")]
+    bits = format(_number(position, 14, "a Position ID", text), "080b")[::-1]
+    counts = [len(ones) for ones in bits.split("0")]
     if position[-1] not in "AQgw" or len(counts) <= 50 or any(counts[50:]):
         _refuse("malformed", "the bits of the Position ID don't end with the 50th point", text)
     return counts[25:50], counts[:25]
 
 
-def _bits(part: str, length: int, what: str, text: str) -> List[int]:
+def _number(part: str, length: int, what: str, text: str) -> int:
+    """The bits of a part, the first one the lowest."""
     if len(part) != length:
         _refuse("malformed", f"{what} has {length} characters, and this one {len(part)}", text)
     if not re.fullmatch("[A-Za-z0-9+/]+", part):
         _refuse("malformed", f"{what} has a character that is none of A to Z, a to z, 0 to 9, + and /", text)
-    content = base64.b64decode(part + "=" * (-length % 4))
-    return [byte >> place & 1 for byte in content for place in range(8)]
+    return int.from_bytes(base64.b64decode(part + "=" * (-length % 4)), "little")
 
 
 _COUNT = "(?:0|[1-9][0-9]*)"
