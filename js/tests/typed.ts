@@ -1,6 +1,8 @@
 // What the types let through, and what they refuse: a line below @ts-expect-error that compiles is an error.
 import { asDoubles, asNumber, Bearoff, BearoffError, DamagedError, loadModule } from "bearoff";
 import type { Choice, Counts, Fraction, Play, Position, Roll, Rounded } from "bearoff";
+import { fromGnubg, fromXgid, NoRaceError, read, toGnubg, toXgid } from "bearoff/notation";
+import type { GivenRace, NoRaceCode, OnRoll, Race } from "bearoff/notation";
 
 declare const console: { log(text: string): void };
 
@@ -18,13 +20,25 @@ const doubles: Float64Array = asDoubles(halves);
 const texts: string[] = play.moves.map(({ from, to }) => `${from}/${to}`);
 const again: Bearoff = await Bearoff.open(database.upgrade(), { module: await loadModule() });
 
+const race: Race = read("xwQAgHY8AAAAAA:MAEFAAAAAAAE");
+const given: GivenRace = { mine: race.mine, theirs: new Uint8Array(6), dice: [1, 2] };
+const onRoll: OnRoll | null = fromXgid(toXgid(race)).onRoll;
+const notations: string[] = [toXgid(race), toGnubg(given), onRoll ?? "", fromGnubg(toGnubg(race)).dice?.join("") ?? ""];
+const pips: number = database.standing(race.mine).pips;
+
 function named(error: unknown): string {
+    if (error instanceof NoRaceError) {
+        const code: NoRaceCode = error.code;
+        return code;
+    }
     if (error instanceof DamagedError) return `${error.code} ${error.fault} ${error.line}`;
     return error instanceof BearoffError ? error.code : "another";
 }
 
 const refused: string = await Bearoff.open(new ArrayBuffer(3)).then(() => "none", named);
-const told = [exact, mean.denominator, texts.join(" "), first?.to.join(), loss.numerator, counts.join(), doubles[1]?.toFixed(3), again.version,
+const refusal: string = await Promise.resolve("").then(read).then(() => "none", named);
+const told = [notations.join(" "), pips, refusal,
+    exact, mean.denominator, texts.join(" "), first?.to.join(), loss.numerator, counts.join(), doubles[1]?.toFixed(3), again.version,
     again.wastage(six).thousandths, asNumber(again.distribution(six)[1]!).toFixed(2), refused];
 console.log(told.join("; "));
 
@@ -52,6 +66,14 @@ export async function wrong(): Promise<void> {
     database.position("1");
     // @ts-expect-error a line that is none
     database.answer(["mean 0,0,0,0,0,1"]);
+    // @ts-expect-error counts that are no text
+    read([0, 0, 0, 0, 0, 1]);
+    // @ts-expect-error what the other player has is null in what six counts tell
+    database.mean(race.theirs);
+    // @ts-expect-error nobody is on roll there
+    toXgid({ mine: six, theirs: six, onRoll: "left" });
+    // @ts-expect-error the dice are a text
+    toGnubg({ mine: six, theirs: six, dice: "21" });
     // @ts-expect-error a path
     await Bearoff.open("race.db");
     // @ts-expect-error a bound that is a text
