@@ -1,5 +1,5 @@
-// Positions as players have them: XGIDs, the IDs of GNU Backgammon, and six counts in any usual spelling. What each call
-// takes and answers stands in notation.d.ts. Nothing here needs the WebAssembly module.
+// Positions as players have them: XGIDs, the IDs of GNU Backgammon, and six counts in any usual spelling. What each
+// call takes and answers stands in notation.d.ts. Nothing here needs the WebAssembly module.
 import { readPosition, readRoll } from "./checks.js";
 import { BearoffError } from "./errors.js";
 
@@ -90,7 +90,8 @@ export function fromXgid(text) {
         refuse("malformed", "a bar of the XGID has a checker of the player whose bar it isn't", text);
     }
     FIELDS.forEach(([name, pattern], place) => {
-        if (!pattern.test(fields[place])) refuse("malformed", `${name} of the XGID can't be ${fields[place] || "empty"}`, text);
+        if (pattern.test(fields[place])) return;
+        refuse("malformed", `${name} of the XGID can't be ${fields[place] || "empty"}`, text);
     });
     const [, , turn, dice, one, other, crawford, length] = fields;
     checkMatch("XGID", Number(length), [Number(one), Number(other)], text);
@@ -113,9 +114,9 @@ const LABELLED = whole(
     `(?:GNU Backgammon${GAP}+)?Position ID${GAP}*:${GAP}*${PART}(?:${GAP}+Match ID${GAP}*:${GAP}*${PART})?`);
 const PLAIN = whole(`${PART}(?:(?::|${GAP}+)${PART})?`);
 
-// The parts of a Match ID that are read, each by its first bit and how many it has: the player on roll, whether it is the
-// Crawford game, the state of the game, the player who has to move, whether a double is offered, and a resignation, the
-// dice, the match length and the scores.
+// The parts of a Match ID that are read, each by its first bit and how many it has: the player on roll, whether it is
+// the Crawford game, the state of the game, the player who has to move, whether a double is offered, and a resignation,
+// the dice, the match length and the scores.
 const MATCH = [[6, 1], [7, 1], [8, 3], [11, 1], [12, 1], [13, 2], [15, 3], [18, 3], [21, 15], [36, 15], [51, 15]];
 
 export function fromGnubg(text) {
@@ -127,12 +128,16 @@ export function fromGnubg(text) {
     if (match === undefined) return raceOf(mine, theirs, [0, 0], null, text);
     const bits = bitsOf(match, 12, "a Match ID", text);
     const number = (first, count) => bits.slice(first, first + count).reduceRight((all, bit) => 2 * all + bit, 0);
-    const [onRoll, crawford, state, turn, doubled, resigned, one, other, length, ...scores] = MATCH.map((part) => number(...part));
+    const numbers = MATCH.map((part) => number(...part));
+    const [onRoll, crawford, state, turn, doubled, resigned, one, other, length, ...scores] = numbers;
     checkMatch("Match ID", length, scores, text);
-    if (crawford === 1 && length === 0) refuse("malformed", "by the Match ID it is the Crawford game of no match", text);
+    if (crawford === 1 && length === 0) {
+        refuse("malformed", "by the Match ID it is the Crawford game of no match", text);
+    }
     if (state !== 1) refuse("malformed", "by the Match ID no game is being played", text);
     if (one > 6 || other > 6 || (one === 0) !== (other === 0) || (doubled === 1 && one > 0)) {
-        refuse("malformed", `the dice of the Match ID can't be ${one} and ${other}${doubled ? " at a double" : ""}`, text);
+        const when = doubled === 1 ? " at a double" : "";
+        refuse("malformed", `the dice of the Match ID can't be ${one} and ${other}${when}`, text);
     }
     if (turn !== (onRoll ^ doubled) && (doubled === 1 || resigned === 0)) {
         refuse("malformed", "the Match ID has one player on roll and lets the other one move", text);
@@ -152,8 +157,8 @@ function checkMatch(what, length, scores, text) {
     }
 }
 
-// The player on roll and the other one, of a Position ID: for each point of the other player, and then of the one on roll,
-// as many ones as checkers and a zero, the bars last.
+// The player on roll and the other one, of a Position ID: for each point of the other player, and then of the one on
+// roll, as many ones as checkers and a zero, the bars last.
 function sidesOf(position, text) {
     const bits = bitsOf(position, 14, "a Position ID", text);
     const counts = bits.join("").split("0").map((ones) => ones.length);
@@ -167,7 +172,8 @@ const BASE64 = "ABCDEFGHIJKLMNOPQRSTUVWXYZabcdefghijklmnopqrstuvwxyz0123456789+/
 
 // The bits of a part, of each byte the lowest first.
 function bitsOf(part, length, what, text) {
-    if (lengthOf(part) !== length) refuse("malformed", `${what} has ${length} characters, and this one ${lengthOf(part)}`, text);
+    const is = lengthOf(part);
+    if (is !== length) refuse("malformed", `${what} has ${length} characters, and this one ${is}`, text);
     const high = [];
     for (const letter of part) {
         const value = BASE64.indexOf(letter);
@@ -176,7 +182,7 @@ function bitsOf(part, length, what, text) {
         }
         for (let place = 5; place >= 0; place--) high.push((value >> place) & 1);
     }
-    return high.slice(0, high.length - (high.length % 8)).map((_, place) => high[place - (place % 8) + 7 - (place % 8)]);
+    return turnBytes(high.slice(0, high.length - (high.length % 8)));
 }
 
 const COUNT = "(?:0|[1-9][0-9]*)";
@@ -195,8 +201,8 @@ function fromCounts(text) {
     return raceOf([...counts, ...Array(19).fill(0)], null, [0, 0], null, text);
 }
 
-// The race of two sides, or its refusal. Each side has 25 counts, that of its own point 1 first and the bar last. The dice
-// are zeros where they aren't told.
+// The race of two sides, or its refusal. Each side has 25 counts, that of its own point 1 first and the bar last. The
+// dice are zeros where they aren't told.
 function raceOf(mine, theirs, dice, onRoll, text) {
     const sides = theirs ? [[ME, mine], [OTHER, theirs]] : [[ME, mine]];
     for (const [who, side] of sides) {
@@ -254,7 +260,8 @@ export function toXgid(race) {
 
 export function toGnubg(race) {
     const { mine, theirs, dice, onRoll } = toldBy(race);
-    const ones = [theirs, mine].flatMap((side) => [...side, ...Array(19).fill(0)].map((count) => `${"1".repeat(count)}0`)).join("");
+    const counts = [theirs, mine].flatMap((side) => [...side, ...Array(19).fill(0)]);
+    const ones = counts.map((count) => `${"1".repeat(count)}0`).join("");
     const position = base64([...ones.padEnd(80, "0")].map(Number));
     if (dice[0] === 0 && onRoll === null) return position;
     const player = onRoll === "top" ? 0 : 1;
@@ -272,12 +279,19 @@ export function toGnubg(race) {
     return `${position}:${base64(match)}`;
 }
 
+// The bits of whole bytes, of each byte in the other order.
+function turnBytes(bits) {
+    return bits.map((_, place) => bits[place + 7 - 2 * (place % 8)]);
+}
+
 // The text of whole bytes, of each byte the lowest bit first.
 function base64(bits) {
-    const high = bits.map((_, place) => bits[place - (place % 8) + 7 - (place % 8)]);
+    const high = turnBytes(bits);
     while (high.length % 6 > 0) high.push(0);
     let text = "";
-    for (let place = 0; place < high.length; place += 6) text += BASE64[parseInt(high.slice(place, place + 6).join(""), 2)];
+    for (let place = 0; place < high.length; place += 6) {
+        text += BASE64[parseInt(high.slice(place, place + 6).join(""), 2)];
+    }
     return text;
 }
 

@@ -37,12 +37,15 @@ function compareTexts() {
             wrong(`${text} is read as ${JSON.stringify(read(text))}`);
         } catch (error) {
             if (!(error instanceof NoRaceError && error instanceof BearoffError)) throw error;
-            same(`the refusal of ${text}`, [error.code, error.message, error.status, error.name], [code, line, 0, "NoRaceError"]);
+            const is = [error.code, error.message, error.status, error.name];
+            same(`the refusal of ${text}`, is, [code, line, 0, "NoRaceError"]);
             seen.add(error.code);
         }
     }
     same("the codes", [...seen].sort(), [...CODES].sort());
-    for (const text of ["xwQAgHY8AAAAAA", "xwQAgHY8AAAAAA:cAkFAAAAAAAE", "1,2,3,0,0,4", ""]) equal(`fromXgid ${text}`, outcome(fromXgid, text), "malformed");
+    for (const text of ["xwQAgHY8AAAAAA", "xwQAgHY8AAAAAA:cAkFAAAAAAAE", "1,2,3,0,0,4", ""]) {
+        equal(`fromXgid ${text}`, outcome(fromXgid, text), "malformed");
+    }
     for (const text of ["XGID=-ABC--D------------a-b--c-:0:0:1:21:0:0:0:0:10", "1,2,3,0,0,4", ""]) {
         equal(`fromGnubg ${text}`, outcome(fromGnubg, text), "malformed");
     }
@@ -74,7 +77,8 @@ function readAnyText() {
     }
     const many = 10 ** 6;
     const space = " ".repeat(many);
-    for (const text of [":".repeat(many), `${space}x${space}y`, "1,".repeat(many), "A".repeat(many), `1${space}x`, "9".repeat(many)]) {
+    const repeated = [":", "1,", "A", "9"].map((part) => part.repeat(many));
+    for (const text of [...repeated, `${space}x${space}y`, `1${space}x`]) {
         equal("a long text", outcome(read, text), "malformed");
         refusedWhole(read, text);
     }
@@ -110,8 +114,8 @@ function compareWritten() {
         [{ mine: SIX, theirs: SIX, dice: [7, 1] }, "malformed"], [{ mine: SIX, theirs: SIX, onRoll: "left" }, "malformed"],
         [{ mine: SIX, theirs: SIX, dice: [1, 2, 3] }, "TypeError"], [{ mine: SIX, theirs: SIX, dice: "21" }, "TypeError"],
         [{ mine: [0, 0, 0, 1], theirs: SIX }, "TypeError"], [{ mine: SIX, theirs: "000001" }, "TypeError"],
-        [{ mine: [0, 0, 0, 0, 0, 1.5], theirs: SIX }, "RangeError"], [{ theirs: SIX }, "TypeError"], [{}, "other-side"], [null, "TypeError"],
-        [undefined, "TypeError"], ["XGID", "TypeError"],
+        [{ mine: [0, 0, 0, 0, 0, 1.5], theirs: SIX }, "RangeError"], [{ theirs: SIX }, "TypeError"], [{}, "other-side"],
+        [null, "TypeError"], [undefined, "TypeError"], ["XGID", "TypeError"],
     ]) {
         for (const call of [toXgid, toGnubg]) equal(`${call.name} of ${JSON.stringify(race)}`, outcome(call, race), code);
     }
@@ -139,18 +143,22 @@ function compareWithGnubg() {
     equal("the races", told.races.length, 4000);
     for (const bottom of [true, false]) {
         for (const thrown of [true, false]) {
-            equal("races of a kind", told.races.filter((race) => race.bottom === bottom && race.dice[0] > 0 === thrown).length, 1000);
+            const kind = told.races.filter((race) => race.bottom === bottom && race.dice[0] > 0 === thrown);
+            equal("races of a kind", kind.length, 1000);
         }
     }
     for (const said of told.races) {
-        const race = raceOf(said.mine, said.theirs, said.dice[0] > 0 ? said.dice : null, said.bottom ? "bottom" : "top");
+        const dice = said.dice[0] > 0 ? said.dice : null;
+        const race = raceOf(said.mine, said.theirs, dice, said.bottom ? "bottom" : "top");
         const ids = `${said.position}:${said.match}`;
         // what GNU Backgammon says that it was told is what it was told
-        same(`GNU Backgammon on ${ids}`, [saying(said.says), saying(said.xgid_says), said.says.turn], [saidOf(race), saidOf(race), Number(said.bottom)]);
+        const is = [saying(said.says), saying(said.xgid_says), said.says.turn];
+        same(`GNU Backgammon on ${ids}`, is, [saidOf(race), saidOf(race), Number(said.bottom)]);
         same(ids, outcome(fromGnubg, ids), race);
         same(said.xgid, outcome(fromXgid, said.xgid), race);
         same(said.position, outcome(fromGnubg, said.position), raceOf(race.mine, race.theirs, null, null));
-        same("written", [toGnubg(race), toXgid(race), toGnubg({ mine: race.mine, theirs: race.theirs })], [ids, said.xgid, said.position]);
+        const written = [toGnubg(race), toXgid(race), toGnubg({ mine: race.mine, theirs: race.theirs })];
+        same("what is written", written, [ids, said.xgid, said.position]);
     }
     for (const said of told.forms) {
         const race = outcome(read, said.text);

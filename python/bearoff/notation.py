@@ -68,7 +68,8 @@ def read(text: str) -> Race:
         return _from_counts(text)
     if re.search(r"Position ID|^[A-Za-z0-9+/]{10,18}(?:[:=]|$|" + _GAP + ")", bare):
         return from_gnubg(text)
-    _refuse("malformed", "neither an XGID, an ID of GNU Backgammon nor six counts" if bare else "there is no text", text)
+    what = "neither an XGID, an ID of GNU Backgammon nor six counts" if bare else "there is no text"
+    _refuse("malformed", what, text)
 
 
 # the fields of an XGID behind the board: what each is called, and what it can be
@@ -126,9 +127,9 @@ _LABELLED = re.compile(
 _PLAIN = re.compile(rf"([^:{_SPACE}]+)(?:(?::|{_GAP}+)([^:{_SPACE}]+))?")
 
 
-# the parts of a Match ID that are read, each by its first bit and how many it has: the player on roll, whether it is the
-# Crawford game, the state of the game, the player who has to move, whether a double is offered, and a resignation, the
-# dice, the match length and the scores
+# the parts of a Match ID that are read, each by its first bit and how many it has: the player on roll, whether it is
+# the Crawford game, the state of the game, the player who has to move, whether a double is offered, and a resignation,
+# the dice, the match length and the scores
 _MATCH = ((6, 1), (7, 1), (8, 3), (11, 1), (12, 1), (13, 2), (15, 3), (18, 3), (21, 15), (36, 15), (51, 15))
 
 

@@ -4,10 +4,12 @@ BEAROFF_GNUBG names a file that tools/callers/ask_gnubg.py has written; without 
 and leaves the comparison out where there is none.
 """
 
+import doctest
 import json
 import os
 import pickle
 import random
+import re
 import subprocess
 import sys
 import tempfile
@@ -16,7 +18,7 @@ from functools import lru_cache
 from pathlib import Path
 from typing import Any, Dict, List, Optional, Tuple
 
-from bearoff import BadArgument, BearoffError, NoRace, Position
+from bearoff import BadArgument, BearoffError, NoRace, Position, notation
 from bearoff.notation import REASONS, OnRoll, Race, from_gnubg, from_xgid, read, to_gnubg, to_xgid
 
 ROOT = Path(__file__).parents[2]
@@ -42,8 +44,8 @@ def gnubg() -> Dict[str, List[Said]]:
 
 
 def race_of(mine: List[int], theirs: Optional[List[int]], dice: Optional[List[int]], on_roll: Optional[OnRoll]) -> Race:
-    one_of = Position._make
-    return Race(one_of(mine), None if theirs is None else one_of(theirs), None if dice is None else (dice[0], dice[1]), on_roll)
+    other = None if theirs is None else Position._make(theirs)
+    return Race(Position._make(mine), other, None if dice is None else (dice[0], dice[1]), on_roll)
 
 
 def home(counts: Position) -> List[int]:
@@ -110,7 +112,9 @@ class Texts(unittest.TestCase):
                     call(text)
                 except NoRace as refused:
                     self.assertTrue(str(refused).isprintable())
-        for long in (":" * 10**6, " " * 10**6 + "x" + " " * 10**6 + "y", "1," * 10**6, "A" * 10**6, "1" + " " * 10**6 + "x", "9" * 10**6):
+        many, space = 10**6, " " * 10**6
+        repeated = [part * many for part in (":", "1,", "A", "9")]
+        for long in (*repeated, f"{space}x{space}y", f"1{space}x"):
             with self.assertRaises(NoRace) as error:
                 read(long)
             self.assertLess(len(str(error.exception)), 300)
@@ -126,6 +130,16 @@ class Texts(unittest.TestCase):
             check=True,
         )
         self.assertEqual(run.stdout, "XGID=-C--B-A------------d--cba-:0:0:-1:21:0:0:0:0:10\n")
+
+
+class Examples(unittest.TestCase):
+    def test_page(self) -> None:
+        """The example of docs/embedding.md, and that of the module, print what stands there."""
+        page = (ROOT / "docs/embedding.md").read_text("utf-8")
+        for text in (*re.findall(r"(?ms)^```pycon\n(.*?)^```$", page), notation.__doc__ or ""):
+            test = doctest.DocTestParser().get_doctest(text, {}, "example", None, None)
+            self.assertGreater(len(test.examples), 1)
+            self.assertEqual(doctest.DocTestRunner().run(test).failed, 0)
 
 
 class Written(unittest.TestCase):
@@ -184,7 +198,8 @@ class AgainstGnubg(unittest.TestCase):
         races = gnubg()["races"]
         self.assertEqual(len(races), 4000)
         kinds = [(race["bottom"], race["dice"] != [0, 0]) for race in races]
-        self.assertEqual([kinds.count((bottom, thrown)) for bottom in (True, False) for thrown in (True, False)], [1000] * 4)
+        for kind in ((True, True), (True, False), (False, True), (False, False)):
+            self.assertEqual(kinds.count(kind), 1000)
         for said in races:
             dice = said["dice"] if said["dice"] != [0, 0] else None
             race = race_of(said["mine"], said["theirs"], dice, "bottom" if said["bottom"] else "top")

@@ -54,7 +54,10 @@ def forms(board, position):
     ):
         yield f"XGID={board}:{rest}"
         yield f"{board}:{rest}"
-    for match in ("cAkAAAAAAAAA", "MAEAAAAAAAAA", "cAkFAAAAAAAE", "MIEFAAAAAAAA", "QQnlADAAEAAE", "UQnlADAAEAAE", "MBkAAAAAAAAE", "cBEAAAAAAAAE"):
+    for match in (
+        "cAkAAAAAAAAA", "MAEAAAAAAAAA", "cAkFAAAAAAAE", "MIEFAAAAAAAA", "QQnlADAAEAAE", "UQnlADAAEAAE", "MBkAAAAAAAAE",
+        "cBEAAAAAAAAE",
+    ):
         yield f"{position}:{match}"
         yield f"{position}==:{match}"
         yield f"{position} {match}"
@@ -64,8 +67,10 @@ def ask(file):
     """Runs in GNU Backgammon's own Python."""
     import gnubg
 
-    for words in ("automatic roll off", "automatic game off", "display off", "confirm new off", "player 0 human", "player 1 human"):
+    for words in ("automatic roll off", "automatic game off", "display off", "confirm new off"):
         gnubg.command(f"set {words}")
+    for player in (0, 1):
+        gnubg.command(f"set player {player} human")
     gnubg.command("new game")
 
     def began():
@@ -101,12 +106,14 @@ def ask(file):
                 if dice[0]:
                     gnubg.command("set dice {} {}".format(*dice))
                 race = {"mine": mine, "theirs": theirs, "dice": dice, "bottom": is_bottom, "says": says(),
-                        "position": gnubg.positionid(), "match": gnubg.matchid(), "xgid": xgid(mine, theirs, dice, is_bottom)}
+                        "position": gnubg.positionid(), "match": gnubg.matchid()}
+                race["xgid"] = xgid(mine, theirs, dice, is_bottom)
                 race["xgid_says"] = read(race["xgid"])
                 races.append(race)
                 texts.append((race["xgid"], f"{race['position']}:{race['match']}"))
     sample = chance.sample(texts, SAMPLE)
-    changed = [*changed_once(chance, [text for text, _ in sample], 1), *changed_once(chance, [text for _, text in sample], 2)]
+    xgids, ids = zip(*sample)
+    changed = [*changed_once(chance, xgids, 1), *changed_once(chance, ids, 2)]
     told = {
         "races": races,
         "changed": [{"text": text, "says": read(text)} for text in changed],
@@ -125,7 +132,8 @@ def main(file):
         run = subprocess.run([program, "-t", "-q", "-r", "-p", os.path.abspath(__file__)], env=environment,
                              stdin=subprocess.DEVNULL, stdout=subprocess.PIPE, stderr=subprocess.STDOUT)
     if not os.path.exists(file):
-        sys.exit("ask_gnubg: GNU Backgammon ended before it had said all: " + run.stdout.decode(errors="replace")[-1000:])
+        said = run.stdout.decode(errors="replace")[-1000:]
+        sys.exit(f"ask_gnubg: GNU Backgammon ended before it had said all: {said}")
 
 
 if "ASK_GNUBG" in os.environ:
