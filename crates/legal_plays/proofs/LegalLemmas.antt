@@ -102,7 +102,7 @@ length-step x d s y (move_down below there is) =
 length-step x d s y (from_highest empty top is) = ap length is ∙ length-fewer x s
 
 -- and so does a run
-length-run : (x : Board) (dice : List Die) (y : Board) → Run x dice y → length y ≡ length x
+pub length-run : (x : Board) (dice : List Die) (y : Board) → Run x dice y → length y ≡ length x
 length-run x [] y run = ap length run
 length-run x (d ∷ dice) y run = elim run [
   | inl end ↦ ap length end.1

@@ -5,5 +5,6 @@ pub mod PlayToLemmas
 pub mod RankLemmas
 pub mod ReachLemmas
 pub mod RollLemmas
+pub mod SourceLemmas
 pub mod StepLemmas
 pub mod TextLemmas

@@ -1,19 +1,22 @@
--- Lists that ascend by a comparison: where an element belongs, and what its insertion leaves.
-use Rattle.std.proofs.Common.{◌≡◌, ℕ, ◌+◌, ◌-◌, ◌<◌, ◌≤◌, List, [], ◌∷◌, ◌++◌, length, get_or, ◌⊎◌}
+-- Lists that ascend by a comparison: where an element belongs, what its insertion leaves, and how
+-- long they can be.
+use Rattle.std.proofs.Common.{◌≡◌, ℕ, suc, ◌+◌, ◌-◌, ◌<◌, ◌≤◌, List, [], ◌∷◌, ◌++◌, length, get_or, ◌⊎◌}
 use Rattle.std.proofs.Common.{inl, inr, ◌↔◌, Contains, AllPairs, refl, sym, ◌∙◌, ap, subst, arith}
 use Rattle.std.proofs.Common.{eq-or-lt_of_le}
 use Rattle.std.specs.declared.cmp.Ordering.{Ordering}
 use Rattle.std.specs.declared.cmp.Ordering.TheVariants.{Less, Equal, Greater}
 use Rattle.std.specs.Ordering.{ordering_index, ordering_reverse}
 use Rattle.std.specs.Cmp.{IsTotalOrder}
-use Rattle.std.specs.List.{insert, AllWithin}
+use Rattle.std.specs.List.{insert, remove, AllWithin}
 use Rattle.std.specs.List.Sorted.{IsNonDecreasingBy, IsPermutation}
 use Rattle.std.proofs.lemmas.Bool.{cases_lt}
 use Rattle.std.proofs.lemmas.List.Edits.{length-insert, get_or-insert_below, get_or-insert_at, get_or-insert_above}
+use Rattle.std.proofs.lemmas.List.Edits.{length-remove}
 use Rattle.std.proofs.lemmas.List.Elements.{Contains-append_left, Contains-push, Contains-push_cases}
-use Rattle.std.proofs.lemmas.List.Sorted.{IsPermutation-insert, IsPermutation-to_front}
+use Rattle.std.proofs.lemmas.List.Sorted.{IsPermutation-insert, IsPermutation-remove, IsPermutation-to_front}
 use Rattle.std.proofs.lemmas.List.Sorted.{IsPermutation-trans, IsPermutation-sym}
 use Rattle.std.proofs.lemmas.List.Sorted.{Contains-permutation}
+use Rattle.std.proofs.lemmas.Map.Made.{Contains-tail}
 
 -- what is inserted is the one new element
 pub Contains-insert : {X : Type 0} (xs : List X) (i : ℕ) (y z : X) →
@@ -118,3 +121,44 @@ rising {X} {R} o xs y ascending i j d le inside =
     step a b Greater Equal p q h =
         absurd (let e = o.congr b y a q in let f = o.antisymm y a in let g = o.antisymm b a in cc)
     step a b Greater Greater p q h = omega arith
+
+-- an ascending list whose elements have keys is no longer than the list of the keys, where no two
+-- elements have one key
+pub length-ascending : {X K : Type 0} {R : X → X → Ordering} → IsTotalOrder R →
+    (Has : X → K → Type 0) → ((x y : X) (k : K) → Has x k → Has y k → x ≡ y) →
+    (xs : List X) (ks : List K) → AllPairs (λ a b. R a b ≡ Less) xs →
+    ((x : X) → Contains xs x → (k : K) × (Contains ks k × Has x k)) → length xs ≤ length ks
+length-ascending o Has one [] ks ascending each = omega arith
+length-ascending {X} {K} {R} o Has one (x ∷ xs) ks ascending each =
+    omega (
+      arith,
+      length-remove ks key.1.0.0 key.1.0.1,
+      length-ascending o Has one xs (remove ks key.1.0.0)
+          (λ i j d before inside. ascending (suc i) (suc j) d (omega arith) (omega arith)) others,
+    )
+  where
+    key : (k : K) × (Contains ks k × Has x k)
+    key = each x (0, omega arith, refl)
+
+    apart : (y : X) → R x y ≡ Less → x ≡ y → ⊥
+    apart y less same =
+        let reversed = o.antisymm x x in
+        let itself : R x x ≡ Less = subst (λ z. R x z ≡ Less) (sym same) less in
+        cc
+
+    others : (y : X) → Contains xs y → (k : K) × (Contains (remove ks key.1.0.0) k × Has y k)
+    others y (j, inside, at) =
+        let other = each y (suc j, omega arith, at) in
+        let later : R x y ≡ Less =
+        subst (λ z. R x z ≡ Less) at (ascending 0 (suc j) y (omega arith) (omega arith)) in
+        let left =
+        Contains-permutation ks (key.0 ∷ remove ks key.1.0.0) other.0
+        (IsPermutation-remove ks key.1.0.0 key.0 key.1.0.1 (sym key.1.0.2)) other.1.0 in (
+          other.0,
+          (
+            Contains-tail key.0 (remove ks key.1.0.0) other.0
+                (λ same.
+                apart y later (one x y other.0 (subst (Has x) same key.1.1) other.1.1)) left,
+            other.1.1,
+          ),
+        )

@@ -31,6 +31,7 @@ fn include_all<const CAP: usize>(found: &mut ArrayVec<Position, CAP>, others: &[
     ensures members { (y : List ℕ) →
         Contains found.new.items y ↔ (Contains found.old.items y ⊎ Contains others.now y) }
     ensures ordered { IsAscending found.new.items }
+    ensures len { array_vec_len found.new ≤ array_vec_len found.old + length others.now }
 {
     for other in others {
         include(found, *other);
@@ -92,12 +93,15 @@ fn after_two<const CAP: usize>(
     after_die(positions.as_slice(), second)
 }
 
-// The positions that a double leads to: the die is played four times.
+// The positions that a double leads to: the die is played four times. There is room for six steps
+// of each die, and never more than 127 positions.
 fn after_four(position: &Position, die: Die) -> ArrayVec<Position, 1296>
     ensures members { (y : List ℕ) →
         Contains result.items y ↔ Run position.now (die ∷ die ∷ die ∷ die ∷ []) y }
     ensures ordered { IsAscending result.items }
+    ensures len { array_vec_len result ≤ 127 }
 {
+    let _checkers = position.checkers();
     let two: ArrayVec<Position, 36> = after_two(position, die, die);
     let three: ArrayVec<Position, 216> = after_die(two.as_slice(), die);
     after_die(three.as_slice(), die)
@@ -105,13 +109,15 @@ fn after_four(position: &Position, die: Die) -> ArrayVec<Position, 1296>
 
 /// The positions that the roll can reach, each once and by rising rank: by its two dice in either
 /// order, or by a double four times (the bearing-off rules of backgammon). There is at least one,
-/// and at most 1,296, since each of four dice has at most six steps. From the finished position it
-/// is the finished position alone.
+/// and at most 127: two different dice have at most 36 in each order, and where a double leads, if
+/// not to the finished position, goes by how often each point was a source of its four moves, for
+/// which there are 126 ways. From the finished position it is the finished position alone.
 pub fn results(position: &Position, roll: Roll) -> ArrayVec<Position, 1296>
     ensures members { (y : List ℕ) → Contains result.items y ↔ Legal position.now roll y }
     ensures ordered { IsInRankOrder result.items }
     ensures ascending { IsAscending result.items }
     ensures some { 0 < array_vec_len result }
+    ensures few { array_vec_len result ≤ 127 }
 {
     let (high, low) = (roll.high(), roll.low());
     if high == low {
