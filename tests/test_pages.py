@@ -1,47 +1,64 @@
-#!/usr/bin/env -S python3 -I
-"""Compares the pages of docs/ with the sources, and fails where one says what the sources don't have:
+"""Compares the pages of docs/ with the sources, and fails where one says what the sources don't
+have:
 
-- docs/definitions.md names each public definition of the specs of each crate once, in the section of that crate,
-  and each law once, and no name that isn't there;
-- each link of a page leads to a file;
-- a clause that stands after a link to a function, as [`check`](../crates/certificate/src/checked.rt) `exactly`,
-  is a clause of that function's contract in that file;
-- an edit that stands after its crates, as `retrograde`: `writes_the_header_alone`, is in must-fail/ of each;
-- docs/laws.md names the lemma modules of each law, and of each lemma module those that it rests on, as the
-  `use` lines have them;
-- docs/laws.md names each lemma module of the other crates once, with what the module's first lines say;
-- docs/crates.md draws each crate in the layer that crates.txt gives it, and its two ways go through crates that are there;
-- README.md has at most 1,200 words, and no sentence of more than eight words stands twice in it and the pages;
-- docs/tour.md quotes the sources: each block of code of theirs stands word for word in the file that the last link
-  to a source above the block leads to;
-- the version in VERSION is that of the program, the header, the manual page, the packages for Python and JavaScript and
-  the newest section of CHANGELOG.md, and the page and the file for pkg-config have the mark where it is filled in;
-- the completions for bash, zsh and fish have the commands of the built program, and of each its options;
-- docs/file-format.md has the sizes, digests, offsets and bytes of files that the built program writes.
-
-Where no program is built, what is compared with it is left out, and said.
-
-With names of crates only these are compared with docs/definitions.md; else all of crates.txt are.
+- docs/definitions.md names each public definition of the specs of each crate once, in the section
+  of that crate, and each law once, and no name that isn't there;
+- each link of a page leads to a file, and each file of tests/, packaging/, tools/ and bench/ that a
+  page, a comment or a script names is there;
+- a clause that stands after a link to a function, as
+  [`check`](../crates/certificate/src/checked.rt) `exactly`, is a clause of that function's contract
+  in that file;
+- an edit that stands after its crates, as `retrograde`: `writes_the_header_alone`, is in must-fail/
+  of each;
+- docs/laws.md names the lemma modules of each law, and of each lemma module those that it rests on,
+  as the `use` lines have them, and each lemma module of the other crates once, with what the
+  module's first lines say;
+- docs/crates.md draws each crate in the layer that crates.txt gives it, and its two ways go through
+  crates that are there;
+- README.md has at most 1,200 words, and no sentence of more than eight words stands twice in it and
+  the pages;
+- docs/tour.md quotes the sources: each block of code of theirs stands word for word in the file
+  that the last link to a source above the block leads to;
+- the version in VERSION is that of the program, the header, the manual page, the packages for
+  Python and JavaScript and the newest section of CHANGELOG.md, and the page and the file for
+  pkg-config have the mark where it is filled in;
+- the completions for bash, zsh and fish have the commands of the built program, and of each its
+  options;
+- docs/file-format.md has the sizes, digests, offsets and bytes of files that the program writes.
 """
 
+import functools
 import hashlib
 import os
 import re
 import subprocess
-import sys
 import tempfile
 
-ROOT = os.path.dirname(os.path.dirname(os.path.abspath(__file__)))
+import pytest
+
+from running import ROOT
+
+# what a comparison has found
 wrong = []
 
 
+def none_wrong(compare, *words):
+    """Fails with all that a comparison has found."""
+    __tracebackhide__ = True
+    wrong.clear()
+    compare(*words)
+    if wrong:
+        pytest.fail("\n".join(wrong), pytrace=False)
+
+
+@functools.cache
 def read(path):
-    with open(os.path.join(ROOT, path), encoding="utf-8") as file:
-        return file.read()
+    return (ROOT / path).read_text(encoding="utf-8")
 
 
 def files(folder, ending):
-    for place, _, names in sorted(os.walk(os.path.join(ROOT, folder))):
+    for place, folders, names in sorted(os.walk(ROOT / folder)):
+        folders[:] = [name for name in folders if name != "out"]
         for name in sorted(names):
             if name.endswith(ending):
                 yield os.path.relpath(os.path.join(place, name), ROOT)
@@ -72,8 +89,9 @@ def laws():
     return found
 
 
-def compare_definitions(page, chosen):
-    """The names in the first column of the tables, by the crate that the section's heading names last."""
+def named_definitions(page):
+    """The names in the first column of the tables, by the crate that the section's heading names
+    last, and those of the laws."""
     crate, section, named, told = None, "", {}, []
     for line in read(page).split("\n"):
         if line.startswith("#"):
@@ -87,17 +105,17 @@ def compare_definitions(page, chosen):
                     told.append(name)
                 elif not section.startswith("## Sanity") and not name.endswith(".antt"):
                     named.setdefault(crate, []).append(name)
-    for crate in chosen:
-        here, names = definitions_of(crate), named.get(crate, [])
-        for name in sorted(set(here) - set(names)):
-            wrong.append(f"{page}: `{name}` of {here[name]} is missing")
-        for name in sorted(set(names) - set(here)):
-            wrong.append(f"{page}: `{name}` is no public definition of {crate}")
-        for name in sorted({name for name in names if names.count(name) > 1}):
-            wrong.append(f"{page}: `{name}` of {crate} is named {names.count(name)} times")
-    for crate in sorted(set(filter(None, named)) - set(crates())):
-        wrong.append(f"{page}: there is no crate {crate}")
-    compare_names(page, "law", told, laws())
+    return named, told
+
+
+def compare_definitions(page, crate):
+    here, names = definitions_of(crate), named_definitions(page)[0].get(crate, [])
+    for name in sorted(set(here) - set(names)):
+        wrong.append(f"{page}: `{name}` of {here[name]} is missing")
+    for name in sorted(set(names) - set(here)):
+        wrong.append(f"{page}: `{name}` is no public definition of {crate}")
+    for name in sorted({name for name in names if names.count(name) > 1}):
+        wrong.append(f"{page}: `{name}` of {crate} is named {names.count(name)} times")
 
 
 def compare_names(page, kind, told, there):
@@ -131,7 +149,7 @@ def compare_links(page):
             if re.match(r"https?:", target):
                 continue
             path = os.path.normpath(os.path.join(os.path.dirname(page), target.split("#")[0]))
-            if not os.path.exists(os.path.join(ROOT, path)):
+            if not (ROOT / path).exists():
                 wrong.append(f"{page}: {target} is not there")
                 continue
             name = re.fullmatch(r"`(?:\w+::)*(\w+)`", label)
@@ -453,31 +471,79 @@ def compare_completions(program):
                              f" {sorted(given.get(name) or [])} and {sorted(wanted.get(name) or [])}")
 
 
-chosen = sys.argv[1:] or crates()
-for crate in chosen:
-    if crate not in crates():
-        sys.exit(f"pages: there is no crate {crate}")
-compare_definitions("docs/definitions.md", chosen)
-compare_laws("docs/laws.md")
-compare_modules("docs/laws.md")
-compare_layers("docs/crates.md")
-compare_edits("docs/promises.md")
-compare_quotes("docs/tour.md")
-for page in ["README.md", *files("docs", ".md")]:
-    compare_links(page)
-compare_sentences(["README.md", *files("docs", ".md")])
-version = read("VERSION").strip()
-compare_version(version)
-program = os.path.join(ROOT, "crates/bearoff_cli/out/bearoff_cli")
-if os.path.exists(program):
-    compare_file_format("docs/file-format.md", program)
-    compare_completions(program)
+def compare_named_files(path):
+    """Each file of a folder of ours that is named is there."""
+    names = re.findall(r"(?<![\w./-])(?:\.\./)?((?:tests|packaging|tools|bench)/[\w./-]*\w)", read(path))
+    for name in sorted(set(names)):
+        if not (ROOT / name).exists():
+            wrong.append(f"{path}: there is no {name}")
+
+
+PAGES = ["README.md", *files("docs", ".md")]
+NAMING = [*PAGES, "bearoff", "Makefile", ".ci/run", "js/README.md",
+          *(path for folder in ("tests", "packaging", "tools", "bench", "python", "js", "web", "c")
+            for path in files(folder, ("", ".py", ".js", ".mjs", ".c", ".h"))
+            if "__pycache__" not in path and "node_modules" not in path),
+          *(path for crate in crates() for path in files(f"crates/{crate}/src", ".rt"))]
+
+
+@pytest.mark.parametrize("crate", crates())
+def test_definitions(crate):
+    none_wrong(compare_definitions, "docs/definitions.md", crate)
+
+
+def test_laws_are_defined():
+    named, told = named_definitions("docs/definitions.md")
+    assert set(filter(None, named)) <= set(crates()), "docs/definitions.md names other crates"
+    none_wrong(compare_names, "docs/definitions.md", "law", told, laws())
+
+
+def test_laws():
+    none_wrong(compare_laws, "docs/laws.md")
+
+
+def test_lemma_modules():
+    none_wrong(compare_modules, "docs/laws.md")
+
+
+def test_layers():
+    none_wrong(compare_layers, "docs/crates.md")
+
+
+def test_edits():
+    none_wrong(compare_edits, "docs/promises.md")
+
+
+def test_quotes():
+    none_wrong(compare_quotes, "docs/tour.md")
+
+
+@pytest.mark.parametrize("page", PAGES)
+def test_links(page):
+    none_wrong(compare_links, page)
+
+
+@pytest.mark.parametrize("path", NAMING)
+def test_named_files(path):
+    none_wrong(compare_named_files, path)
+
+
+def test_sentences():
+    none_wrong(compare_sentences, PAGES)
+
+
+def test_version():
+    none_wrong(compare_version, read("VERSION").strip())
+
+
+def test_version_of_the_program(program):
     told = subprocess.run([program, "--version"], capture_output=True, text=True, check=True).stdout
-    if told.split("\n")[0] != f"bearoff {version}":
-        wrong.append(f"the program says that it is '{told.strip()}', and VERSION {version}")
-else:
-    print("pages: the program is not built, so docs/file-format.md and completions/ are not compared with it")
-for fault in wrong:
-    print(fault)
-print(f"pages: {len(wrong)} wrong" if wrong else "pages: all that they name is there")
-sys.exit(1 if wrong else 0)
+    assert told.split("\n")[0] == f"bearoff {read('VERSION').strip()}"
+
+
+def test_file_format(program):
+    none_wrong(compare_file_format, "docs/file-format.md", program)
+
+
+def test_completions(program):
+    none_wrong(compare_completions, program)

@@ -1,20 +1,15 @@
-#!/usr/bin/env -S python3 -I
-"""Plants wrong bodies that meet every contract, since they only give up, and sees a test refuse each: bodies that
-always answer want of memory, or a fault of a reader or a writer; that give up over some size; that read or flush
-where they need not. Each is planted in a copy of the repository, where the tests of one crate, or one of the short
-trials of failing_calls, run without proof, or where the program itself is made without proof and runs the rows of one
-group of tools/program. Prints a line for each body, and fails where one was not refused. It takes about a minute of a
-processor for a body, and a minute and a half where the program is made; what has to pass is tried first where nothing
-is planted. Each row's line has to stand once in its file, which is seen first, of all rows.
-usage: tools/planted [WORD..]      only the bodies whose names have one of the words
-       tools/planted --gate        the bodies of IN_GATE, one or two for each kind of test, two at a time, without a
-                                   trial where nothing is planted, which other steps of the gate make
-       tools/planted --lines       that each row's line stands once, and no more
-"""
+"""Plants wrong bodies that meet every contract, since they only give up, and sees a test refuse
+each: bodies that always answer want of memory, or a fault of a reader or a writer; that give up
+over some size; that read or flush where they need not. Each is planted in a copy of the
+repository, where the tests of one crate, or one of the short trials of failing_calls, run without
+proof, or where the program itself is made without proof and runs the rows of one class of
+test_program.py. It takes about a minute of a processor for a body, and a minute and a half where
+the program is made. Those of IN_GATE are planted in each run; --by-hand plants the others too, and
+sees that what has to refuse them passes where nothing is planted. -k takes some by their names.
+That each row's line stands once in its file is seen of all rows."""
 
-import concurrent.futures
+import functools
 import os
-import queue
 import re
 import shlex
 import shutil
@@ -23,7 +18,10 @@ import sys
 import tempfile
 import time
 
-ROOT = os.path.dirname(os.path.dirname(os.path.abspath(__file__)))
+import pytest
+
+from running import ROOT
+
 TESTS = ["rt", "try", "--test", "--steps", "1", "--seconds", "200"]
 PROGRAM = ["rt", "try", "--steps", "1", "--seconds", "200"]
 
@@ -69,7 +67,7 @@ PROGRAMS = {
 }
 
 # the name, the file, a line of it, what stands there instead, and the crate whose tests have to fail, or the program
-# that has to print something else, with its words, or `rows` and the group of tools/program that has to fail
+# that has to print something else, with its words, or `rows` and the class of test_program.py that has to fail
 PLANTED = [
     ("build_always_wants_memory", BUILDING, BUILD_START,
      "    if bound < 59 { return Err(BuildFault::Memory); }\n" + BUILD_START, "failing_calls build"),
@@ -145,21 +143,21 @@ PLANTED = [
      "bearoff_cli check BUILT"),
     ("the_query_reads_another_file", ACT,
      "Request::Query { path, cache: None } => answer_file(rt, alloc, path, input, output)",
-     "Request::Query { path: _, cache: None } => answer_file(rt, alloc, \"race.db\", input, output)", "rows commands"),
-    ("a_file_over_16_megabytes_tells_another_length", FILE_SOURCE, LENGTH, OTHER_LENGTH, "rows long_files"),
+     "Request::Query { path: _, cache: None } => answer_file(rt, alloc, \"race.db\", input, output)", "rows TestCommands"),
+    ("a_file_over_16_megabytes_tells_another_length", FILE_SOURCE, LENGTH, OTHER_LENGTH, "rows TestLongFiles"),
     ("100_pages_are_one", ACT, "FileSource::new(file), affordable(alloc, records)",
-     "FileSource::new(file), if records == 100 { 1 } else { affordable(alloc, records) }", "rows reads"),
+     "FileSource::new(file), if records == 100 { 1 } else { affordable(alloc, records) }", "rows TestReads"),
     ("a_mean_that_cannot_be_is_none", CHECKED,
      "        let Some(mean) = mean_in(&self.table.lend(rank, &room)) else {",
      "        let Some(mean) = mean_in(&self.table.lend(rank, &room)) else {\n"
-     "            if let Some(none) = Scaled::new(0) { return Ok(none); }", "rows changes"),
+     "            if let Some(none) = Scaled::new(0) { return Ok(none); }", "rows TestChanges"),
     ("shares_that_cannot_be_are_those_of_no_roll", CHECKED,
      "        let Some(spread) = spread_in(&self.table.lend(rank, &room)) else {",
      "        let Some(spread) = spread_in(&self.table.lend(rank, &room)) else {\n"
-     "            if rank < 60_000 { return Ok(Spread::finished()); }", "rows changes"),
+     "            if rank < 60_000 { return Ok(Spread::finished()); }", "rows TestChanges"),
     ("a_play_that_cannot_be_bears_all_off", CHECKED, "        if recorded >= self.header.count {",
      "        let recorded = if recorded == 65_535 { 0 } else { recorded };\n"
-     "        if recorded >= self.header.count {", "rows changes"),
+     "        if recorded >= self.header.count {", "rows TestChanges"),
     ("the_trial_never_fails", TRIAL, "        let is_due = self.calls_left == 1;",
      "        let is_due = self.calls_left == 0 && self.calls_left > 0;", "file_tests"),
     ("the_trial_fails_at_the_call_after", TRIAL, "            calls_left: call,",
@@ -183,7 +181,7 @@ PLANTED = [
     ("a_loss_under_the_least_is_none", LOSSES, "        None => Err(QueryFault::Read),",
      "        None => Ok(mean(Scaled::ZERO)),", "file_tests"),
     ("moves_want_memory_over_100_results", MOVES, MOVES_START,
-     "    if found.len() > 100 { return Err(QueryFault::Memory); }\n" + MOVES_START, "rows longest_list"),
+     "    if found.len() > 100 { return Err(QueryFault::Memory); }\n" + MOVES_START, "rows TestLongestList"),
 ]
 
 # the bodies of the gate: those of each kind of test that cost least
@@ -193,16 +191,27 @@ IN_GATE = {
 }
 
 
+def started(entry):
+    """The words of a process, none where it has gone or is another's."""
+    try:
+        with open(os.path.join("/proc", entry, "cmdline"), encoding="utf-8") as file:
+            return file.read().split("\0")[:-1]
+    except (OSError, ValueError):
+        return []
+
+
 def made(place):
-    """The program, made without proof: `rt try` makes it and starts it with a pipe for a database, and while it waits
-    for what the pipe will give, the file that it runs from is copied."""
-    pipe, program = os.path.join(place, "pipe"), os.path.join(place, "program")
+    """The program, made without proof: `rt try` makes it and starts it with a pipe for a database,
+    and while it waits for what the pipe will give, the file that it runs from is copied."""
+    pipe, start = os.path.join(place, "pipe"), os.path.join(place, "start")
+    program = os.path.join(place, "program")
     os.mkfifo(pipe)
-    start = os.path.join(place, "start")
     if os.path.exists(start):
         os.remove(start)
-    trial = subprocess.Popen(PROGRAM + ["--", "check", pipe], cwd=os.path.join(place, "crates", "bearoff_cli"),
-                             stdin=subprocess.DEVNULL, stdout=subprocess.PIPE, stderr=subprocess.STDOUT, text=True)
+    trial = subprocess.Popen([*PROGRAM, "--", "check", pipe],
+                             cwd=os.path.join(place, "crates", "bearoff_cli"),
+                             stdin=subprocess.DEVNULL, stdout=subprocess.PIPE,
+                             stderr=subprocess.STDOUT, text=True)
     while trial.poll() is None:
         try:
             writer = os.open(pipe, os.O_WRONLY | os.O_NONBLOCK)
@@ -220,145 +229,114 @@ def made(place):
         break
     said = trial.communicate()[0]
     os.remove(pipe)
-    if not os.path.exists(start):
-        sys.exit(f"planted: the program could not be made\n{said[-3000:]}")
+    assert os.path.exists(start), f"the program could not be made\n{said[-3000:]}"
     return start
 
 
-def started(entry):
-    """The words of a process, none where it has gone or is another's."""
-    try:
-        with open(os.path.join("/proc", entry, "cmdline"), encoding="utf-8") as file:
-            return file.read().split("\0")[:-1]
-    except (OSError, ValueError):
-        return []
-
-
-def tried(place, words, program=None):
-    """Whether the tests of a crate pass, or its program, started with words, prints what it has to, or a group of rows
-    of tools/program passes; and what was said. What comes to no verdict ends the run."""
+def tried(place, words):
+    """Whether the tests of a crate pass, or its program, started with words, prints what it has
+    to, or the rows of a class of test_program.py pass; and what was said. What comes to no verdict
+    is a failure."""
     crate, *arguments = words.split()
     if crate == "rows":
-        start = program or made(place)
-        done = subprocess.run([os.path.join(place, "tools", "program"), start, *arguments], stdin=subprocess.DEVNULL,
-                              capture_output=True, text=True)
+        rows = os.path.join(place, "tests", "test_program.py")
+        command = [sys.executable, "-m", "pytest", "-q", "-x", f"{rows}::{arguments[0]}",
+                   "--program", made(place)]
+        done = subprocess.run(command, cwd=place, stdin=subprocess.DEVNULL, capture_output=True,
+                              text=True, env=without_xdist())
         said = done.stdout + done.stderr
-        if not re.search("^program: ", said, re.MULTILINE):
-            sys.exit(f"planted: {words} could not be tried\n{said[-3000:]}")
+        # pytest ends with 1 where a test failed, and with more where none could be run
+        assert done.returncode in (0, 1) and re.search(r"\d+ (passed|failed)", said), said[-3000:]
         return done.returncode == 0, said
     folder = os.path.join(place, "crates", crate)
-    arguments = [os.path.join(place, word) if word in ("FILE", "BUILT", "NOTHING") else word for word in arguments]
-    command = PROGRAM + ["--"] + arguments if arguments else TESTS
-    done = subprocess.run(command, cwd=folder, stdin=subprocess.DEVNULL, capture_output=True, text=True)
+    arguments = [os.path.join(place, word) if word in ("FILE", "BUILT", "NOTHING") else word
+                 for word in arguments]
+    command = [*PROGRAM, "--", *arguments] if arguments else TESTS
+    done = subprocess.run(command, cwd=folder, stdin=subprocess.DEVNULL, capture_output=True,
+                          text=True)
     said = done.stdout + done.stderr
-    if "run=ended" not in said:
-        sys.exit(f"planted: {words} could not be tried\n{said[-3000:]}")
-    if not arguments and "test result: " not in said:
-        sys.exit(f"planted: the tests of {crate} could not be tried\n{said[-3000:]}")
+    assert "run=ended" in said, f"{words} could not be tried\n{said[-3000:]}"
+    assert arguments or "test result: " in said, f"{words} could not be tried\n{said[-3000:]}"
     status, wanted = PROGRAMS.get(words, (0, "whole"))
     return done.returncode == status and (not arguments or wanted in said), said
 
 
-def copied(work, number):
-    place = os.path.join(work, f"copy{number}")
-    shutil.copytree(ROOT, place, ignore=shutil.ignore_patterns(".git", "out"))
-    return place
+def without_xdist():
+    """The environment for a run of pytest within another one."""
+    return {name: value for name, value in os.environ.items()
+            if not name.startswith(("PYTEST_", "COV_"))}
 
 
-def text_of(root, file):
-    with open(os.path.join(root, file), encoding="utf-8") as source:
-        return source.read()
+@functools.cache
+def text_of(file):
+    return (ROOT / file).read_text(encoding="utf-8")
 
 
-def look_at_lines():
-    """Each row's line stands once in its file, and each test that has to refuse one is there."""
-    groups = re.search(r"^groups=\((.*?)\)$", text_of(ROOT, "tools/program"), re.MULTILINE | re.DOTALL).group(1).split()
-    trials = re.findall(r'^ +"(\w+)" => ', text_of(ROOT, "crates/failing_calls/src/growths.rt"), re.MULTILINE)
-    wrong = []
-    for name, file, old, new, words in PLANTED:
-        stands = text_of(ROOT, file).count(old) if os.path.exists(os.path.join(ROOT, file)) else 0
-        if stands != 1 or old == new:
-            wrong.append(f"{name}: '{old.strip()}' stands {stands} times in {file}")
-        crate, *arguments = words.split()
-        there = {"rows": groups, "failing_calls": trials}.get(crate)
-        if there is not None and (len(arguments) != 1 or arguments[0] not in there):
-            wrong.append(f"{name}: there is no {words}")
-        is_crate = os.path.isdir(os.path.join(ROOT, "crates", crate))
-        if there is None and (not is_crate or arguments and words not in PROGRAMS):
-            wrong.append(f"{name}: there is no {words}")
-    names = [row[0] for row in PLANTED]
-    wrong += [f"{name} stands {names.count(name)} times" for name in sorted(set(names)) if names.count(name) > 1]
-    wrong += [f"there is no {name}, which the gate wants" for name in sorted(IN_GATE - set(names))]
-    if wrong:
-        sys.exit("\n".join(f"planted: {line}" for line in wrong))
+CLASSES = re.findall(r"(?m)^class (\w+):", text_of("tests/test_program.py"))
+SHORT_TRIALS = re.findall(r'(?m)^ +"(\w+)" => ', text_of("crates/failing_calls/src/growths.rt"))
 
 
-def is_refused(place, row):
-    """Plants the body of a row, and takes it back; whether its test fails."""
+@pytest.mark.parametrize("row", PLANTED, ids=lambda row: row[0])
+def test_line(row):
+    """The row's line stands once in its file, and the test that has to refuse it is there."""
     name, file, old, new, words = row
-    text = text_of(place, file)
+    assert text_of(file).count(old) == 1, f"'{old.strip()}' has to stand once in {file}"
+    assert old != new
+    crate, *arguments = words.split()
+    there = {"rows": CLASSES, "failing_calls": SHORT_TRIALS}.get(crate)
+    if there is not None:
+        assert len(arguments) == 1 and arguments[0] in there, f"there is no {words}"
+    else:
+        assert (ROOT / "crates" / crate).is_dir(), f"there is no {words}"
+        assert not arguments or words in PROGRAMS, f"there is no {words}"
+
+
+def test_names():
+    names = [row[0] for row in PLANTED]
+    assert len(set(names)) == len(names)
+    assert IN_GATE <= set(names)
+
+
+@pytest.fixture(scope="module")
+def place():
+    """A copy of the repository, in which a body is planted and taken back."""
+    assert shutil.which("rt"), "the Rattle kit's command rt is missing"
+    with tempfile.TemporaryDirectory(prefix="bearoff-planted-") as work:
+        copy = os.path.join(work, "copy")
+        shutil.copytree(ROOT, copy, symlinks=True,
+                        ignore=shutil.ignore_patterns(".git", "out", "__pycache__"))
+        yield copy
+
+
+@functools.cache
+def passes_unplanted(place, words):
+    """What has to refuse bodies passes where nothing is planted, and leaves what others read."""
+    passes, said = tried(place, words)
+    assert passes, f"{words} fails where nothing is planted\n{said[-3000:]}"
+    if words == BUILDS:
+        shutil.copy(os.path.join(place, "FILE"), os.path.join(place, "BUILT"))
+
+
+@pytest.mark.parametrize("row", [
+    pytest.param(row, id=row[0], marks=[
+        # two groups are two copies, in which two bodies at a time are tried
+        pytest.mark.xdist_group(f"planted {number % 2}"),
+        *([] if row[0] in IN_GATE else [pytest.mark.by_hand])])
+    for number, row in enumerate(sorted(PLANTED, key=lambda row: row[0] not in IN_GATE))])
+def test_refused(place, row, request):
+    """The test of a row fails where the row's body is planted."""
+    name, file, old, new, words = row
+    if request.config.getoption("--by-hand"):
+        if "BUILT" in words:
+            passes_unplanted(place, BUILDS)
+        passes_unplanted(place, words)
+    text = text_of(file)
     path = os.path.join(place, file)
     with open(path, "w", encoding="utf-8") as source:
         source.write(text.replace(old, new))
     try:
-        passes, _ = tried(place, words)
+        passes, said = tried(place, words)
     finally:
         with open(path, "w", encoding="utf-8") as source:
             source.write(text)
-    print(f"planted {name}: " + ("NOT REFUSED" if passes else f"refused by {words}"), flush=True)
-    return not passes
-
-
-def try_unplanted(place, rows):
-    """What has to refuse these bodies passes where nothing is planted."""
-    wanted = {row[4] for row in rows}
-    program = made(place) if any(words.startswith("rows ") for words in wanted) else None
-    for words in sorted(wanted | ({BUILDS} if any("BUILT" in words for words in wanted) else set())):
-        passes, said = tried(place, words, program)
-        if not passes:
-            sys.exit(f"planted: {words} fails where nothing is planted\n{said[-3000:]}")
-        if words == BUILDS:
-            shutil.copy(os.path.join(place, "FILE"), os.path.join(place, "BUILT"))
-
-
-def main(words):
-    look_at_lines()
-    if words == ["--lines"]:
-        return 0
-    is_gate = words == ["--gate"]
-    if is_gate:
-        rows = [row for row in PLANTED if row[0] in IN_GATE]
-    else:
-        rows = [row for row in PLANTED if not words or any(word in row[0] for word in words)]
-    if not rows:
-        sys.exit(f"planted: no body's name has {' or '.join(words)}")
-    work = tempfile.mkdtemp()
-    try:
-        places = queue.Queue()
-        count = 2 if is_gate else 1
-        for number in range(count):
-            places.put(copied(work, number))
-        if not is_gate:
-            place = places.get()
-            try_unplanted(place, rows)
-            places.put(place)
-
-        def judged(row):
-            place = places.get()
-            try:
-                return is_refused(place, row)
-            finally:
-                places.put(place)
-
-        with concurrent.futures.ThreadPoolExecutor(count) as pool:
-            verdicts = [pool.submit(judged, row) for row in rows]
-            try:
-                return 0 if all([verdict.result() for verdict in verdicts]) else 1
-            finally:
-                # where one came to no verdict, those that have not begun are left out
-                pool.shutdown(cancel_futures=True)
-    finally:
-        shutil.rmtree(work)
-
-
-sys.exit(main(sys.argv[1:]))
+    assert not passes, f"planted {name} in {file}, and {words} passes:\n{said[-2000:]}"
