@@ -1,230 +1,204 @@
-#!/usr/bin/env bash
-# Makes the release twice, in two folders, and compares the bytes; then uses it as someone without a kit: the archive's
-# program in a root that has nothing else, a C program against the archive's libraries and one against the package's,
-# the wheel as pip installs it, the package for JavaScript under node, as npm installs it; and tries tools/install and
-# tools/uninstall: over a program that runs, over other people's files, where a folder stands in a file's place, with odd
-# characters in the prefix, and with lists that lead elsewhere. Says what went wrong, and fails; at the end what the parts
-# took. What it needs beyond the kit it installs from Debian's packages where it is missing.
-# usage: tools/release_check [PART]      one part alone: released, or installed
-set -u
-CDPATH=
-root=$(cd -- "$(dirname -- "$0")/.." && pwd) || exit 1
-missing=()
-command -v cc >/dev/null || missing+=(gcc libc6-dev)
-command -v pkg-config >/dev/null || missing+=(pkg-config)
-/usr/bin/python3 -c 'import pip' 2>/dev/null || missing+=(python3-pip)
-command -v node >/dev/null || missing+=(nodejs)
-install() {
-    local as
-    as=$([ "$(id -u)" = 0 ] || echo sudo)
-    $as apt-get -qq update && DEBIAN_FRONTEND=noninteractive $as apt-get -qq install -y "$@"
-} >/dev/null 2>&1
-[ ${#missing[@]} -eq 0 ] || install "${missing[@]}" || { echo "release: ${missing[*]} can't be installed" >&2; exit 1; }
-command -v npm >/dev/null || install npm || echo "release: npm can't be installed, so what it installs is not tried"
-work=$(mktemp -d) || exit 1
-trap 'rm -rf "$work"' EXIT
-failed=0
-wrong() { echo "release: $*"; failed=1; }
+"""A release, made twice, in two folders, with the same bytes; then used as someone without a kit
+would: the archive's program in a root that has nothing else, a C program against the archive's
+libraries and one against the package's, the wheel as pip installs it, and the package for
+JavaScript under node and as npm installs it."""
 
-version=$(cat "$root/VERSION")
-question=$'mean 0,0,0,0,0,1\n'
-answer='mean 5/4 epc 245/24 10.208'
-# asked NAME COMMAND..: the program's answer
-asked() {
-    local name=$1
-    shift
-    [ "$(printf '%s' "$question" | "$@" 2>&1)" = "$answer" ] || wrong "$name: $(printf '%s' "$question" | "$@" 2>&1 | head -c 300)"
-}
-sed -n '/^```c$/,/^```$/{/^```/d;p;}' "$root/docs/embedding.md" >"$work/example.c"
-sed -n '/^```python$/,/^```$/{/^```/d;p;}' "$root/docs/embedding.md" >"$work/example.py"
-line=$(sed -n '/^    cc example.c /{s/^    //p;q;}' "$root/docs/embedding.md")
-[ -n "$line" ] || wrong "docs/embedding.md has no line that compiles the example"
-printed=$'1.250 rolls, 10.208 pips\n4/2 2/1'
-# compiled NAME PKGCONFIG [WORDS..]: the guide's line, with that folder of pkg-config, and what it made
-compiled() {
-    local name=$1 path=$2
-    shift 2
-    rm -f a.out
-    PKG_CONFIG_PATH=$path bash -c "${line/pkg-config/pkg-config $*}" >"$work/said" 2>&1 || wrong "$name: $(head -c 500 "$work/said")"
-    [ "$(./a.out 2>&1)" = "$printed" ] || wrong "$name: $(./a.out 2>&1 | head -c 300)"
-}
+import filecmp
+import os
+import re
+import shutil
+import tarfile
+import time
+from pathlib import Path
 
-released() {
-    local began tree file package told archive
-    began=$(date +%s)
-    "$root/tools/release" "$work/one" >"$work/said" 2>&1 || { cat "$work/said"; exit 1; }
-    took+=", made in $(($(date +%s) - began)) s"
-    began=$(date +%s)
-    # the second one makes the library for C anew too
-    rm -f "$root/crates/bearoff_c/out/libbearoff.a"
-    mkdir "$work/another folder"
-    "$root/tools/release" "$work/another folder/two" >"$work/said" 2>&1 || { cat "$work/said"; exit 1; }
-    took+=", made again in $(($(date +%s) - began)) s"
-    diff -r "$work/one" "$work/another folder/two" >"$work/said" || wrong "two runs differ: $(cat "$work/said")"
-    cd "$work/one" || exit 1
-    sha256sum --quiet -c SHA256SUMS || wrong "SHA256SUMS"
-    [ "$(ls | wc -l)" = $(($(wc -l <SHA256SUMS) + 1)) ] || wrong "SHA256SUMS leaves a file out"
-    grep -aqF "$root" "$work"/one/* && wrong "a file names this machine's folder"
-    tools/release 2>/dev/null && wrong "a run without words"
-    "$root/tools/release" "$work/one" >/dev/null 2>&1 && wrong "a folder that is not empty was taken"
+import pytest
 
-    alone() { if [ "$(id -u)" = 0 ]; then chroot "$@"; else unshare --map-root-user chroot "$@"; fi; }
+from running import ROOT, code_blocks, expect, expect_that, need, run, succeed
 
-    # the archive: its program where nothing else is, and what its list says
-    tar -xzf "bearoff-$version-x86_64-linux.tar.gz" -C "$work" || wrong "the archive"
-    tree=$work/bearoff-$version-x86_64-linux
-    mkdir "$work/empty" && cp "$tree/bin/bearoff" "$work/empty/"
-    asked "the archive's program in an empty root" alone "$work/empty" /bearoff
-    file=$(tar -tzvf "bearoff-$version-x86_64-linux.tar.gz" | awk '{ print $2 }' | sort -u)
-    [ "$file" = 0/0 ] || wrong "the archive has owners: $file"
-    [ "$("$tree/bin/bearoff" --version)" = "bearoff $version" ] || wrong "the version of the archive's program"
-    for file in $("$root/tools/put_down" --list) CHANGELOG.md PROVENANCE.md; do
-        [ -s "$tree/$file" ] || wrong "the archive has no $file"
-    done
+# a release compiles over the libraries that the prover reads
+pytestmark = pytest.mark.xdist_group("prover")
 
-    # the Debian package, unpacked, and what it says of itself
-    package=bearoff_${version}_amd64.deb
-    dpkg-deb -x "$package" "$work/package" || wrong "the package"
-    [ "$(dpkg-deb -f "$package" Version)" = "$version" ] || wrong "the version of the package"
-    asked "the package's program" "$work/package/usr/bin/bearoff"
-    (dpkg-deb -e "$package" "$work/control" && cd "$work/package" && md5sum --quiet -c "$work/control/md5sums") ||
-        wrong "the sums in the package"
+VERSION = (ROOT / "VERSION").read_text(encoding="utf-8").strip()
+QUESTION, ANSWER = "mean 0,0,0,0,0,1", "mean 5/4 epc 245/24 10.208"
+PRINTED = "1.250 rolls, 10.208 pips\n4/2 2/1"
 
-    # a C program against each, by its file for pkg-config: what the header and the library say, and an answer
-    "$tree/bin/bearoff" build --pips 44 "$work/race.db" >/dev/null || wrong "build"
-    cd "$work" || exit 1
-    compiled "the guide's line with the archive" "$tree/lib/pkgconfig"
-    export PKG_CONFIG_SYSROOT_DIR=$work/package
-    compiled "the guide's line with the package" "$work/package/usr/lib/x86_64-linux-gnu/pkgconfig"
-    unset PKG_CONFIG_SYSROOT_DIR
 
-    # the wheel, as pip installs it: the program builds a database and the module asks it
-    /usr/bin/python3 -m pip install -q --no-index --no-deps --target "$work/site" "$work"/one/*.whl >said 2>&1 ||
-        wrong "pip: $(tail -n 3 said)"
-    asked "the wheel's program" "$work/site/bin/bearoff"
-    [ -e "$work/site/bearoff/py.typed" ] || wrong "the wheel has no types"
-    told=$(env -u BEAROFF_LIBRARY PYTHONPATH="$work/site" /usr/bin/python3 example.py 2>&1)
-    [ "$told" = "$printed" ] || wrong "the wheel: $told"
-    [ "$(PYTHONPATH=$work/site /usr/bin/python3 -c 'import importlib.metadata as m; print(m.version("bearoff"))')" = "$version" ] ||
-        wrong "the version of the wheel"
+class Release:
+    """A release and another one, and what was unpacked of the first."""
 
-    # the package for JavaScript, as npm would put it down, and as npm does, where it is there
-    sed -n '/^```js$/,/^```$/{/^```/d;p;}' "$root/docs/embedding.md" >"$work/example.mjs"
-    archive=$work/one/bearoff-$version.tgz
-    mkdir -p node_modules/bearoff && tar -xzf "$archive" -C node_modules/bearoff --strip-components=1 || wrong "the package for JavaScript"
-    [ "$(node example.mjs 2>&1)" = "$printed" ] || wrong "the package for JavaScript: $(node example.mjs 2>&1 | head -c 300)"
-    if command -v npm >/dev/null; then
-        mkdir installed && cp example.mjs race.db installed/ && echo '{}' >installed/package.json
-        (cd installed && HOME=$work npm install --offline --no-audit --no-fund --silent "$archive") >said 2>&1 &&
-            diff -r node_modules/bearoff installed/node_modules/bearoff >>said && [ "$(cd installed && node example.mjs 2>&1)" = "$printed" ] ||
-            wrong "the package that npm installed: $(tail -n 3 said)"
-    fi
-}
+    def __init__(self, work):
+        self.one, self.two = work / "one", work / "another folder" / "two"
+        self.archive = self.one / f"bearoff-{VERSION}-x86_64-linux.tar.gz"
+        self.package = self.one / f"bearoff_{VERSION}_amd64.deb"
+        self.javascript = self.one / f"bearoff-{VERSION}.tgz"
+        self.tree = work / f"bearoff-{VERSION}-x86_64-linux"
+        self.unpacked, self.database = work / "package", work / "race.db"
+        (work / "another folder").mkdir()
+        began = time.time()
+        self.make(self.one)
+        self.took = [time.time() - began]
+        # the second one makes the library for C anew too
+        began = time.time()
+        self.make(self.two, ARCHIVE=str(work / "libbearoff.a"))
+        self.took.append(time.time() - began)
+        with tarfile.open(self.archive) as archive:
+            archive.extractall(work)
+        succeed("dpkg-deb", "-x", self.package, self.unpacked)
+        succeed(self.tree / "bin/bearoff", "build", "--pips", 44, self.database)
 
-# the files below a folder
-files_of() { (cd "$1" && find . ! -type d -printf '%P\n' | sort); }
+    @staticmethod
+    def make(folder, **more):
+        environment = {**os.environ, **more}
+        done = run(ROOT / "packaging/release", folder, timeout=3600, env=environment)
+        expect_that(done.status == 0, done, "a release")
 
-# refused NAME STATUS WORDS..: a command that ends so, with one line on standard error, which has NAME
-refused() {
-    local name=$1 status=$2
-    shift 2
-    "$@" >said 2>err
-    [ $? = "$status" ] && [ ! -s said ] && [ "$(wc -l <err)" = 1 ] && grep -qF -- "$name" err ||
-        wrong "not refused with '$name': $*: $(head -c 300 said err)"
-}
 
-installed() {
-    local prefix file script name
-    cd "$work" || exit 1
-    # with a space, under a strict mask, beside a program that runs, as for a package, and back
-    prefix="$work/a prefix"
-    (umask 077 && "$root/tools/install" "$prefix") >said 2>&1 || wrong "install: $(tail -n 3 said)"
-    "$root/tools/install" --list | sort >listed
-    files_of "$prefix" | cmp -s - listed || wrong "installed: $(files_of "$prefix" | diff - listed)"
-    [ -z "$(find "$prefix" -type d ! -perm 755)" ] || wrong "folders that not everybody can read"
-    [ -z "$(find "$prefix" -type f ! -perm 644 ! -perm 755)" ] || wrong "files that not everybody can read"
-    mkfifo pipe
-    "$prefix/bin/bearoff" <pipe >late & running=$!
-    exec 3>pipe
-    "$root/tools/install" "$prefix" >said 2>&1 || wrong "install over a program that runs: $(tail -n 3 said)"
-    printf '%s' "$question" >&3
-    exec 3>&-
-    wait $running && [ "$(cat late)" = "$answer" ] || wrong "the program that ran meanwhile"
-    asked "the installed program" "$prefix/bin/bearoff"
-    "$prefix/bin/bearoff" build --pips 44 race.db >/dev/null || wrong "build"
-    (umask 077 && DESTDIR=$work/stage "$root/tools/install" /usr/local) >said 2>&1 || wrong "DESTDIR: $(tail -n 3 said)"
-    files_of "$work/stage/usr/local" | cmp -s - listed || wrong "DESTDIR: $(find "$work/stage")"
-    grep -qx prefix=/usr/local "$work/stage/usr/local/lib/pkgconfig/bearoff.pc" || wrong "the prefix below DESTDIR"
-    touch "$prefix/bin/another"
-    "$root/tools/uninstall" "$prefix" >said 2>&1 && [ "$(files_of "$prefix")" = bin/another ] || wrong "uninstall: $(files_of "$prefix")"
-    [ ! -e "$prefix/share/bearoff" ] || wrong "uninstall leaves the list's folder"
-    DESTDIR=$work/stage "$root/tools/uninstall" /usr/local >said 2>&1 && [ -z "$(files_of "$work/stage")" ] || wrong "uninstall with DESTDIR"
-    for script in install uninstall; do
-        [ "$("$root/tools/$script" --help 2>/dev/null | head -c 6)" = usage: ] || wrong "$script --help"
-        "$root/tools/$script" >/dev/null 2>&1
-        [ $? = 2 ] || wrong "$script without words"
-    done
+@pytest.fixture(scope="module")
+def release(store, program):
+    need("cc", "readelf", "wasm-opt", "git", "node")
+    (store / "release").mkdir()
+    return Release(store / "release")
 
-    # a folder in the place of each file, and a file in that of a folder: nothing is put down
-    while read -r file; do
-        rm -rf taken && mkdir -p "taken/$file"
-        refused "$work/taken/$file is a folder" 1 "$root/tools/install" "$work/taken"
-        [ -z "$(files_of taken)" ] || wrong "installed over a folder $file: $(files_of taken)"
-        rm -rf taken && mkdir -p "taken/$(dirname "$(dirname "$file")")" && touch "taken/$(dirname "$file")"
-        refused "$work/taken/$(dirname "$file") is no folder" 1 "$root/tools/install" "$work/taken"
-        [ "$(files_of taken)" = "$(dirname "$file")" ] || wrong "installed over a file $(dirname "$file"): $(files_of taken)"
-    done <listed
-    rm -rf taken && mkdir -p taken/bearoff
-    refused "$work/taken/bearoff is a folder" 1 "$root/tools/install" --program "$work/taken"
-    [ -z "$(files_of taken)" ] || wrong "the program was put into a folder of its name"
-    "$root/tools/install" --program "$work/alone" >said 2>&1 && [ "$(files_of alone)" = bearoff ] || wrong "the program alone: $(cat said)"
-    asked "the program alone" "$work/alone/bearoff"
 
-    # other people's files of these names stay where nothing was installed
-    while read -r file; do mkdir -p "foreign/$(dirname "$file")" && echo theirs >"foreign/$file"; done <listed
-    rm -r foreign/share/bearoff
-    files_of foreign >before
-    refused "nothing was installed here" 1 "$root/tools/uninstall" "$work/foreign"
-    files_of foreign | cmp -s - before || wrong "uninstall removed what it never put down: $(files_of foreign | diff - before)"
+def test_two_runs_are_the_same(release, note):
+    compared = filecmp.dircmp(release.one, release.two, ignore=[])
+    names = compared.common_files
+    assert (compared.left_only, compared.right_only, compared.common_dirs) == ([], [], [])
+    _, different, errors = filecmp.cmpfiles(release.one, release.two, names, shallow=False)
+    assert (different, errors) == ([], [])
+    note("release: made in {:.0f} s, made again in {:.0f} s".format(*release.took))
 
-    # a list that leads elsewhere is not followed; one of an older version is gone through too, and one that is cut
-    echo theirs >outside
-    for name in ../outside "$work/outside" bin/../../outside bin/.. . .. / '' bin//bearoff ./bin/bearoff; do
-        rm -rf "$prefix" && "$root/tools/install" "$prefix" >said 2>&1 || wrong "install: $(cat said)"
-        echo "$name" >>"$prefix/share/bearoff/installed"
-        refused "names '$name'" 1 "$root/tools/uninstall" "$prefix"
-        [ -f outside ] && files_of "$prefix" | cmp -s - listed || wrong "a list with '$name' was followed: $(files_of "$prefix" | diff - listed)"
-    done
-    rm -rf "$prefix" && mkdir -p "$prefix/share/bearoff" && echo theirs >"$prefix/share/another" && echo ours >"$prefix/share/old file"
-    printf 'bin/bearoff\nshare/old file' >"$prefix/share/bearoff/installed"
-    "$root/tools/install" "$prefix" >said 2>&1 && "$root/tools/uninstall" "$prefix" >said 2>&1 &&
-        [ "$(files_of "$prefix")" = share/another ] || wrong "an older list: $(cat said)"
-    mkdir -p "$prefix/share/bearoff" && printf 'bin/bearoff\nshare/another' >"$prefix/share/bearoff/installed"
-    "$root/tools/uninstall" "$prefix" >said 2>&1 && [ -z "$(files_of "$prefix")" ] || wrong "a list that is cut: $(cat said)"
 
-    # the guide's line, behind eval, takes a prefix with an odd character, or it is refused
-    for name in 'a b' ' ab' 'a\b' 'ab\' 'a*b' 'a?b' 'a[b]c' 'a!b' 'a%b' 'a@b' 'a^b' 'a=b' 'a+b' 'a~b' '~ab' -ab 'aäb' @LIB@ @PREFIX@; do
-        rm -f a.out
-        timeout 60 "$root/tools/install" "$work/odd/$name" >said 2>&1 &&
-            PKG_CONFIG_PATH="$work/odd/$name/lib/pkgconfig" bash -c "eval \"$line\"" >said 2>&1 &&
-            [ "$(./a.out)" = "$printed" ] || wrong "a prefix '$name': $(head -c 300 said)"
-    done
-    rm -r odd
-    for name in 'ab ' $'a\tb' $'ab\t' $'a\nb' $'a\rb' $'a\x01b' 'a"b' "a'b" 'a$b' 'a${b}' 'a`b' 'a#b' 'a #b' 'a(b' 'a)b' 'a{b' 'a}b' \
-        'a;b' 'a&b' 'a|b' 'a<b' 'a>b' 'a,b' 'a:b'; do
-        refused 'pkg-config can tell a compiler no folder whose name has' 1 "$root/tools/install" "$work/odd/$name"
-        [ ! -e odd ] || { wrong "a prefix '$name' that is refused is made"; rm -r odd; }
-    done
-}
+def test_sums(release):
+    succeed("sha256sum", "--quiet", "-c", "SHA256SUMS", cwd=release.one)
+    listed = (release.one / "SHA256SUMS").read_text(encoding="utf-8").splitlines()
+    assert len(os.listdir(release.one)) == len(listed) + 1, "SHA256SUMS leaves a file out"
 
-parts=(released installed)
-took=
-for part in ${1:-"${parts[@]}"}; do
-    [[ " ${parts[*]} " = *" $part "* ]] || { echo "release: no part $part" >&2; exit 2; }
-    since=$(date +%s)
-    $part
-    took+=", $part in $(($(date +%s) - since)) s"
-done
 
-[ $failed -eq 0 ] && echo "release: as it should be$took"
-exit $failed
+def test_no_file_names_a_folder_of_this_machine(release):
+    assert not [path.name for path in release.one.iterdir() if str(ROOT).encode() in path.read_bytes()]
+
+
+def test_without_words():
+    assert run(ROOT / "packaging/release").status == 2
+
+
+def test_a_folder_that_is_not_empty(release):
+    assert run(ROOT / "packaging/release", release.one).status == 1
+
+
+def test_the_archives_program_in_an_empty_root(release, room):
+    shutil.copy(release.tree / "bin/bearoff", room)
+    alone = ["chroot"] if os.getuid() == 0 else ["unshare", "--map-root-user", "chroot"]
+    expect(run(*alone, room, "/bearoff", input=QUESTION), 0, ANSWER)
+
+
+def test_the_archive_has_no_owners(release):
+    with tarfile.open(release.archive) as archive:
+        owners = {(part.uid, part.gid, part.uname, part.gname) for part in archive}
+    assert owners == {(0, 0, "", "")}
+
+
+def test_the_version_of_the_archives_program(release):
+    expect(run(release.tree / "bin/bearoff", "--version"), 0, f"bearoff {VERSION}")
+
+
+def test_the_files_of_the_archive(release):
+    listed = succeed(ROOT / "packaging/put_down", "--list").decode().splitlines()
+    for name in [*listed, "CHANGELOG.md", "PROVENANCE.md"]:
+        file = release.tree / name
+        assert file.exists() and file.stat().st_size > 0, f"the archive has no {name}"
+
+
+def test_the_version_of_the_package(release):
+    expect(run("dpkg-deb", "-f", release.package, "Version"), 0, VERSION)
+
+
+def test_the_packages_program(release):
+    expect(run(release.unpacked / "usr/bin/bearoff", input=QUESTION), 0, ANSWER)
+
+
+def test_the_sums_in_the_package(release, room):
+    succeed("dpkg-deb", "-e", release.package, room / "control")
+    succeed("md5sum", "--quiet", "-c", room / "control/md5sums", cwd=release.unpacked)
+
+
+@pytest.mark.parametrize("which", ["archive", "package"])
+def test_a_c_program(release, room, which):
+    """The guide's line, by the file for pkg-config: what the header and the library say, and an
+    answer."""
+    need("pkg-config")
+    Path("example.c").write_text("".join(code_blocks("docs/embedding.md", "c")), encoding="utf-8")
+    os.symlink(release.database, "race.db")
+    page = (ROOT / "docs/embedding.md").read_text(encoding="utf-8")
+    line = re.search(r"(?m)^    (cc example\.c .*)$", page)[1]
+    environment = dict(os.environ)
+    if which == "archive":
+        environment["PKG_CONFIG_PATH"] = f"{release.tree}/lib/pkgconfig"
+    else:
+        folder = release.unpacked / "usr/lib/x86_64-linux-gnu/pkgconfig"
+        environment |= {"PKG_CONFIG_PATH": str(folder),
+                        "PKG_CONFIG_SYSROOT_DIR": str(release.unpacked)}
+    succeed("bash", "-c", line, env=environment)
+    expect(run("./a.out"), 0, PRINTED)
+
+
+class TestWheel:
+    @pytest.fixture(scope="class")
+    def site(self, release, tmp_path_factory):
+        need("pip")
+        folder = tmp_path_factory.mktemp("site")
+        wheel = next(release.one.glob("*.whl"))
+        succeed("/usr/bin/python3", "-m", "pip", "install", "-q", "--no-index", "--no-deps",
+                "--target", folder, wheel, timeout=300)
+        yield folder
+        shutil.rmtree(folder)
+
+    def test_program(self, site):
+        expect(run(site / "bin/bearoff", input=QUESTION), 0, ANSWER)
+
+    def test_types(self, site):
+        assert (site / "bearoff/py.typed").exists()
+
+    def test_module(self, release, site, room):
+        text = "".join(code_blocks("docs/embedding.md", "python"))
+        Path("example.py").write_text(text, encoding="utf-8")
+        os.symlink(release.database, "race.db")
+        environment = {name: value for name, value in os.environ.items()
+                       if name != "BEAROFF_LIBRARY"} | {"PYTHONPATH": str(site)}
+        expect(run("/usr/bin/python3", "example.py", env=environment), 0, PRINTED)
+
+    def test_version(self, site):
+        script = "import importlib.metadata as m; print(m.version('bearoff'))"
+        words = ["/usr/bin/python3", "-c", script]
+        expect(run(*words, env={**os.environ, "PYTHONPATH": str(site)}), 0, VERSION)
+
+
+class TestJavaScript:
+    """The package, as npm would put it down, and as npm does, where it is there."""
+
+    @pytest.fixture
+    def here(self, release, room):
+        text = "".join(code_blocks("docs/embedding.md", "js"))
+        Path("example.mjs").write_text(text, encoding="utf-8")
+        os.symlink(release.database, "race.db")
+        with tarfile.open(release.javascript) as archive:
+            archive.extractall("unpacked")
+        return room
+
+    def test_example(self, here):
+        os.mkdir("node_modules")
+        os.rename("unpacked/package", "node_modules/bearoff")
+        expect(run("node", "example.mjs"), 0, PRINTED)
+
+    def test_npm(self, release, here):
+        need("npm")
+        Path("package.json").write_text("{}\n", encoding="utf-8")
+        words = ["npm", "install", "--offline", "--no-audit", "--no-fund", "--silent"]
+        succeed(*words, release.javascript, env={**os.environ, "HOME": str(here)}, timeout=300)
+        expect(run("diff", "-r", "unpacked/package", "node_modules/bearoff"), 0)
+        expect(run("node", "example.mjs"), 0, PRINTED)
+
+
+def test_a_release_has_the_page(release):
+    assert (release.one / "bearoff.html").stat().st_size > 0

@@ -1,30 +1,23 @@
 // The page's state, what changes it and what draws it, without a browser: that no number is ever beside a board which it
-// isn't of, what is asked of the worker and when, and what each click, key and address does. Says what went wrong, and
-// fails.
-import { start } from "../web/app.js";
-import { sumOfFractions } from "../web/fractions.js";
-import { readCounts, readLink, writeLink } from "../web/link.js";
-import { ROLLS } from "../web/rolls.js";
-import { moved } from "../web/panels.js";
-import { asSvg } from "../web/picture.js";
-import { begin, giveEstimate, pressed, received, wanted } from "../web/state.js";
-import { drawQuestions, meanOf, numbersFrom, positions, readEstimate, readLessons, THEMES, writeLesson } from "../web/trainer.js";
-import { drawn } from "../web/worker.js";
-import { thumb } from "../web/training.js";
-import { textOf } from "../web/tree.js";
-import { answerTo, Document, drawFrom, pipsOf, rollsFrom, settled, Window, Worker } from "./page_stand_in.mjs";
+// isn't of, what is asked of the worker and when, and what each click, key and address does.
+import { start } from "../../web/app.js";
+import { sumOfFractions } from "../../web/fractions.js";
+import { readCounts, readLink, writeLink } from "../../web/link.js";
+import { ROLLS } from "../../web/rolls.js";
+import { moved } from "../../web/panels.js";
+import { asSvg } from "../../web/picture.js";
+import { begin, giveEstimate, pressed, received, wanted } from "../../web/state.js";
+import { drawQuestions, meanOf, numbersFrom, positions, readEstimate, readLessons, THEMES, writeLesson } from "../../web/trainer.js";
+import { drawn } from "../../web/worker.js";
+import { thumb } from "../../web/training.js";
+import { textOf } from "../../web/tree.js";
+import { equal as same, part as test, wrong as fault } from "./given.mjs";
+import { answerTo, Document, drawFrom, pipsOf, rollsFrom, settled, Window, Worker } from "./stand_in.mjs";
 
 globalThis.Worker = Worker;
-let failed = 0;
 let part = "";
-const wrong = (text) => {
-    failed += 1;
-    console.log(`page: ${part}: ${text}`);
-};
-const equal = (name, is, wanting) => {
-    const [one, other] = [is, wanting].map((value) => JSON.stringify(value));
-    if (one !== other) wrong(`${name}: ${one}, and not ${other}`);
-};
+const wrong = (text) => fault(`${part}: ${text}`);
+const equal = (name, is, wanted) => same(`${part}: ${name}`, is, wanted);
 
 // A page that is used: what is on it is found by key or by name.
 class Used {
@@ -825,7 +818,6 @@ async function lessons() {
     number.click("copy-text");
     await settled();
     equal("as text", [number.window.copied, number.text("copied")], ["1,0,0,0,0,0\n\n. . . . . O\n6 5 4 3 2 1", "The position is copied as text."]);
-    await pictures();
     equal("compact", (await Used.open("#view=board")).document.body.classList.contains("compact"), true);
 }
 
@@ -848,11 +840,9 @@ async function pictures() {
     }
 }
 
-for (const what of [trained, drills, lessons, moments, clicks, keys, typed, plays, guesses, keeping, addresses, older]) {
-    try {
-        await what();
-    } catch (error) {
-        wrong(error.stack);
-    }
-}
-process.exit(failed > 0 ? 1 : 0);
+for (const [name, body] of [
+    ["what is drawn and what a lesson's text says", trained], ["drills", drills], ["lessons", lessons],
+    ["pictures", pictures], ["the wrong moments", moments], ["clicks", clicks], ["keys", keys],
+    ["typed counts", typed], ["plays", plays], ["guesses", guesses], ["keeping", keeping],
+    ["addresses", addresses], ["browsers that can't", older],
+]) test(name, body);

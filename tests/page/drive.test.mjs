@@ -1,28 +1,28 @@
-// Drives the page in the headless browsers that are installed, Chromium and Firefox, as a reader would, and compares what
-// it shows with the program's replies: page_drive.mjs PAGE PROGRAM FOLDER [PICTURES [PART..]], where the folder has the
-// program's files eight and race.db. With a folder for pictures it leaves one for each width and colours there; with
-// words for parts it drives those alone, and with BROWSERS=chromium that browser alone. Says what went wrong, and fails.
+// Drives the page in the headless browsers that are installed, Chromium and Firefox, as a reader would,
+// and compares what it shows with the program's replies. The variable BROWSERS names those to be driven,
+// PARTS the parts alone that are, and PICTURES a folder for a picture of each width and colours.
 import { execFileSync, spawn } from "node:child_process";
 import { readFileSync, writeFileSync } from "node:fs";
 import { createServer } from "node:http";
 import { availableParallelism } from "node:os";
-import { join, resolve } from "node:path";
+import { join } from "node:path";
+import { after, test } from "node:test";
 import { pathToFileURL } from "node:url";
-import { started } from "./browser.mjs";
-import { positions } from "../web/trainer.js";
-import { audit } from "./page_audit.mjs";
+import { installed, started } from "./browser.mjs";
+import { positions } from "../../web/trainer.js";
+import { audit } from "./audit.mjs";
+import { equal as same, pagePath, part, programPath, testedFolder, wrong as fault } from "./given.mjs";
 
-const [, , pagePath, program, folder, pictures, ...parts] = process.argv;
-const address = pathToFileURL(resolve(pagePath)).href;
+const address = pathToFileURL(pagePath()).href;
+const program = programPath();
+const folder = testedFolder();
+const pictures = process.env.PICTURES;
+const chosen = process.env.PARTS?.split(" ");
 const asked = new Map();
-let failed = 0;
 let browserName = "";
 
-const wrong = (text) => {
-    failed += 1;
-    console.log(`page: in ${browserName}: ${text}`);
-};
-const equal = (name, is, wanted) => JSON.stringify(is) === JSON.stringify(wanted) || wrong(`${name}: ${JSON.stringify(is)}, and not ${JSON.stringify(wanted)}`);
+const wrong = (text) => fault(`in ${browserName}: ${text}`);
+const equal = (name, is, wanted) => same(`in ${browserName}: ${name}`, is, wanted);
 const FOCUS = 'document.activeElement.getAttribute("data-key") || document.activeElement.id';
 const wait = (milliseconds) => new Promise((keep) => setTimeout(keep, milliseconds));
 
@@ -783,28 +783,22 @@ const ALL = {
     board: driveBoard, keyboard: driveKeyboard, sum: driveSum, lesson: driveLesson, history: driveHistory, copy: driveCopy, saved: driveSaved,
 };
 
-async function drive(browser) {
-    const whole = browser.name === "Chromium" ? { ...OWN, ...ALL, board: async () => {} } : ALL;
-    for (const [name, part] of Object.entries(whole)) {
-        if (parts.length === 0 || parts.includes(name)) await part(browser);
+function drive(browser) {
+    const isChromium = browser.name === "Chromium";
+    const whole = isChromium ? { ...OWN, ...ALL, board: null } : ALL;
+    for (const [name, body] of Object.entries(whole)) {
+        if (body === null || (chosen && !chosen.includes(name))) continue;
+        part(`${name}, in ${browser.name}`, async () => {
+            browserName = browser.name;
+            await body(browser);
+        });
     }
 }
 
-const browsers = await started(process.env.BROWSERS?.split(" ")).catch((error) => {
-    console.log(`page: ${error.message}`);
-    process.exit(1);
-});
-if (browsers.length === 0) console.log("page: neither Chromium nor Firefox is installed, so the page is not driven");
-for (const browser of browsers) {
-    browserName = browser.name;
-    const start = performance.now();
-    try {
-        await drive(browser);
-        console.log(`page: driven in ${browser.name}, ${((performance.now() - start) / 1000).toFixed(0)} s`);
-    } catch (error) {
-        wrong(error.stack);
-    } finally {
-        await browser.close();
-    }
+const kinds = process.env.BROWSERS?.split(" ") || ["chromium", "firefox"];
+for (const kind of kinds.filter((name) => !installed(name))) {
+    test(`in ${kind}`, { skip: `${kind} is not installed, and can't be had from Debian` }, () => {});
 }
-process.exit(failed > 0 ? 1 : 0);
+const browsers = await started(kinds.filter((name) => installed(name)));
+browsers.forEach(drive);
+after(() => Promise.all(browsers.map((browser) => browser.close())));

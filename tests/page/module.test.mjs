@@ -1,36 +1,27 @@
-// Lets the page's worker answer under node, over one of the two modules, and compares what it would show with the program's
-// replies: page_module.mjs MODULE PROGRAM FOLDER, where the folder has questions_8 and questions_44 of
-// tools/callers/questions.py, the replies of the program to them, and its files eight and race.db. What the module answers
-// to each call, and refuses, tools/js_check tries. Says what went wrong, and fails.
+// Lets the page's worker answer under node, over one of the two modules, and compares what it would
+// show with the program's replies to the same questions. What the module answers to each call, and
+// refuses, package.test.mjs tries.
 import { spawnSync } from "node:child_process";
 import { mkdtempSync, readFileSync, rmSync, writeFileSync } from "node:fs";
 import { tmpdir } from "node:os";
 import { join } from "node:path";
-import { playsOf, roundText, signedOf } from "../web/answers.js";
-import { readPoints } from "../web/points.js";
-import { ROLLS } from "../web/rolls.js";
-import { decimal, FAULTS, notation } from "../web/texts.js";
-import { answer, Desk, drawn, rollsOf, serve } from "../web/worker.js";
+import { playsOf, roundText, signedOf } from "../../web/answers.js";
+import { readPoints } from "../../web/points.js";
+import { ROLLS } from "../../web/rolls.js";
+import { decimal, FAULTS, notation } from "../../web/texts.js";
+import { answer, Desk, drawn, rollsOf, serve } from "../../web/worker.js";
+import { equal, linesOf, modulesFolder, part, programPath, testedFolder, wrong } from "./given.mjs";
 
-const [, , modulePath, program, folder] = process.argv;
-const bytes = readFileSync(modulePath);
+const program = programPath();
+const folder = testedFolder();
+const bytes = readFileSync(join(modulesFolder(), "narrow.wasm"));
 const module = await WebAssembly.compile(bytes);
 const WHOLE = 36n ** 22n;
-let failed = 0;
-
-function wrong(text) {
-    failed += 1;
-    if (failed <= 20) console.log(`page: ${text}`);
-}
-
-const equal = (name, is, wanted) => is === wanted || wrong(`${name}: ${is}, and not ${wanted}`);
 
 // A number over another in thousandths, to the nearest and a half up, as the definition says.
 const nearest = (numerator, denominator) => (2000n * numerator + denominator) / (2n * denominator);
 
 const over = (fraction) => fraction.split("/").map(BigInt);
-
-const linesOf = (name) => readFileSync(join(folder, name), "utf8").trimEnd().split("\n");
 
 function comparePlays(name, plays, reply) {
     const listed = reply.split(" ").slice(1);
@@ -188,13 +179,19 @@ async function compareServed() {
     equal("the last one", replies[6].reply, "1.250");
 }
 
-if (readPoints("0,0,0,0,0,1") === null) wrong("points.js reads no position");
-const small = await compareBuilt(8, 64);
-const large = await compareBuilt(44, 26314);
-await compareDamaged(small);
-await compareDrawn(large);
-equal("a small database has no drill", drawn(small.database, { theme: "gaps", seed: 7, ask: "play" }).length, 0);
-compareRounded(small.database);
-await compareServed();
-if (failed > 0) console.log(`page: ${failed} answers of the worker are wrong`);
-process.exit(failed > 0 ? 1 : 0);
+let small = null;
+let large = null;
+
+part("a text of a position is read", () => {
+    if (readPoints("0,0,0,0,0,1") === null) wrong("points.js reads no position");
+});
+part("a built database of 8 pips", async () => { small = await compareBuilt(8, 64); });
+part("a built database of 44 pips", async () => { large = await compareBuilt(44, 26314); });
+part("damaged files", () => compareDamaged(small));
+part("drills", async () => {
+    await compareDrawn(large);
+    const drill = { theme: "gaps", seed: 7, ask: "play" };
+    equal("a small database has no drill", drawn(small.database, drill).length, 0);
+});
+part("rounded fractions", () => compareRounded(small.database));
+part("messages", compareServed);

@@ -1,9 +1,9 @@
 // Stands in for a browser, so that the page's script runs under node: a document that reads no markup, a window with an
 // address and its history, and a worker that answers when the test lets it. Its numbers are made up, each from its
 // position alone, so that a test sees of which position a number is.
-import { ROLLS } from "../web/rolls.js";
-import { drawQuestions } from "../web/trainer.js";
-import { decimal, percent } from "../web/texts.js";
+import { ROLLS } from "../../web/rolls.js";
+import { drawQuestions } from "../../web/trainer.js";
+import { decimal, percent } from "../../web/texts.js";
 
 class Node {
     constructor(document, nodeType, localName) {

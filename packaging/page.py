@@ -1,5 +1,5 @@
-"""Puts the page together: page_parts.py WEB WIDE NARROW VERSION PAGE writes one file of the parts in WEB, the two modules
-and the version in the file VERSION.
+"""Puts the page together: page.py WEB MODULES VERSION PAGE writes one file of the parts in WEB, the
+two modules in the folder MODULES and the version in the file VERSION.
 
 The scripts in WEB, and those of the package in js/ beside it, are modules that name each other by `import` and `export`;
 here they become one script each for the page and for its worker, in the order in which they rest on each other, in a
@@ -55,14 +55,15 @@ def policy(code, style):
     ))
 
 
-def main(web, wide, narrow, version, page):
-    web = Path(web)
+def main(web, modules, version, page):
+    web, modules = Path(web), Path(modules)
     # a browser with memories of 64-bit addresses can unpack; an older one needs the other module as it is
-    packed = {"wide": gzip.compress(Path(wide).read_bytes(), 9, mtime=0), "narrow": Path(narrow).read_bytes()}
-    modules = {name: base64.b64encode(module).decode() for name, module in packed.items()}
+    packed = {"wide": gzip.compress((modules / "wide.wasm").read_bytes(), 9, mtime=0),
+              "narrow": (modules / "narrow.wasm").read_bytes()}
+    encoded = {name: base64.b64encode(module).decode() for name, module in packed.items()}
     worker = script(web / "worker.js", "serve(self);")
     lessons = "".join(line for line in (web / "lessons.txt").read_text().splitlines(True) if not line.startswith("from:"))
-    parts = json.dumps({"worker": worker, "lessons": lessons, **modules}).replace("</", "<\\/")
+    parts = json.dumps({"worker": worker, "lessons": lessons, **encoded}).replace("</", "<\\/")
     code = script(web / "app.js", f"start(document, window, {parts});")
     style = (web / "style.css").read_text()
     text = (web / "index.html").read_text()
@@ -79,6 +80,7 @@ def main(web, wide, narrow, version, page):
     size = len(text.encode())
     if size > MOST_BYTES:
         sys.exit(f"page: {size} bytes, more than {MOST_BYTES}")
+    Path(page).parent.mkdir(parents=True, exist_ok=True)
     Path(page).write_text(text)
     print(f"page: {size} bytes in {page}")
 
