@@ -15,7 +15,9 @@ PACKAGE := $(OUT)/js/bearoff-$(VERSION).tgz
 
 TESTED := $(OUT)/tested/ready
 
-.PHONY: help needs prove library page js tested install uninstall release test test-python test-node
+WORK_PAGE := $(OUT)/work.html
+
+.PHONY: help needs prove library page work-page js tested install uninstall release test test-python test-node
 .DELETE_ON_ERROR:
 
 help:
@@ -23,6 +25,7 @@ help:
 	@echo 'make prove              proves and builds the program'
 	@echo 'make test               all tests; pytest tests -k WORD runs those of a name'
 	@echo 'make page               $(PAGE)'
+	@echo 'make work-page          $(WORK_PAGE), the same with source maps, for work on it'
 	@echo 'make js                 $(PACKAGE)'
 	@echo 'make install            into PREFIX ($(PREFIX)), below DESTDIR where that is set'
 	@echo 'make uninstall          takes that away'
@@ -46,8 +49,9 @@ $(ARCHIVE): $(SOURCES)
 	packaging/archive $@
 
 page: $(PAGE)
-$(PAGE): $(MODULES) $(wildcard web/*) $(wildcard js/*.js) VERSION packaging/page.py
-	/usr/bin/python3 -I packaging/page.py web $(OUT)/modules VERSION $@
+work-page: $(WORK_PAGE)
+$(PAGE) $(WORK_PAGE): $(MODULES) $(wildcard web/*) $(wildcard js/*.js) VERSION packaging/page.py
+	/usr/bin/python3 -I packaging/page.py web $(OUT)/modules VERSION $@ $(if $(filter %/work.html,$@),--maps)
 
 $(MODULES) &: $(SOURCES) packaging/modules
 	packaging/modules $(OUT)/modules

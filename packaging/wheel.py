@@ -1,6 +1,6 @@
-"""Makes the wheel of a release: wheel.py PYTHON VERSION PROGRAM LIBRARY DIR writes the package of PYTHON, with the
-library in it and the program as its script, into DIR, for any Python 3 on Linux and x86-64. Its times are
-SOURCE_DATE_EPOCH, so the same files give the same bytes."""
+"""Makes the wheel of a release: wheel.py PYTHON VERSION PROGRAM LIBRARY DIR writes the package of
+PYTHON, with the library in it and the program as its script, into DIR, for any Python 3 on Linux
+and x86-64. Its times are SOURCE_DATE_EPOCH, so the same files give the same bytes."""
 import sys
 from pathlib import Path
 

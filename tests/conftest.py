@@ -1,4 +1,5 @@
-"""What the tests share: the program that they run, databases that it has built, and a folder of one's own."""
+"""What the tests share: the program that they run, databases that it has built, and a folder of
+one's own."""
 
 import contextlib
 import os
@@ -16,13 +17,19 @@ TRIALS = ROOT / "crates/failing_calls/out/failing_calls"
 
 
 def pytest_addoption(parser):
-    parser.addoption("--program", help="the program to be tested, in place of the one that was proved here")
-    parser.addoption("--trials", help="the program of crates/failing_calls, in place of the one that was proved here")
+    parser.addoption(
+        "--program", help="the program to be tested, in place of the one that was proved here"
+    )
+    parser.addoption(
+        "--trials",
+        help="the program of crates/failing_calls, in place of the one that was proved here",
+    )
     parser.addoption("--by-hand", action="store_true", help="run what takes long, too")
 
 
 def pytest_collection_modifyitems(config, items):
-    """Leaves out what is run by hand, and keeps the tests of one group, which run one after the other, together."""
+    """Leaves out what is run by hand, and keeps the tests of one group, which run one after the
+    other, together."""
     if not config.getoption("--by-hand"):
         left_out = [item for item in items if item.get_closest_marker("by_hand")]
         items[:] = [item for item in items if not item.get_closest_marker("by_hand")]
@@ -32,7 +39,12 @@ def pytest_collection_modifyitems(config, items):
 def pytest_terminal_summary(terminalreporter):
     """Prints what tests have noted, as how many calls there were."""
     passed = terminalreporter.getreports("passed")
-    notes = [text for report in passed for name, text in report.user_properties if name == "note" and report.when == "call"]
+    notes = [
+        text
+        for report in passed
+        for name, text in report.user_properties
+        if name == "note" and report.when == "call"
+    ]
     if notes:
         terminalreporter.section("noted")
     for text in notes:
@@ -55,19 +67,24 @@ def given(path):
 
 def is_fresh(target):
     """Whether something was made of the sources as they are, which the Makefile knows."""
-    done = subprocess.run(["make", "--silent", "--question", "-C", ROOT, target], capture_output=True)
+    done = subprocess.run(
+        ["make", "--silent", "--question", "-C", ROOT, target], capture_output=True
+    )
     return done.returncode == 0
 
 
 @pytest.fixture(scope="session")
 def program(request):
-    """The program: the one that an option names, or the one that was proved and built of the sources as they are."""
+    """The program: the one that an option names, or the one that was proved and built of the
+    sources as they are."""
     if request.config.getoption("--program"):
         return given(request.config.getoption("--program"))
     if not os.access(PROGRAM, os.X_OK):
         pytest.fail(f"{PROGRAM} is not built: run ./bearoff --prove, or make prove", pytrace=False)
     if not is_fresh("crates/bearoff_cli/out/fresh"):
-        pytest.fail(f"a source has changed since {PROGRAM} was proved: run make prove", pytrace=False)
+        pytest.fail(
+            f"a source has changed since {PROGRAM} was proved: run make prove", pytrace=False
+        )
     return PROGRAM
 
 
@@ -77,11 +94,20 @@ def trials(request):
     if request.config.getoption("--trials"):
         return given(request.config.getoption("--trials"))
     if not os.access(TRIALS, os.X_OK):
-        pytest.fail(f"{TRIALS} is not built: run rt ci, or rt run in crates/failing_calls", pytrace=False)
-    sources = [ROOT / "crates.txt", *(ROOT / "crates").glob("*/src/**/*.rt"), *(ROOT / "crates").glob("*/*/**/*.antt")]
+        pytest.fail(
+            f"{TRIALS} is not built: run rt ci, or rt run in crates/failing_calls", pytrace=False
+        )
+    sources = [
+        ROOT / "crates.txt",
+        *(ROOT / "crates").glob("*/src/**/*.rt"),
+        *(ROOT / "crates").glob("*/*/**/*.antt"),
+    ]
     newest = max(path.stat().st_mtime for path in sources if "out" not in path.parts)
     if TRIALS.stat().st_mtime < newest:
-        pytest.fail(f"a source has changed since {TRIALS} was proved: run rt run in crates/failing_calls", pytrace=False)
+        pytest.fail(
+            f"a source has changed since {TRIALS} was proved: run rt run in crates/failing_calls",
+            pytrace=False,
+        )
     return TRIALS
 
 
@@ -96,6 +122,7 @@ def store():
 @pytest.fixture(scope="session")
 def built(program, store):
     """The database of a bound, built once, and with `is_new` its upgrade."""
+
     def database(bound, is_new=False):
         file = store / (f"upgrade_{bound}" if is_new else f"built_{bound}")
         if not file.exists():
@@ -103,6 +130,7 @@ def built(program, store):
             succeed(program, *words, f"{file}.part", timeout=300)
             os.rename(f"{file}.part", file)
         return file
+
     return database
 
 
@@ -118,7 +146,8 @@ def room():
 
 @pytest.fixture
 def files(room, built):
-    """A folder of one's own with databases: one, three, six, eight, by their pips, and new, the upgrade of eight."""
+    """A folder of one's own with databases: one, three, six, eight, by their pips, and new, the
+    upgrade of eight."""
     for name, bound in (("one", 1), ("three", 3), ("six", 6), ("eight", 8)):
         shutil.copy(built(bound), room / name)
     shutil.copy(built(8, is_new=True), room / "new")
@@ -128,6 +157,10 @@ def files(room, built):
 @pytest.fixture
 def ask(program):
     """Runs the program with words, as one text or as a list."""
+
     def asked(words, input=b"", **how):
-        return run(program, *(words.split() if isinstance(words, str) else words), input=input, **how)
+        return run(
+            program, *(words.split() if isinstance(words, str) else words), input=input, **how
+        )
+
     return asked

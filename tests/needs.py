@@ -1,7 +1,8 @@
 #!/usr/bin/env -S python3 -I
-"""What the tests and the packaging need beyond the kit, and the one step that installs it from Debian's packages:
-tests/needs.py [NAME..] installs what is missing of these, or of all. Each row has a name, the packages, and how to see
-that it is there. What is optional may be missing: then the tests of it are skipped, and say so."""
+"""What the tests and the packaging need beyond the kit, and the one step that installs it from
+Debian's packages: tests/needs.py [NAME..] installs what is missing of these, or of all. Each row
+has a name, the packages, and how to see that it is there. What is optional may be missing: then
+the tests of it are skipped, and say so."""
 
 import argparse
 import collections
@@ -23,7 +24,10 @@ def has(*commands):
 def has_module(*modules):
     """Whether Debian's Python has modules."""
     words = ["/usr/bin/python3", "-c", f"import {', '.join(modules)}"]
-    return lambda: os.path.exists(words[0]) and subprocess.run(words, capture_output=True).returncode == 0
+    return (
+        lambda: os.path.exists(words[0])
+        and subprocess.run(words, capture_output=True).returncode == 0
+    )
 
 
 def has_static_library():
@@ -57,6 +61,7 @@ NEEDS = (
     Need("gnubg", ["gnubg"], has("gnubg"), True),
     # the page, and the package for JavaScript
     Need("wasm-opt", ["binaryen"], has("wasm-opt")),
+    Need("esbuild", ["esbuild"], has("esbuild")),
     Need("node", ["nodejs"], has("node")),
     Need("tsc", ["node-typescript"], has("tsc")),
     Need("npm", ["npm"], has("npm"), True),
@@ -78,7 +83,9 @@ def install(names):
         fcntl.flock(lock, fcntl.LOCK_EX)
         missing = [need for need in missing if not need.is_there()]
         if missing and shutil.which(command[0]) and shutil.which("apt-get"):
-            subprocess.run([*command, "update"], stdout=subprocess.DEVNULL, stderr=subprocess.DEVNULL)
+            subprocess.run(
+                [*command, "update"], stdout=subprocess.DEVNULL, stderr=subprocess.DEVNULL
+            )
             for need in missing:
                 words = [*command, "install", "-y", "--no-install-recommends", *need.packages]
                 subprocess.run(words, stdout=subprocess.DEVNULL, stderr=subprocess.DEVNULL)

@@ -19,7 +19,8 @@ Done = collections.namedtuple("Done", "words folder input status output errors")
 
 
 def as_bytes(text):
-    """What a command is given or has to say: bytes as they are, and a text as the lines that it has."""
+    """What a command is given or has to say: bytes as they are, and a text as the lines that it
+    has."""
     if isinstance(text, bytes):
         return text
     return (text if not text or text.endswith("\n") else text + "\n").encode()
@@ -30,7 +31,9 @@ def run(*words, input=b"", cwd=None, timeout=120, **more):
     words = [str(word) for word in words]
     given = as_bytes(input)
     try:
-        done = subprocess.run(words, input=given, capture_output=True, cwd=cwd, timeout=timeout, **more)
+        done = subprocess.run(
+            words, input=given, capture_output=True, cwd=cwd, timeout=timeout, **more
+        )
     except subprocess.TimeoutExpired as late:
         pytest.fail(f"ran:    {shlex.join(words)}\ncame:   no end within {late.timeout} s")
     return Done(words, str(cwd or os.getcwd()), given, done.returncode, done.stdout, done.stderr)
@@ -43,8 +46,10 @@ def shown(data, most=1500):
 def told(done):
     """What was run and what came, for a failure."""
     given = f"\ninput:  {shown(done.input, 300)}" if done.input else ""
-    return (f"ran:    {shlex.join(done.words)}{given}\nin:     {done.folder}\n"
-            f"came:   status {done.status}, output {shown(done.output)}, errors {shown(done.errors)}")
+    return (
+        f"ran:    {shlex.join(done.words)}{given}\nin:     {done.folder}\n"
+        f"came:   status {done.status}, output {shown(done.output)}, errors {shown(done.errors)}"
+    )
 
 
 def expect(done, status=0, output="", errors=""):
@@ -52,7 +57,10 @@ def expect(done, status=0, output="", errors=""):
     __tracebackhide__ = True
     output, errors = as_bytes(output), as_bytes(errors)
     if (done.status, done.output, done.errors) != (status, output, errors):
-        pytest.fail(f"{told(done)}\nwanted: status {status}, output {shown(output)}, errors {shown(errors)}", pytrace=False)
+        pytest.fail(
+            f"{told(done)}\nwanted: status {status}, output {shown(output)}, errors {shown(errors)}",
+            pytrace=False,
+        )
 
 
 def expect_that(is_so, done, wanted):
@@ -73,22 +81,33 @@ def succeed(*words, **how):
 def expect_same(one, other, what):
     """That two files, or bytes, are the same."""
     __tracebackhide__ = True
-    here, there = (data if isinstance(data, bytes) else Path(data).read_bytes() for data in (one, other))
+    here, there = (
+        data if isinstance(data, bytes) else Path(data).read_bytes() for data in (one, other)
+    )
     if here != there:
-        at = next((place for place, (a, b) in enumerate(zip(here, there)) if a != b), min(len(here), len(there)))
-        pytest.fail(f"{what}: {one if not isinstance(one, bytes) else 'what came'} differs from byte {at} on\n"
-                    f"came:   {shown(here[at:at + 60])} of {len(here)} bytes\n"
-                    f"wanted: {shown(there[at:at + 60])} of {len(there)} bytes", pytrace=False)
+        at = next(
+            (place for place, (a, b) in enumerate(zip(here, there)) if a != b),
+            min(len(here), len(there)),
+        )
+        pytest.fail(
+            f"{what}: {one if not isinstance(one, bytes) else 'what came'} differs from byte {at} on\n"
+            f"came:   {shown(here[at:at + 60])} of {len(here)} bytes\n"
+            f"wanted: {shown(there[at:at + 60])} of {len(there)} bytes",
+            pytrace=False,
+        )
 
 
 def need(*names):
-    """Installs what a test needs where it is missing. What can't be had is a failure, or, where it is optional, leaves
-    the test out."""
+    """Installs what a test needs where it is missing. What can't be had is a failure, or, where it
+    is optional, leaves the test out."""
     for name in needs.install(names):
         packages = " ".join(needs.BY_NAME[name].packages)
         if needs.BY_NAME[name].is_optional:
             pytest.skip(f"Debian's {packages} can't be had here")
-        pytest.fail(f"Debian's {packages} is needed and can't be installed: tests/needs.py {name}", pytrace=False)
+        pytest.fail(
+            f"Debian's {packages} is needed and can't be installed: tests/needs.py {name}",
+            pytrace=False,
+        )
 
 
 def code_blocks(page, kind):

@@ -1,10 +1,11 @@
-"""Kills the built program before each of its system calls, and fails each of them, one in a run, by strace: under a
-build over a good file, a build of a new one, both through a link too, and an upgrade in place. After each run the file
-is the whole old or the whole new database, or absent where there was none. After a kill there is at most one new file
-beside it; after a failed call there is none, and the status and the line are those of the fault. Tries also that the
-bytes are brought to the disk before the file gets its name, eight builds and checks of one file at once, a whole build
-within each system call of another run, a run that a limit ends, and the kinds of file that a database can be written
-into."""
+"""Kills the built program before each of its system calls, and fails each of them, one in a run,
+by strace: under a build over a good file, a build of a new one, both through a link too, and an
+upgrade in place. After each run the file is the whole old or the whole new database, or absent
+where there was none. After a kill there is at most one new file beside it; after a failed call
+there is none, and the status and the line are those of the fault. Tries also that the bytes are
+brought to the disk before the file gets its name, eight builds and checks of one file at once, a
+whole build within each system call of another run, a run that a limit ends, and the kinds of file
+that a database can be written into."""
 
 import collections
 import concurrent.futures
@@ -28,13 +29,36 @@ from running import expect, need, run
 pytestmark = pytest.mark.xdist_group("alone")
 
 # what Linux never refuses to a program that runs, and what the end of a process is made of
-NEVER_FAIL = {"brk", "execve", "exit_group", "exit", "arch_prctl", "set_tid_address", "set_robust_list", "rseq",
-              "prlimit64", "getrandom", "rt_sigaction", "rt_sigprocmask", "sigaltstack", "close", "munmap", "mprotect",
-              "access"}
+NEVER_FAIL = {
+    "brk",
+    "execve",
+    "exit_group",
+    "exit",
+    "arch_prctl",
+    "set_tid_address",
+    "set_robust_list",
+    "rseq",
+    "prlimit64",
+    "getrandom",
+    "rt_sigaction",
+    "rt_sigprocmask",
+    "sigaltstack",
+    "close",
+    "munmap",
+    "mprotect",
+    "access",
+}
 
-# the errors that a call is failed with: one that is a fault, and one that some systems give in place of an answer
-ERRORS = {"openat": ["EMFILE", "EACCES"], "open": ["EMFILE", "EACCES"], "fsync": ["EIO", "EINVAL"],
-          "write": ["ENOSPC"], "mmap": ["ENOMEM"], "rename": ["EBUSY"]}
+# the errors that a call is failed with: one that is a fault, and one that some systems give in
+# place of an answer
+ERRORS = {
+    "openat": ["EMFILE", "EACCES"],
+    "open": ["EMFILE", "EACCES"],
+    "fsync": ["EIO", "EINVAL"],
+    "write": ["ENOSPC"],
+    "mmap": ["ENOMEM"],
+    "rename": ["EBUSY"],
+}
 
 # for how long a run is held up while another one builds, in microseconds
 HELD_UP = 700_000
@@ -44,13 +68,18 @@ BUILD = ["build", "--pips", "8"]
 BUILT, UPGRADED = b"built pips 8 positions 64\n", b"upgraded pips 8 positions 64\n"
 IS_ROOT = os.getuid() == 0
 
-# a run that is killed or failed: its words, where the file is, what stands there before and after, the link to it
+# a run that is killed or failed: its words, where the file is, what stands there before and after,
+# the link to it
 Scene = collections.namedtuple("Scene", "name words file old new link told")
 SCENES = (
     Scene("build over a file", [*BUILD, "db"], "db", "six", "eight", None, BUILT),
     Scene("build of a new file", [*BUILD, "db"], "db", None, "eight", None, BUILT),
-    Scene("build over a file by a link", [*BUILD, "link"], "inner/db", "six", "eight", "link", BUILT),
-    Scene("build of a new file by a link", [*BUILD, "link"], "inner/db", None, "eight", "link", BUILT),
+    Scene(
+        "build over a file by a link", [*BUILD, "link"], "inner/db", "six", "eight", "link", BUILT
+    ),
+    Scene(
+        "build of a new file by a link", [*BUILD, "link"], "inner/db", None, "eight", "link", BUILT
+    ),
     Scene("upgrade in place", ["upgrade", "db", "db"], "db", "eight", "new_eight", None, UPGRADED),
 )
 every_scene = pytest.mark.parametrize("scene", SCENES, ids=lambda scene: scene.name)
@@ -104,7 +133,8 @@ class Crashes:
         return subprocess.CompletedProcess(command, child.returncode, output, errors)
 
     def state(self, scene, place, what, most, wanted):
-        """What is wrong with the files after a run: the file is one of some databases, and so many others may stay."""
+        """What is wrong with the files after a run: the file is one of some databases, and so many
+        others may stay."""
         stands = bytes_of(os.path.join(place, scene.file))
         if stands not in [self.bytes_of[name] for name in wanted]:
             size = "absent" if stands is None else f"of {len(stands)} bytes"
@@ -153,12 +183,17 @@ class Crashes:
             return self.state(scene, place, what, 0, stands)
 
     def held_up(self, words, folder, name, number):
-        """A run that waits before a system call of its own, and has come there; it goes on by itself."""
+        """A run that waits before a system call of its own, and has come there; it goes on by
+        itself."""
         trace = os.path.join(folder, "held")
         inject = f"inject={name}:delay_enter={HELD_UP}:when={number}"
-        child = subprocess.Popen(["strace", "-f", "-qq", "-o", trace, "-e", inject, self.program, *words],
-                                 cwd=os.path.join(folder, "here"), stdin=subprocess.DEVNULL, stdout=subprocess.PIPE,
-                                 stderr=subprocess.PIPE)
+        child = subprocess.Popen(
+            ["strace", "-f", "-qq", "-o", trace, "-e", inject, self.program, *words],
+            cwd=os.path.join(folder, "here"),
+            stdin=subprocess.DEVNULL,
+            stdout=subprocess.PIPE,
+            stderr=subprocess.PIPE,
+        )
         until = time.monotonic() + 20
         while child.poll() is None and time.monotonic() < until:
             with contextlib.suppress(OSError):
@@ -168,7 +203,8 @@ class Crashes:
         return child
 
     def linked(self, path, name):
-        """Puts the old database into a file with a second name, and tells a descriptor that has it open."""
+        """Puts the old database into a file with a second name, and tells a descriptor that has it
+        open."""
         for old in (path, name):
             if os.path.lexists(old):
                 os.remove(old)
@@ -177,9 +213,12 @@ class Crashes:
         return os.open(path, os.O_RDONLY)
 
     def is_kept(self, name, opened):
-        """Whether the second name of the old file, and whoever had it open, still have the old database."""
+        """Whether the second name of the old file, and whoever had it open, still have the old
+        database."""
         with open(opened, "rb") as file:
-            return bytes_of(name) == self.bytes_of["three"] and file.read() == self.bytes_of["three"]
+            return (
+                bytes_of(name) == self.bytes_of["three"] and file.read() == self.bytes_of["three"]
+            )
 
     def overtaken(self, scene, name, number, text):
         """A whole build into a path while another run waits before a system call."""
@@ -190,13 +229,28 @@ class Crashes:
             if scene.old is not None:
                 opened = self.linked(file, second)
             child = self.held_up(scene.words, folder, name, number)
-            other = subprocess.run([self.program, "build", "--pips", "6", scene.words[-1]], cwd=place,
-                                   stdin=subprocess.DEVNULL, capture_output=True, timeout=60)
+            other = subprocess.run(
+                [self.program, "build", "--pips", "6", scene.words[-1]],
+                cwd=place,
+                stdin=subprocess.DEVNULL,
+                capture_output=True,
+                timeout=60,
+            )
             told, errors = child.communicate(timeout=60)
             what = f"{scene.name}, with a build of 6 pips within {text}"
-            if (other.returncode, other.stdout, other.stderr) != (0, b"built pips 6 positions 30\n", b""):
-                return f"{what}: the other one ends with status {other.returncode}, {other.stderr!r}"
-            if child.returncode != 0 or told.split(b" ")[0] != scene.told.split(b" ")[0] or errors != b"":
+            if (other.returncode, other.stdout, other.stderr) != (
+                0,
+                b"built pips 6 positions 30\n",
+                b"",
+            ):
+                return (
+                    f"{what}: the other one ends with status {other.returncode}, {other.stderr!r}"
+                )
+            if (
+                child.returncode != 0
+                or told.split(b" ")[0] != scene.told.split(b" ")[0]
+                or errors != b""
+            ):
                 return f"{what}: status {child.returncode}, {told!r}, {errors!r}"
             if scene.old is not None and not self.is_kept(second, opened):
                 return f"{what}: the old file was written into"
@@ -204,7 +258,8 @@ class Crashes:
 
 
 def calls_of(trace):
-    """The calls of a trace in their order: the name of each, its text, and how many of that name there were by then."""
+    """The calls of a trace in their order: the name of each, its text, and how many of that name
+    there were by then."""
     counts, calls = collections.Counter(), []
     with open(trace, encoding="latin-1") as file:
         for line in file:
@@ -216,11 +271,19 @@ def calls_of(trace):
 
 
 def first_own(calls):
-    """The place of the first call that is the program's own: the loader opens libraries before it, and ends with munmap."""
+    """The place of the first call that is the program's own: the loader opens libraries before it,
+    and ends with munmap."""
     libraries = [place for place, (_, line, _) in enumerate(calls) if ".so" in line]
     if not libraries:
         return 1
-    return next(place for place, (name, _, _) in enumerate(calls) if place > libraries[-1] and name == "munmap") + 1
+    return (
+        next(
+            place
+            for place, (name, _, _) in enumerate(calls)
+            if place > libraries[-1] and name == "munmap"
+        )
+        + 1
+    )
 
 
 def text_of(line):
@@ -228,18 +291,33 @@ def text_of(line):
 
 
 def is_synced_first(calls):
-    """Whether the new file is brought to the disk after its last write and before it gets its name, the folder after."""
+    """Whether the new file is brought to the disk after its last write and before it gets its
+    name, the folder after."""
     texts = [(name, line) for name, line, _ in calls]
-    made = next((p for p, (_, line) in enumerate(texts) if ".tmp" in line and "O_EXCL" in line), None)
+    made = next(
+        (p for p, (_, line) in enumerate(texts) if ".tmp" in line and "O_EXCL" in line), None
+    )
     if made is None:
         return False
     number = re.search(r"= (\d+)", texts[made][1])[1]
-    after = list(enumerate(texts))[made + 1:]
+    after = list(enumerate(texts))[made + 1 :]
     renamed = next(p for p, (name, _) in after if name.startswith("rename"))
-    written = max(p for p, (name, line) in after if p < renamed and name == "write" and f"write({number}, " in line)
-    synced = [p for p, (name, line) in after if name == "fsync" and f"fsync({number})" in line and "= 0" in line]
+    written = max(
+        p
+        for p, (name, line) in after
+        if p < renamed and name == "write" and f"write({number}, " in line
+    )
+    synced = [
+        p
+        for p, (name, line) in after
+        if name == "fsync" and f"fsync({number})" in line and "= 0" in line
+    ]
     folder = [p for p, (name, line) in after if p > renamed and name == "fsync" and "= 0" in line]
-    written_later = [p for p, (name, line) in after if p > renamed and name == "write" and "write(1, " not in line]
+    written_later = [
+        p
+        for p, (name, line) in after
+        if p > renamed and name == "write" and "write(1, " not in line
+    ]
     return bool(synced) and written < synced[0] < renamed and bool(folder) and not written_later
 
 
@@ -269,24 +347,35 @@ def strace():
 @every_scene
 def test_synced_before_named(crashes, strace, scene):
     calls = crashes.calls_of_whole_run(scene)
-    assert is_synced_first(calls), "the bytes are not brought to the disk before the file gets its name:\n" + "".join(
-        line for _, line, _ in calls)
+    assert is_synced_first(
+        calls
+    ), "the bytes are not brought to the disk before the file gets its name:\n" + "".join(
+        line for _, line, _ in calls
+    )
 
 
 @every_scene
 def test_killed_before_each_call(crashes, strace, scene, note):
     calls = crashes.calls_of_whole_run(scene)
     with concurrent.futures.ThreadPoolExecutor(4) as pool:
-        jobs = [pool.submit(crashes.killed, scene, name, number) for name, _, number in calls if name != "execve"]
+        jobs = [
+            pool.submit(crashes.killed, scene, name, number)
+            for name, _, number in calls
+            if name != "execve"
+        ]
     none_wrong(jobs)
-    note(f"{scene.name}: {len(calls)} system calls, {len(calls) - first_own(calls)} of them the program's own;"
-         f" {len(jobs)} runs were killed")
+    note(
+        f"{scene.name}: {len(calls)} system calls, {len(calls) - first_own(calls)} of them the program's own;"
+        f" {len(jobs)} runs were killed"
+    )
 
 
 @every_scene
 def test_each_call_fails(crashes, strace, scene, note):
     calls = crashes.calls_of_whole_run(scene)
-    renamed = next((place for place, (name, _, _) in enumerate(calls) if name == "rename"), len(calls))
+    renamed = next(
+        (place for place, (name, _, _) in enumerate(calls) if name == "rename"), len(calls)
+    )
     jobs = []
     with concurrent.futures.ThreadPoolExecutor(4) as pool:
         for place, (name, line, number) in enumerate(calls):
@@ -294,7 +383,9 @@ def test_each_call_fails(crashes, strace, scene, note):
                 continue
             stands = [scene.old] if place <= renamed else [scene.new]
             for error in ERRORS.get(name, ["EIO"]):
-                jobs.append(pool.submit(crashes.failed, scene, name, number, error, text_of(line), stands))
+                jobs.append(
+                    pool.submit(crashes.failed, scene, name, number, error, text_of(line), stands)
+                )
     none_wrong(jobs)
     note(f"{scene.name}: {len(jobs)} runs had a call that failed")
 
@@ -309,8 +400,11 @@ def test_overtaken_within_each_call(crashes, strace, scene, note):
         crashes.traced(scene, os.path.join(folder, "here"), "-o", trace)
         calls = calls_of(trace)
     with concurrent.futures.ThreadPoolExecutor(12) as pool:
-        jobs = [pool.submit(crashes.overtaken, scene, name, number, text_of(line))
-                for name, line, number in calls[first_own(calls):] if name not in NEVER_FAIL]
+        jobs = [
+            pool.submit(crashes.overtaken, scene, name, number, text_of(line))
+            for name, line, number in calls[first_own(calls) :]
+            if name not in NEVER_FAIL
+        ]
     none_wrong(jobs)
     note(f"{scene.name}: {len(jobs)} runs were held up within a call while another one built")
 
@@ -319,10 +413,14 @@ def test_a_check_that_has_the_old_file_open(crashes, strace, room):
     place, file = room / "here", room / "here" / "db"
     place.mkdir()
     put(file, crashes.bytes_of["three"])
-    subprocess.run(["strace", "-f", "-o", room / "trace", crashes.program, "check", "db"], cwd=place,
-                   stdin=subprocess.DEVNULL, stdout=subprocess.DEVNULL)
+    subprocess.run(
+        ["strace", "-f", "-o", room / "trace", crashes.program, "check", "db"],
+        cwd=place,
+        stdin=subprocess.DEVNULL,
+        stdout=subprocess.DEVNULL,
+    )
     calls = calls_of(room / "trace")
-    reads = [number for name, line, number in calls[first_own(calls):] if name == "read"]
+    reads = [number for name, line, number in calls[first_own(calls) :] if name == "read"]
     child = crashes.held_up(["check", "db"], room, "read", reads[0])
     for pips in ("6", "8"):
         run(crashes.program, "build", "--pips", pips, file)
@@ -331,21 +429,29 @@ def test_a_check_that_has_the_old_file_open(crashes, strace, room):
 
 
 def test_builds_and_checks_at_once(crashes, room, note):
-    """Eight builds into one path at the same time, and checks meanwhile: the file is one of the two databases, and a
-    second name of the old file keeps the old one."""
+    """Eight builds into one path at the same time, and checks meanwhile: the file is one of the
+    two databases, and a second name of the old file keeps the old one."""
     checks, rounds = 0, 40
-    begin = lambda pips: subprocess.Popen([crashes.program, "build", "--pips", pips, "shared"],
-                                          stdin=subprocess.DEVNULL, stdout=subprocess.PIPE, stderr=subprocess.STDOUT)
+    begin = lambda pips: subprocess.Popen(
+        [crashes.program, "build", "--pips", pips, "shared"],
+        stdin=subprocess.DEVNULL,
+        stdout=subprocess.PIPE,
+        stderr=subprocess.STDOUT,
+    )
     for _ in range(rounds):
         opened = crashes.linked("shared", "second")
         builds = [begin(pips) for pips in ("6", "8") * 4]
         while any(build.poll() is None for build in builds):
             got = run(crashes.program, "check", "shared")
             checks += 1
-            assert got.status == 0 and got.output.startswith(b"ok pips "), f"a check while others build: {got}"
+            assert got.status == 0 and got.output.startswith(
+                b"ok pips "
+            ), f"a check while others build: {got}"
         for build in builds:
             told = build.communicate()[0]
-            assert build.returncode == 0 and told.startswith(b"built pips "), f"status {build.returncode}, {told!r}"
+            assert build.returncode == 0 and told.startswith(
+                b"built pips "
+            ), f"status {build.returncode}, {told!r}"
         assert bytes_of("shared") in (crashes.bytes_of["six"], crashes.bytes_of["eight"])
         assert crashes.is_kept("second", opened), "the old file was written into"
         assert leftovers() == []
@@ -353,10 +459,15 @@ def test_builds_and_checks_at_once(crashes, room, note):
 
 
 def test_a_limit_of_the_size_of_files(crashes, room):
-    """A limit ends a run by a signal: the old file stays, and one new file with the run's number."""
+    """A limit ends a run by a signal: the old file stays, and one new file with the run's
+    number."""
     put("limited", crashes.bytes_of["six"])
-    child = subprocess.Popen([crashes.program, *BUILD, "limited"], stdin=subprocess.DEVNULL, stderr=subprocess.DEVNULL,
-                             preexec_fn=lambda: resource.setrlimit(resource.RLIMIT_FSIZE, (8192, 8192)))
+    child = subprocess.Popen(
+        [crashes.program, *BUILD, "limited"],
+        stdin=subprocess.DEVNULL,
+        stderr=subprocess.DEVNULL,
+        preexec_fn=lambda: resource.setrlimit(resource.RLIMIT_FSIZE, (8192, 8192)),
+    )
     child.wait(60)
     assert child.returncode == -signal.SIGXFSZ
     assert bytes_of("limited") == crashes.bytes_of["six"]
@@ -365,9 +476,11 @@ def test_a_limit_of_the_size_of_files(crashes, room):
 
 def test_names_that_are_taken(crashes, room):
     """A run whose names are taken by what killed runs with the same number left behind."""
+
     def take():
         for behind in [""] + [f"-{number}" for number in range(1, 300)]:
             put(f"bearoff-{os.getpid()}{behind}.tmp", b"")
+
     put("taken", crashes.bytes_of["six"])
     expect(run(crashes.program, *BUILD, "taken", preexec_fn=take), 0, BUILT)
     assert bytes_of("taken") == crashes.bytes_of["eight"] and len(leftovers()) == 300
@@ -394,7 +507,8 @@ class TestKinds:
         expect(self.build("kept"), 0, BUILT)
         after = os.stat("kept")
         assert [(told.st_mode, told.st_uid, told.st_gid) for told in (before, after)] == 2 * [
-            (before.st_mode, before.st_uid, before.st_gid)]
+            (before.st_mode, before.st_uid, before.st_gid)
+        ]
         assert (bytes_of("kept"), bytes_of("other")) == (self.eight, self.six)
 
     def test_a_link_to_a_link(self):
@@ -402,7 +516,9 @@ class TestKinds:
         os.symlink("target", "first")
         os.symlink(os.path.abspath("first"), "second")
         expect(self.build("second"), 0, BUILT)
-        assert os.path.islink("second") and os.path.islink("first") and not os.path.islink("target")
+        assert (
+            os.path.islink("second") and os.path.islink("first") and not os.path.islink("target")
+        )
         assert bytes_of("target") == self.eight
 
     @pytest.mark.parametrize("name, to", [("nowhere", "nothing/there"), ("loop", "loop")])
@@ -428,7 +544,12 @@ class TestKinds:
 
     def test_standard_output_that_is_a_file(self, crashes):
         with open("appended", "ab") as file:
-            subprocess.run([crashes.program, *BUILD, "/dev/stdout"], stdin=subprocess.DEVNULL, stdout=file, timeout=60)
+            subprocess.run(
+                [crashes.program, *BUILD, "/dev/stdout"],
+                stdin=subprocess.DEVNULL,
+                stdout=file,
+                timeout=60,
+            )
         assert bytes_of("appended") == self.eight + BUILT
 
     @pytest.mark.parametrize("name", ["", "nothing/db", "target/db", "."])

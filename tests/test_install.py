@@ -168,8 +168,8 @@ class TestTakenPlaces:
 
 
 class TestLists:
-    """A list that leads elsewhere is not followed; one of an older version is gone through too, and
-    one that is cut."""
+    """A list that leads elsewhere is not followed; one of an older version is gone through too,
+    and one that is cut."""
 
     @pytest.mark.parametrize("name", ["../outside", "@/outside", "bin/../../outside", "bin/..", ".",
                                       "..", "/", "", "bin//bearoff", "./bin/bearoff"])

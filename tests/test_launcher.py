@@ -1,7 +1,7 @@
-"""The launcher `bearoff`, in copies of what it reads: with a kit that only tells how it was called,
-what is run before a proof, after one, after a change of a source and without a kit, and what
---prove does; and with the kit's own `rt`, in a copy where nothing is proved, the first command of
-the README."""
+"""The launcher `bearoff`, in copies of what it reads: with a kit that only tells how it was
+called, what is run before a proof, after one, after a change of a source and without a kit, and
+what --prove does; and with the kit's own `rt`, in a copy where nothing is proved, the first
+command of the README."""
 
 import fnmatch
 import os

@@ -24,9 +24,11 @@ TEXT = (ROOT / "web/lessons.txt").read_text(encoding="utf-8")
 @pytest.fixture
 def replies(program, built):
     """What the program replies to lines over 44 pips."""
+
     def asked(lines):
         text = "".join(f"{line}\n" for line in lines)
         return succeed(program, "query", built(44), input=text).decode().splitlines()
+
     return asked
 
 
@@ -42,11 +44,18 @@ def numbers(replies, position):
     _, mean, _, exact, told = replies([f"mean {position}"])[0].split()
     pips = sum(point * int(count) for point, count in enumerate(position.split(","), 1))
     assert nearest(Fraction(exact)) == told, f"{position}: {told} isn't {exact}"
-    return Fraction(exact), {mean, exact, nearest(Fraction(mean)), told, nearest(Fraction(exact) - pips)}
+    return Fraction(exact), {
+        mean,
+        exact,
+        nearest(Fraction(mean)),
+        told,
+        nearest(Fraction(exact) - pips),
+    }
 
 
 def steps_of(text):
-    """Each lesson's title and its steps: the position, the roll, the lines of `from:`, and the words."""
+    """Each lesson's title and its steps: the position, the roll, the lines of `from:`, and the
+    words."""
     lessons = []
     for line in text.splitlines():
         word, _, value = line.partition(": ")
@@ -65,10 +74,28 @@ def steps_of(text):
 
 # what is no number of a position: a position, a move, a roll, the rule's own words
 PASSED_OVER = re.compile(r"(\d+,){5}\d+|\b[1-6]/(off|[1-5])\b|\b[1-6]-[1-6]\b|7n \+ 1")
-COUNTS = ["no", "one", "two", "three", "four", "five", "six", "seven", "eight", "nine", "ten", "eleven", "twelve",
-          "thirteen", "fourteen", "fifteen"]
+COUNTS = [
+    "no",
+    "one",
+    "two",
+    "three",
+    "four",
+    "five",
+    "six",
+    "seven",
+    "eight",
+    "nine",
+    "ten",
+    "eleven",
+    "twelve",
+    "thirteen",
+    "fourteen",
+    "fifteen",
+]
 POINTS = ["ace", *COUNTS[2:7]]
-CHECKERS = re.compile(rf"\b({'|'.join(COUNTS)}) (?:checkers\b|on the ({'|'.join(POINTS)}) point)", re.IGNORECASE)
+CHECKERS = re.compile(
+    rf"\b({'|'.join(COUNTS)}) (?:checkers\b|on the ({'|'.join(POINTS)}) point)", re.IGNORECASE
+)
 COMPARED = re.compile(r"([\d./]+) - ([\d./]+) ([>=]) ([\d./]+)")
 
 
@@ -132,11 +159,16 @@ def test_lesson(replies, title, steps):
 
 def test_a_third_checker(replies):
     """What a checker that joins any two costs: the mean with it, less that without it."""
-    joined = [((*pair, third), pair)
-              for pair in itertools.combinations_with_replacement(range(6), 2)
-              for third in range(6)]
-    asked = [",".join(str(points.count(point)) for point in range(6))
-             for both in joined for points in both]
+    joined = [
+        ((*pair, third), pair)
+        for pair in itertools.combinations_with_replacement(range(6), 2)
+        for third in range(6)
+    ]
+    asked = [
+        ",".join(str(points.count(point)) for point in range(6))
+        for both in joined
+        for points in both
+    ]
     lines = [f"mean {position}" for position in asked]
     means = [Fraction(reply.split()[1]) for reply in replies(lines)]
     dearest = max(three - two for three, two in zip(means[::2], means[1::2]))
@@ -146,8 +178,9 @@ def test_a_third_checker(replies):
 
 def test_the_ace_stack_rule(replies):
     """By how much it is off, at most and in the mean, over all stacks."""
-    errors = [abs(numbers(replies, f"{count},0,0,0,0,0")[0] - rule_of(count))
-              for count in range(1, 16)]
+    errors = [
+        abs(numbers(replies, f"{count},0,0,0,0,0")[0] - rule_of(count)) for count in range(1, 16)
+    ]
     script = (ROOT / "web/training.js").read_text(encoding="utf-8")
     told = re.search(r'OVER_ALL = \{ most: "([\d.]+)", mean: "([\d.]+)" \}', script)
     assert told.groups() == (nearest(max(errors)), nearest(sum(errors) / 15))

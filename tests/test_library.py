@@ -1,12 +1,12 @@
-"""The library for C under callers in C, C++ and Python: every position of 8 pips, and a thousand of
-44 and of 58, give what the program's own lines give, and so do the lines that the library answers
-itself, good and bad; each refusal gives its status and leaves the rest of the caller's memory alone
-(under valgrind, and with AddressSanitizer in the caller), bytes that are changed after they were
-opened lead no call outside them, rooms of exactly the size of a file are enough and smaller ones
-aren't, threads with a database each answer the same, and both libraries export what the header
-declares and nothing else. The package for Python passes its own tests, is accepted by mypy and is
-installed by pip without a trace in the checkout; the examples of docs/embedding.md and
-docs/analysts.md do what the pages say."""
+"""The library for C under callers in C, C++ and Python: every position of 8 pips, and a thousand
+of 44 and of 58, give what the program's own lines give, and so do the lines that the library
+answers itself, good and bad; each refusal gives its status and leaves the rest of the caller's
+memory alone (under valgrind, and with AddressSanitizer in the caller), bytes that are changed
+after they were opened lead no call outside them, rooms of exactly the size of a file are enough
+and smaller ones aren't, threads with a database each answer the same, and both libraries export
+what the header declares and nothing else. The package for Python passes its own tests, is accepted
+by mypy and is installed by pip without a trace in the checkout; the examples of docs/embedding.md
+and docs/analysts.md do what the pages say."""
 
 import collections
 import os

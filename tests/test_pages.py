@@ -132,7 +132,9 @@ def contract(text, function):
     found = []
     lines = text.split("\n")
     for place, line in enumerate(lines):
-        head = re.match(r"( *)(?:pub )?(?:const )?(?:extern \"C\" )?fn " + re.escape(function) + r"\b", line)
+        head = re.match(
+            r"( *)(?:pub )?(?:const )?(?:extern \"C\" )?fn " + re.escape(function) + r"\b", line
+        )
         if head:
             end = place
             while end < len(lines) and not re.match(head.group(1) + r"(\{|[^ ].*\{$)", lines[end]):
@@ -142,7 +144,8 @@ def contract(text, function):
 
 
 def compare_links(page):
-    """Each link leads to a file; the words in backticks after a link to a function are its clauses."""
+    """Each link leads to a file; the words in backticks after a link to a function are its
+    clauses."""
     for line in read(page).split("\n"):
         parts = re.split(r"\[([^\]]*)\]\(([^)]*)\)", line)
         for label, target, rest in zip(parts[1::3], parts[2::3], parts[3::3]):
@@ -159,12 +162,15 @@ def compare_links(page):
             if not contracts:
                 wrong.append(f"{page}: {path} has no function {name.group(1)}")
             for clause in re.findall(r"`(\w+)`", re.split(r"[|:;.]", rest)[0]):
-                if not any(re.search(rf"(?:ensures|requires)\*? {clause} \{{", text) for text in contracts):
+                if not any(
+                    re.search(rf"(?:ensures|requires)\*? {clause} \{{", text) for text in contracts
+                ):
                     wrong.append(f"{page}: {name.group(1)} of {path} has no clause {clause}")
 
 
 def compare_edits(page):
-    """Each wrong body that a row of the page names is an edit of the crates that stand before it."""
+    """Each wrong body that a row of the page names is an edit of the crates that stand before
+    it."""
     names = r"`\w+`(?:, `\w+`)*"
     for line in read(page).split("\n"):
         if not line.startswith("| "):
@@ -172,12 +178,15 @@ def compare_edits(page):
         for those, edits in re.findall(rf"({names}): ({names})", line):
             for crate in set(re.findall(r"\w+", those)) & set(crates()):
                 for edit in re.findall(r"\w+", edits):
-                    if not os.path.exists(os.path.join(ROOT, f"crates/{crate}/must-fail/{edit}.edit")):
+                    if not os.path.exists(
+                        os.path.join(ROOT, f"crates/{crate}/must-fail/{edit}.edit")
+                    ):
                         wrong.append(f"{page}: {crate} has no edit {edit}")
 
 
 def compare_quotes(page):
-    """Each block of contracts or definitions stands word for word in the source that was linked last."""
+    """Each block of contracts or definitions stands word for word in the source that was linked
+    last."""
     parts, source, count = re.split(r"(?m)^```(\w*)\n(.*?)^```$", read(page), flags=re.S), None, 0
     for prose, kind, block in zip(parts[0::3], parts[1::3], parts[2::3]):
         for target in re.findall(r"\]\(([^)]*\.(?:antt|rt))\)", prose):
@@ -186,17 +195,22 @@ def compare_quotes(page):
             continue
         count += 1
         if source is None or "\n" + block not in "\n" + read(source):
-            wrong.append(f"{page}: {source} has no lines '{block.split(chr(10))[0]}' as they are quoted")
+            wrong.append(
+                f"{page}: {source} has no lines '{block.split(chr(10))[0]}' as they are quoted"
+            )
     if count == 0:
         wrong.append(f"{page}: it quotes no source")
 
 
 def modules_used(path):
-    return set(re.findall(r"^use Rattle\.race_model\.proofs\.([A-Z]\w*\.[A-Z]\w*)\b", read(path), re.M))
+    return set(
+        re.findall(r"^use Rattle\.race_model\.proofs\.([A-Z]\w*\.[A-Z]\w*)\b", read(path), re.M)
+    )
 
 
 def compare_laws(page):
-    """The rows of the page: a law or a lemma module in the first column, what it rests on in the last."""
+    """The rows of the page: a law or a lemma module in the first column, what it rests on in the
+    last."""
     proofs = "crates/race_model/proofs"
     there = {}
     for path in files(proofs, ".antt"):
@@ -218,25 +232,34 @@ def compare_laws(page):
 
 
 def compare_modules(page):
-    """The rows of the lemma modules above race_model: the crate, the module, and the lines that its file begins with."""
+    """The rows of the lemma modules above race_model: the crate, the module, and the lines that
+    its file begins with."""
     there, told = {}, {}
     for crate in crates():
         for path in files(f"crates/{crate}/proofs", ".antt"):
             name = re.match(rf"crates/{crate}/proofs/([A-Z]\w*)\.antt$", path)
             if name and name.group(1) != "Lib" and crate != "race_model":
                 lines = re.match(r"(?:-- .*\n)+", read(path))
-                there[crate, name.group(1)] = re.sub(r"\s*(?:^|\n)-- ", " ", lines.group(0) if lines else "").strip()
+                there[crate, name.group(1)] = re.sub(
+                    r"\s*(?:^|\n)-- ", " ", lines.group(0) if lines else ""
+                ).strip()
     for crate, module, about in table(page, "Crate", "Module", "What it is about"):
         name = crate.strip("`"), re.findall(r"`(\w+)`", module)[0]
         if told.setdefault(name, about) != about or there.get(name, about) != about:
             wrong.append(f"{page}: {'.'.join(name)} says of itself: {there.get(name)}")
-    compare_names(page, "lemma module", [".".join(name) for name in told], [".".join(name) for name in there])
+    compare_names(
+        page, "lemma module", [".".join(name) for name in told], [".".join(name) for name in there]
+    )
 
 
 def compare_layers(page):
-    """The picture of the crates: each in the layer above the highest that it rests on; and the names of the two ways."""
-    rests = {line.split(":")[0].split()[0]: set(line.split(":")[1].split()) & set(crates())
-             for line in read("crates.txt").split("\n") if ":" in line and not line.startswith("#")}
+    """The picture of the crates: each in the layer above the highest that it rests on; and the
+    names of the two ways."""
+    rests = {
+        line.split(":")[0].split()[0]: set(line.split(":")[1].split()) & set(crates())
+        for line in read("crates.txt").split("\n")
+        if ":" in line and not line.startswith("#")
+    }
 
     def layer(crate):
         return 1 + max((layer(below) for below in rests[crate]), default=-1)
@@ -249,8 +272,10 @@ def compare_layers(page):
             drawn[crate] = int(number_of)
     for crate in sorted(set(drawn) | set(rests)):
         if drawn.get(crate) != (layer(crate) if crate in rests else None):
-            wrong.append(f"{page}: {crate} is drawn in layer {drawn.get(crate)}, and crates.txt has it in"
-                         f" {layer(crate) if crate in rests else 'none'}")
+            wrong.append(
+                f"{page}: {crate} is drawn in layer {drawn.get(crate)}, and crates.txt has it in"
+                f" {layer(crate) if crate in rests else 'none'}"
+            )
     ways = re.findall(r"(?m)^(?:a record: |a line:   |          ) (.* -> .*)$", read(page))
     if len(ways) != 4:
         wrong.append(f"{page}: there are not two ways of two lines through the crates")
@@ -260,11 +285,14 @@ def compare_layers(page):
 
 
 def compare_sentences(pages):
-    """No sentence of more than eight words stands twice, outside code; a cell of a table is read as one of its own."""
+    """No sentence of more than eight words stands twice, outside code; a cell of a table is read
+    as one of its own."""
     told = {}
     for page in pages:
         prose = re.sub(r"(?ms)^```.*?^```$|^    .*?$", "", read(page))
-        for line in re.sub(r"\[([^\]]*)\]\([^)]*\)", r"\1", re.sub(r"(?<=[^\n|])\n(?=[^\n|#-])", " ", prose)).split("\n"):
+        for line in re.sub(
+            r"\[([^\]]*)\]\([^)]*\)", r"\1", re.sub(r"(?<=[^\n|])\n(?=[^\n|#-])", " ", prose)
+        ).split("\n"):
             for cell in line.strip("| -").split(" | "):
                 for sentence in re.split(r"(?<=[.:;?!])\s+", cell):
                     words = re.findall(r"[\w'^/-]+", sentence)
@@ -298,24 +326,31 @@ def number(text):
 
 
 def positions_of(pips):
-    """How many positions of a pip count there are, counted anew: at most 15 checkers on six points."""
+    """How many positions of a pip count there are, counted anew: at most 15 checkers on six
+    points."""
     ways = {(0, 0): 1}
     for point in range(1, 7):
         ways = {
             (all_checkers, all_pips): sum(
-                ways.get((all_checkers - here, all_pips - point * here), 0) for here in range(all_checkers + 1))
-            for all_checkers in range(16) for all_pips in range(pips + 1)
+                ways.get((all_checkers - here, all_pips - point * here), 0)
+                for here in range(all_checkers + 1)
+            )
+            for all_checkers in range(16)
+            for all_pips in range(pips + 1)
         }
     return sum(ways[checkers, pips] for checkers in range(16))
 
 
 def written(program):
-    """The files that the program writes, by version and bound; the smallest of version 2 are upgrades."""
+    """The files that the program writes, by version and bound; the smallest of version 2 are
+    upgrades."""
     found = {}
     with tempfile.TemporaryDirectory() as work:
         old, new = os.path.join(work, "old"), os.path.join(work, "new")
         for bound in (0, 1, 2, 3, 8, 44, 58):
-            commands = [["build", "--pips", str(bound), old]] + ([["upgrade", old, new]] if bound <= 44 else [])
+            commands = [["build", "--pips", str(bound), old]] + (
+                [["upgrade", old, new]] if bound <= 44 else []
+            )
             for words in commands:
                 subprocess.run([program, *words], check=True, stdout=subprocess.DEVNULL)
             for version, path in ((1, old), (2, new)) if bound <= 44 else ((2, old),):
@@ -345,9 +380,13 @@ def compare_file_format(page, program):
     for version, bound, size, digest in table(page, "Version", "Bound", "Bytes", "SHA-256"):
         file = built.get((int(version), int(bound)), b"")
         expect(len(file) == number(size), f"the size of version {version}, bound {bound}")
-        expect(hashlib.sha256(file).hexdigest() == digest.strip("`"), f"the digest of version {version}, bound {bound}")
+        expect(
+            hashlib.sha256(file).hexdigest() == digest.strip("`"),
+            f"the digest of version {version}, bound {bound}",
+        )
 
-    # in version 2 the records of one pip count have one length, so two files whose bounds differ by one tell it
+    # in version 2 the records of one pip count have one length, so two files whose bounds differ
+    # by one tell it
     most_rolls = {0: 0}
     for pips in range(1, 59):
         most_rolls[pips] = -(-(2 * pips + min(pips, 15) + 1) // 6)
@@ -355,15 +394,22 @@ def compare_file_format(page, program):
     for pips in range(59):
         starts[pips + 1] = starts[pips] + positions_of(pips) * (58 + 16 * most_rolls[pips])
     for bound in (0, 1, 2, 3, 8, 44, 58):
-        expect(len(built[2, bound]) == starts[bound + 1], f"the length of the records to {bound} pips")
+        expect(
+            len(built[2, bound]) == starts[bound + 1], f"the length of the records to {bound} pips"
+        )
     for pips, most, length in table(page, "Pips", "`K`", "Bytes of a record"):
         for each in re.findall(r"\d+", pips):
             expect(most_rolls[int(each)] == int(most), f"K({each})")
             expect(58 + 16 * most_rolls[int(each)] == int(length), f"the record of {each} pips")
 
     text = re.sub(r"\s+", " ", read(page))
-    places = re.search(r"of `0,2,0,0,0,0`.*?Its rank is (\d+), so .*? at offset 32 \+ 426 \* (\d+) = (\d+)\.", text)
-    compact = re.search(r"In a file of version 2 the record has (\d+) bytes, .*? It begins at offset (\d+),", text)
+    places = re.search(
+        r"of `0,2,0,0,0,0`.*?Its rank is (\d+), so .*? at offset 32 \+ 426 \* (\d+) = (\d+)\.",
+        text,
+    )
+    compact = re.search(
+        r"In a file of version 2 the record has (\d+) bytes, .*? It begins at offset (\d+),", text
+    )
     shares = re.findall(r"\) / 36 = (\d+)/(\d+) \* W = (\d+)", text)
     if not places or not compact or len(shares) != 3:
         wrong.append(f"{page}: the record byte by byte is not told as it was")
@@ -373,22 +419,34 @@ def compare_file_format(page, program):
     asked = subprocess.run([program], input=b"rank 0,2,0,0,0,0\n", capture_output=True, check=True)
     expect(asked.stdout == b"rank %d\n" % rank and again == rank, "the rank of 0,2,0,0,0,0")
     expect(offset == 32 + 426 * rank, "the offset of 0,2,0,0,0,0 in version 1")
-    expect(start == starts[4] + (rank - 7) * length and length == 58 + 16 * most_rolls[4], "its record in version 2")
-    record, told = built[1, 8][offset:offset + 426], b""
+    expect(
+        start == starts[4] + (rank - 7) * length and length == 58 + 16 * most_rolls[4],
+        "its record in version 2",
+    )
+    record, told = built[1, 8][offset : offset + 426], b""
     for place, words, _ in table(page, "Offset in the record", "Bytes", "What"):
         expect(int(place) == len(told), f"the offset {place} in the record")
         told += stated_bytes(words, page)
     expect(told == record, "the record of 0,2,0,0,0,0")
-    short = built[2, 8][start:start + length]
-    expect(short == record[:58] + record[74:58 + 16 * (1 + most_rolls[4])], "the record of 0,2,0,0,0,0 in version 2")
-    whole = 36 ** 22
+    short = built[2, 8][start : start + length]
+    expect(
+        short == record[:58] + record[74 : 58 + 16 * (1 + most_rolls[4])],
+        "the record of 0,2,0,0,0,0 in version 2",
+    )
+    whole = 36**22
     expect(f"36^22 is {whole}." in text, "36^22")
-    fields = [int.from_bytes(record[first:first + 16], "big") for first in (0, 74, 90)]
+    fields = [int.from_bytes(record[first : first + 16], "big") for first in (0, 74, 90)]
     for (above, below, value), field in zip(shares, fields):
-        expect(int(value) == field and field * int(below) == whole * int(above), f"{above}/{below} of the whole")
+        expect(
+            int(value) == field and field * int(below) == whole * int(above),
+            f"{above}/{below} of the whole",
+        )
     for version, size in ((1, r"In version 1 (\d+) bytes"), (2, r"In version 2 (\d+) bytes")):
         stated = re.search(r"## The file of bound 0 .*?" + size, text)
-        expect(stated and int(stated.group(1)) == len(built[version, 0]), f"the file of bound 0, version {version}")
+        expect(
+            stated and int(stated.group(1)) == len(built[version, 0]),
+            f"the file of bound 0, version {version}",
+        )
 
 
 def compare_version(version):
@@ -405,43 +463,71 @@ def compare_version(version):
     ):
         found = re.findall(said, read(path))
         if found != [version]:
-            wrong.append(f"{path}: the version is {', '.join(found) or 'missing'}, and not {version}")
-    for said in (r"\*(?:major|minor|patch) = (\d+);", r"ensures (?:major|minor|patch) \{ \w+\.new ≡ (\d+) \}"):
+            wrong.append(
+                f"{path}: the version is {', '.join(found) or 'missing'}, and not {version}"
+            )
+    for said in (
+        r"\*(?:major|minor|patch) = (\d+);",
+        r"ensures (?:major|minor|patch) \{ \w+\.new ≡ (\d+) \}",
+    ):
         found = ".".join(re.findall(said, read("crates/bearoff_c/src/library.rt")))
         if found != version:
-            wrong.append(f"crates/bearoff_c/src/library.rt: the version is {found}, and not {version}")
+            wrong.append(
+                f"crates/bearoff_c/src/library.rt: the version is {found}, and not {version}"
+            )
     newest = re.search(r"(?m)^## \[(\d[^\]]*)\]", read("CHANGELOG.md"))
     if not newest or newest.group(1) != version:
         wrong.append(f"CHANGELOG.md: the newest section is not that of {version}")
-    for path, mark in ("web/index.html", "<!--VERSION-->"), ("c/bearoff.pc.in", "Version: @VERSION@\n"):
+    for path, mark in ("web/index.html", "<!--VERSION-->"), (
+        "c/bearoff.pc.in",
+        "Version: @VERSION@\n",
+    ):
         if read(path).count(mark) != 1:
             wrong.append(f"{path}: {mark.strip()} stands there not once")
 
 
 def helped(program, *words):
     """What the program's help lists: the commands, and the long options."""
-    text = subprocess.run([program, *words, "--help"], capture_output=True, text=True, check=True).stdout
+    text = subprocess.run(
+        [program, *words, "--help"], capture_output=True, text=True, check=True
+    ).stdout
     commands = re.search(r"(?m)^Commands:\n((?:  .*\n)+)", text)
-    return re.findall(r"(?m)^  (\w+)", commands.group(1)) if commands else [], set(re.findall(r"(?m)^ +(?:-\w, +)?--(\w+)", text))
+    return re.findall(r"(?m)^  (\w+)", commands.group(1)) if commands else [], set(
+        re.findall(r"(?m)^ +(?:-\w, +)?--(\w+)", text)
+    )
 
 
 def completed():
-    """What the three files complete, by shell: the options of each command, and of the program itself under ''."""
+    """What the three files complete, by shell: the options of each command, and of the program
+    itself under ''."""
     found = {}
     bash = read("completions/bearoff.bash")
-    found["bash"] = {name: set(re.findall(r"--(\w+)", options))
-                     for names, options in re.findall(r"(?m)^ +([a-z| ]+)\) words='([^']*)'", bash)
-                     for name in names.split(" | ")}
+    found["bash"] = {
+        name: set(re.findall(r"--(\w+)", options))
+        for names, options in re.findall(r"(?m)^ +([a-z| ]+)\) words='([^']*)'", bash)
+        for name in names.split(" | ")
+    }
     first = re.search(r"COMP_CWORD\" -eq 1 \]; then\n +words='([^']*)'", bash).group(1).split()
     found["bash"][""] = {word[2:] for word in first if word.startswith("--")}
     zsh = read("completions/_bearoff")
     help_of_zsh = set(re.findall(r"--(\w+)\}", re.search(r"help=\((.*)\)\n", zsh).group(1)))
-    options = lambda text: set(re.findall(r"--(\w+)", text)) | (help_of_zsh if "$help" in text else set())
-    found["zsh"] = {name: options(text) for name, text in re.findall(r"(?m)^ +(\w+)\) _(?:arguments|describe) (.*) ;;$", zsh)
-                    if name != "command"}
+    options = lambda text: set(re.findall(r"--(\w+)", text)) | (
+        help_of_zsh if "$help" in text else set()
+    )
+    found["zsh"] = {
+        name: options(text)
+        for name, text in re.findall(r"(?m)^ +(\w+)\) _(?:arguments|describe) (.*) ;;$", zsh)
+        if name != "command"
+    }
     found["zsh"][""] = options(re.search(r"_arguments -C (.*)", zsh).group(1))
-    fish = [line for line in read("completions/bearoff.fish").split("\n") if line.startswith("complete -c bearoff")]
-    names = [name for line in fish for name in re.findall(r"__fish_use_subcommand -f -a (\w+) -d", line)]
+    fish = [
+        line
+        for line in read("completions/bearoff.fish").split("\n")
+        if line.startswith("complete -c bearoff")
+    ]
+    names = [
+        name for line in fish for name in re.findall(r"__fish_use_subcommand -f -a (\w+) -d", line)
+    ]
     long_of = lambda line: set(re.findall(r" -l (\w+)", line))
     everywhere = set().union(*(long_of(line) for line in fish if " -n " not in line))
     found["fish"] = {name: everywhere if name != "help" else set() for name in ["", *names]}
@@ -451,40 +537,61 @@ def completed():
         for name in re.findall(r"__fish_seen_subcommand_from (\w+)'", line):
             found["fish"].setdefault(name, set())
             found["fish"][name] = found["fish"][name] | long_of(line)
-    listed = {"bash": [word for word in first if not word.startswith("-")],
-              "zsh": re.findall(r"(?m)^ +'(\w+):", zsh),
-              "fish": names}
+    listed = {
+        "bash": [word for word in first if not word.startswith("-")],
+        "zsh": re.findall(r"(?m)^ +'(\w+):", zsh),
+        "fish": names,
+    }
     return found, listed
 
 
 def compare_completions(program):
-    """The commands of the help, each with its options, are those that the three shells complete."""
+    """The commands of the help, each with its options, are those that the three shells
+    complete."""
     commands, options = helped(program)
-    wanted = {"": options, **{name: helped(program, name)[1] if name != "help" else set() for name in commands}}
+    wanted = {
+        "": options,
+        **{name: helped(program, name)[1] if name != "help" else set() for name in commands},
+    }
     found, listed = completed()
     for shell, given in found.items():
         if sorted(listed[shell]) != sorted(commands):
-            wrong.append(f"completions: {shell} completes {', '.join(listed[shell])}, and the commands are {', '.join(commands)}")
+            wrong.append(
+                f"completions: {shell} completes {', '.join(listed[shell])}, and the commands are {', '.join(commands)}"
+            )
         for name in sorted({*wanted, *given}):
             if given.get(name) != wanted.get(name):
-                wrong.append(f"completions: {shell} completes other options of '{name}' than its help has:"
-                             f" {sorted(given.get(name) or [])} and {sorted(wanted.get(name) or [])}")
+                wrong.append(
+                    f"completions: {shell} completes other options of '{name}' than its help has:"
+                    f" {sorted(given.get(name) or [])} and {sorted(wanted.get(name) or [])}"
+                )
 
 
 def compare_named_files(path):
     """Each file of a folder of ours that is named is there."""
-    names = re.findall(r"(?<![\w./-])(?:\.\./)?((?:tests|packaging|tools|bench)/[\w./-]*\w)", read(path))
+    names = re.findall(
+        r"(?<![\w./-])(?:\.\./)?((?:tests|packaging|tools|bench)/[\w./-]*\w)", read(path)
+    )
     for name in sorted(set(names)):
         if not (ROOT / name).exists():
             wrong.append(f"{path}: there is no {name}")
 
 
 PAGES = ["README.md", *files("docs", ".md")]
-NAMING = [*PAGES, "bearoff", "Makefile", ".ci/run", "js/README.md",
-          *(path for folder in ("tests", "packaging", "tools", "bench", "python", "js", "web", "c")
-            for path in files(folder, ("", ".py", ".js", ".mjs", ".c", ".h"))
-            if "__pycache__" not in path and "node_modules" not in path),
-          *(path for crate in crates() for path in files(f"crates/{crate}/src", ".rt"))]
+NAMING = [
+    *PAGES,
+    "bearoff",
+    "Makefile",
+    ".ci/run",
+    "js/README.md",
+    *(
+        path
+        for folder in ("tests", "packaging", "tools", "bench", "python", "js", "web", "c")
+        for path in files(folder, ("", ".py", ".js", ".mjs", ".c", ".h"))
+        if "__pycache__" not in path and "node_modules" not in path
+    ),
+    *(path for crate in crates() for path in files(f"crates/{crate}/src", ".rt")),
+]
 
 
 @pytest.mark.parametrize("crate", crates())
@@ -537,7 +644,9 @@ def test_version():
 
 
 def test_version_of_the_program(program):
-    told = subprocess.run([program, "--version"], capture_output=True, text=True, check=True).stdout
+    told = subprocess.run(
+        [program, "--version"], capture_output=True, text=True, check=True
+    ).stdout
     assert told.split("\n")[0] == f"bearoff {read('VERSION').strip()}"
 
 

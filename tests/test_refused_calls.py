@@ -18,7 +18,8 @@ from running import HERE, need, run
 
 LINES = "rank 1,0,0,0,0,0\nmoves 0,0,0,2,0,0 21\nmean 0,0,1,0,0,0\n\nplay 0,0,0,2,0,0 21"
 
-# the lines that a refused call of a kind may end with; a growth has the line of the call that it was inside of
+# the lines that a refused call of a kind may end with; a growth has the line of the call that it
+# was inside of
 FAULTS = {
     "growth": ("memory", "open", "file", "write"),
     "open": ("open", "write"),
@@ -43,40 +44,68 @@ FAULTS = {
 # the kinds of calls that come behind the one that puts the new file in its place, too
 AFTER_IT = ["open", "output", "idle-output", "interrupted-output", "sync"]
 
-# the kinds that may also leave no trace: a growth of the cache's, a folder that may not be written or read, a file that
-# can't have the old one's mode, and what is asked for a name alone
+# the kinds that may also leave no trace: a growth of the cache's, a folder that may not be written
+# or read, a file that can't have the old one's mode, and what is asked for a name alone
 HARMLESS = ["closed-open", "link", "tell", "mode", "unable-sync"]
 
 # the first opening asks whether a standard stream is closed, and is wanted for nothing else
 FIRST = "open:1"
 
-# the kinds whose interrupted calls are made again: by the commands with the word, or by all where there is none
-REPEATED = {"interrupted-open": None, "interrupted-store": None, "interrupted-load": "--cache",
-            "interrupted-output": "--help", "interrupted-mode": None, "interrupted-sync": None}
+# the kinds whose interrupted calls are made again: by the commands with the word, or by all where
+# there is none
+REPEATED = {
+    "interrupted-open": None,
+    "interrupted-store": None,
+    "interrupted-load": "--cache",
+    "interrupted-output": "--help",
+    "interrupted-mode": None,
+    "interrupted-sync": None,
+}
 
 
 GIVEN = ["input", "interrupted-input", "slow-input"]
 TOLD = ["output", "idle-output", "interrupted-output", "slow-output"]
 OPENED = ["open", "interrupted-open"]
 LOADED = ["load", "interrupted-load", "slow-load"]
-STORED = ["store", "idle-store", "interrupted-store", "slow-store", "closed-open", "link", "tell",
-          "mode", "interrupted-mode", "sync", "unable-sync", "interrupted-sync", "rename"]
+STORED = [
+    "store",
+    "idle-store",
+    "interrupted-store",
+    "slow-store",
+    "closed-open",
+    "link",
+    "tell",
+    "mode",
+    "interrupted-mode",
+    "sync",
+    "unable-sync",
+    "interrupted-sync",
+    "rename",
+]
 
 COMMANDS = {
     "no words": ("", ["growth", *GIVEN, *TOLD]),
     "build": ("build --pips 8 made", ["growth", *OPENED, *STORED, *TOLD]),
     "check": ("check eight", ["growth", *OPENED, *LOADED, *TOLD]),
     "query": ("query eight", ["growth", *OPENED, *LOADED, *GIVEN, *TOLD]),
-    "query by pages": ("query --cache 2 eight",
-                       ["growth", "seek", *OPENED, *LOADED, *GIVEN, *TOLD]),
+    "query by pages": (
+        "query --cache 2 eight",
+        ["growth", "seek", *OPENED, *LOADED, *GIVEN, *TOLD],
+    ),
     "audit": ("audit eight", ["growth", *OPENED, *LOADED, *TOLD]),
     "upgrade": ("upgrade eight made", ["growth", *OPENED, *LOADED, *STORED, *TOLD]),
     "help": ("--help", ["growth", "output", "interrupted-output"]),
 }
 
 # the trials of crates/failing_calls, and how a refused growth of each may end
-TRIALS = {"build": ["memory", "later"], "push": ["memory", "later"], "moves": ["memory"],
-          "run": ["later"], "pages": ["memory", "whole"], "puts": ["whole"]}
+TRIALS = {
+    "build": ["memory", "later"],
+    "push": ["memory", "later"],
+    "moves": ["memory"],
+    "run": ["later"],
+    "pages": ["memory", "whole"],
+    "puts": ["whole"],
+}
 
 
 def clang():
@@ -109,6 +138,7 @@ def refusing(library, files):
         environment = {"LD_PRELOAD": str(library), "REFUSED_CALL": call, "REFUSED_COUNT": "count"}
         done = run(*command, input=LINES, env=environment, timeout=60)
         return done, int(Path("count").read_text()) if os.path.exists("count") else 0
+
     run_it.old = old
     return run_it
 
@@ -125,12 +155,15 @@ def is_whole(kind, old, whole):
 
 
 def came(name, which, got):
-    return (f"{name}: with {which} refused it ends with status {got.status},"
-            f" {got.output[-60:]!r}, {got.errors[-60:]!r}, {len(made())} bytes")
+    return (
+        f"{name}: with {which} refused it ends with status {got.status},"
+        f" {got.output[-60:]!r}, {got.errors[-60:]!r}, {len(made())} bytes"
+    )
 
 
-@pytest.mark.parametrize("name, kind", [
-    (name, kind) for name, (_, kinds) in COMMANDS.items() for kind in kinds])
+@pytest.mark.parametrize(
+    "name, kind", [(name, kind) for name, (_, kinds) in COMMANDS.items() for kind in kinds]
+)
 def test_program(program, refusing, note, name, kind):
     words = COMMANDS[name][0].split()
     command = [program, *words]
@@ -139,7 +172,9 @@ def test_program(program, refusing, note, name, kind):
     assert calls > 0, f"{name}: no call of the kind {kind}"
     if kind.startswith("slow-"):
         got, calls = refusing(command, kind + ":1+")
-        assert (got.status, got.output, got.errors) == (0, ample.output, b""), came(name, kind, got)
+        assert (got.status, got.output, got.errors) == (0, ample.output, b""), came(
+            name, kind, got
+        )
         assert made() == whole, f"{name}: with one byte a call the file is another one"
         note(f"{name}: {calls} calls of the kind {kind}")
         return
@@ -152,14 +187,20 @@ def test_program(program, refusing, note, name, kind):
         is_prefix = ample.output.startswith(got.output)
         is_lines = got.output == b"" or got.output.endswith(b"\n")
         is_same = got[3:] == ample[3:]
-        may_be_harmless = (kind in HARMLESS or which == FIRST
-                           or (kind == "growth" and "--cache" in words))
+        may_be_harmless = (
+            kind in HARMLESS or which == FIRST or (kind == "growth" and "--cache" in words)
+        )
         if is_repeated or (may_be_harmless and is_same):
             harmless += not which.endswith("+")
             if not is_same or made() != whole:
                 wrong.append(came(name, which, got))
-        elif not (got.status == 1 and got.errors in lines and is_prefix and is_lines
-                  and is_whole(kind, refusing.old, whole)):
+        elif not (
+            got.status == 1
+            and got.errors in lines
+            and is_prefix
+            and is_lines
+            and is_whole(kind, refusing.old, whole)
+        ):
             wrong.append(came(name, which, got))
     assert not wrong, "\n".join(wrong)
     told = f", {harmless} of them without a trace" if harmless else ""

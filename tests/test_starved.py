@@ -1,9 +1,9 @@
-"""The built program with less and less memory, and with a small stack: each command has to end with
-its answer or with a named fault, and never by a signal. Over 8 pips the address space goes from
-4,000 KB in steps of 4 KB down to the least with which the system starts the program; each size is
-tried twice, since the system puts the stack at another place each time. By hand (--by-hand) it
-goes from 40 MB in steps of 64 KB too, also over 20, 44 and 58 pips, which takes half an hour. The
-environment lies on the stack too, so there is none."""
+"""The built program with less and less memory, and with a small stack: each command has to end
+with its answer or with a named fault, and never by a signal. Over 8 pips the address space goes
+from 4,000 KB in steps of 4 KB down to the least with which the system starts the program; each
+size is tried twice, since the system puts the stack at another place each time. By hand
+(--by-hand) it goes from 40 MB in steps of 64 KB too, also over 20, 44 and 58 pips, which takes
+half an hour. The environment lies on the stack too, so there is none."""
 
 import collections
 import concurrent.futures
