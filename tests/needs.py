@@ -64,6 +64,7 @@ NEEDS = (
     Need("esbuild", ["esbuild"], has("esbuild")),
     Need("node", ["nodejs"], has("node")),
     Need("tsc", ["node-typescript"], has("tsc")),
+    Need("jsdom", ["node-jsdom"], lambda: os.path.isdir("/usr/share/nodejs/jsdom")),
     Need("npm", ["npm"], has("npm"), True),
     Need("chromium", ["chromium"], has("chromium", "chromium-browser", "google-chrome"), True),
     Need("firefox", ["firefox-esr"], has("firefox-esr", "firefox"), True),

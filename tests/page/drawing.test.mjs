@@ -13,11 +13,11 @@ import { byLoss } from "../../web/state.js";
 import { build, draw, h, textOf } from "../../web/tree.js";
 import { Browser } from "./browser.mjs";
 import { equal, part } from "./given.mjs";
-import { Document, Window, Worker } from "./stand_in.mjs";
+import { newDocument, Window, Worker, tell } from "./stand_in.mjs";
 
 const caption = "<img src=x onerror=\"document.title='no'\"> & \"quotes\", 'too' \u2212 100%";
-const document = new Document();
-const all = (node, tag) => (node.localName === tag ? [node] : []).concat(node.childNodes.flatMap((child) => all(child, tag)));
+const document = newDocument();
+const all = (node, tag) => (node.localName === tag ? [node] : []).concat([...node.childNodes].flatMap((child) => all(child, tag)));
 const classed = (node, tag, name) => all(node, tag).filter((element) => element.getAttribute("class") === name);
 const act = { add() {}, press: () => false, clear() {} };
 const answer = {
@@ -132,9 +132,9 @@ part("what is drawn anew stays where it can", async () => {
     draw(document, place, [h("button", { click: () => clicks.push(1) })]);
     draw(document, place, [h("button", { click: () => clicks.push(2) })]);
     draw(document, place, [h("button", {})]);
-    place.childNodes[0].tell("click");
+    tell(place.childNodes[0], "click");
     draw(document, place, [h("button", { click: () => clicks.push(3) })]);
-    place.childNodes[0].tell("click");
+    tell(place.childNodes[0], "click");
     equal("a button does what it was given last, once", clicks, [3]);
 });
 

@@ -1,114 +1,58 @@
-// Stands in for a browser, so that the page's script runs under node: a document that reads no markup, a window with an
-// address and its history, and a worker that answers when the test lets it. Its numbers are made up, each from its
+// Stands in for a browser, so that the page's script runs under node: the document of the page, by jsdom,
+// a window with an address and its history, and a worker that answers when the test lets it. Its numbers are made up, each from its
 // position alone, so that a test sees of which position a number is.
+import { readFileSync } from "node:fs";
+import Module, { createRequire } from "node:module";
+import { delimiter } from "node:path";
 import { ROLLS } from "../../web/rolls.js";
 import { drawQuestions } from "../../web/trainer.js";
 import { decimal, percent } from "../../web/texts.js";
 
-class Node {
-    constructor(document, nodeType, localName) {
-        Object.assign(this, { document, nodeType, localName, childNodes: [], parentNode: null, attributes: new Map() });
-        Object.assign(this, { listeners: new Map(), hidden: false, style: {}, dataset: {}, value: "", checked: false });
-        Object.assign(this, { offsetTop: 0, offsetHeight: 0, isShown: false, scrolled: 0, data: "" });
-        const classes = new Set();
-        this.classList = {
-            add: (name) => classes.add(name), remove: (name) => classes.delete(name), contains: (name) => classes.has(name),
-            toggle: (name, isOn) => (isOn ? classes.add(name) : classes.delete(name)),
-        };
-    }
+// Debian's jsdom and what it rests on stand in a folder of their own.
+const FOLDER = "/usr/share/nodejs";
+process.env.NODE_PATH = [process.env.NODE_PATH, FOLDER].filter(Boolean).join(delimiter);
+Module._initPaths();
+const { JSDOM, VirtualConsole } = createRequire(import.meta.url)("jsdom");
 
-    setAttribute(name, value) { this.attributes.set(name, value); }
+const MARKUP = readFileSync(new URL("../../web/index.html", import.meta.url), "utf8")
+    .replace(/\/\*(POLICY|STYLE|SCRIPT)\*\//g, "");
 
-    getAttribute(name) { return this.attributes.get(name) ?? null; }
-
-    removeAttribute(name) { this.attributes.delete(name); }
-
-    addEventListener(name, listener) { this.listeners.set(name, [...(this.listeners.get(name) || []), listener]); }
-
-    insertBefore(node, before) {
-        if (node.parentNode) node.parentNode.removeChild(node);
-        const place = before ? this.childNodes.indexOf(before) : this.childNodes.length;
-        this.childNodes.splice(place, 0, node);
-        node.parentNode = this;
-    }
-
-    appendChild(node) { this.insertBefore(node, null); }
-
-    removeChild(node) {
-        this.childNodes.splice(this.childNodes.indexOf(node), 1);
-        node.parentNode = null;
-        // what had the focus loses it, as in a browser
-        if (node.contains(this.document.activeElement)) this.document.activeElement = this.document.body;
-    }
-
-    contains(node) { return node === this || this.childNodes.some((child) => child.contains(node)); }
-
-    get all() { return this.childNodes.flatMap((child) => (child.nodeType === 1 ? [child, ...child.all] : [])); }
-
-    querySelectorAll(selector) {
-        const [, name, value] = /^\[([\w-]+)="(.*)"\]$/.exec(selector) || [];
-        return this.all.filter((node) => (name ? node.getAttribute(name) === value : node.localName === selector));
-    }
-
-    querySelector(selector) { return this.querySelectorAll(selector)[0] || null; }
-
-    get textContent() { return this.nodeType === 3 ? this.data : this.childNodes.map((node) => node.textContent).join(""); }
-
-    set textContent(text) {
-        this.childNodes = [];
-        this.appendChild(this.document.createTextNode(text));
-    }
-
-    focus() {
-        this.document.activeElement = this;
-        this.tell("focusin");
-    }
-
-    select() { this.isSelected = true; }
-
-    // A link that is clicked saves what it leads to.
-    click() { this.document.saved.push(this); }
-
-    showModal() { this.isShown = true; }
-
-    scrollIntoView() { this.scrolled += 1; }
-
-    // An event at this element and then at those around it.
-    tell(name, more = {}) {
-        const event = { target: this, isPrevented: false, preventDefault() { this.isPrevented = true; }, ...more };
-        for (let node = this; node; node = node.parentNode) {
-            event.currentTarget = node;
-            for (const listener of node.listeners.get(name) || []) listener(event);
-        }
-        return event;
-    }
+// The document of the page, by jsdom, which lays nothing out and saves, scrolls and opens nothing: what
+// it would have done is kept beside each element.
+export function newDocument() {
+    const virtualConsole = new VirtualConsole();
+    const { window } = new JSDOM(MARKUP, { virtualConsole });
+    const { document } = window;
+    document.saved = []; // the links that saved a file
+    document.thrown = []; // what listeners have thrown, which ends no event
+    virtualConsole.on("jsdomError", (error) => document.thrown.push(error.detail ?? error));
+    const add = (kind, members) =>
+        Object.defineProperties(window[kind].prototype, Object.getOwnPropertyDescriptors(members));
+    // a place in the layout, which a test gives
+    const place = (name) => ({
+        configurable: true,
+        get() { return this[`given ${name}`] ?? 0; },
+        set(value) { this[`given ${name}`] = value; },
+    });
+    Object.defineProperties(window.HTMLElement.prototype, {
+        offsetTop: place("top"), offsetHeight: place("height"),
+    });
+    add("Element", { scrollIntoView() { this.scrolled = (this.scrolled ?? 0) + 1; } });
+    add("HTMLDialogElement", { showModal() { this.isShown = true; } });
+    add("HTMLInputElement", { select() { this.isSelected = true; } });
+    add("HTMLAnchorElement", { click() { this.ownerDocument.saved.push(this); } });
+    return document;
 }
 
-export class Document extends Node {
-    constructor() {
-        super(null, 1, "document");
-        this.document = this;
-        this.body = new Node(this, 1, "body");
-        this.appendChild(this.body);
-        this.activeElement = this.body;
-        this.named = new Map();
-        this.saved = []; // the links that saved a file
-    }
-
-    createElement(name) { return new Node(this, 1, name); }
-
-    createElementNS(_, name) { return new Node(this, 1, name); }
-
-    createTextNode(text) { return Object.assign(new Node(this, 3, undefined), { data: text }); }
-
-    // Each element that is asked for is there.
-    getElementById(name) {
-        if (!this.named.has(name)) {
-            this.named.set(name, this.createElement(name));
-            this.body.appendChild(this.named.get(name));
-        }
-        return this.named.get(name);
-    }
+// An event at an element and then at those around it, with more than a plain one has. What a listener
+// throws is thrown.
+export function tell(element, name, more = {}) {
+    const document = element.ownerDocument || element;
+    const event = new document.defaultView.Event(name, { bubbles: true, cancelable: true });
+    for (const [key, value] of Object.entries(more)) Object.defineProperty(event, key, { value });
+    element.dispatchEvent(event);
+    if (document.thrown.length > 0) throw document.thrown.shift();
+    return event;
 }
 
 // A window with an address, its history, and a clock that the test moves.

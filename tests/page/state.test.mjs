@@ -12,7 +12,7 @@ import { drawn } from "../../web/worker.js";
 import { thumb } from "../../web/training.js";
 import { textOf } from "../../web/tree.js";
 import { equal as same, part as test, wrong as fault } from "./given.mjs";
-import { answerTo, Document, drawFrom, pipsOf, rollsFrom, settled, Window, Worker } from "./stand_in.mjs";
+import { answerTo, newDocument, drawFrom, pipsOf, rollsFrom, settled, Window, Worker, tell } from "./stand_in.mjs";
 
 globalThis.Worker = Worker;
 let part = "";
@@ -22,7 +22,7 @@ const equal = (name, is, wanted) => same(`${part}: ${name}`, is, wanted);
 // A page that is used: what is on it is found by key or by name.
 class Used {
     constructor(hash = "", { protocol, before = () => {} } = {}) {
-        this.document = new Document();
+        this.document = newDocument();
         this.window = new Window(hash, protocol);
         before(this.window, this.document);
         this.session = start(this.document, this.window, { worker: "", wide: "", narrow: "" });
@@ -52,7 +52,7 @@ class Used {
     click(key, more) {
         const element = this.find(key) || this.at(key);
         element.focus();
-        return element.tell("click", more);
+        return tell(element, "click", more);
     }
 
     async clicked(key, more) {
@@ -63,23 +63,26 @@ class Used {
     }
 
     get board() {
-        return this.at("board").querySelectorAll('[role="spinbutton"]')
+        return [...this.at("board").querySelectorAll('[role="spinbutton"]')]
             .map((point) => Number(point.getAttribute("aria-valuenow"))).reverse();
     }
 
-    get figures() { return this.at("numbers").querySelectorAll("dd").slice(0, 4).map((node) => node.textContent.split(" ")[0]); }
+    get figures() { return [...this.at("numbers").querySelectorAll("dd")].slice(0, 4).map((node) => node.textContent.split(" ")[0]); }
 
-    get rows() { return this.at("kept").querySelectorAll("tr").slice(1); }
+    get rows() { return [...this.at("kept").querySelectorAll("tr")].slice(1); }
 
     // What stands beside a kept position, by its counts.
     row(key) {
         const row = this.rows.find((node) => node.getAttribute("data-key") === key);
-        return row && row.querySelectorAll("td").slice(2, 6).map((node) => node.textContent);
+        return row && [...row.querySelectorAll("td")].slice(2, 6).map((node) => node.textContent);
     }
 
-    plays() { return this.at("plays").querySelectorAll("button").map((node) => node.getAttribute("data-key")).filter((key) => key.startsWith("play ")); }
+    plays() { return [...this.at("plays").querySelectorAll("button")].map((node) => node.getAttribute("data-key")).filter((key) => key.startsWith("play ")); }
 
-    focus() { return this.document.activeElement.getAttribute("data-key") || this.document.activeElement.localName; }
+    focus() {
+        const { activeElement } = this.document;
+        return activeElement.getAttribute("data-key") || activeElement.id || activeElement.localName;
+    }
 
     // No number is beside a position that it isn't of, on the board, in the table, aloud, or among the plays.
     check(when) {
@@ -93,7 +96,7 @@ class Used {
         belongs("the board", this.figures, points);
         for (const row of this.rows) {
             const key = row.getAttribute("data-key");
-            if (row.querySelectorAll("td").length === 7) belongs("the kept", this.row(key), key.split(",").map(Number));
+            if ([...row.querySelectorAll("td")].length === 7) belongs("the kept", this.row(key), key.split(",").map(Number));
         }
         const said = this.text("said");
         if (/^\d+ pips/.test(said) && !said.includes(`effective pip count ${answerTo(points, 999).effective.text},`)) wrong(`${when}, said ${said}`);
@@ -109,7 +112,7 @@ async function moments() {
     part = "while a dropped file is checked";
     let used = await Used.open("#at=2,2,2,2,2,2&p=2,2,2,2,2,2");
     const file = { arrayBuffer: async () => new ArrayBuffer(8) };
-    used.document.tell("drop", { dataTransfer: { files: [file] } });
+    tell(used.document, "drop", { dataTransfer: { files: [file] } });
     await settled();
     equal("asked", used.worker.asked.map(({ question }) => question.kind), ["open"]);
     used.click("Remove 6");
@@ -204,7 +207,7 @@ async function moments() {
     used.click("Add 2");
     used.check("changed after that");
     equal("nothing is asked", used.worker.asked.length, 1);
-    used.document.tell("drop", { dataTransfer: { files: [file] } });
+    tell(used.document, "drop", { dataTransfer: { files: [file] } });
     await settled();
     equal("a file later", [used.at("bar").hidden, used.text("trouble").startsWith("Nothing more")], [true, true]);
 
@@ -238,16 +241,16 @@ async function moments() {
 
     part = "a file that can't be read";
     used = await Used.open();
-    used.document.tell("drop", { dataTransfer: { files: [{ arrayBuffer: async () => { throw new Error("a folder"); } }] } });
+    tell(used.document, "drop", { dataTransfer: { files: [{ arrayBuffer: async () => { throw new Error("a folder"); } }] } });
     await settled();
     equal("words", [used.text("trouble"), used.at("bar").hidden], ["This didn't work: a folder.", true]);
 
     part = "two loads";
     used = await Used.open();
-    used.at("file").tell("change", { target: { files: [file] } });
+    tell(used.at("file"), "change", { target: { files: [file] } });
     await settled();
     used.click("Add 1");
-    used.at("file").tell("change", { target: { files: [file] } });
+    tell(used.at("file"), "change", { target: { files: [file] } });
     await settled();
     await used.worker.answer({ bound: 8, positions: 64 });
     used.check("the first is open");
@@ -272,10 +275,10 @@ async function clicks() {
     equal("adds", used.board, [1, 0, 1, 0, 0, 0]);
     await used.clicked("point 3", { shiftKey: true });
     equal("with shift takes away", used.board, [1, 0, 0, 0, 0, 0]);
-    used.find("point 1").tell("contextmenu").isPrevented || wrong("a right-click opens a menu");
+    tell(used.find("point 1"), "contextmenu").defaultPrevented || wrong("a right-click opens a menu");
     used.check("after a right-click");
     equal("a right-click takes away", used.board, [0, 0, 0, 0, 0, 0]);
-    used.find("point 1").tell("contextmenu");
+    tell(used.find("point 1"), "contextmenu");
     equal("from nothing nothing", used.board, [0, 0, 0, 0, 0, 0]);
     await used.worker.answerAll();
     equal("no rolls where all are off", used.at("rolls").hidden, true);
@@ -299,16 +302,16 @@ async function clicks() {
     const before = used.find("point 4");
     used.click("Add 4");
     equal("an element stays", used.find("point 4") === before, true);
-    const over = used.document.tell("dragover");
-    equal("a file may be dropped", [over.isPrevented, used.document.body.classList.contains("over")], [true, true]);
-    used.document.tell("dragleave");
+    const over = tell(used.document, "dragover");
+    equal("a file may be dropped", [over.defaultPrevented, used.document.body.classList.contains("over")], [true, true]);
+    tell(used.document, "dragleave");
     equal("or not", used.document.body.classList.contains("over"), false);
 }
 
 async function keys() {
     part = "keys";
     const used = await Used.open("#at=0,0,0,0,0,0");
-    const press = (point, key, more = {}) => used.find(`point ${point}`).tell("keydown", { key, ...more });
+    const press = (point, key, more = {}) => tell(used.find(`point ${point}`), "keydown", { key, ...more });
     for (const [typed, wait, count] of [["12", 100, 12], ["1", 2000, 1], ["19", 100, 9], ["7", 2000, 7], ["5", 2000, 5], ["15", 999, 15], ["123", 100, 3], ["0", 2000, 0], ["015", 100, 15]]) {
         used.window.pass(3000);
         for (const key of typed) {
@@ -332,10 +335,10 @@ async function keys() {
     press(3, "2");
     equal("a digit after an arrow", used.board[2], 2);
     for (const [key, count] of [["ArrowUp", 3], ["ArrowDown", 2], ["+", 3], ["-", 2], ["PageUp", 7], ["PageDown", 2], ["End", 13], ["Home", 0], ["Delete", 0]]) {
-        equal(`${key} is used`, press(3, key).isPrevented, true);
+        equal(`${key} is used`, press(3, key).defaultPrevented, true);
         equal(`${key}`, used.board[2], count);
     }
-    equal("another key is not", [press(3, "a").isPrevented, press(3, "Tab").isPrevented, press(3, "1", { ctrlKey: true }).isPrevented, press(3, "1", { altKey: true }).isPrevented, press(3, "1", { metaKey: true }).isPrevented], [false, false, false, false, false]);
+    equal("another key is not", [press(3, "a").defaultPrevented, press(3, "Tab").defaultPrevented, press(3, "1", { ctrlKey: true }).defaultPrevented, press(3, "1", { altKey: true }).defaultPrevented, press(3, "1", { metaKey: true }).defaultPrevented], [false, false, false, false, false]);
     press(3, "ArrowLeft");
     equal("to the left", used.focus(), "point 4");
     press(3, "ArrowRight");
@@ -345,29 +348,29 @@ async function keys() {
     part = "arrows within the rolls";
     await used.clicked("clear");
     await used.clicked("Add 6");
-    const stops = () => used.at("grid").querySelectorAll("button").filter((node) => node.getAttribute("tabindex") === "0").map((node) => node.getAttribute("data-key"));
+    const stops = () => [...used.at("grid").querySelectorAll("button")].filter((node) => node.getAttribute("tabindex") === "0").map((node) => node.getAttribute("data-key"));
     equal("one stop of Tab", stops(), ["roll 11"]);
-    equal("21", used.at("grid").querySelectorAll("button").length, 21);
-    used.at("grid").querySelectorAll("button").forEach((node, place) => { node.offsetTop = Math.floor(place / 4); });
+    equal("21", [...used.at("grid").querySelectorAll("button")].length, 21);
+    [...used.at("grid").querySelectorAll("button")].forEach((node, place) => { node.offsetTop = Math.floor(place / 4); });
     used.find("roll 11").focus();
     for (const [key, roll] of [["ArrowRight", "21"], ["ArrowDown", "33"], ["ArrowLeft", "32"], ["ArrowUp", "11"], ["End", "66"], ["Home", "11"]]) {
-        equal(`${key} is used`, used.document.activeElement.tell("keydown", { key }).isPrevented, true);
+        equal(`${key} is used`, tell(used.document.activeElement, "keydown", { key }).defaultPrevented, true);
         equal(`${key} leads to`, used.focus(), `roll ${roll}`);
         equal(`Tab stops there after ${key}`, stops(), [`roll ${roll}`]);
     }
-    equal("nowhere else", used.document.activeElement.tell("keydown", { key: "ArrowLeft" }).isPrevented, false);
+    equal("nowhere else", tell(used.document.activeElement, "keydown", { key: "ArrowLeft" }).defaultPrevented, false);
     equal("the end of the rows", [moved("ArrowDown", 19, 21, 4), moved("ArrowRight", 20, 21, 4), moved("ArrowUp", 3, 21, 4), moved("x", 3, 21, 4)], [null, null, null, null]);
 
     part = "arrows within the plays";
     await used.clicked("roll 31");
     equal("its plays", used.plays(), ["play 3/off 1/0", "play 3/off 1/1", "play 3/1 1/2"]);
     used.find("play 3/off 1/0").focus();
-    used.at("plays").querySelectorAll("button").forEach((node, place) => { node.offsetTop = place; });
-    used.document.activeElement.tell("keydown", { key: "ArrowDown" });
+    [...used.at("plays").querySelectorAll("button")].forEach((node, place) => { node.offsetTop = place; });
+    tell(used.document.activeElement, "keydown", { key: "ArrowDown" });
     equal("down", used.focus(), "play 3/off 1/1");
-    const playStops = used.at("plays").querySelectorAll("button").filter((node) => node.getAttribute("tabindex") === "0").map((node) => node.getAttribute("data-key"));
+    const playStops = [...used.at("plays").querySelectorAll("button")].filter((node) => node.getAttribute("tabindex") === "0").map((node) => node.getAttribute("data-key"));
     equal("one stop of Tab there", playStops, ["play 3/off 1/1"]);
-    used.at("rolls").tell("keydown", { key: "Escape" });
+    tell(used.at("rolls"), "keydown", { key: "Escape" });
     equal("Escape closes", [used.focus(), used.plays()], ["roll 31", []]);
 }
 
@@ -382,15 +385,15 @@ async function typed() {
         ["1.5,2,2,2,2,2", "A count is a whole number; commas or spaces stand between the six."], ["-1,2,2,2,2,2", "A count is a whole number; commas or spaces stand between the six."],
     ]) equal(`why not ${text}`, readCounts(text), { fault });
     const used = await Used.open();
-    used.at("counts").tell("change", { target: { value: "9,9,0,0,0,0" } });
+    tell(used.at("counts"), "change", { target: { value: "9,9,0,0,0,0" } });
     equal("refused", [used.text("why"), used.at("why").hidden, used.at("counts").value, used.at("counts").getAttribute("aria-invalid")],
         ["There are 15 checkers, and here are 18.", false, "9,9,0,0,0,0", "true"]);
     equal("the board stays", used.board, [2, 2, 2, 2, 2, 2]);
     used.check("refused");
-    used.at("counts").tell("change", { target: { value: "7 4 2 0 0 0" } });
+    tell(used.at("counts"), "change", { target: { value: "7 4 2 0 0 0" } });
     used.check("taken");
     equal("taken", [used.board, used.at("why").hidden, used.at("counts").value, used.at("counts").getAttribute("aria-invalid")], [[7, 4, 2, 0, 0, 0], true, "7,4,2,0,0,0", "false"]);
-    used.at("counts").tell("change", { target: { value: "1" } });
+    tell(used.at("counts"), "change", { target: { value: "1" } });
     used.click("Add 1");
     equal("a click ends the fault", [used.at("why").hidden, used.at("counts").value], [true, "8,4,2,0,0,0"]);
 }
@@ -403,7 +406,7 @@ async function plays() {
     equal("it is pressed", [used.find("roll 31").getAttribute("aria-pressed"), used.find("roll 21").getAttribute("aria-pressed")], ["true", "false"]);
     equal("the tile comes into sight", used.find("roll 31").scrolled, 1);
     equal("the sheet opens", used.at("rolls").classList.contains("opened"), true);
-    const paths = () => used.at("board").querySelectorAll("path").map((node) => node.getAttribute("d")).filter((way) => way.includes("C")).length;
+    const paths = () => [...used.at("board").querySelectorAll("path")].map((node) => node.getAttribute("d")).filter((way) => way.includes("C")).length;
     equal("arcs with their halos", paths(), 4);
     equal("what is lost", used.text("plays").includes("3/off 1/0 loses nothing."), true);
     used.click("play 3/1 1/2");
@@ -411,9 +414,9 @@ async function plays() {
     await used.worker.answerAll();
     equal("exactly", used.text("plays").includes("3/1 1/2 loses 1/18 of a roll, 0.454 of EPC."), true);
     equal("as decimals", used.find("play 3/1 1/2").textContent, "3/1 1/2 \u22120.056");
-    equal("exactly, for a mouse that is held over it", used.find("play 3/1 1/2").all.map((node) => node.getAttribute("title")).filter(Boolean), ["1/18 of a roll"]);
+    equal("exactly, for a mouse that is held over it", [...used.find("play 3/1 1/2").querySelectorAll("*")].map((node) => node.getAttribute("title")).filter(Boolean), ["1/18 of a roll"]);
     equal("it is chosen", used.find("play 3/1 1/2").getAttribute("aria-pressed"), "true");
-    equal("a small board", used.at("plays").querySelectorAll("svg").some((node) => (node.getAttribute("aria-label") || "").startsWith("The board: 1 on 6, 1 on 4, 13 borne off")), true);
+    equal("a small board", [...used.at("plays").querySelectorAll("svg")].some((node) => (node.getAttribute("aria-label") || "").startsWith("The board: 1 on 6, 1 on 4, 13 borne off")), true);
     await used.clicked("onward");
     equal("its position", used.board, [2, 0, 0, 1, 0, 1]);
     used.window.pass(1000);
@@ -433,7 +436,7 @@ async function plays() {
 async function guesses() {
     part = "guesses";
     const used = await Used.open("#at=0,0,0,1,0,1&guess=1&roll=52&p=0,0,0,1,0,1&p=0,0,0,1,0,0");
-    const hidden = () => used.rows.map((row) => row.querySelectorAll("td").slice(2, 6).map((node) => node.textContent).join(" "));
+    const hidden = () => used.rows.map((row) => [...row.querySelectorAll("td")].slice(2, 6).map((node) => node.textContent).join(" "));
     equal("checked", used.at("guess").checked, true);
     equal("the kept numbers are hidden", hidden(), ["\u2026 \u2026 \u2026 \u2026", "\u2026 \u2026 \u2026 \u2026"]);
     equal("and their order tells nothing", used.rows.map((row) => row.getAttribute("data-key")), ["0,0,0,1,0,1", "0,0,0,1,0,0"]);
@@ -441,11 +444,13 @@ async function guesses() {
     equal("the rolls tell nothing", used.text("grid").includes("/"), false);
     equal("in the order of their texts", used.plays(), ["play 5/1 2/2", "play 5/off 2/0", "play 5/off 2/1"]);
     equal("the plays tell nothing", ["best ", "as good", "0.056", "loses", "1/18"].some((word) => used.text("plays").replace("Which play is best?", "").includes(word)), false);
-    equal("nor do their titles", used.at("plays").all.some((node) => node.getAttribute("title")), false);
-    equal("nor their class", used.at("plays").all.some((node) => node.getAttribute("class") === "good"), false);
-    equal("no arc", used.at("board").querySelectorAll("path").filter((node) => node.getAttribute("d").includes("C")).length, 0);
+    equal("nor do their titles", [...used.at("plays").querySelectorAll("*")].some((node) => node.getAttribute("title")), false);
+    equal("nor their class", [...used.at("plays").querySelectorAll("*")].some((node) => node.getAttribute("class") === "good"), false);
+    equal("no arc", [...used.at("board").querySelectorAll("path")].filter((node) => node.getAttribute("d").includes("C")).length, 0);
     let said = [];
-    used.at("said").appendChild = function add(node) { if (node.data) said.push(node.data); this.insertBefore(node, null); };
+    const { MutationObserver } = used.document.defaultView;
+    new MutationObserver((changes) => said.push(...changes.flatMap(({ addedNodes }) =>
+        [...addedNodes].map((node) => node.data).filter(Boolean)))).observe(used.at("said"), { childList: true });
     await used.clicked("play 5/1 2/2");
     equal("said once", said, ["5/1 2/2 loses 0.056 of a roll; best is 5/off 2/0. One guess has lost 0.056 of a roll."]);
     equal("seen", used.text("plays").includes("One guess has lost 0.056 of a roll. Exactly: 1/18."), true);
@@ -482,7 +487,7 @@ async function guesses() {
     }
     await used.worker.answerAll();
     equal("two at once", said.filter(Boolean), ["4/1 1/2 loses 0.056 of a roll; best is 4/off 1/0. 3 guesses have lost 0.167 of a roll."]);
-    used.at("guess").tell("change", { target: { checked: false } });
+    tell(used.at("guess"), "change", { target: { checked: false } });
     used.window.pass(1000);
     equal("not guessing", [used.text("plays").includes("guess"), used.find("roll 31").textContent.includes("/"), used.window.location.hash.includes("guess")], [false, true, false]);
     equal("sums", [sumOfFractions([]), sumOfFractions(["1/18", "1/18", "1/18"]), sumOfFractions(["1/3", "1/6"]), sumOfFractions(["0/1"])], ["0/1", "1/6", "1/2", "0/1"]);
@@ -505,7 +510,7 @@ async function keeping() {
     equal("sorted", counts.every((count, place) => place === 0 || count >= counts[place - 1]), true);
     const caption = used.find(`caption ${order[1]}`);
     caption.value = "<b>second</b>";
-    caption.tell("change");
+    tell(caption, "change");
     used.window.pass(1000);
     equal("a caption", [used.find(`caption ${order[1]}`).value, readLink(used.window.location.hash).kept.find(({ points }) => points.join() === order[1]).caption], ["<b>second</b>", "<b>second</b>"]);
     await used.clicked(`remove ${order[1]}`);
@@ -621,7 +626,7 @@ async function addresses() {
     equal("a link", [open.board.join(), open.window.location.hash], ["0,0,0,1,0,0", "#at=0,0,0,1,0,0&pips=58"]);
     equal("which is one entry", open.window.entries.length, 3);
     open.window.type("#at=0,0,0,1,0,0&pips=58&t=<b>T</b>");
-    equal("the title is text", [open.text("lesson"), open.at("lesson").all.length, open.at("lesson").hidden], ["<b>T</b>", 0, false]);
+    equal("the title is text", [open.text("lesson"), [...open.at("lesson").querySelectorAll("*")].length, open.at("lesson").hidden], ["<b>T</b>", 0, false]);
     equal("twice the same", readLink("#p=1,0,0,0,0,0&c=a&p=2,0,0,0,0,0&p=1,0,0,0,0,0&c=b&p=9,9,0,0,0,0&c=x").kept.map(({ points, caption }) => `${points[0]} ${caption}`), ["1 a", "2 "]);
 
     const same = await Used.open();
@@ -749,16 +754,16 @@ async function drills() {
     equal("fifteen stacks", used.session.state.questions.length, 15);
     equal("hidden", [used.figures, used.text("chances"), used.text("said").includes("effective")], [[], "", false]);
     const [first, second] = used.session.state.questions.map(({ points }) => answerTo(points).effective.thousandths);
-    const tell = async (thousandths) => {
+    const compare = async (thousandths) => {
         used.find("estimate").value = `${thousandths / 1000n}.${String(thousandths % 1000n).padStart(3, "0")}`;
         await used.clicked("tell");
     };
-    await tell(first % 1000000n);
+    await compare(first % 1000000n);
     const off = first - (first % 1000000n);
     equal("told", [used.figures.length, used.text("numbers").includes(`${(Number(off) / 1000).toFixed(3)} off`)], [4, true]);
     await used.clicked("next question");
     equal("hidden again", used.figures, []);
-    await tell(1n);
+    await compare(1n);
     equal("the mean of both", used.session.state.estimates.map(({ error }) => String(error)), [off, second - 1n].map(String));
     equal("seen", used.text("numbers").includes("The mean error so far is"), true);
 
@@ -768,18 +773,18 @@ async function drills() {
     used.find("estimate").value = "x";
     await used.clicked("tell");
     equal("no number is no estimate", used.session.state.estimates.length, 0);
-    used.find("estimate").tell("keydown", { key: "Enter", target: { value: "7" } });
+    tell(used.find("estimate"), "keydown", { key: "Enter", target: { value: "7" } });
     equal("Enter", used.session.state.estimates.length, 1);
     const made = answerTo([1, 0, 0, 0, 0, 0]).effective.thousandths - 1000n;
     equal("how far off", String(used.session.state.estimates[0].error), String(made > 7000n ? made - 7000n : 7000n - made));
     await used.clicked("Remove 1");
     await used.clicked("Add 2");
     const other = answerTo([0, 1, 0, 0, 0, 0]).effective.thousandths - 2000n;
-    used.find("estimate").tell("keydown", { key: "Enter", target: { value: "-999" } });
+    tell(used.find("estimate"), "keydown", { key: "Enter", target: { value: "-999" } });
     equal("below", String(used.session.state.estimates[1].error), String(other + 999000n));
     const small = { ...begin(readLink("#at=1,0,0,0,0,0&estimate=effective")), answers: new Map([["1,0,0,0,0,0", { ...answerTo([1, 0, 0, 0, 0, 0]), effective: { text: "8.167", thousandths: 8167n } }]]) };
     equal("above", ["9", "7.167"].map((word) => String(giveEstimate({ ...small, decimals: new Map() }, word).estimates[0].error)), ["833", "1000"]);
-    used.find("estimated").tell("change", { target: { value: "" } });
+    tell(used.find("estimated"), "change", { target: { value: "" } });
     await used.worker.answerAll();
     equal("off", [used.session.state.estimate, used.figures.length], [null, 4]);
     const { document } = used;
@@ -794,7 +799,7 @@ async function lessons() {
     part = "a lesson";
     const text = "lesson: <b>One</b>\nstep: 0,0,0,1,0,1\nroll: 52\ntext: <i>first</i>\nask: Which?\nanswer: That one.\nstep: 1,0,0,0,0,0\ntext: second";
     const used = await Used.open(`#text=${encodeURIComponent(text)}`);
-    equal("its first step", [used.board, used.session.state.roll, used.text("coach").includes("<i>first</i>"), used.at("coach").all.some(({ localName }) => localName === "i" || localName === "b")], [[0, 0, 0, 1, 0, 1], [5, 2], true, false]);
+    equal("its first step", [used.board, used.session.state.roll, used.text("coach").includes("<i>first</i>"), [...used.at("coach").querySelectorAll("*")].some(({ localName }) => localName === "i" || localName === "b")], [[0, 0, 0, 1, 0, 1], [5, 2], true, false]);
     equal("the answer is closed", used.text("coach").includes("That one."), false);
     await used.clicked("answer");
     equal("and opens", [used.text("coach").includes("That one."), used.text("said")], [true, "That one."]);
@@ -804,11 +809,11 @@ async function lessons() {
     equal("its link", [readLink(used.window.location.hash).step, readLessons(readLink(used.window.location.hash).text).lessons[0].title], [2, "<b>One</b>"]);
     await used.clicked("previous step");
     equal("closed again", [used.text("coach").includes("That one."), used.text("coach").includes("Step 1 of 2")], [false, true]);
-    used.document.tell("drop", { dataTransfer: { files: [{ name: "own.txt", text: async () => "lesson: Own\nstep: 2,0,0,0,0,0\ntext: mine" }] } });
+    tell(used.document, "drop", { dataTransfer: { files: [{ name: "own.txt", text: async () => "lesson: Own\nstep: 2,0,0,0,0,0\ntext: mine" }] } });
     await settled();
     await used.worker.answerAll();
     equal("a file", [used.board, used.text("coach").includes("mine")], [[2, 0, 0, 0, 0, 0], true]);
-    used.document.tell("drop", { dataTransfer: { files: [{ name: "bad.txt", text: async () => "hello" }] } });
+    tell(used.document, "drop", { dataTransfer: { files: [{ name: "bad.txt", text: async () => "hello" }] } });
     await settled();
     equal("a refused one", [used.text("trouble"), used.text("coach").includes("mine")], ["The lesson can't be read. Line 1: no such word", true]);
     const number = await Used.open(`#text=${encodeURIComponent("lesson: One\nstep: 1,0,0,0,0,0\nask: How many?\nanswer: One.")}`);
