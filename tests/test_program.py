@@ -68,18 +68,20 @@ class TestCommands:
     @pytest.mark.parametrize(
         "words, input, output",
         [
-            ("build --pips 8 made", "", "built pips 8 positions 64"),
-            ("check eight", "", "ok pips 8 positions 64"),
-            ("query eight", THREE, REPLIES),
-            *((f"query --cache {records} eight", THREE, REPLIES) for records in (1, 2, 64, 65535)),
-            ("", THREE, REPLIES),
-            pytest.param("", THREE[:-1].encode(), REPLIES, id="a last line without a line feed"),
-            pytest.param("", "", "", id="no input"),
-            ("audit three", "", AUDIT),
-            ("upgrade eight made", "", "upgraded pips 8 positions 64"),
-            pytest.param("query new", THREE, REPLIES, id="query of an upgrade"),
+            pytest.param(words, input, output, id=name or words)
+            for name, words, input, output in (
+                ("", "build --pips 8 made", "", "built pips 8 positions 64"),
+                ("", "check eight", "", "ok pips 8 positions 64"),
+                ("", "query eight", THREE, REPLIES),
+                *(("", f"query --cache {it} eight", THREE, REPLIES) for it in (1, 2, 64, 65535)),
+                ("no words", "", THREE, REPLIES),
+                ("a last line without a line feed", "", THREE[:-1].encode(), REPLIES),
+                ("no input", "", "", ""),
+                ("", "audit three", "", AUDIT),
+                ("", "upgrade eight made", "", "upgraded pips 8 positions 64"),
+                ("query of an upgrade", "query new", THREE, REPLIES),
+            )
         ],
-        ids=lambda value: None,
     )
     def test_answers(self, files, ask, words, input, output):
         expect(ask(words, input), 0, output)
