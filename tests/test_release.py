@@ -55,7 +55,7 @@ class Release:
 
 @pytest.fixture(scope="module")
 def release(store, program):
-    need("cc", "readelf", "wasm-opt", "git", "node")
+    need("cc", "readelf", "wasm-opt", "esbuild", "git", "node")
     (store / "release").mkdir()
     return Release(store / "release")
 
