@@ -569,7 +569,7 @@ def place():
     with tempfile.TemporaryDirectory(prefix="bearoff-planted-") as work:
         copy = os.path.join(work, "copy")
         shutil.copytree(
-            ROOT, copy, symlinks=True, ignore=shutil.ignore_patterns(".git", "out", "__pycache__")
+            ROOT, copy, symlinks=True, ignore=shutil.ignore_patterns(".git", "out", "__pycache__", ".pytest_cache")
         )
         yield copy
 
