@@ -81,4 +81,4 @@ test-python: prove library
 	pytest -n 4 --dist loadgroup tests
 
 test-node: prove page js tested
-	node --test tests/page
+	node --test --test-concurrency=1 tests/page

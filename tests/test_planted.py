@@ -568,9 +568,8 @@ def place():
     assert shutil.which("rt"), "the Rattle kit's command rt is missing"
     with tempfile.TemporaryDirectory(prefix="bearoff-planted-") as work:
         copy = os.path.join(work, "copy")
-        shutil.copytree(
-            ROOT, copy, symlinks=True, ignore=shutil.ignore_patterns(".git", "out", "__pycache__", ".pytest_cache")
-        )
+        left_out = shutil.ignore_patterns(".git", "out", "__pycache__", ".pytest_cache")
+        shutil.copytree(ROOT, copy, symlinks=True, ignore=left_out)
         yield copy
 
 
