@@ -2,6 +2,9 @@
 # of each crate; what is made to be taken away, in out/.
 
 SHELL := bash
+# no source is made of another by a rule that make knows
+MAKEFLAGS += --no-builtin-rules
+.SUFFIXES:
 OUT ?= out
 PREFIX ?= /usr/local
 ARCHIVE ?= crates/bearoff_c/out/libbearoff.a
