@@ -489,7 +489,7 @@ async function driveHosted(browser) {
     const server = createServer((request, response) => {
         requests.push(request.url);
         response.writeHead(200, { "Content-Type": "text/html; charset=utf-8" });
-        response.end(readFileSync(pagePath));
+        response.end(readFileSync(pagePath()));
     });
     await new Promise((keep) => server.listen(0, "127.0.0.1", keep));
     try {
