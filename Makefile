@@ -20,7 +20,8 @@ TESTED := $(OUT)/tested/ready
 
 WORK_PAGE := $(OUT)/work.html
 
-.PHONY: help needs prove library page work-page js tested install uninstall release test test-python test-node
+.PHONY: help needs prove library page work-page js tested install uninstall release
+.PHONY: test test-python test-node
 .DELETE_ON_ERROR:
 
 help:
@@ -54,13 +55,14 @@ $(ARCHIVE): $(SOURCES)
 page: $(PAGE)
 work-page: $(WORK_PAGE)
 $(PAGE) $(WORK_PAGE): $(MODULES) $(wildcard web/*) $(wildcard js/*.js) VERSION packaging/page.py
-	/usr/bin/python3 -I packaging/page.py web $(OUT)/modules VERSION $@ $(if $(filter %/work.html,$@),--maps)
+	/usr/bin/python3 -I packaging/page.py web $(OUT)/modules VERSION $@ \
+		$(if $(filter %/work.html,$@),--maps)
 
 $(MODULES) &: $(SOURCES) packaging/modules
 	packaging/modules $(OUT)/modules
 
 js: $(PACKAGE)
-$(PACKAGE): $(MODULES) $(wildcard js/*.js js/*.d.ts) js/README.md js/package.json VERSION packaging/js
+$(PACKAGE): $(MODULES) $(wildcard js/*.js js/*.d.ts js/*.json) js/README.md VERSION packaging/js
 	packaging/js $(OUT)/modules $(OUT)/js
 
 install:

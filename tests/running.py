@@ -58,7 +58,8 @@ def expect(done, status=0, output="", errors=""):
     output, errors = as_bytes(output), as_bytes(errors)
     if (done.status, done.output, done.errors) != (status, output, errors):
         pytest.fail(
-            f"{told(done)}\nwanted: status {status}, output {shown(output)}, errors {shown(errors)}",
+            f"{told(done)}\nwanted: status {status}, output {shown(output)},"
+            f" errors {shown(errors)}",
             pytrace=False,
         )
 
@@ -90,7 +91,7 @@ def expect_same(one, other, what):
             min(len(here), len(there)),
         )
         pytest.fail(
-            f"{what}: {one if not isinstance(one, bytes) else 'what came'} differs from byte {at} on\n"
+            f"{what}: {'what came' if isinstance(one, bytes) else one} differs from byte {at} on\n"
             f"came:   {shown(here[at:at + 60])} of {len(here)} bytes\n"
             f"wanted: {shown(there[at:at + 60])} of {len(there)} bytes",
             pytrace=False,

@@ -365,7 +365,8 @@ def test_killed_before_each_call(crashes, strace, scene, note):
         ]
     none_wrong(jobs)
     note(
-        f"{scene.name}: {len(calls)} system calls, {len(calls) - first_own(calls)} of them the program's own;"
+        f"{scene.name}: {len(calls)} system calls,"
+        f" {len(calls) - first_own(calls)} of them the program's own;"
         f" {len(jobs)} runs were killed"
     )
 

@@ -52,7 +52,8 @@ def installed(prefix, **environment):
 def expect_refused(done, status, said):
     """Nothing is written, and one line on standard error has some words."""
     errors = done.errors.decode()
-    is_so = (done.status, done.output) == (status, b"") and errors.count("\n") == 1 and said in errors
+    is_line = errors.count("\n") == 1 and said in errors
+    is_so = (done.status, done.output) == (status, b"") and is_line
     expect_that(is_so, done, f"status {status}, and one line with '{said}'")
 
 
@@ -169,8 +170,8 @@ class TestLists:
     """A list that leads elsewhere is not followed; one of an older version is gone through too,
     and one that is cut."""
 
-    @pytest.mark.parametrize("name", ["../outside", "@/outside", "bin/../../outside", "bin/..", ".",
-                                      "..", "/", "", "bin//bearoff", "./bin/bearoff"])
+    @pytest.mark.parametrize("name", ["../outside", "@/outside", "bin/../../outside", "bin/..",
+                                      ".", "..", "/", "", "bin//bearoff", "./bin/bearoff"])
     def test_elsewhere(self, room, listed, name):
         name = name.replace("@", str(room))
         (room / "outside").write_text("theirs\n")
@@ -217,8 +218,8 @@ class TestOddPrefixes:
         expect(run("./a.out"), 0, PRINTED)
 
     @pytest.mark.parametrize("name", [
-        "ab ", "a\tb", "ab\t", "a\nb", "a\rb", "a\x01b", 'a"b', "a'b", "a$b", "a${b}", "a`b", "a#b",
-        "a #b", "a(b", "a)b", "a{b", "a}b", "a;b", "a&b", "a|b", "a<b", "a>b", "a,b", "a:b"])
+        "ab ", "a\tb", "ab\t", "a\nb", "a\rb", "a\x01b", 'a"b', "a'b", "a$b", "a${b}", "a`b",
+        "a#b", "a #b", "a(b", "a)b", "a{b", "a}b", "a;b", "a&b", "a|b", "a<b", "a>b", "a,b", "a:b"])
     def test_refused(self, room, name):
         said = "pkg-config can tell a compiler no folder whose name has"
         expect_refused(run(INSTALL, room / "odd" / name), 1, said)

@@ -30,7 +30,8 @@ RATTLE = """#!/bin/sh
 # tells when it begins and ends; a word of FAILING fails, and what it makes is empty
 while [ $# -gt 0 ]; do
     case $1 in
-        --crate-name) name=$2 ;; -o) made=$2 ;; --jobs) jobs=$2 ;; --extern) uses="$uses ${2%%=*}" ;;
+        --crate-name) name=$2 ;; -o) made=$2 ;; --jobs) jobs=$2 ;;
+        --extern) uses="$uses ${2%%=*}" ;;
     esac
     shift
 done

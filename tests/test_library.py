@@ -18,7 +18,7 @@ from pathlib import Path
 
 import pytest
 
-from running import CALLERS, ROOT, code_blocks, expect, expect_same, expect_that, need, run, succeed
+from running import CALLERS, ROOT, code_blocks, expect, expect_that, need, run, succeed
 
 FLAGS = ["-O2", "-Wall", "-Wextra", "-Werror", f"-I{ROOT}/c"]
 PRINTED = "1.250 rolls, 10.208 pips\n4/2 2/1"
@@ -139,7 +139,8 @@ VALGRIND = ["valgrind", "-q", "--error-exitcode=9", "--leak-check=full"]
 
 def test_refusals_under_valgrind(caller, built):
     need("valgrind")
-    expect(run(*VALGRIND, "--main-stacksize=16777216", caller("refusals_c"), built(8), timeout=600))
+    words = [*VALGRIND, "--main-stacksize=16777216", caller("refusals_c"), built(8)]
+    expect(run(*words, timeout=600))
 
 
 @pytest.mark.parametrize("with_bad, words", [(False, ["2"]), (True, ["--text"])],
@@ -148,7 +149,8 @@ def test_lines_under_valgrind(caller, program, built, asked, with_bad, words):
     need("valgrind")
     lines = b"".join(asked(8)[0].splitlines(True)[:300]) + (BAD if with_bad else b"")
     replies = succeed(program, "query", built(8), input=lines)
-    expect(run(*VALGRIND, caller("lines_c"), built(8), *words, input=lines, timeout=600), 0, replies)
+    words = [*VALGRIND, caller("lines_c"), built(8), *words]
+    expect(run(*words, input=lines, timeout=600), 0, replies)
 
 
 @pytest.mark.parametrize("bound, times", [(8, 4000), (44, 100)])
@@ -179,8 +181,9 @@ def databases(store, built):
     """A folder as the packages' tests want it."""
     folder = store / "databases"
     folder.mkdir(exist_ok=True)
-    for name, bound, is_new in (("eight", 8, False), ("race.db", 44, False), ("large.db", 58, False),
-                                ("eight_new", 8, True), ("race_new.db", 44, True)):
+    for name, bound, is_new in (
+            ("eight", 8, False), ("race.db", 44, False), ("large.db", 58, False),
+            ("eight_new", 8, True), ("race_new.db", 44, True)):
         if not (folder / name).exists():
             os.symlink(built(bound, is_new), folder / name)
     return folder
@@ -201,7 +204,8 @@ def python(library, program, databases):
     """Runs Debian's Python with the package of this repository."""
     def run_it(*words, cwd=ROOT / "python", path=ROOT / "python", **more):
         environment = {
-            **os.environ, "BEAROFF_LIBRARY": str(library / "libbearoff.so"), "PYTHONPATH": str(path),
+            **os.environ, "PYTHONPATH": str(path),
+            "BEAROFF_LIBRARY": str(library / "libbearoff.so"),
             "BEAROFF_PROGRAM": str(program), "BEAROFF_DATABASES": str(databases),
             "PYTHONDONTWRITEBYTECODE": "1", **more}
         return run("/usr/bin/python3", *words, cwd=cwd, env=environment, timeout=900)
@@ -277,7 +281,8 @@ def test_pip(python, example):
     need("pip", "git")
     os.mkdir("checkout")
     # what a test beside this one has compiled is not in a checkout
-    shutil.copytree(ROOT / "python", "checkout/python", ignore=shutil.ignore_patterns("__pycache__"))
+    left_out = shutil.ignore_patterns("__pycache__")
+    shutil.copytree(ROOT / "python", "checkout/python", ignore=left_out)
     shutil.copy(ROOT / ".gitignore", "checkout/")
     succeed("git", "init", "-q", "checkout")
     succeed("git", "-C", "checkout", "add", "-A")
@@ -285,7 +290,8 @@ def test_pip(python, example):
     words = ["-m", "pip", "install", "-q", "--no-index", "--no-deps", "--target", site]
     done = python(*words, "./checkout/python", cwd=example, path="")
     expect_that(done.status == 0, done, "pip to install the package")
-    expect(run("git", "-C", "checkout", "ls-files", "--others", "--modified", "--exclude-standard"))
+    words = ["ls-files", "--others", "--modified", "--exclude-standard"]
+    expect(run("git", "-C", "checkout", *words))
     expect(python("example.py", cwd=example, path=site), 0, PRINTED)
 
 

@@ -3,20 +3,20 @@ have:
 
 - docs/definitions.md names each public definition of the specs of each crate once, in the section
   of that crate, and each law once, and no name that isn't there;
-- each link of a page leads to a file, and each file of tests/, packaging/, tools/ and bench/ that a
-  page, a comment or a script names is there;
+- each link of a page leads to a file, and each file of tests/, packaging/, tools/ and bench/ that
+  a page, a comment or a script names is there;
 - a clause that stands after a link to a function, as
-  [`check`](../crates/certificate/src/checked.rt) `exactly`, is a clause of that function's contract
-  in that file;
-- an edit that stands after its crates, as `retrograde`: `writes_the_header_alone`, is in must-fail/
-  of each;
-- docs/laws.md names the lemma modules of each law, and of each lemma module those that it rests on,
-  as the `use` lines have them, and each lemma module of the other crates once, with what the
+  [`check`](../crates/certificate/src/checked.rt) `exactly`, is a clause of that function's
+  contract in that file;
+- an edit that stands after its crates, as `retrograde`: `writes_the_header_alone`, is in
+  must-fail/ of each;
+- docs/laws.md names the lemma modules of each law, and of each lemma module those that it rests
+  on, as the `use` lines have them, and each lemma module of the other crates once, with what the
   module's first lines say;
-- docs/crates.md draws each crate in the layer that crates.txt gives it, and its two ways go through
-  crates that are there;
-- README.md has at most 1,200 words, and no sentence of more than eight words stands twice in it and
-  the pages;
+- docs/crates.md draws each crate in the layer that crates.txt gives it, and its two ways go
+  through crates that are there;
+- README.md has at most 1,200 words, and no sentence of more than eight words stands twice in it
+  and the pages;
 - docs/tour.md quotes the sources: each block of code of theirs stands word for word in the file
   that the last link to a source above the block leads to;
 - the version in VERSION is that of the program, the header, the manual page, the packages for
@@ -557,7 +557,8 @@ def compare_completions(program):
     for shell, given in found.items():
         if sorted(listed[shell]) != sorted(commands):
             wrong.append(
-                f"completions: {shell} completes {', '.join(listed[shell])}, and the commands are {', '.join(commands)}"
+                f"completions: {shell} completes {', '.join(listed[shell])},"
+                f" and the commands are {', '.join(commands)}"
             )
         for name in sorted({*wanted, *given}):
             if given.get(name) != wanted.get(name):

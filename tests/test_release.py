@@ -76,7 +76,8 @@ def test_sums(release):
 
 
 def test_no_file_names_a_folder_of_this_machine(release):
-    assert not [path.name for path in release.one.iterdir() if str(ROOT).encode() in path.read_bytes()]
+    told = [path.name for path in release.one.iterdir() if str(ROOT).encode() in path.read_bytes()]
+    assert told == []
 
 
 def test_without_words():

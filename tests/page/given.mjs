@@ -1,6 +1,7 @@
-// What the tests under node are given: the program that was proved here, the page and the two modules
-// that `make page` made, and the folder that `make tested` made of the program's files and replies.
-// The variables PROGRAM, PAGE, MODULES and TESTED name others. And how a part of a test is told.
+// What the tests under node are given: the program that was proved here, the page and the two
+// modules that `make page` made, and the folder that `make tested` made of the program's files and
+// replies. The variables PROGRAM, PAGE, MODULES and TESTED name others. And how a part of a test
+// is told.
 import assert from "node:assert/strict";
 import { existsSync, readFileSync } from "node:fs";
 import { join, resolve } from "node:path";

@@ -1,9 +1,10 @@
-// The package for JavaScript, as it is put down: it answers what the program is asked, every position
-// of 8 pips and a thousand of 44 and of 58, by each call, by lines and in whole tables; hostile
-// arguments of each kind; a thousand openings in one process; positions in other notations, which GNU
-// Backgammon has written and read; its types under tsc --strict, with lines that may not compile; the
-// examples of docs/embedding.md and of js/README.md; and in Chromium, where it is installed, as a
-// module in a page and in a worker. What is tried is what its archive has.
+// The package for JavaScript, as it is put down: it answers what the program is asked, every
+// position of 8 pips and a thousand of 44 and of 58, by each call, by lines and in whole tables;
+// hostile arguments of each kind; a thousand openings in one process; positions in other
+// notations, which GNU Backgammon has written and read; its types under tsc --strict, with lines
+// that may not compile; the examples of docs/embedding.md and of js/README.md; and in Chromium,
+// where it is installed, as a module in a page and in a worker. What is tried is what its archive
+// has.
 import assert from "node:assert/strict";
 import { spawnSync } from "node:child_process";
 import { cpSync, existsSync, mkdirSync, mkdtempSync, readFileSync, rmSync, writeFileSync } from "node:fs";

@@ -1,6 +1,7 @@
-// Stands in for a browser, so that the page's script runs under node: the document of the page, by jsdom,
-// a window with an address and its history, and a worker that answers when the test lets it. Its numbers are made up, each from its
-// position alone, so that a test sees of which position a number is.
+// Stands in for a browser, so that the page's script runs under node: the document of the page, by
+// jsdom, a window with an address and its history, and a worker that answers when the test lets
+// it. Its numbers are made up, each from its position alone, so that a test sees of which position
+// a number is.
 import { readFileSync } from "node:fs";
 import Module, { createRequire } from "node:module";
 import { delimiter } from "node:path";
@@ -17,8 +18,8 @@ const { JSDOM, VirtualConsole } = createRequire(import.meta.url)("jsdom");
 const MARKUP = readFileSync(new URL("../../web/index.html", import.meta.url), "utf8")
     .replace(/\/\*(POLICY|STYLE|SCRIPT)\*\//g, "");
 
-// The document of the page, by jsdom, which lays nothing out and saves, scrolls and opens nothing: what
-// it would have done is kept beside each element.
+// The document of the page, by jsdom, which lays nothing out and saves, scrolls and opens nothing:
+// what it would have done is kept beside each element.
 export function newDocument() {
     const virtualConsole = new VirtualConsole();
     const { window } = new JSDOM(MARKUP, { virtualConsole });
@@ -44,8 +45,8 @@ export function newDocument() {
     return document;
 }
 
-// An event at an element and then at those around it, with more than a plain one has. What a listener
-// throws is thrown.
+// An event at an element and then at those around it, with more than a plain one has. What a
+// listener throws is thrown.
 export function tell(element, name, more = {}) {
     const document = element.ownerDocument || element;
     const event = new document.defaultView.Event(name, { bubbles: true, cancelable: true });
@@ -199,7 +200,8 @@ export function answerTo(points, bound = 44) {
     };
 }
 
-// Three plays of each roll: the recorded one, one as good, and one that loses an 18th and comes first by its text.
+// Three plays of each roll: the recorded one, one as good, and one that loses an 18th and comes
+// first by its text.
 export function rollsFrom(points) {
     if (points.every((count) => count === 0)) return [];
     return ROLLS.map(([one, other]) => ({
