@@ -17,9 +17,9 @@ writes positions as other programs have them.
 
 from ._library import __version__
 from .database import Database
-from .errors import BadArgument, BearoffError, Changed, Damaged, NoLibrary, NoRace, Refused
+from .errors import BadArgument, BearoffError, Changed, Damaged, NoLibrary, NoRace, OutOfRange, Refused
 from .exact import WEIGHTS, WHOLE
-from .positions import Choice, EffectivePips, Move, Play, Position
+from .positions import Choice, EffectivePips, Move, Play, Position, Standing, Wastage
 
 __all__ = [
     "WEIGHTS",
@@ -34,8 +34,11 @@ __all__ = [
     "Move",
     "NoLibrary",
     "NoRace",
+    "OutOfRange",
     "Play",
     "Position",
     "Refused",
+    "Standing",
+    "Wastage",
     "__version__",
 ]

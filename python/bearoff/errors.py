@@ -11,6 +11,7 @@ NOT_OPEN = 1
 TOO_MANY = 3
 OVER_BOUND = 4
 SHORT = 8
+NO_RANK = 10
 
 _REASONS = {
     NOT_OPEN: "the database is not open",
@@ -22,7 +23,7 @@ _REASONS = {
     7: "the bytes were changed since they were checked",
     SHORT: "the room is too small",
     9: "the file is of version 2 already",
-    10: "the database has no position of that rank",
+    NO_RANK: "the database has no position of that rank",
 }
 
 
@@ -64,6 +65,10 @@ class Refused(BearoffError):
 
     def __reduce__(self) -> Tuple[Type[Refused], Tuple[int, str]]:
         return type(self), (self.status, self.asked)
+
+
+class OutOfRange(Refused, IndexError):
+    """A database was indexed by a rank that it hasn't."""
 
 
 class Damaged(BearoffError):
