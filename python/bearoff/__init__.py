@@ -17,20 +17,35 @@ writes positions as other programs have them.
 
 from ._library import __version__
 from .database import Database
-from .errors import BadArgument, BearoffError, Changed, Damaged, NoLibrary, NoRace, OutOfRange, Refused
+from .errors import (
+    BadArgument,
+    BadMatch,
+    BearoffError,
+    Changed,
+    Damaged,
+    NoLibrary,
+    NoRace,
+    OutOfRange,
+    Refused,
+)
 from .exact import WEIGHTS, WHOLE
+from .grading import Graded, GradedPlay, GradedPlayer, grade
 from .positions import Choice, EffectivePips, Move, Play, Position, Standing, Wastage
 
 __all__ = [
     "WEIGHTS",
     "WHOLE",
     "BadArgument",
+    "BadMatch",
     "BearoffError",
     "Changed",
     "Choice",
     "Damaged",
     "Database",
     "EffectivePips",
+    "Graded",
+    "GradedPlay",
+    "GradedPlayer",
     "Move",
     "NoLibrary",
     "NoRace",
@@ -41,4 +56,5 @@ __all__ = [
     "Standing",
     "Wastage",
     "__version__",
+    "grade",
 ]

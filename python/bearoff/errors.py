@@ -5,11 +5,15 @@ What the system refuses stays what Python says of it: OSError where a file can't
 
 from __future__ import annotations
 
+import re
 from typing import Tuple, Type
+
+_MOST_SHOWN = 100
 
 NOT_OPEN = 1
 TOO_MANY = 3
 OVER_BOUND = 4
+NOT_LEGAL = 6
 SHORT = 8
 NO_RANK = 10
 
@@ -19,7 +23,7 @@ _REASONS = {
     TOO_MANY: "more than 15 checkers",
     OVER_BOUND: "more pips than the bound",
     5: "no checker is left",
-    6: "the roll doesn't lead there",
+    NOT_LEGAL: "the roll doesn't lead there",
     7: "the bytes were changed since they were checked",
     SHORT: "the room is too small",
     9: "the file is of version 2 already",
@@ -47,6 +51,27 @@ class NoRace(BadArgument):
 
     def __reduce__(self) -> Tuple[Type[NoRace], Tuple[str, str]]:
         return type(self), (self.reason, self.line)
+
+
+class BadMatch(BadArgument):
+    """A text is no match, or one that can't be replayed. `reason` is ``malformed``, where it isn't written as matches
+    are; ``illegal``, where a play can't be made on the board; ``turn``, where a player rolls who can't; or
+    ``variation``, where it is another game than backgammon. `line` is the number of the line, from 1 on; the message
+    has it, what is wrong, and the line.
+    """
+
+    def __init__(self, reason: str, line: int, what: str, text: str = "") -> None:
+        shown = re.sub("[^ -~]", "?", " ".join(text.split()))
+        short = shown if len(shown) <= _MOST_SHOWN else shown[:_MOST_SHOWN] + "..."
+        told = re.sub("[^ -~]", "?", what)
+        super().__init__(f"line {line}: {told}: {short}" if short else f"line {line}: {told}")
+        self.reason = reason
+        self.line = line
+        self.what = what
+        self.text = text
+
+    def __reduce__(self) -> Tuple[Type[BadMatch], Tuple[str, int, str, str]]:
+        return type(self), (self.reason, self.line, self.what, self.text)
 
 
 class Refused(BearoffError):

@@ -1,0 +1,294 @@
+"""Matches as text files: the `.mat` form of Jellyfish, which GNU Backgammon and XG export.
+
+    >>> from bearoff.matches import read_match
+    >>> match = read_match(open("match.mat", encoding="utf-8").read())
+    >>> match.length, match.names, len(match.plays)
+    (5, ('Ann', 'Bob'), 185)
+
+`read_match` replays each game on a board of its own, and tells every roll with what was played. A text that isn't
+written so, or whose plays can't be made on the board, is refused as `BadMatch` with the number of its line. Outside
+the bearoff a play is not compared with all plays of its roll. Nothing here needs the shared library.
+"""
+
+from __future__ import annotations
+
+import re
+from typing import Dict, Iterator, List, NamedTuple, NoReturn, Optional, Sequence, Tuple
+
+from .errors import BadMatch
+from .positions import Position
+
+__all__ = ["BadMatch", "Match", "MatchPlay", "read_match"]
+
+_BAR = 25
+_HOME = 6
+_START = {24: 2, 13: 5, 8: 3, 6: 5}
+
+Board = Tuple[int, ...]
+"""The checkers of one player on the points 1 to 24, as that player counts them, behind those that are off, which are
+not counted, and before those on the bar: 26 numbers."""
+
+
+class MatchPlay(NamedTuple):
+    """A roll of a match and what was played: the number of the game, of the move in it, and of the line in the file;
+    the player, 0 or 1, in the left or the right column; the dice as they stand there; the play as it stands there,
+    which is empty where nothing was played; the player's checkers before and after it; and those of the other player
+    before it.
+    """
+
+    game: int
+    move: int
+    line: int
+    player: int
+    dice: Tuple[int, int]
+    text: str
+    before: Board
+    after: Board
+    other: Board
+
+    @property
+    def is_bearoff(self) -> bool:
+        """Whether all checkers of the player are home and past the other player's."""
+        if any(self.before[_HOME + 1 :]):
+            return False
+        highest = max((point for point in range(1, _HOME + 1) if self.before[point]), default=0)
+        # a point of the other player is counted from the other end, and the bar is behind all points
+        nearest = min((25 - point for point in range(1, _BAR + 1) if self.other[point]), default=_BAR)
+        return 0 < highest < nearest
+
+    @property
+    def position(self) -> Position:
+        """The player's home board before the play."""
+        return Position._make(self.before[1 : _HOME + 1])
+
+    @property
+    def to(self) -> Position:
+        """The player's home board after the play."""
+        return Position._make(self.after[1 : _HOME + 1])
+
+
+class Match(NamedTuple):
+    """A match: its length in points, which is 0 for a session of money games; the names of the two players, the one of
+    the left column first; how many games it has; and its rolls in their order.
+    """
+
+    length: int
+    names: Tuple[str, str]
+    games: int
+    plays: Tuple[MatchPlay, ...]
+
+
+_LENGTH = re.compile(r" *([0-9]{1,5}) point match *", re.IGNORECASE)
+_VARIATION = re.compile(r'; *\[Variation "([^"]*)"\] *', re.IGNORECASE)
+_GAME = re.compile(r" *Game ([0-9]{1,6}) *")
+_NAMES = re.compile(r" *(\S.*?) : [0-9]{1,6} +(\S.*?) : [0-9]{1,6} *")
+_NUMBERED = re.compile(r" *([0-9]{1,6})\)(.*)")
+_WINS = re.compile(r" *Wins [0-9]{1,6} points?(?: and the match)? *")
+
+# what stands in a column beside rolls; a roll with what was played is the first kind
+_ROLL = re.compile(r"([1-6])([1-6]):")
+_WORDS = re.compile(r"Doubles => [0-9]{1,6}|Takes|Drops|Wins [0-9]{1,6} points?(?: and the match)?")
+_NOTHING = "Cannot Move"
+_STEPS = re.compile(
+    r"(bar|[0-9]{1,2})((?:/(?:off|[0-9]{1,2})\*?)+)(?:\(([1-4])\))?", re.IGNORECASE
+)
+
+# the left column begins behind the number, and the right one, where the left one is empty, far behind it
+_LEFT = 4
+_RIGHT = 12
+
+
+def read_match(text: str) -> Match:
+    """The match of a text in the `.mat` form. Raises `BadMatch` for any other text."""
+    reader = _Reader()
+    for number, line in enumerate(text.split("\n"), 1):
+        reader.read(number, line.rstrip("\r").lstrip("\ufeff") if number == 1 else line.rstrip("\r"))
+    return reader.end()
+
+
+class _Reader:
+    """Reads a match line by line."""
+
+    def __init__(self) -> None:
+        self.number = 0
+        self.text = ""
+        self.length: Optional[int] = None
+        self.names: Optional[Tuple[str, str]] = None
+        self.games = 0
+        self.plays: List[MatchPlay] = []
+        # the checkers of both players in the game that is being read, where its players were named
+        self.boards: Optional[List[List[int]]] = None
+        self.is_named = True
+        self.is_over = True
+        self.move = 0
+        self.last: Optional[int] = None
+
+    def refuse(self, reason: str, what: str) -> NoReturn:
+        raise BadMatch(reason, self.number, what, self.text)
+
+    def read(self, number: int, line: str) -> None:
+        """Reads one line."""
+        self.number, self.text = number, line.expandtabs()
+        variation = _VARIATION.fullmatch(self.text.strip())
+        if variation and variation[1].lower() != "backgammon":
+            self.refuse("variation", f"only backgammon is graded, and not {variation[1]}")
+        if not self.text.strip() or self.text.lstrip().startswith(";"):
+            return
+        length, game = _LENGTH.fullmatch(self.text), _GAME.fullmatch(self.text)
+        if length:
+            if self.length is not None:
+                self.refuse("malformed", "a second match begins")
+            self.length = int(length[1])
+        elif self.length is None:
+            self.refuse("malformed", "a match begins with its length, as in 7 point match")
+        elif game:
+            self.begin(int(game[1]))
+        elif not self.is_named:
+            self.name()
+        elif self.boards is None:
+            self.refuse("malformed", "a game begins with its number, as in Game 1")
+        elif _WINS.fullmatch(self.text):
+            self.is_over = True
+        else:
+            self.turns(self.boards)
+
+    def begin(self, game: int) -> None:
+        if not self.is_named:
+            self.refuse("malformed", "the players of the game before aren't named")
+        if game != self.games + 1:
+            self.refuse("malformed", f"it should be game {self.games + 1}")
+        self.games = game
+        self.boards, self.is_named, self.is_over, self.move, self.last = None, False, False, 0, None
+
+    def name(self) -> None:
+        told = _NAMES.fullmatch(self.text)
+        if not told:
+            self.refuse("malformed", "the line behind the number of a game names both players with their scores")
+        names = (told[1], told[2])
+        if self.names not in (None, names):
+            self.refuse("malformed", "the players of this game are others than those before")
+        self.names, self.is_named = names, True
+        self.boards = [[_START.get(point, 0) for point in range(_BAR + 1)] for _ in (0, 1)]
+
+    def turns(self, boards: List[List[int]]) -> None:
+        """Reads a line of moves: at most one entry for each player."""
+        numbered = _NUMBERED.fullmatch(self.text)
+        if not numbered:
+            self.refuse("malformed", "neither a numbered move nor the end of a game")
+        if int(numbered[1]) != self.move + 1:
+            self.refuse("malformed", f"it should be move {self.move + 1}")
+        self.move += 1
+        body = numbered[2]
+        begins = len(body) - len(body.lstrip())
+        if _LEFT < begins < _RIGHT:
+            self.refuse("malformed", "whose column the move stands in can't be told")
+        columns = (0, 1) if begins <= _LEFT else (1,)
+        entries = [*self.entries(body.split())]
+        if len(entries) > len(columns):
+            self.refuse("malformed", "there are more entries than columns")
+        for player, (dice, words) in zip(columns, entries):
+            if self.is_over:
+                self.refuse("turn", "the game is over")
+            if dice:
+                self.play(boards, player, dice, words)
+            elif words.startswith("Wins"):
+                self.is_over = True
+
+    def entries(self, words: Sequence[str]) -> Iterator[Tuple[Optional[Tuple[int, int]], str]]:
+        """The entries of a line: of each the dice and what was played, or no dice and another entry's words."""
+        place = 0
+        while place < len(words):
+            dice = _ROLL.fullmatch(words[place])
+            end = place + 1
+            if dice:
+                while end < len(words) and (_STEPS.fullmatch(words[end]) or words[end] in _NOTHING.split()):
+                    end += 1
+                yield (int(dice[1]), int(dice[2])), " ".join(words[place + 1 : end])
+            else:
+                while end < len(words) and not _WORDS.fullmatch(" ".join(words[place:end])):
+                    end += 1
+                # the longest that it can be: a game's end may be that of the match
+                while end < len(words) and words[end] in ("and", "the", "match"):
+                    end += 1
+                if not _WORDS.fullmatch(" ".join(words[place:end])):
+                    self.refuse("malformed", f"neither a roll nor a double nor what answers one: {words[place]}")
+                yield None, " ".join(words[place:end])
+            place = end
+
+    def play(self, boards: List[List[int]], player: int, dice: Tuple[int, int], words: str) -> None:
+        """Makes a play on the board."""
+        if player == self.last:
+            self.refuse("turn", "the same player rolls twice")
+        self.last = player
+        mine, other = boards[player], boards[1 - player]
+        if not any(mine) or not any(other):
+            self.refuse("turn", "a player has borne off all checkers")
+        before, facing = tuple(mine), tuple(other)
+        steps = [*self.steps(words)]
+        pips = sum(self.move_checker(mine, other, *step) for step in steps)
+        # they may be told in another order than that in which they can be made
+        short = next((point for point in range(_BAR, 0, -1) if mine[point] < 0), 0)
+        if short:
+            self.refuse("illegal", f"{self.who(player)} has no checker {_place(short)}")
+        if pips > sum(dice) * (2 if dice[0] == dice[1] else 1):
+            self.refuse("illegal", "the play is of more pips than the roll")
+        if mine[_BAR] and any(source < _BAR for source, _, _ in steps):
+            self.refuse("illegal", f"{self.who(player)} moves with a checker on the bar")
+        if any(mine[_HOME + 1 :]) and any(not target for _, target, _ in steps):
+            self.refuse("illegal", f"{self.who(player)} bears off with a checker outside the home board")
+        self.plays.append(
+            MatchPlay(self.games, self.move, self.number, player, dice, words, before, tuple(mine), facing)
+        )
+
+    def steps(self, words: str) -> Iterator[Tuple[int, int, bool]]:
+        """The moves of single checkers: from, to, and whether a checker is said to be hit there."""
+        if words == _NOTHING:
+            return
+        for word in words.split():
+            told = _STEPS.fullmatch(word)
+            if not told:
+                self.refuse("malformed", f"not a move: {word}")
+            stops = told[2].lower().split("/")[1:]
+            points = [_point(told[1].lower()), *(_point(stop.rstrip("*")) for stop in stops)]
+            if max(points) > _BAR or points != sorted(points, reverse=True) or len(set(points)) < len(points):
+                self.refuse("malformed", f"no checker moves so: {word}")
+            for time in range(int(told[3] or 1)):
+                for source, target, stop in zip(points, points[1:], stops):
+                    # of checkers that move alike the first one hits
+                    yield source, target, stop.endswith("*") and time == 0
+
+    def move_checker(self, mine: List[int], other: List[int], source: int, target: int, is_hit: bool) -> int:
+        """Moves one checker, and tells how many pips it has moved."""
+        if target and other[_BAR - target] > 1:
+            self.refuse("illegal", f"{_place(target)} stand {other[_BAR - target]} checkers of the other player")
+        if is_hit and not (target and other[_BAR - target]):
+            self.refuse("illegal", f"no checker can be hit {_place(target)}")
+        mine[source] -= 1
+        if target:
+            mine[target] += 1
+            other[_BAR] += other[_BAR - target]
+            other[_BAR - target] = 0
+        return source - target
+
+    def who(self, player: int) -> str:
+        """The name of a player."""
+        return (self.names or ("", ""))[player]
+
+    def end(self) -> Match:
+        """The match, once all lines were read."""
+        self.number += 1
+        self.text = ""
+        if self.length is None or self.names is None or not self.is_named:
+            self.refuse("malformed", "the file ends before a game has begun")
+        return Match(self.length, self.names, self.games, tuple(self.plays))
+
+
+_NAMED_POINTS: Dict[str, int] = {"bar": _BAR, "off": 0}
+
+
+def _point(word: str) -> int:
+    return _NAMED_POINTS[word] if word in _NAMED_POINTS else int(word)
+
+
+def _place(point: int) -> str:
+    return "on the bar" if point == _BAR else f"on point {point}"
