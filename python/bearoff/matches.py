@@ -82,6 +82,7 @@ _LENGTH = re.compile(r" *([0-9]{1,5}) point match *", re.IGNORECASE)
 _VARIATION = re.compile(r'; *\[Variation "([^"]*)"\] *', re.IGNORECASE)
 _GAME = re.compile(r" *Game ([0-9]{1,6}) *")
 _NAMES = re.compile(r" *(\S.*?) : [0-9]{1,6} +(\S.*?) : [0-9]{1,6} *")
+_SCORE = re.compile(r" : [0-9]{1,6}(?: |$)")
 _NUMBERED = re.compile(r" *([0-9]{1,6})\)(.*)")
 _WINS = re.compile(r" *Wins [0-9]{1,6} points?(?: and the match)? *")
 
@@ -164,7 +165,9 @@ class _Reader:
         told = _NAMES.fullmatch(self.text)
         if not told:
             self.refuse("malformed", "the line behind the number of a game names both players with their scores")
-        names = (told[1], told[2])
+        if len(_SCORE.findall(self.text)) != 2:
+            self.refuse("malformed", "where one name ends can't be told")
+        names = (told[1].rstrip(), told[2].rstrip())
         if self.names not in (None, names):
             self.refuse("malformed", "the players of this game are others than those before")
         self.names, self.is_named = names, True
