@@ -9,7 +9,20 @@ from fractions import Fraction
 from hashlib import sha256
 from operator import index, truediv
 from types import TracebackType
-from typing import Any, Dict, Iterator, List, Literal, Optional, Tuple, Type, TypeVar, Union, overload
+from typing import (
+    Any,
+    Dict,
+    Iterator,
+    List,
+    Literal,
+    Optional,
+    SupportsIndex,
+    Tuple,
+    Type,
+    TypeVar,
+    Union,
+    overload,
+)
 
 from . import _library as lib
 from .errors import (
@@ -119,7 +132,7 @@ class Database:
         return cls(source)
 
     @classmethod
-    def build(cls: Type[_Self], bound: int) -> _Self:
+    def build(cls: Type[_Self], bound: SupportsIndex) -> _Self:
         """Builds the database of a pip bound, 0 to 58, and checks it: half a second for 58 pips. Its bytes are
         those of the file that ``bearoff build`` writes; ``bytes(database)`` gives them.
         """
@@ -202,12 +215,12 @@ class Database:
         return (Position._make(counts[at : at + 6]) for at in range(0, len(counts), 6))
 
     @overload
-    def __getitem__(self, rank: int) -> Position: ...
+    def __getitem__(self, rank: SupportsIndex) -> Position: ...
 
     @overload
     def __getitem__(self, rank: slice) -> List[Position]: ...
 
-    def __getitem__(self, rank: Union[int, slice]) -> Union[Position, List[Position]]:
+    def __getitem__(self, rank: Union[SupportsIndex, slice]) -> Union[Position, List[Position]]:
         """The position of a rank, or the positions of a slice of the ranks; -1 is the last rank. Raises
         `OutOfRange` where there is no such rank.
         """
@@ -262,7 +275,7 @@ class Database:
         _check(opened.library.rank(opened.at, counts_of(position), ctypes.byref(rank)), position)
         return rank.value
 
-    def position(self, rank: int) -> Position:
+    def position(self, rank: SupportsIndex) -> Position:
         """The position of a rank. Raises `Refused` where the rank is not below the number of positions."""
         told = lib.CountsRoom()
         opened = self._opened
@@ -311,7 +324,7 @@ class Database:
         halves = self._shares(position)
         return tuple(map(share_of_whole, halves[::2], halves[1::2]))
 
-    def within(self, position: AnyPosition, rolls: int) -> Fraction:
+    def within(self, position: AnyPosition, rolls: SupportsIndex) -> Fraction:
         """The chance of being off in at most so many rolls, by the recorded plays. From 22 rolls on it is 1.
 
         Raises `BadArgument` where the number of rolls is no whole number from 0 on.
@@ -386,7 +399,7 @@ class Database:
         table = self._table("listed_distributions", "Q", MOST_ROLLS + 1, 2)
         return _floats_over_whole(table, len(table), MOST_ROLLS + 1) if floats else table
 
-    def withins(self, rolls: int, *, floats: bool = False) -> memoryview:
+    def withins(self, rolls: SupportsIndex, *, floats: bool = False) -> memoryview:
         """The chances of being off in at most so many rolls, of all positions by rising rank, as those of `means`.
         Raises `BadArgument` where the number of rolls is no whole number from 0 on.
         """

@@ -200,19 +200,19 @@ def shown(thing: object) -> str:
         return f"something of the type {type(thing).__name__}"
 
 
-def rank_of(rank: int) -> int:
+def rank_of(rank: SupportsIndex) -> int:
     """The rank as the library takes it, or `BadArgument`. One over 65,535 becomes 65,535, which no position
     has either.
     """
     return min(number_of(rank, "a rank"), _MOST_RANK)
 
 
-def rolls_of(rolls: int) -> int:
+def rolls_of(rolls: SupportsIndex) -> int:
     """A number of rolls, or `BadArgument`. One over 22 becomes 22, within which all checkers are off."""
     return min(number_of(rolls, "a number of rolls"), MOST_ROLLS)
 
 
-def bound_of(bound: int) -> int:
+def bound_of(bound: SupportsIndex) -> int:
     """The pip bound as the library takes it, or `BadArgument`. One over 255 becomes 255, which is over 58 too."""
     return min(number_of(bound, "a pip bound"), _BYTE)
 

@@ -261,7 +261,7 @@ class Refusals(unittest.TestCase):
             (changed(10, "21/15 21/15 15/9 15/9", "21/15(4)"), 10, "root has no checker on point 21"),
             (changed(20, "13/11 11/5", "6/0 6/4"), 20, "gnubg bears off with a checker outside the home board"),
             (changed(25, "5/0 2/1", "5/0"), 25, "no play of 51 leads from 0,2,0,1,5,2 to 0,2,0,1,4,2"),
-            (changed(25, "3/0 2/0", "3/0 4/0"), 25, "no play of 32 leads from 0,3,1,2,1,0 to 0,3,0,1,1,0"),
+            (changed(28, "2/0 4/1", "4/2"), 28, "no play of 32 leads from 0,1,0,1,0,0 to 0,2,0,0,0,0"),
             (changed(28, "5/0 6/3", "Cannot Move"), 28, "no play of 53 leads from 1,0,0,0,3,2 to 1,0,0,0,3,2"),
         ):
             self.refused(match, "illegal", line, what)
@@ -366,11 +366,11 @@ class Command(unittest.TestCase):
         self.assertEqual(len({len(line) for line in lines[:14] if line.endswith("0.000")}), 1)
 
     def test_json(self) -> None:
-        run = self.run_it("grade", "--json", str(STORED), str(FOLDER / FILES[44]))
-        graded, told = of_text(SHORT, 44), json.loads(run.stdout)
+        run = self.run_it("grade", "--json", str(STORED), str(FOLDER / FILES[58]))
+        graded, told = of_text(SHORT), json.loads(run.stdout)
         self.assertEqual((run.returncode, run.stderr), (0, ""))
         self.assertEqual(
-            [told["match_length"], told["games"], told["bound"], told["note"]], [1, 1, 44, grading.NOTE]
+            [told["match_length"], told["games"], told["bound"], told["note"]], [1, 1, 58, grading.NOTE]
         )
         self.assertEqual(len(told["plays"]), len(graded.plays))
         for row, play in zip(told["plays"], graded.plays):
