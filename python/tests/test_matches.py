@@ -169,6 +169,12 @@ class Stored(unittest.TestCase):
         named = of_text(SHORT.replace("gnubg : 0", "A: 5  B : 0").replace(" root : 0", "J\u00fcrgen N. : 12"))
         self.assertEqual([player.name for player in named.players], ["A: 5  B", "J\u00fcrgen N."])
 
+    def test_two_checkers_that_hit(self) -> None:
+        begun = "\n".join(SHORT.split("\n")[:6])
+        for hits in ("6/2* 6/2", "6/2*(2)", "6/2 6/2"):
+            match = read_match(f"{begun}\n  1) 21: 24/23 13/11             44: {hits} 8/4(2)\n  2) 11:")
+            self.assertEqual((match.plays[1].after[2], match.plays[2].before[23:]), (2, (0, 1, 1)))
+
     def test_a_roll_without_a_play(self) -> None:
         """Where a player resigns behind a bearoff roll nothing was played; elsewhere that is refused."""
         resigned = changed(28, "53: 5/0 6/3                 32: 2/0 4/1", "53: ")
@@ -230,6 +236,7 @@ class Refusals(unittest.TestCase):
             (changed(6, "gnubg : 0                      root : 0", "  1) 31: 8/5 6/5"), 6, "names both players"),
             (changed(6, "gnubg", "A : 5 B"), 6, "where one name ends can't be told"),
             (changed(8, " 2)", " 3)"), 8, "it should be move 2"),
+            (changed(8, " 2)", " 1)"), 8, "it should be move 2"),
             (changed(8, " 2)", " 2"), 8, "neither a numbered move nor the end of a game"),
             (changed(8, " 2) 32", " 2)      32"), 8, "whose column the move stands in can't be told"),
             (changed(8, "43: 25/21 24/21", "43: 25/21 24/21 65: 24/13"), 8, "there are more entries than columns"),
@@ -257,6 +264,9 @@ class Refusals(unittest.TestCase):
             (changed(9, "21/20 24/20", "25/24 24/20"), 9, "gnubg has no checker on the bar"),
             (changed(7, "24/18 18/14", "13/7 24/19"), 7, "on point 19 stand 5 checkers of the other player"),
             (changed(7, "24/18 18/14", "24/18* 18/14"), 7, "no checker can be hit on point 18"),
+            (changed(7, "24/18 18/14", "24/18 6/1"), 7, "on point 1 stand 2 checkers of the other player"),
+            (changed(10, "15/9 15/9", "15/9 15/2"), 10, "the play is of more pips than the roll"),
+            (changed(22, "12/9 9/6 3/0 3/0", "12/8 3/0"), 22, "gnubg bears off with a checker outside the home board"),
             (changed(7, "24/18 18/14", "24/13"), 7, "the play is of more pips than the roll"),
             (changed(10, "21/15 21/15 15/9 15/9", "21/15(4)"), 10, "root has no checker on point 21"),
             (changed(20, "13/11 11/5", "6/0 6/4"), 20, "gnubg bears off with a checker outside the home board"),
@@ -269,7 +279,7 @@ class Refusals(unittest.TestCase):
     def test_turns(self) -> None:
         over = SHORT.rstrip("\n") + "\n 23) 11: 3/2\n"
         self.refused(over, "turn", len(over.split("\n")) - 1, "the game is over")
-        done = "\n 23) 31: 1/0 3/0                 62: 1/0\n 24) 65: 5/0 5/0                 21: \n"
+        done = "\n 23) 31: 1/0 3/0                 62: 1/0\n 24) 65: 5/0 5/0\n"
         again = SHORT.rstrip("\n").rpartition("\n")[0] + done
         self.refused(again, "turn", again.count("\n"), "a player has borne off all checkers")
         self.refused(changed(8, "32: 24/21 13/11*", " " * 16), "turn", 8, "the same player rolls twice")
