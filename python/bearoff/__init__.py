@@ -11,8 +11,10 @@ library that this package calls, and so is what the library answers; this packag
 
 A position is six counts of checkers, that of the ace point first, or a text of them. A roll is its two dice,
 in either order. All numbers are exact: `fractions.Fraction`, in rolls, in pips, or a chance. Whole tables
-come as arrays, by rising rank, which `memoryview` and numpy read without a copy. `bearoff.notation` reads and
-writes positions as other programs have them.
+come as arrays, by rising rank, which `memoryview` and numpy read without a copy, exact or as floats, and
+`Database.ranks` finds the rows of many positions in them. `bearoff.notation` reads and writes positions as
+other programs have them. `grade`, and ``python -m bearoff grade``, tells what the bearoff plays of a match have
+lost.
 """
 
 from ._library import __version__

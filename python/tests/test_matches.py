@@ -375,6 +375,15 @@ class Command(unittest.TestCase):
         self.assertIn("no equity", grading.NOTE)
         self.assertEqual(len({len(line) for line in lines[:14] if line.endswith("0.000")}), 1)
 
+    def test_the_lines_of_the_page(self) -> None:
+        page = (ROOT / "docs/embedding.md").read_text("utf-8")
+        [block] = re.findall(r"```text\n(game  move .*?)```", page, re.DOTALL)
+        told = of_text(SHORT).table().split("\n")
+        lines = block.rstrip("\n").split("\n")
+        self.assertEqual(len(lines), 7)
+        places = [told.index(line) for line in lines]
+        self.assertEqual(places, sorted(places))
+
     def test_json(self) -> None:
         run = self.run_it("grade", "--json", str(STORED), str(FOLDER / FILES[58]))
         graded, told = of_text(SHORT), json.loads(run.stdout)
