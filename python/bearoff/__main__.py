@@ -14,19 +14,27 @@ from .grading import NOTE, grade
 
 
 def main(words: Optional[Sequence[str]] = None) -> int:
-    """Runs the command with its words, and gives the exit status: 0, 1 where a file can't be read or written, or
-    3 where the database or the match is refused. Wrong words end the program with 2.
+    """Runs the command with its words, and gives the exit status: 0, 1 where a file can't be read
+    or written, or 3 where the database or the match is refused. Wrong words end the program with
+    2.
     """
-    parser = argparse.ArgumentParser(prog="python -m bearoff", description="Exact answers of a bearoff database.")
+    parser = argparse.ArgumentParser(
+        prog="python -m bearoff", description="Exact answers of a bearoff database."
+    )
     parser.add_argument("--version", action="version", version=f"bearoff {__version__}")
     commands = parser.add_subparsers(dest="command", required=True, metavar="COMMAND")
     grading = commands.add_parser(
         "grade",
         help="grade each bearoff play of a match",
-        description=f"Tells what each bearoff play of a match has lost beside the best one, in rolls and in pips. {NOTE}",
+        description="Tells what each bearoff play of a match has lost beside the best one, in rolls"
+        f" and in pips. {NOTE}",
     )
-    grading.add_argument("match", metavar="MATCH", help="a .mat file, as GNU Backgammon and XG export it")
-    grading.add_argument("database", metavar="DATABASE", help="a file that `bearoff build` has written")
+    grading.add_argument(
+        "match", metavar="MATCH", help="a .mat file, as GNU Backgammon and XG export it"
+    )
+    grading.add_argument(
+        "database", metavar="DATABASE", help="a file that `bearoff build` has written"
+    )
     grading.add_argument("--json", action="store_true", help="write JSON in place of tables")
     asked = parser.parse_args(words)
     try:

@@ -70,8 +70,9 @@ _LOW = (1 << 64) - 1
 
 
 class _Opened:
-    """Bytes that the library has accepted, and the struct in which it keeps what it knows of them. Neither
-    changes, and each call holds on to both until it is over, so threads and copies may share them.
+    """Bytes that the library has accepted, and the struct in which it keeps what it knows of them.
+    Neither changes, and each call holds on to both until it is over, so threads and copies may
+    share them.
     """
 
     def __init__(self, library: lib.Library, content: bytes) -> None:
@@ -102,14 +103,16 @@ class _Opened:
 class Database:
     """A database that was checked and accepted, with a copy of its bytes of its own.
 
-    A position is six counts of checkers in a tuple, a list, an array or a `Position`, that of the ace point
-    first, or a text like ``0,0,0,0,0,1``; a roll is two dice in either order, or a text like ``21``. What is none
-    of these is refused as `BadArgument`. Each query raises `Refused` where the position has more than
-    15 checkers or more pips than the bound, and where the database is closed.
+    A position is six counts of checkers in a tuple, a list, an array or a `Position`, that of the
+    ace point first, or a text like ``0,0,0,0,0,1``; a roll is two dice in either order, or a text
+    like ``21``. What is none of these is refused as `BadArgument`. Each query raises `Refused`
+    where the position has more than 15 checkers or more pips than the bound, and where the
+    database is closed.
 
-    Its length is how many positions it has; it can be iterated over, by rising rank, asked whether a position
-    is in it, and indexed by ranks: ``database[-1]`` is its last position. It may be used from any thread, copied, and pickled. A ``with`` statement closes it;
-    nothing needs to be closed, as what it holds is memory alone.
+    Its length is how many positions it has; it can be iterated over, by rising rank, asked whether
+    a position is in it, and indexed by ranks: ``database[-1]`` is its last position. It may be
+    used from any thread, copied, and pickled. A ``with`` statement closes it; nothing needs to be
+    closed, as what it holds is memory alone.
     """
 
     def __init__(self, content: Union[bytes, bytearray, memoryview]) -> None:
@@ -133,8 +136,9 @@ class Database:
 
     @classmethod
     def build(cls: Type[_Self], bound: SupportsIndex) -> _Self:
-        """Builds the database of a pip bound, 0 to 58, and checks it: half a second for 58 pips. Its bytes are
-        those of the file that ``bearoff build`` writes; ``bytes(database)`` gives them.
+        """Builds the database of a pip bound, 0 to 58, and checks it: half a second for 58 pips.
+        Its bytes are those of the file that ``bearoff build`` writes; ``bytes(database)`` gives
+        them.
         """
         library = lib.library()
         asked = bound_of(bound)
@@ -196,7 +200,9 @@ class Database:
         return _length(self._opened)
 
     def __contains__(self, position: object) -> bool:
-        """Whether it is a position, of at most 15 checkers, and of at most as many pips as the bound."""
+        """Whether it is a position, of at most 15 checkers, and of at most as many pips as the
+        bound.
+        """
         rank = ctypes.c_uint16()
         opened = self._opened
         try:
@@ -221,8 +227,8 @@ class Database:
     def __getitem__(self, rank: slice) -> List[Position]: ...
 
     def __getitem__(self, rank: Union[SupportsIndex, slice]) -> Union[Position, List[Position]]:
-        """The position of a rank, or the positions of a slice of the ranks; -1 is the last rank. Raises
-        `OutOfRange` where there is no such rank.
+        """The position of a rank, or the positions of a slice of the ranks; -1 is the last rank.
+        Raises `OutOfRange` where there is no such rank.
         """
         length = len(self)
         if isinstance(rank, slice):
@@ -232,7 +238,9 @@ class Database:
         except BadArgument:
             place = _place_of(rank, length)
         except Refused as refused:
-            raise OutOfRange(refused.status, refused.asked) if refused.status == NO_RANK else refused from None
+            if refused.status != NO_RANK:
+                raise
+            raise OutOfRange(refused.status, refused.asked) from None
         return self.position(place)
 
     def __bool__(self) -> bool:
@@ -260,15 +268,17 @@ class Database:
         return self.__copy__()
 
     def __reduce__(self) -> Tuple[Any, ...]:
-        """It is pickled by its path, if it was opened so, or else by its bytes, and is checked anew."""
+        """It is pickled by its path, if it was opened so, or else by its bytes, and is checked
+        anew.
+        """
         content = bytes(self)
         if self._path is None:
             return type(self), (content,)
         return _reopen, (type(self), self._path, sha256(content).hexdigest())
 
     def rank(self, position: AnyPosition) -> int:
-        """How many positions are before it: those of fewer pips, and of as many those with the smaller
-        counts, that of the ace point first.
+        """How many positions are before it: those of fewer pips, and of as many those with the
+        smaller counts, that of the ace point first.
         """
         rank = ctypes.c_uint16()
         opened = self._opened
@@ -276,7 +286,9 @@ class Database:
         return rank.value
 
     def position(self, rank: SupportsIndex) -> Position:
-        """The position of a rank. Raises `Refused` where the rank is not below the number of positions."""
+        """The position of a rank. Raises `Refused` where the rank is not below the number of
+        positions.
+        """
         told = lib.CountsRoom()
         opened = self._opened
         status = opened.library.position_of(opened.at, rank_of(rank), told)
@@ -285,9 +297,10 @@ class Database:
         return Position._make(told.raw)
 
     def ranks(self, positions: AnyPositions) -> memoryview:
-        """The ranks of many positions, in their order, as an array of numbers of 16 bits: the rows of the tables
-        below in which they stand. They come as an array of numpy or a memoryview of any whole numbers, six in each
-        row, or as any sequence of positions. The first time takes 10 ms more, for a table of all of them.
+        """The ranks of many positions, in their order, as an array of numbers of 16 bits: the rows
+        of the tables below in which they stand. They come as an array of numpy or a memoryview of
+        any whole numbers, six in each row, or as any sequence of positions. The first time takes
+        10 ms more, for a table of all of them.
 
         Raises what `rank` raises of the first row that has no rank, with the number of that row.
         """
@@ -314,18 +327,22 @@ class Database:
         return EffectivePips(fraction_of(*exact), thousandths)
 
     def wastage(self, position: AnyPosition) -> Wastage:
-        """The effective pip count less the pip count, in pips, and in thousandths rounded to the nearest, half up."""
+        """The effective pip count less the pip count, in pips, and in thousandths rounded to the
+        nearest, half up.
+        """
         exact, thousandths = self.epc(position)
         pips = self.standing(position).pips
         return Wastage(exact - pips, thousandths - 1000 * pips)
 
     def distribution(self, position: AnyPosition) -> Tuple[Fraction, ...]:
-        """The chances of being off in exactly 0 to 22 rolls, by the recorded plays. They sum to 1."""
+        """The chances of being off in exactly 0 to 22 rolls, by the recorded plays. They sum to 1.
+        """
         halves = self._shares(position)
         return tuple(map(share_of_whole, halves[::2], halves[1::2]))
 
     def within(self, position: AnyPosition, rolls: SupportsIndex) -> Fraction:
-        """The chance of being off in at most so many rolls, by the recorded plays. From 22 rolls on it is 1.
+        """The chance of being off in at most so many rolls, by the recorded plays. From 22 rolls
+        on it is 1.
 
         Raises `BadArgument` where the number of rolls is no whole number from 0 on.
         """
@@ -342,8 +359,8 @@ class Database:
 
     @staticmethod
     def standing(position: AnyPosition) -> Standing:
-        """The pips and the checkers of a position, and how many of 15 are borne off. It needs no database. Raises
-        `Refused` where there are more than 15 checkers.
+        """The pips and the checkers of a position, and how many of 15 are borne off. It needs no
+        database. Raises `Refused` where there are more than 15 checkers.
         """
         told = lib.StandingRoom()
         _check(lib.library().standing(counts_of(position), told), position)
@@ -354,31 +371,36 @@ class Database:
         return self._table("listed_positions", "B", 6)
 
     def means(self, *, floats: bool = False) -> memoryview:
-        """The means of all positions by rising rank, in rolls, as an array of numbers of 64 bits with two in each
-        row: the high and the low half of the numerator over 36^22. With `floats` it is an array of floats, one for
-        each position, each the float that is nearest to the exact number; so of each table below.
+        """The means of all positions by rising rank, in rolls, as an array of numbers of 64 bits
+        with two in each row: the high and the low half of the numerator over 36^22. With `floats`
+        it is an array of floats, one for each position, each the float that is nearest to the
+        exact number; so of each table below.
         """
         table = self._table("listed_means", "Q", 2)
         return _floats_over_whole(table, len(table)) if floats else table
 
     def epcs(self, *, floats: bool = False) -> memoryview:
-        """The effective pip counts of all positions by rising rank, in pips, as an array of numbers of 64 bits with
-        five in each row: the halves of the numerator, those of the denominator, and the thousandths.
+        """The effective pip counts of all positions by rising rank, in pips, as an array of
+        numbers of 64 bits with five in each row: the halves of the numerator, those of the
+        denominator, and the thousandths.
         """
         table = self._table("listed_epcs", "Q", 5)
         return _floats_of_fractions(table) if floats else table
 
     def wastages(self, *, floats: bool = False) -> memoryview:
-        """The wastages of all positions by rising rank, in pips, as those of `epcs`. None is below 0."""
+        """The wastages of all positions by rising rank, in pips, as those of `epcs`. None is below
+        0.
+        """
         table = self._table("listed_epcs", "Q", 5)
         flat = table.cast("B").cast("Q")
-        # what is taken from the numerator is so many times the denominator, so the terms stay the lowest
+        # what is taken from the numerator is so many times the denominator, so the terms stay the
+        # lowest
         columns = [flat[place::5].tolist() for place in range(5)]
-        denominators = [*wide_numbers(columns[2], columns[3])]
+        denominators = [*wide_numbers(*columns[2:4])]
         pips = self._pips()
         numerators = [
             numerator - denominator * count
-            for numerator, denominator, count in zip(wide_numbers(columns[0], columns[1]), denominators, pips)
+            for numerator, denominator, count in zip(wide_numbers(*columns[:2]), denominators, pips)
         ]
         flat[0::5] = _column(numerator >> 64 for numerator in numerators)
         flat[1::5] = _column(numerator & _LOW for numerator in numerators)
@@ -392,21 +414,23 @@ class Database:
         return [sum(map(int.__mul__, range(1, 7), counts)) for counts in zip(*columns)]
 
     def distributions(self, *, floats: bool = False) -> memoryview:
-        """The distributions of all positions by rising rank, as an array of numbers of 64 bits: of each position,
-        for 0 to 22 rolls, the high and the low half of the numerator over 36^22. With `floats` there is a float for
-        each number of rolls.
+        """The distributions of all positions by rising rank, as an array of numbers of 64 bits: of
+        each position, for 0 to 22 rolls, the high and the low half of the numerator over 36^22.
+        With `floats` there is a float for each number of rolls.
         """
         table = self._table("listed_distributions", "Q", MOST_ROLLS + 1, 2)
         return _floats_over_whole(table, len(table), MOST_ROLLS + 1) if floats else table
 
     def withins(self, rolls: SupportsIndex, *, floats: bool = False) -> memoryview:
-        """The chances of being off in at most so many rolls, of all positions by rising rank, as those of `means`.
-        Raises `BadArgument` where the number of rolls is no whole number from 0 on.
+        """The chances of being off in at most so many rolls, of all positions by rising rank, as
+        those of `means`. Raises `BadArgument` where the number of rolls is no whole number from 0
+        on.
         """
         asked = rolls_of(rolls)
         flat = self.distributions().cast("B").cast("Q")
+        row = 2 * MOST_ROLLS + 2
         highs, lows = (
-            map(sum, zip(*(flat[2 * place + half :: 2 * MOST_ROLLS + 2].tolist() for place in range(asked + 1))))
+            map(sum, zip(*(flat[place::row].tolist() for place in range(half, 2 * asked + 2, 2))))
             for half in (0, 1)
         )
         numerators = [*wide_numbers(highs, lows)]
@@ -443,10 +467,11 @@ class Database:
 
     @staticmethod
     def play_to(position: AnyPosition, roll: AnyRoll, to: AnyPosition) -> Play:
-        """The first play of a roll that leads from one position to another, good or not. It needs no database.
+        """The first play of a roll that leads from one position to another, good or not. It needs
+        no database.
 
-        Raises `Refused` where a die isn't 1 to 6, a position has more than 15 checkers, or the roll doesn't lead
-        to `to`.
+        Raises `Refused` where a die isn't 1 to 6, a position has more than 15 checkers, or the
+        roll doesn't lead to `to`.
         """
         told = lib.PlayRoom()
         one, other = dice_of(roll)
@@ -467,8 +492,8 @@ class Database:
         return fraction_of(*lib.FRACTION.unpack(told))
 
     def moves(self, position: AnyPosition, roll: AnyRoll) -> List[Choice]:
-        """Every position that a roll can lead to, once, the best first, and of equal ones the lower
-        rank first; each with what it costs, in rolls. Raises `Refused` as `play` does.
+        """Every position that a roll can lead to, once, the best first, and of equal ones the
+        lower rank first; each with what it costs, in rolls. Raises `Refused` as `play` does.
         """
         opened = self._opened
         one, other = dice_of(roll)
@@ -580,7 +605,8 @@ def _no_rank(number: int, position: Any) -> BearoffError:
         counts = position_of(position)
     except BadArgument as error:
         return BadArgument(f"{error} in row {number}")
-    return Refused(TOO_MANY if sum(counts) > _MOST_CHECKERS else OVER_BOUND, f"{counts} in row {number}")
+    status = TOO_MANY if sum(counts) > _MOST_CHECKERS else OVER_BOUND
+    return Refused(status, f"{counts} in row {number}")
 
 
 def _play_of(numbers: Tuple[int, ...]) -> Play:
@@ -606,7 +632,7 @@ def _floats_of_fractions(table: memoryview) -> memoryview:
     """The floats of a table of fractions, as `Database.epcs` has it."""
     flat = table.cast("B").cast("Q")
     columns = [flat[place::5].tolist() for place in range(4)]
-    numbers = map(truediv, wide_numbers(columns[0], columns[1]), wide_numbers(columns[2], columns[3]))
+    numbers = map(truediv, wide_numbers(*columns[:2]), wide_numbers(*columns[2:]))
     return _floats(numbers, len(table))
 
 
@@ -626,7 +652,9 @@ def _check(status: int, position: Any = None, roll: Any = None, to: Any = None) 
 
 
 def _refused(status: int, position: Any = None, roll: Any = None, to: Any = None) -> Refused:
-    """The refusal of a query, with what was asked, as in ``0,0,0,2,0,0 with (2, 1) to 1,0,0,0,0,0``."""
+    """The refusal of a query, with what was asked, as in ``0,0,0,2,0,0 with (2, 1) to
+    1,0,0,0,0,0``.
+    """
     asked = "" if position is None else str(position_of(position))
     if roll is not None:
         asked += f" with {shown(roll)}"

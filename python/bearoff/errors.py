@@ -1,6 +1,7 @@
 """The errors of this package. Each is a `BearoffError`, and so a ValueError.
 
-What the system refuses stays what Python says of it: OSError where a file can't be read, and MemoryError.
+What the system refuses stays what Python says of it: OSError where a file can't be read, and
+MemoryError.
 """
 
 from __future__ import annotations
@@ -40,8 +41,8 @@ class BadArgument(BearoffError):
 
 
 class NoRace(BadArgument):
-    """A text is no bearoff race, or can't be read as one, or a race can't be written. `reason` is one of
-    `bearoff.notation.REASONS`; the message says what is wrong, and of which text.
+    """A text is no bearoff race, or can't be read as one, or a race can't be written. `reason` is
+    one of `bearoff.notation.REASONS`; the message says what is wrong, and of which text.
     """
 
     def __init__(self, reason: str, line: str) -> None:
@@ -54,10 +55,10 @@ class NoRace(BadArgument):
 
 
 class BadMatch(BadArgument):
-    """A text is no match, or one that can't be replayed. `reason` is ``malformed``, where it isn't written as matches
-    are; ``illegal``, where a play can't be made on the board; ``turn``, where a player rolls who can't; or
-    ``variation``, where it is another game than backgammon. `line` is the number of the line, from 1 on; the message
-    has it, what is wrong, and the line.
+    """A text is no match, or one that can't be replayed. `reason` is ``malformed``, where it isn't
+    written as matches are; ``illegal``, where a play can't be made on the board; ``turn``, where a
+    player rolls who can't; or ``variation``, where it is another game than backgammon. `line` is
+    the number of the line, from 1 on; the message has it, what is wrong, and the line.
     """
 
     def __init__(self, reason: str, line: int, what: str, text: str = "") -> None:
@@ -75,11 +76,12 @@ class BadMatch(BadArgument):
 
 
 class Refused(BearoffError):
-    """The library gave no answer. `status` is the number that it gave instead, as in ``bearoff.h``.
+    """The library gave no answer. `status` is the number that it gave instead, as in
+    ``bearoff.h``.
 
-    The message says why, and what was asked: the database is closed, a position has more than 15 checkers
-    or more pips than the bound, a die isn't 1 to 6, no checker is left, the roll doesn't lead to the
-    position, or there is no position of that rank.
+    The message says why, and what was asked: the database is closed, a position has more than 15
+    checkers or more pips than the bound, a die isn't 1 to 6, no checker is left, the roll doesn't
+    lead to the position, or there is no position of that rank.
     """
 
     def __init__(self, status: int, asked: str = "") -> None:

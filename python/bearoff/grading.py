@@ -5,9 +5,9 @@
     2.354
     >>> print(graded.table())
 
-Losses are of one side's rolls: by how much the least mean number of rolls after the play exceeds that after the best
-one. They are no equity: the other player, the cube and the score are left aside, and in a game that is decided a loss
-may cost nothing.
+Losses are of one side's rolls: by how much the least mean number of rolls after the play exceeds
+that after the best one. They are no equity: the other player, the cube and the score are left
+aside, and in a game that is decided a loss may cost nothing.
 """
 
 from __future__ import annotations
@@ -24,17 +24,21 @@ from .matches import Match, MatchPlay, read_match
 from .positions import Play, Position
 
 NOTE = (
-    "Losses are of one side's rolls and no equity: the other player, the cube and the score are left aside,"
-    " and in a decided game a loss may cost nothing."
+    "Losses are of one side's rolls and no equity: the other player, the cube and the score are"
+    " left aside, and in a decided game a loss may cost nothing."
 )
 """What a table and a JSON of graded plays say of their numbers."""
 
 
+_LOST = ("rolls lost", "pips lost")
+
+
 class GradedPlay(NamedTuple):
-    """A bearoff play of a match: the number of the game, of the move in it, and of the line in the file; the player,
-    0 or 1, of the left or the right column; the position, the dice and the play as the file has it; the position that
-    it led to; what it lost, in rolls; the best play, which is the recorded one; and how many positions the roll could
-    lead to, of which 1 leaves no choice.
+    """A bearoff play of a match: the number of the game, of the move in it, and of the line in the
+    file; the player, 0 or 1, of the left or the right column; the position, the dice and the play
+    as the file has it; the position that it led to; what it lost, in rolls; the best play, which
+    is the recorded one; and how many positions the roll could lead to, of which 1 leaves no
+    choice.
     """
 
     game: int
@@ -56,9 +60,9 @@ class GradedPlay(NamedTuple):
 
 
 class GradedPlayer(NamedTuple):
-    """A player of a match: the name; how many bearoff plays were graded, how many of them had a choice, and how many
-    lost something; what they lost together, in rolls; and how many bearoff plays were not graded, as their positions
-    have more pips than the database.
+    """A player of a match: the name; how many bearoff plays were graded, how many of them had a
+    choice, and how many lost something; what they lost together, in rolls; and how many bearoff
+    plays were not graded, as their positions have more pips than the database.
     """
 
     name: str
@@ -75,8 +79,9 @@ class GradedPlayer(NamedTuple):
 
 
 class Graded(NamedTuple):
-    """A match whose bearoff plays were graded: its length in points, which is 0 for money games; how many games it
-    has; the pip bound of the database; both players; and the plays in their order.
+    """A match whose bearoff plays were graded: its length in points, which is 0 for money games;
+    how many games it has; the pip bound of the database; both players; and the plays in their
+    order.
     """
 
     length: int
@@ -87,7 +92,7 @@ class Graded(NamedTuple):
 
     def table(self) -> str:
         """The plays and the players as two tables of text, and what the numbers are."""
-        heads = ("game", "move", "player", "position", "roll", "play", "rolls lost", "pips lost", "best play")
+        heads = ("game", "move", "player", "position", "roll", "play", *_LOST, "best play")
         rows: List[Tuple[str, ...]] = [heads]
         for play in self.plays:
             rows.append(
@@ -103,14 +108,15 @@ class Graded(NamedTuple):
                 )
             )
         totals: List[Tuple[str, ...]] = [
-            ("player", "plays", "with a choice", "losing", "rolls lost", "pips lost", "over the bound")
+            ("player", "plays", "with a choice", "losing", *_LOST, "over the bound")
         ]
         for player in self.players:
             counts = (player.name, str(player.plays), str(player.choices), str(player.losing))
             totals.append((*counts, *_lost(player.loss, player.pips), str(player.over_bound)))
-        right = {"game", "move", "rolls lost", "pips lost", *totals[0][1:]}
+        right = {"game", "move", *totals[0][1:]}
         bound = f"Of positions of at most {self.bound} pips."
-        return "\n".join([*_lines(rows, right), "", *_lines(totals, right), "", bound, NOTE]) + "\n"
+        lines = [*_lines(rows, right), "", *_lines(totals, right), "", bound, NOTE, ""]
+        return "\n".join(lines)
 
     def to_json(self) -> str:
         """The same as JSON: exact losses as texts like ``1/9``, and beside them floats."""
@@ -152,12 +158,13 @@ class Graded(NamedTuple):
 
 
 def grade(match: Union[str, "os.PathLike[str]", Match], database: Database) -> Graded:
-    """Grades each bearoff play of a match, which is the path of a `.mat` file or what `bearoff.matches.read_match`
-    gave: each roll of a player whose checkers are all home and past the other player's.
+    """Grades each bearoff play of a match, which is the path of a `.mat` file or what
+    `bearoff.matches.read_match` gave: each roll of a player whose checkers are all home and past
+    the other player's.
 
-    Raises `BadMatch` where the file is no such match, a play isn't one of its roll, or none was made; and OSError where
-    it can't be read. Left out are a roll at which the game ended without a play, and positions of more pips than the
-    database has, which are counted.
+    Raises `BadMatch` where the file is no such match, a play isn't one of its roll, or none was
+    made; and OSError where it can't be read. Left out are a roll at which the game ended without a
+    play, and positions of more pips than the database has, which are counted.
     """
     told = match if isinstance(match, Match) else read_match(_text_of(match))
     bound = database.bound
@@ -172,7 +179,8 @@ def grade(match: Union[str, "os.PathLike[str]", Match], database: Database) -> G
             if refused.status == OVER_BOUND:
                 over_bound[turn.player] += 1
             elif refused.status == NOT_LEGAL:
-                what = f"no play of {turn.dice[0]}{turn.dice[1]} leads from {turn.position} to {turn.to}"
+                roll = "{}{}".format(*turn.dice)
+                what = f"no play of {roll} leads from {turn.position} to {turn.to}"
                 raise BadMatch("illegal", turn.line, what, turn.text) from None
             else:
                 raise

@@ -5,13 +5,15 @@
     >>> match.length, match.names, len(match.plays)
     (5, ('Ann', 'Bob'), 185)
 
-`read_match` replays each game on a board of its own, and tells every roll with what was played. A text that isn't
-written so, or whose plays can't be made on the board, is refused as `BadMatch` with the number of its line. Outside
-the bearoff a play is not compared with all plays of its roll. Nothing here needs the shared library.
+`read_match` replays each game on a board of its own, and tells every roll with what was played. A
+text that isn't written so, or whose plays can't be made on the board, is refused as `BadMatch`
+with the number of its line. Outside the bearoff a play is not compared with all plays of its roll.
+Nothing here needs the shared library.
 """
 
 from __future__ import annotations
 
+import itertools
 import re
 from typing import Dict, Iterator, List, NamedTuple, NoReturn, Optional, Sequence, Tuple
 
@@ -25,15 +27,16 @@ _HOME = 6
 _START = {24: 2, 13: 5, 8: 3, 6: 5}
 
 Board = Tuple[int, ...]
-"""The checkers of one player on the points 1 to 24, as that player counts them, behind those that are off, which are
-not counted, and before those on the bar: 26 numbers."""
+"""The checkers of one player on the points 1 to 24, as that player counts them, behind those that
+are off, which are not counted, and before those on the bar: 26 numbers.
+"""
 
 
 class MatchPlay(NamedTuple):
-    """A roll of a match and what was played: the number of the game, of the move in it, and of the line in the file;
-    the player, 0 or 1, in the left or the right column; the dice as they stand there; the play as it stands there,
-    which is empty where nothing was played; the player's checkers before and after it; and those of the other player
-    before it.
+    """A roll of a match and what was played: the number of the game, of the move in it, and of the
+    line in the file; the player, 0 or 1, in the left or the right column; the dice as they stand
+    there; the play as it stands there, which is empty where nothing was played; the player's
+    checkers before and after it; and those of the other player before it.
     """
 
     game: int
@@ -52,8 +55,10 @@ class MatchPlay(NamedTuple):
         if any(self.before[_HOME + 1 :]):
             return False
         highest = max((point for point in range(1, _HOME + 1) if self.before[point]), default=0)
-        # a point of the other player is counted from the other end, and the bar is behind all points
-        nearest = min((25 - point for point in range(1, _BAR + 1) if self.other[point]), default=_BAR)
+        # a point of the other player is counted from the other end, and the bar is behind all
+        # points
+        theirs = (25 - point for point in range(1, _BAR + 1) if self.other[point])
+        nearest = min(theirs, default=_BAR)
         return 0 < highest < nearest
 
     @property
@@ -68,8 +73,8 @@ class MatchPlay(NamedTuple):
 
 
 class Match(NamedTuple):
-    """A match: its length in points, which is 0 for a session of money games; the names of the two players, the one of
-    the left column first; how many games it has; and its rolls in their order.
+    """A match: its length in points, which is 0 for a session of money games; the names of the two
+    players, the one of the left column first; how many games it has; and its rolls in their order.
     """
 
     length: int
@@ -88,13 +93,16 @@ _WINS = re.compile(r" *Wins [0-9]{1,6} points?(?: and the match)? *")
 
 # what stands in a column beside rolls; a roll with what was played is the first kind
 _ROLL = re.compile(r"([1-6])([1-6]):")
-_WORDS = re.compile(r"Doubles => [0-9]{1,6}|Takes|Drops|Wins [0-9]{1,6} points?(?: and the match)?")
+_WORDS = re.compile(
+    r"Doubles => [0-9]{1,6}|Takes|Drops|Wins [0-9]{1,6} points?(?: and the match)?"
+)
 _NOTHING = "Cannot Move"
 _STEPS = re.compile(
     r"(bar|[0-9]{1,2})((?:/(?:off|[0-9]{1,2})\*?)+)(?:\(([1-4])\))?", re.IGNORECASE
 )
 
-# the left column begins behind the number, and the right one, where the left one is empty, far behind it
+# the left column begins behind the number, and the right one, where the left one is empty, far
+# behind it
 _LEFT = 4
 _RIGHT = 12
 
@@ -102,8 +110,8 @@ _RIGHT = 12
 def read_match(text: str) -> Match:
     """The match of a text in the `.mat` form. Raises `BadMatch` for any other text."""
     reader = _Reader()
-    for number, line in enumerate(text.split("\n"), 1):
-        reader.read(number, line.rstrip("\r").lstrip("\ufeff") if number == 1 else line.rstrip("\r"))
+    for number, line in enumerate(text.lstrip("\ufeff").split("\n"), 1):
+        reader.read(number, line.rstrip("\r"))
     return reader.end()
 
 
@@ -159,12 +167,14 @@ class _Reader:
         if game != self.games + 1:
             self.refuse("malformed", f"it should be game {self.games + 1}")
         self.games = game
-        self.boards, self.is_named, self.is_over, self.move, self.last = None, False, False, 0, None
+        self.boards, self.is_named, self.is_over = None, False, False
+        self.move, self.last = 0, None
 
     def name(self) -> None:
         told = _NAMES.fullmatch(self.text)
         if not told:
-            self.refuse("malformed", "the line behind the number of a game names both players with their scores")
+            what = "the line behind the number of a game names both players with their scores"
+            self.refuse("malformed", what)
         if len(_SCORE.findall(self.text)) != 2:
             self.refuse("malformed", "where one name ends can't be told")
         names = (told[1].rstrip(), told[2].rstrip())
@@ -198,14 +208,16 @@ class _Reader:
                 self.is_over = True
 
     def entries(self, words: Sequence[str]) -> Iterator[Tuple[Optional[Tuple[int, int]], str]]:
-        """The entries of a line: of each the dice and what was played, or no dice and another entry's words."""
+        """The entries of a line: of each the dice and what was played, or no dice and another
+        entry's words.
+        """
         place = 0
         while place < len(words):
             dice = _ROLL.fullmatch(words[place])
             end = place + 1
             if dice:
-                while end < len(words) and (_STEPS.fullmatch(words[end]) or words[end] in _NOTHING.split()):
-                    end += 1
+                played = itertools.takewhile(_is_played, words[end:])
+                end += sum(1 for _ in played)
                 yield (int(dice[1]), int(dice[2])), " ".join(words[place + 1 : end])
             else:
                 while end < len(words) and not _WORDS.fullmatch(" ".join(words[place:end])):
@@ -214,11 +226,14 @@ class _Reader:
                 while end < len(words) and words[end] in ("and", "the", "match"):
                     end += 1
                 if not _WORDS.fullmatch(" ".join(words[place:end])):
-                    self.refuse("malformed", f"neither a roll nor a double nor what answers one: {words[place]}")
+                    what = f"neither a roll nor a double nor what answers one: {words[place]}"
+                    self.refuse("malformed", what)
                 yield None, " ".join(words[place:end])
             place = end
 
-    def play(self, boards: List[List[int]], player: int, dice: Tuple[int, int], words: str) -> None:
+    def play(
+        self, boards: List[List[int]], player: int, dice: Tuple[int, int], words: str
+    ) -> None:
         """Makes a play on the board."""
         if player == self.last:
             self.refuse("turn", "the same player rolls twice")
@@ -238,13 +253,25 @@ class _Reader:
         if mine[_BAR] and any(source < _BAR for source, _, _ in steps):
             self.refuse("illegal", f"{self.who(player)} moves with a checker on the bar")
         if any(mine[_HOME + 1 :]) and any(not target for _, target, _ in steps):
-            self.refuse("illegal", f"{self.who(player)} bears off with a checker outside the home board")
+            what = f"{self.who(player)} bears off with a checker outside the home board"
+            self.refuse("illegal", what)
         self.plays.append(
-            MatchPlay(self.games, self.move, self.number, player, dice, words, before, tuple(mine), facing)
+            MatchPlay(
+                self.games,
+                self.move,
+                self.number,
+                player,
+                dice,
+                words,
+                before,
+                tuple(mine),
+                facing,
+            )
         )
 
     def steps(self, words: str) -> Iterator[Tuple[int, int, bool]]:
-        """The moves of single checkers: from, to, and whether a checker is said to be hit there."""
+        """The moves of single checkers: from, to, and whether a checker is said to be hit there.
+        """
         if words == _NOTHING:
             return
         for word in words.split():
@@ -253,17 +280,21 @@ class _Reader:
                 self.refuse("malformed", f"not a move: {word}")
             stops = told[2].lower().split("/")[1:]
             points = [_point(told[1].lower()), *(_point(stop.rstrip("*")) for stop in stops)]
-            if max(points) > _BAR or points != sorted(points, reverse=True) or len(set(points)) < len(points):
+            is_down = points == sorted(set(points), reverse=True)
+            if max(points) > _BAR or not is_down:
                 self.refuse("malformed", f"no checker moves so: {word}")
             for time in range(int(told[3] or 1)):
                 for source, target, stop in zip(points, points[1:], stops):
                     # of checkers that move alike the first one hits
                     yield source, target, stop.endswith("*") and time == 0
 
-    def move_checker(self, mine: List[int], other: List[int], source: int, target: int, is_hit: bool) -> int:
+    def move_checker(
+        self, mine: List[int], other: List[int], source: int, target: int, is_hit: bool
+    ) -> int:
         """Moves one checker, and tells how many pips it has moved."""
         if target and other[_BAR - target] > 1:
-            self.refuse("illegal", f"{_place(target)} stand {other[_BAR - target]} checkers of the other player")
+            count = other[_BAR - target]
+            self.refuse("illegal", f"{_place(target)} stand {count} checkers of the other player")
         if is_hit and not (target and other[_BAR - target]):
             self.refuse("illegal", f"no checker can be hit {_place(target)}")
         mine[source] -= 1
@@ -287,6 +318,11 @@ class _Reader:
 
 
 _NAMED_POINTS: Dict[str, int] = {"bar": _BAR, "off": 0}
+
+
+def _is_played(word: str) -> bool:
+    """Whether a word behind a roll says what was played."""
+    return bool(_STEPS.fullmatch(word)) or word in _NOTHING.split()
 
 
 def _point(word: str) -> int:

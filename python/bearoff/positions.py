@@ -19,8 +19,8 @@ _ROLL = re.compile(f"{_BLANKS}([0-9]){_BLANKS}([0-9]){_BLANKS}")
 
 
 class Position(NamedTuple):
-    """How many checkers stand on each point of the home board, the ace point first; the others are borne
-    off. As a text it is the six counts, as in ``0,0,0,0,0,1``.
+    """How many checkers stand on each point of the home board, the ace point first; the others are
+    borne off. As a text it is the six counts, as in ``0,0,0,0,0,1``.
     """
 
     one: int
@@ -32,8 +32,8 @@ class Position(NamedTuple):
 
     @classmethod
     def parse(cls, text: str) -> Position:
-        """The position of a text of six counts with commas between them, and blanks where they are wanted; there
-        are no signs and no leading zeros. Raises `BadArgument` for any other text.
+        """The position of a text of six counts with commas between them, and blanks where they are
+        wanted; there are no signs and no leading zeros. Raises `BadArgument` for any other text.
         """
         counts = _TEXT.fullmatch(text) if isinstance(text, str) else None
         if not counts:
@@ -62,8 +62,8 @@ class Move(NamedTuple):
 
 
 class Rounded(NamedTuple):
-    """A number of pips: exact, and in thousandths, rounded to the nearest and a half up. `float` and `format` take
-    the exact one.
+    """A number of pips: exact, and in thousandths, rounded to the nearest and a half up. `float`
+    and `format` take the exact one.
     """
 
     exact: Fraction
@@ -77,7 +77,8 @@ class Rounded(NamedTuple):
 
 
 class EffectivePips(Rounded):
-    """An effective pip count, in pips: 49/6 for each roll of the mean (the GNU Backgammon manual)."""
+    """An effective pip count, in pips: 49/6 for each roll of the mean (the GNU Backgammon manual).
+    """
 
     __slots__ = ()
 
@@ -89,7 +90,9 @@ class Wastage(Rounded):
 
 
 class Standing(NamedTuple):
-    """What a position stands at: its pip count, 0 to 90, its checkers, 0 to 15, and how many of 15 are borne off."""
+    """What a position stands at: its pip count, 0 to 90, its checkers, 0 to 15, and how many of 15
+    are borne off.
+    """
 
     pips: int
     checkers: int
@@ -104,7 +107,9 @@ class Play(NamedTuple):
 
     @property
     def text(self) -> str:
-        """The moves as a player writes them: ``4/2 2/1``, and ``6/off`` where a checker is borne off."""
+        """The moves as a player writes them: ``4/2 2/1``, and ``6/off`` where a checker is borne
+        off.
+        """
         return " ".join(f"{source}/{target or 'off'}" for source, target in self.moves)
 
 
@@ -130,16 +135,18 @@ class Array(Protocol):
 
 
 AnyPosition = Union[str, Numbers]
-"""What is taken as a position: a `Position`, six counts in a tuple, a list or an array, or a text like
-``0,0,0,0,0,1``.
+"""What is taken as a position: a `Position`, six counts in a tuple, a list or an array, or a text
+like ``0,0,0,0,0,1``.
 """
 
 AnyRoll = Union[str, Numbers]
-"""What is taken as a roll: its two dice in either order, in a tuple, a list or an array, or a text like ``21``."""
+"""What is taken as a roll: its two dice in either order, in a tuple, a list or an array, or a text
+like ``21``.
+"""
 
 AnyPositions = Union[memoryview, Array, Sequence[AnyPosition]]
-"""What is taken as many positions: an array of numpy or a memoryview with six counts in each row, or any sequence
-of positions.
+"""What is taken as many positions: an array of numpy or a memoryview with six counts in each row,
+or any sequence of positions.
 """
 
 
@@ -154,8 +161,8 @@ MOST_ROLLS = 22
 
 
 def counts_of(position: AnyPosition) -> bytes:
-    """The six counts as the library takes them, or `BadArgument`. A count that a byte can't hold becomes 255,
-    which is too many too.
+    """The six counts as the library takes them, or `BadArgument`. A count that a byte can't hold
+    becomes 255, which is too many too.
     """
     if type(position) in _LISTS:
         try:
@@ -178,8 +185,8 @@ def position_of(position: AnyPosition) -> Position:
 
 
 def dice_of(roll: AnyRoll) -> Tuple[int, int]:
-    """The two dice as the library takes them, or `BadArgument`. A number that a byte can't hold becomes 0,
-    which is none that a die shows.
+    """The two dice as the library takes them, or `BadArgument`. A number that a byte can't hold
+    becomes 0, which is none that a die shows.
     """
     if isinstance(roll, str):
         digits = _ROLL.fullmatch(roll)
@@ -201,19 +208,23 @@ def shown(thing: object) -> str:
 
 
 def rank_of(rank: SupportsIndex) -> int:
-    """The rank as the library takes it, or `BadArgument`. One over 65,535 becomes 65,535, which no position
-    has either.
+    """The rank as the library takes it, or `BadArgument`. One over 65,535 becomes 65,535, which no
+    position has either.
     """
     return min(number_of(rank, "a rank"), _MOST_RANK)
 
 
 def rolls_of(rolls: SupportsIndex) -> int:
-    """A number of rolls, or `BadArgument`. One over 22 becomes 22, within which all checkers are off."""
+    """A number of rolls, or `BadArgument`. One over 22 becomes 22, within which all checkers are
+    off.
+    """
     return min(number_of(rolls, "a number of rolls"), MOST_ROLLS)
 
 
 def bound_of(bound: SupportsIndex) -> int:
-    """The pip bound as the library takes it, or `BadArgument`. One over 255 becomes 255, which is over 58 too."""
+    """The pip bound as the library takes it, or `BadArgument`. One over 255 becomes 255, which is
+    over 58 too.
+    """
     return min(number_of(bound, "a pip bound"), _BYTE)
 
 

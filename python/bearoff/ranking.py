@@ -1,5 +1,5 @@
-"""The ranks of many positions at once, out of the table of all positions. With numpy arrays of it are looked up
-whole; without it, and for other sequences, row by row.
+"""The ranks of many positions at once, out of the table of all positions. With numpy arrays of it
+are looked up whole; without it, and for other sequences, row by row.
 """
 
 from __future__ import annotations
@@ -14,8 +14,8 @@ from .positions import AnyPositions, counts_of, shown
 # how many rows are looked up at a time, so that they stay near the processor
 _ROWS = 1 << 13
 
-# half of a position is three counts of at most 15 checkers together, of which there are so many; and one number more
-# for what is none
+# half of a position is three counts of at most 15 checkers together, of which there are so many;
+# and one number more for what is none
 _HALVES = 816
 _NONE = 0xFFFF
 
@@ -32,8 +32,9 @@ class Ranks:
         self._by_halves: Any = None
 
     def of(self, positions: AnyPositions, refuse: Refuse) -> memoryview:
-        """The ranks of positions in their order, as an array of numbers of 16 bits. Raises what `refuse` makes of the
-        first row that has none, and `BadArgument` where what is given has no rows of six whole numbers.
+        """The ranks of positions in their order, as an array of numbers of 16 bits. Raises what
+        `refuse` makes of the first row that has none, and `BadArgument` where what is given has no
+        rows of six whole numbers.
         """
         numpy: Any = sys.modules.get("numpy")
         if numpy and (hasattr(positions, "__array__") or isinstance(positions, memoryview)):
@@ -51,8 +52,9 @@ class Ranks:
         except TypeError:
             raise BadArgument(f"not an array of positions: {shown(positions)}") from None
         if self._by_counts is None:
-            all_of_them = self._positions
-            self._by_counts = {all_of_them[at : at + 6]: at // 6 for at in range(0, len(all_of_them), 6)}
+            table = self._positions
+            rows_of_it = (table[at : at + 6] for at in range(0, len(table), 6))
+            self._by_counts = {counts: rank for rank, counts in enumerate(rows_of_it)}
         ranks = array("H")
         for number, position in enumerate(rows):
             try:
@@ -66,18 +68,21 @@ class Ranks:
 
     def _of_array(self, numpy: Any, table: Any, refuse: Refuse) -> memoryview:
         if table.ndim != 2 or table.shape[1] != 6 or table.dtype.kind not in "iub":
-            raise BadArgument(f"not an array of six whole numbers in each row: {table.dtype} {table.shape}")
+            told = f"{table.dtype} {table.shape}"
+            raise BadArgument(f"not an array of six whole numbers in each row: {told}")
         if self._by_halves is None:
             self._by_halves = self._halves(numpy)
         half_of, rank_of = self._by_halves
         ranks = numpy.empty(len(table), numpy.uint16)
         for first in range(0, len(table), _ROWS):
             block = table[first : first + _ROWS]
-            # what a count of four bits can't hold has no rank; it is looked up as a half that there isn't
+            # what a count of four bits can't hold has no rank; it is looked up as a half that
+            # there isn't
             counts = block.T.astype(numpy.intp, order="C")
             if block.min() < 0 or block.max() > 15:
                 counts[:, ((block < 0) | (block > 15)).any(axis=1)] = 15
-            found = rank_of[half_of[_bits(counts[:3])] * (_HALVES + 1) + half_of[_bits(counts[3:])]]
+            low, high = half_of[_bits(counts[:3])], half_of[_bits(counts[3:])]
+            found = rank_of[low * (_HALVES + 1) + high]
             ranks[first : first + _ROWS] = found
             if found.max() == _NONE:
                 number = int((found == _NONE).argmax())
@@ -85,7 +90,9 @@ class Ranks:
         return memoryview(ranks)
 
     def _halves(self, numpy: Any) -> Any:
-        """The number of each half, by its three counts of four bits, and the rank by the numbers of two halves."""
+        """The number of each half, by its three counts of four bits, and the rank by the numbers
+        of two halves.
+        """
         halves = [
             one | two << 4 | three << 8
             for one in range(16)

@@ -1,5 +1,5 @@
-"""Many positions at once: ranks of arrays and of sequences, and the tables as floats and as exact halves. What needs numpy
-is left out where that is missing.
+"""Many positions at once: ranks of arrays and of sequences, and the tables as floats and as exact
+halves. What needs numpy is left out where that is missing.
 """
 
 import importlib
@@ -66,7 +66,9 @@ class RanksOfRows(unittest.TestCase):
         self.assertIn(line, str(refused.exception))
 
     def test_every_position(self) -> None:
-        """The rank of each is the one that `rank` tells, and what has none is refused as `rank` refuses it."""
+        """The rank of each is the one that `rank` tells, and what has none is refused as `rank`
+        refuses it.
+        """
         here = database(58)
         all_of_them = list(every())
         self.assertEqual(len(all_of_them), 54264)
@@ -102,7 +104,9 @@ class RanksOfRows(unittest.TestCase):
             self.bad(rows)
 
     def test_a_table_of_its_own(self) -> None:
-        """What is changed in a table that was given away changes no rank, and copies may be closed."""
+        """What is changed in a table that was given away changes no rank, and copies may be
+        closed.
+        """
         here = Database.build(8)
         table: Any = here.positions()
         table[0, 0] = 7
@@ -133,7 +137,9 @@ class RanksOfRows(unittest.TestCase):
 
     @unittest.skipIf(numpy is None, "numpy is missing")
     def test_arrays_that_are_refused(self) -> None:
-        """The first row that has no rank is named, in whatever block it stands, with all that a count can be."""
+        """The first row that has no rank is named, in whatever block it stands, with all that a
+        count can be.
+        """
         for kind in KINDS:
             most = numpy.iinfo(kind).max
             for size, place in ((1, 0), (8192, 8191), (8193, 8192), (20000, 12345)):
@@ -180,7 +186,9 @@ class RanksOfRows(unittest.TestCase):
         self.assertEqual(withins.tolist(), [float(here.within(row, 7)) for row in rows])
 
     def test_without_numpy(self) -> None:
-        """Rows are looked up one by one where numpy isn't loaded, with the same answers and refusals."""
+        """Rows are looked up one by one where numpy isn't loaded, with the same answers and
+        refusals.
+        """
         with mock.patch.dict(sys.modules):
             sys.modules.pop("numpy", None)
             here = Database.build(8)
@@ -213,7 +221,9 @@ class Floats(unittest.TestCase):
             self.assertEqual(flat, [float(number) for number in exact(here.distributions())])
 
     def test_wastages(self) -> None:
-        """They are the effective pip counts less the pip counts, in lowest terms, and so are the thousandths."""
+        """They are the effective pip counts less the pip counts, in lowest terms, and so are the
+        thousandths.
+        """
         here, rows = database(58), positions(58)
         table, epcs = here.wastages(), exact(here.epcs())
         self.assertEqual((table.format, table.shape), ("Q", (46062, 5)))
@@ -263,7 +273,9 @@ class Singles(unittest.TestCase):
         self.assertEqual((standing.pips, standing.checkers, standing.off), (81, 15, 0))
 
     def test_play_to(self) -> None:
-        """Each position that a roll can lead to is led to by legal moves, and the recorded play is the first one."""
+        """Each position that a roll can lead to is led to by legal moves, and the recorded play is
+        the first one.
+        """
         here = database(44)
         for position in random.Random(6).sample(positions(44)[1:], 60):
             for roll in ROLLS:

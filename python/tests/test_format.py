@@ -1,4 +1,6 @@
-"""How the numbers of the package are written, on each Python alike, and that what is computed with them stays so."""
+"""How the numbers of the package are written, on each Python alike, and that what is computed with
+them stays so.
+"""
 
 import decimal
 import fractions

@@ -1,8 +1,9 @@
-"""Matches as they are read and graded: a stored one in several spellings, what is refused of it, and matches that GNU
-Backgammon plays against itself, whose boards are its own and whose losses are those of the program.
+"""Matches as they are read and graded: a stored one in several spellings, what is refused of it,
+and matches that GNU Backgammon plays against itself, whose boards are its own and whose losses are
+those of the program.
 
-BEAROFF_MATCHES names a folder that tools/callers/play_gnubg.py has filled; without it the test lets GNU Backgammon play,
-and leaves these matches out where there is none.
+BEAROFF_MATCHES names a folder that tools/callers/play_gnubg.py has filled; without it the test
+lets GNU Backgammon play, and leaves these matches out where there is none.
 """
 
 import json
@@ -27,7 +28,8 @@ STORED = ROOT / "python/tests/matches/short.mat"
 SHORT = STORED.read_text("ascii")
 NAMES = ("long", "short", "three", "money")
 
-# the bearoff plays of the stored match: the move, the player, the position, the roll and where it led to
+# the bearoff plays of the stored match: the move, the player, the position, the roll and where it
+# led to
 WANTED = (
     ("15 1 2,3,3,3,3,1 51 1,3,3,3,2,1", "16 1 1,3,3,3,2,1 63 1,3,2,3,2,0", "17 1 1,3,2,3,2,0 41 0,3,2,2,2,0"),
     ("18 0 0,2,1,1,5,3 63 0,2,0,1,5,2", "18 1 0,3,2,2,2,0 63 0,3,1,2,1,0", "19 0 0,2,0,1,5,2 51 1,1,0,1,4,2"),
@@ -77,8 +79,8 @@ def changed(line: int, old: str, new: str) -> str:
 
 
 def as_xg(match: str) -> str:
-    """The same match as XG spells it: words for the bar and for off, moves that are alike once, moves of one checker
-    joined, wider columns, and another head.
+    """The same match as XG spells it: words for the bar and for off, moves that are alike once,
+    moves of one checker joined, wider columns, and another head.
     """
     lines = ['; [Site "Somewhere"]', '; [Player 1 "A"]', '; [Variation "Backgammon"]', '; [CubeLimit "1024"]', ""]
     for line in match.split("\n"):
@@ -138,7 +140,9 @@ class Stored(unittest.TestCase):
                 self.assertEqual(player.over_bound, over + (side == 0))
 
     def test_over_the_bound(self) -> None:
-        """What is home and has more pips than the database is counted, and nothing else is left out."""
+        """What is home and has more pips than the database is counted, and nothing else is left
+        out.
+        """
         for bound in (8, 44, 58):
             graded, turns = of_text(SHORT, bound), [play for play in read_match(SHORT).plays if play.is_bearoff]
             for side in (0, 1):
@@ -176,7 +180,9 @@ class Stored(unittest.TestCase):
             self.assertEqual((match.plays[1].after[2], match.plays[2].before[23:]), (2, (0, 1, 1)))
 
     def test_a_roll_without_a_play(self) -> None:
-        """Where a player resigns behind a bearoff roll nothing was played; elsewhere that is refused."""
+        """Where a player resigns behind a bearoff roll nothing was played; elsewhere that is
+        refused.
+        """
         resigned = changed(28, "53: 5/0 6/3                 32: 2/0 4/1", "53: ")
         self.assertEqual(rows(of_text(resigned)), rows(of_text(SHORT))[:-2])
         again = resigned + "\n\n Game 2\n gnubg : 0                      root : 0\n  1) 21: 13/11 24/23\n"

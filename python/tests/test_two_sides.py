@@ -1,4 +1,6 @@
-"""The example of two sides in docs/analysts.md, beside a game that is played out move by move with the recorded plays."""
+"""The example of two sides in docs/analysts.md, beside a game that is played out move by move with
+the recorded plays.
+"""
 
 import re
 import unittest

@@ -1,9 +1,12 @@
-"""Lets GNU Backgammon play matches against itself, for the tests of the package for Python: play_gnubg.py FOLDER.
+"""Lets GNU Backgammon play matches against itself, for the tests of the package for Python:
+play_gnubg.py FOLDER.
 
-For each match there are FOLDER/NAME.mat, as GNU Backgammon exports it, and FOLDER/NAME.json, its moves as a list: of each
-the player, X or O, the dice, and the Position ID of the board before it, seen by that player.
+For each match there are FOLDER/NAME.mat, as GNU Backgammon exports it, and FOLDER/NAME.json, its
+moves as a list: of each the player, X or O, the dice, and the Position ID of the board before it,
+seen by that player.
 
-It ends with status 3 where there is no GNU Backgammon. All is played in one process of it, which runs this script too.
+It ends with status 3 where there is no GNU Backgammon. All is played in one process of it, which
+runs this script too.
 """
 import json
 import os
