@@ -30,7 +30,9 @@ def main(words: Optional[Sequence[str]] = None) -> int:
         f" and in pips. {NOTE}",
     )
     grading.add_argument(
-        "match", metavar="MATCH", help="a .mat file, as GNU Backgammon and XG export it"
+        "match",
+        metavar="MATCH",
+        help="a .mat file, as GNU Backgammon and XG export it, or .sgf, as the first one saves it",
     )
     grading.add_argument(
         "database", metavar="DATABASE", help="a file that `bearoff build` has written"

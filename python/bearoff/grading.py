@@ -158,7 +158,7 @@ class Graded(NamedTuple):
 
 
 def grade(match: Union[str, "os.PathLike[str]", Match], database: Database) -> Graded:
-    """Grades each bearoff play of a match, which is the path of a `.mat` file or what
+    """Grades each bearoff play of a match, which is the path of a `.mat` or `.sgf` file or what
     `bearoff.matches.read_match` gave: each roll of a player whose checkers are all home and past
     the other player's.
 

@@ -1,4 +1,5 @@
-"""Matches as text files: the `.mat` form of Jellyfish, which GNU Backgammon and XG export.
+"""Matches as text files: the `.mat` form of Jellyfish, which GNU Backgammon and XG export, and the
+`.sgf` form in which GNU Backgammon saves them.
 
     >>> from bearoff.matches import read_match
     >>> match = read_match(open("match.mat", encoding="utf-8").read())
@@ -108,7 +109,11 @@ _RIGHT = 12
 
 
 def read_match(text: str) -> Match:
-    """The match of a text in the `.mat` form. Raises `BadMatch` for any other text."""
+    """The match of a text in the `.mat` form or, where it begins with a parenthesis, in the `.sgf`
+    form. Raises `BadMatch` for any other text.
+    """
+    if text.lstrip("\ufeff \t\r\n").startswith("("):
+        return _SgfReader().whole(text)
     reader = _Reader()
     for number, line in enumerate(text.lstrip("\ufeff").split("\n"), 1):
         reader.read(number, line.rstrip("\r"))
@@ -180,6 +185,10 @@ class _Reader:
         names = (told[1].rstrip(), told[2].rstrip())
         if self.names not in (None, names):
             self.refuse("malformed", "the players of this game are others than those before")
+        self.sit(names)
+
+    def sit(self, names: Tuple[str, str]) -> None:
+        """Puts up the checkers for two players."""
         self.names, self.is_named = names, True
         self.boards = [[_START.get(point, 0) for point in range(_BAR + 1)] for _ in (0, 1)]
 
@@ -315,6 +324,111 @@ class _Reader:
         if self.length is None or self.names is None or not self.is_named:
             self.refuse("malformed", "the file ends before a game has begun")
         return Match(self.length, self.names, self.games, tuple(self.plays))
+
+
+_SGF_PART = re.compile(r"\s*(?:([();])|([A-Z]+)((?:\s*\[(?:\\.|[^\]\\])*\])+))", re.DOTALL)
+_SGF_VALUE = re.compile(r"\[((?:\\.|[^\]\\])*)\]", re.DOTALL)
+_SGF_PLAY = re.compile(r"([1-6])([1-6])((?:[a-z]{2}){0,4})")
+_SGF_CUBE = ("double", "take", "drop")
+_SGF_SET_UP = ("AB", "AE", "AW")
+_SGF_RULES = ("Crawford", "CrawfordGame", "Jacoby")
+
+
+class _SgfReader(_Reader):
+    """Reads a match as GNU Backgammon saves it: a tree for each game, without variations. White has
+    the left column of the `.mat` form, Black the right one; a letter is a point, as White counts
+    them, y the bar and z off.
+    """
+
+    def whole(self, text: str) -> Match:
+        """Reads all of the text."""
+        place, depth = len(text) - len(text.lstrip("\ufeff")), 0
+        end = len(text.rstrip())
+        while place < end:
+            part = _SGF_PART.match(text, place)
+            start = part.start(1 if part[1] else 2) if part else place
+            self.number = text.count("\n", 0, start) + 1
+            self.text = " ".join(text[start : start + 40].split())
+            if not part:
+                self.refuse("malformed", "neither a property nor the start or the end of a game")
+            if part[1] == "(":
+                if depth:
+                    self.refuse("malformed", "a game has variations")
+                self.start()
+            depth += {"(": 1, ")": -1}.get(part[1] or "", 0)
+            if depth < 0 or (part[2] and not depth):
+                self.refuse("malformed", "what stands there is in no game")
+            if part[2]:
+                self.property(part[2], [value[1] for value in _SGF_VALUE.finditer(part[3])])
+            place = part.end()
+        if depth:
+            self.number, self.text = text.count("\n", 0, end) + 1, ""
+            self.refuse("malformed", "the last game has no end")
+        return self.end()
+
+    def start(self) -> None:
+        """Begins a game, whose properties follow."""
+        if not self.is_named:
+            self.refuse("malformed", "the players of the game before aren't named")
+        self.begin(self.games + 1)
+        self.move = 1
+        self.is_over = False
+        self.has_entries = False
+        self.told: Dict[str, str] = {}
+
+    def property(self, name: str, values: List[str]) -> None:
+        """Takes one property with its values."""
+        if name in _SGF_SET_UP:
+            self.refuse("malformed", "a position is set up in the middle of a game")
+        if name in ("GM", "MI", "PW", "PB", "RU"):
+            self.head(name, values)
+        elif name in ("W", "B"):
+            if not self.boards:
+                self.refuse("malformed", "the players of the game aren't named before its first move")
+            self.entry(self.boards, "WB".index(name), values[0])
+
+    def head(self, name: str, values: List[str]) -> None:
+        """Takes what a game tells of itself."""
+        if name == "GM" and values != ["6"]:
+            self.refuse("variation", f"only backgammon is graded, and not the game {values[0]}")
+        if name == "RU":
+            for rule in values[0].split(":"):
+                if rule and rule not in _SGF_RULES:
+                    self.refuse("variation", f"only backgammon is graded, and not {rule}")
+        if name == "MI":
+            length = [value[7:] for value in values if re.fullmatch("length:[0-9]{1,5}", value)]
+            if len(length) != 1 or self.length not in (None, int(length[0])):
+                self.refuse("malformed", "the length of the match isn't told, or is another one")
+            self.length = int(length[0])
+        self.told[name] = re.sub(r"\\(.)", r"\1", values[0], flags=re.DOTALL)
+        if not self.is_named and "PW" in self.told and "PB" in self.told:
+            names = (self.told["PW"], self.told["PB"])
+            if self.names not in (None, names):
+                self.refuse("malformed", "the players of this game are others than those before")
+            self.sit(names)
+
+    def entry(self, boards: List[List[int]], player: int, value: str) -> None:
+        """Takes a roll with its play, or what is done with the cube."""
+        # in the other form each of them stands in a column, the left one of a line first
+        self.move += player == 0 and self.has_entries
+        self.has_entries = True
+        told = _SGF_PLAY.fullmatch(value)
+        if told:
+            points = [
+                _BAR if letter == "y" else 0 if letter == "z" else _sgf_point(player, letter)
+                for letter in told[3]
+            ]
+            moves = zip(points[::2], points[1::2])
+            words = " ".join(f"{source}/{target}" for source, target in moves)
+            self.play(boards, player, (int(told[1]), int(told[2])), words)
+        elif value not in _SGF_CUBE:
+            self.refuse("malformed", "neither a roll nor a double nor what answers one")
+
+
+def _sgf_point(player: int, letter: str) -> int:
+    """The point of a letter, as a player counts them."""
+    place = ord(letter) - ord("a")
+    return place + 1 if player == 0 else 24 - place
 
 
 _NAMED_POINTS: Dict[str, int] = {"bar": _BAR, "off": 0}

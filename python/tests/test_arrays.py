@@ -9,7 +9,7 @@ import sys
 import unittest
 from array import array
 from fractions import Fraction
-from typing import Any, Iterator, List, Sequence, Tuple
+from typing import Any, Iterable, Iterator, List, Sequence, Tuple
 from unittest import mock
 
 from bearoff import WHOLE, BadArgument, Database, Position, Refused
@@ -54,7 +54,16 @@ def exact(table: memoryview) -> List[Fraction]:
     return [Fraction((high << 64) + low, WHOLE) for high, low in zip(flat[::2], flat[1::2])]
 
 
-class RanksOfRows(unittest.TestCase):
+class Rows(unittest.TestCase):
+    """A test that compares many rows, and tells the first one that differs."""
+
+    def same(self, told: Iterable[Any], wanted: Iterable[Any]) -> None:
+        for place, (is_told, is_wanted) in enumerate(itertools.zip_longest(told, wanted)):
+            if is_told != is_wanted:
+                self.fail(f"row {place} is {is_told} and not {is_wanted}")
+
+
+class RanksOfRows(Rows):
     def refused(self, rows: Any, status: int, line: str, bound: int = 8) -> None:
         with self.assertRaises(Refused) as refused:
             database(bound).ranks(rows)
@@ -75,7 +84,7 @@ class RanksOfRows(unittest.TestCase):
         inside = [counts for counts in all_of_them if pips(counts) <= 58]
         ranks = here.ranks(inside)
         self.assertEqual((ranks.format, ranks.shape, len(inside)), ("H", (46062,), 46062))
-        self.assertEqual(ranks.tolist(), [here.rank(counts) for counts in inside])
+        self.same(ranks.tolist(), [here.rank(counts) for counts in inside])
         for counts in all_of_them:
             if pips(counts) > 58:
                 self.refused([inside[0], counts], 4, f"more pips than the bound: {text(counts)} in row 1", 58)
@@ -90,7 +99,7 @@ class RanksOfRows(unittest.TestCase):
         self.assertEqual(here.ranks(iter(rows)).tolist(), wanted)  # type: ignore[arg-type]
         for size in SIZES:
             some = [rows[at % 64] for at in range(size)]
-            self.assertEqual(here.ranks(some).tolist(), [at % 64 for at in range(size)])
+            self.same(here.ranks(some).tolist(), [at % 64 for at in range(size)])
 
     def test_refused(self) -> None:
         six, none = (0, 0, 0, 0, 0, 1), (0,) * 6
@@ -125,13 +134,13 @@ class RanksOfRows(unittest.TestCase):
                     table = numpy.array([rows[rank] for rank in wanted], kind).reshape(-1, 6)
                     ranks = here.ranks(table)
                     self.assertEqual((ranks.format, ranks.shape), ("H", (size,)))
-                    self.assertEqual(ranks.tolist(), wanted)
+                    self.same(ranks.tolist(), wanted)
             inside = numpy.array([counts for counts in every() if pips(counts) <= bound])
-            self.assertEqual(here.ranks(inside).tolist(), [here.rank(counts) for counts in inside.tolist()])
+            self.same(here.ranks(inside).tolist(), [here.rank(counts) for counts in inside.tolist()])
             wide = numpy.zeros((100, 12), "int32")
             wide[:, ::2] = numpy.asarray(rows[:100] if bound > 8 else rows[:50] * 2)
             for way in (wide[:, ::2], numpy.asfortranarray(wide[:, ::2]), wide[::-1, ::2][::-1]):
-                self.assertEqual(here.ranks(way).tolist(), [here.rank(row) for row in wide[:, ::2].tolist()])
+                self.same(here.ranks(way).tolist(), [here.rank(row) for row in wide[:, ::2].tolist()])
         self.assertEqual(database(8).ranks(numpy.eye(6, dtype=bool)[:, ::-1]).tolist(), [database(8).rank(row) for row in numpy.eye(6, dtype=int)[:, ::-1].tolist()])
         self.assertEqual(database(8).ranks(numpy.array([[0, 0, 0, 0, 0, 1]], object)).tolist(), [database(8).rank("0,0,0,0,0,1")])
 
@@ -177,13 +186,13 @@ class RanksOfRows(unittest.TestCase):
         here = database(44)
         rows = [random.Random(3).choice(positions(44)) for _ in range(500)]
         ranks = numpy.asarray(here.ranks(numpy.array(rows)))
-        self.assertEqual(numpy.asarray(here.positions())[ranks].tolist(), [list(row) for row in rows])
+        self.same(numpy.asarray(here.positions())[ranks].tolist(), [list(row) for row in rows])
         means = numpy.asarray(here.means(floats=True))[ranks]
-        self.assertEqual(means.tolist(), [float(here.mean(row)) for row in rows])
+        self.same(means.tolist(), [float(here.mean(row)) for row in rows])
         wastages = numpy.asarray(here.wastages(floats=True))[ranks]
-        self.assertEqual(wastages.tolist(), [float(here.wastage(row)) for row in rows])
+        self.same(wastages.tolist(), [float(here.wastage(row)) for row in rows])
         withins = numpy.asarray(here.withins(7, floats=True))[ranks]
-        self.assertEqual(withins.tolist(), [float(here.within(row, 7)) for row in rows])
+        self.same(withins.tolist(), [float(here.within(row, 7)) for row in rows])
 
     def test_without_numpy(self) -> None:
         """Rows are looked up one by one where numpy isn't loaded, with the same answers and
@@ -203,7 +212,7 @@ class RanksOfRows(unittest.TestCase):
         self.assertIsInstance(Ranks(here.positions()), Ranks)
 
 
-class Floats(unittest.TestCase):
+class Floats(Rows):
     def test_each_is_the_nearest_to_the_exact_number(self) -> None:
         for bound in (8, 58):
             here, count = database(bound), len(positions(bound))
@@ -214,11 +223,11 @@ class Floats(unittest.TestCase):
                 *((here.withins(rolls), here.withins(rolls, floats=True)) for rolls in (0, 1, 5, 7, 21, 22)),
             ):
                 self.assertEqual((floats.format, floats.shape, floats.c_contiguous), ("d", (count,), True))
-                self.assertEqual(floats.tolist(), [float(number) for number in exact(table)])
+                self.same(floats.tolist(), [float(number) for number in exact(table)])
             shares = here.distributions(floats=True)
             self.assertEqual((shares.format, shares.shape), ("d", (count, 23)))
             flat = shares.cast("B").cast("d").tolist()
-            self.assertEqual(flat, [float(number) for number in exact(here.distributions())])
+            self.same(flat, [float(number) for number in exact(here.distributions())])
 
     def test_wastages(self) -> None:
         """They are the effective pip counts less the pip counts, in lowest terms, and so are the
@@ -228,12 +237,13 @@ class Floats(unittest.TestCase):
         table, epcs = here.wastages(), exact(here.epcs())
         self.assertEqual((table.format, table.shape), ("Q", (46062, 5)))
         told = exact(table)
-        self.assertEqual(told, [epc - pips(row) for epc, row in zip(epcs, rows)])
+        self.same(told, [epc - pips(row) for epc, row in zip(epcs, rows)])
         flat, of_epcs = table.cast("B").cast("Q").tolist(), here.epcs().cast("B").cast("Q").tolist()
-        self.assertEqual(flat[4::5], [told - 1000 * pips(row) for told, row in zip(of_epcs[4::5], rows)])
-        self.assertEqual((flat[2::5], flat[3::5]), (of_epcs[2::5], of_epcs[3::5]))
+        self.same(flat[4::5], [told - 1000 * pips(row) for told, row in zip(of_epcs[4::5], rows)])
+        self.same(flat[2::5], of_epcs[2::5])
+        self.same(flat[3::5], of_epcs[3::5])
         denominators = [(high << 64) + low for high, low in zip(flat[2::5], flat[3::5])]
-        self.assertEqual([number.denominator for number in told], denominators)
+        self.same([number.denominator for number in told], denominators)
         self.assertEqual((min(told), told[0]), (0, 0))
         chance = random.Random(4)
         for rank in [0, 1, 6, *(chance.randrange(46062) for _ in range(1000))]:
@@ -265,7 +275,7 @@ class Floats(unittest.TestCase):
             self.assertEqual(call(floats=True).tolist(), before)
 
 
-class Singles(unittest.TestCase):
+class Singles(Rows):
     def test_standing(self) -> None:
         for counts in every():
             self.assertEqual(Database.standing(counts), (pips(counts), sum(counts), 15 - sum(counts)))
@@ -296,11 +306,11 @@ class Singles(unittest.TestCase):
     def test_indexes(self) -> None:
         for bound in (8, 44):
             here, rows = database(bound), positions(bound)
-            self.assertEqual([here[rank] for rank in range(len(rows))], rows)
-            self.assertEqual([here[rank - len(rows)] for rank in range(len(rows))], rows)
+            self.same([here[rank] for rank in range(len(rows))], rows)
+            self.same([here[rank - len(rows)] for rank in range(len(rows))], rows)
             for part in (slice(None), slice(3, 9), slice(-5, None), slice(None, None, -7), slice(9, 3), slice(0, 10**9)):
-                self.assertEqual(here[part], rows[part])
-            self.assertEqual(list(reversed(here)), rows[::-1])
+                self.same(here[part], rows[part])
+            self.same(list(reversed(here)), rows[::-1])
             self.assertIs(type(here[0]), Position)
         self.assertEqual(database(8)[True], rows[1])
 

@@ -26,6 +26,7 @@ from .given import FILES, FOLDER, ROOT, database, replies, text
 
 STORED = ROOT / "python/tests/matches/short.mat"
 SHORT = STORED.read_text("ascii")
+SAVED = STORED.with_suffix(".sgf").read_text("ascii")
 NAMES = ("long", "short", "three", "money")
 
 # the bearoff plays of the stored match: the move, the player, the position, the roll and where it
@@ -40,7 +41,7 @@ WANTED = (
 
 
 @lru_cache(maxsize=None)
-def played() -> Dict[str, Tuple[str, List[Dict[str, Any]]]]:
+def played() -> Dict[str, Tuple[str, List[Dict[str, Any]], str]]:
     """The matches of GNU Backgammon with its own boards, or nothing where there is none."""
     with tempfile.TemporaryDirectory() as made:
         folder = os.environ.get("BEAROFF_MATCHES") or made
@@ -49,7 +50,11 @@ def played() -> Dict[str, Tuple[str, List[Dict[str, Any]]]]:
             if subprocess.run([sys.executable, "-I", script, folder]).returncode == 3:
                 return {}
         return {
-            name: (Path(folder, f"{name}.mat").read_text("utf-8"), json.loads(Path(folder, f"{name}.json").read_text()))
+            name: (
+                Path(folder, f"{name}.mat").read_text("utf-8"),
+                json.loads(Path(folder, f"{name}.json").read_text("utf-8")),
+                Path(folder, f"{name}.sgf").read_text("utf-8"),
+            )
             for name in NAMES
         }
 
@@ -173,6 +178,24 @@ class Stored(unittest.TestCase):
         named = of_text(SHORT.replace("gnubg : 0", "A: 5  B : 0").replace(" root : 0", "J\u00fcrgen N. : 12"))
         self.assertEqual([player.name for player in named.players], ["A: 5  B", "J\u00fcrgen N."])
 
+    def test_what_is_saved(self) -> None:
+        """The same match as GNU Backgammon saves it."""
+        told, other = read_match(SHORT), read_match(SAVED)
+        self.assertEqual(other[:3], told[:3])
+        for one, two in zip(told.plays, other.plays):
+            self.assertEqual(two, one._replace(line=two.line, text=two.text))
+        self.assertEqual(of_text(SAVED).players, of_text(SHORT).players)
+        lines = SAVED.split("\n")
+        for play in other.plays:
+            self.assertIn("WB"[play.player] + "[{}{}".format(*play.dice), lines[play.line - 1])
+        twice = SAVED.rstrip() + SAVED.rstrip().replace("PW[gnubg]", "PW[gnu\\bg]")
+        self.assertEqual((read_match(twice).games, len(read_match(twice).plays)), (2, 86))
+        self.assertEqual(read_match("\ufeff\n " + SAVED).plays, tuple(
+            play._replace(line=play.line + 1) for play in other.plays
+        ))
+        unplayed = SAVED.rstrip().rstrip(")") + ";PL[W]DI[54])\n"
+        self.assertEqual(read_match(unplayed), other)
+
     def test_two_checkers_that_hit(self) -> None:
         begun = "\n".join(SHORT.split("\n")[:6])
         for hits in ("6/2* 6/2", "6/2*(2)", "6/2 6/2"):
@@ -282,6 +305,44 @@ class Refusals(unittest.TestCase):
         ):
             self.refused(match, "illegal", line, what)
 
+    def test_saved(self) -> None:
+        def other(old: str, new: str) -> str:
+            self.assertEqual(SAVED.count(old), 1, old)
+            return SAVED.replace(old, new)
+
+        end = SAVED.rstrip().count("\n") + 1
+        head = SAVED.split("\n")[0]
+        for match, reason, line, what in (
+            ("(", "malformed", 1, "the last game has no end"),
+            ("()", "malformed", 2, "the file ends before a game has begun"),
+            ("(;W[31hefe])", "malformed", 1, "aren't named before its first move"),
+            ("(;GM[6])(;", "malformed", 1, "the players of the game before aren't named"),
+            (SAVED.rstrip()[:-1], "malformed", end, "the last game has no end"),
+            (SAVED.rstrip() + ")", "malformed", end, "what stands there is in no game"),
+            (SAVED.rstrip() + "W[31hefe]", "malformed", end, "what stands there is in no game"),
+            (SAVED.rstrip() + "\nx", "malformed", end + 1, "neither a property nor"),
+            (other("GM[6]", "GM[1]"), "variation", 1, "and not the game 1"),
+            (other("DT[", "RU[NackGammon]DT["), "variation", 1, "and not NackGammon"),
+            (other("DT[", "RU[Crawford:Jacoby:X]DT["), "variation", 1, "and not X"),
+            (other("[length:1]", "[length:x]"), "malformed", 1, "the length of the match isn't told"),
+            (SAVED.rstrip() + other("[length:1]", "[length:3]"), "malformed", end, "or is another one"),
+            (SAVED.rstrip() + other("PB[root]", "PB[Bob]"), "malformed", end, "are others than those"),
+            (head + "\n;W[31hefe](;B[21])", "malformed", 2, "a game has variations"),
+            (head + "\n;AE[a:y])", "malformed", 2, "a position is set up"),
+            (head + "\n;W[31hefe]\n;W[31hefe])", "turn", 3, "the same player rolls twice"),
+            (head + "\n;W[31hefe]\n;B[41aa])", "malformed", 3, "no checker moves so: 24/24"),
+            (head + "\n;W[31hefe]\n;B[47ab])", "malformed", 3, "neither a roll nor a double"),
+            (head + "\n;W[31hef])", "malformed", 2, "neither a roll nor a double"),
+            (head + "\n;W[31eh])", "malformed", 2, "no checker moves so: 5/8"),
+            (head + "\n;W[31hefe]\n;B[resign])", "malformed", 3, "neither a roll nor a double"),
+            (head + "\n;W[31hefe]\n;B[65ya])", "illegal", 3, "root has no checker on the bar"),
+            (head + "\n;W[31hefz])", "illegal", 2, "gnubg bears off with a checker outside"),
+        ):
+            self.refused(match, reason, line, what)
+        self.assertEqual(len(read_match(head + "\n;W[31hefe]\n;B[41ab])").plays), 2)
+        ruled = read_match(other("DT[", "RU[Crawford:CrawfordGame:Jacoby]DT["))
+        self.assertEqual(ruled, read_match(SAVED))
+
     def test_turns(self) -> None:
         over = SHORT.rstrip("\n") + "\n 23) 11: 3/2\n"
         self.refused(over, "turn", len(over.split("\n")) - 1, "the game is over")
@@ -312,7 +373,7 @@ class Refusals(unittest.TestCase):
 @unittest.skipUnless(played(), "GNU Backgammon is not installed, so no match of it is graded")
 class Played(unittest.TestCase):
     def test_the_boards_are_its_own(self) -> None:
-        for name, (match, turns) in played().items():
+        for name, (match, turns, _) in played().items():
             told = read_match(match)
             self.assertEqual(len(told.plays), len(turns))
             for play, turn in zip(told.plays, turns):
@@ -323,7 +384,7 @@ class Played(unittest.TestCase):
 
     def test_losses_are_those_of_the_program(self) -> None:
         count = lost = 0
-        for name, (match, _) in played().items():
+        for name, (match, _, _) in played().items():
             for bound in (44, 58):
                 graded = of_text(match, bound)
                 told = [Fraction(reply.split()[1]) for reply in replies(bound, asked(graded))]
@@ -340,9 +401,17 @@ class Played(unittest.TestCase):
         self.assertGreater(count, 100)
         self.assertGreater(lost, 3)
 
+    def test_what_is_saved_is_what_is_exported(self) -> None:
+        for name, (match, _, saved) in played().items():
+            told, other = read_match(match), read_match(saved)
+            self.assertEqual((other[:3], len(other.plays)), (told[:3], len(told.plays)), name)
+            for one, two in zip(told.plays, other.plays):
+                self.assertEqual(two, one._replace(line=two.line, text=two.text), (name, one.line))
+            self.assertEqual(of_text(saved).players, of_text(match).players)
+
     def test_every_bearoff_is_graded(self) -> None:
         """The boards of GNU Backgammon say which plays are of the bearoff."""
-        for name, (match, turns) in played().items():
+        for name, (match, turns, _) in played().items():
             graded, plays, wanted = of_text(match), read_match(match).plays, []
             for number, turn in enumerate(turns):
                 mine, other = notation._sides_of(turn["board"], "")

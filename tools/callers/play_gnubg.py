@@ -1,9 +1,9 @@
 """Lets GNU Backgammon play matches against itself, for the tests of the package for Python:
 play_gnubg.py FOLDER.
 
-For each match there are FOLDER/NAME.mat, as GNU Backgammon exports it, and FOLDER/NAME.json, its
-moves as a list: of each the player, X or O, the dice, and the Position ID of the board before it,
-seen by that player.
+For each match there are FOLDER/NAME.mat, as GNU Backgammon exports it, FOLDER/NAME.sgf, as it
+saves it, and FOLDER/NAME.json, its moves as a list: of each the player, X or O, the dice, and the
+Position ID of the board before it, seen by that player.
 
 It ends with status 3 where there is no GNU Backgammon. All is played in one process of it, which
 runs this script too.
@@ -34,6 +34,7 @@ def play(folder):
         gnubg.command(f"set seed {seed}")
         gnubg.command(f"new {what}")
         gnubg.command(f"export match mat {os.path.join(folder, name + '.mat')}")
+        gnubg.command(f"save match {os.path.join(folder, name + '.sgf')}")
         games = gnubg.match(analysis=0, boards=1, statistics=0, verbose=0)["games"]
         turns = [
             {"game": number, **{part: turn[part] for part in ("player", "dice", "board")}}
