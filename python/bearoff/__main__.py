@@ -26,8 +26,8 @@ def main(words: Optional[Sequence[str]] = None) -> int:
     grading = commands.add_parser(
         "grade",
         help="grade each bearoff play of a match",
-        description="Tells what each bearoff play of a match has lost beside the best one, in rolls"
-        f" and in pips. {NOTE}",
+        description="Tells what each bearoff play of a match has lost beside the best one, in"
+        f" rolls and in pips. {NOTE}",
     )
     grading.add_argument(
         "match",

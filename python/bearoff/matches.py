@@ -326,7 +326,8 @@ class _Reader:
         return Match(self.length, self.names, self.games, tuple(self.plays))
 
 
-_SGF_PART = re.compile(r"\s*(?:([();])|([A-Z]+)((?:\s*\[(?:\\.|[^\]\\])*\])+))", re.DOTALL)
+_BLANKS = re.compile(r"\s*")
+_SGF_PART = re.compile(r"(?:([();])|([A-Z]+)((?:\s*\[(?:\\.|[^\]\\])*\])+))", re.DOTALL)
 _SGF_VALUE = re.compile(r"\[((?:\\.|[^\]\\])*)\]", re.DOTALL)
 _SGF_PLAY = re.compile(r"([1-6])([1-6])((?:[a-z]{2}){0,4})")
 _SGF_CUBE = ("double", "take", "drop")
@@ -335,19 +336,21 @@ _SGF_RULES = ("Crawford", "CrawfordGame", "Jacoby")
 
 
 class _SgfReader(_Reader):
-    """Reads a match as GNU Backgammon saves it: a tree for each game, without variations. White has
-    the left column of the `.mat` form, Black the right one; a letter is a point, as White counts
-    them, y the bar and z off.
+    """Reads a match as GNU Backgammon saves it: a tree for each game, without variations. White
+    has the left column of the `.mat` form, Black the right one; a letter is a point, as White
+    counts them, y the bar and z off.
     """
 
     def whole(self, text: str) -> Match:
         """Reads all of the text."""
         place, depth = len(text) - len(text.lstrip("\ufeff")), 0
         end = len(text.rstrip())
+        self.number = 1
         while place < end:
-            part = _SGF_PART.match(text, place)
-            start = part.start(1 if part[1] else 2) if part else place
-            self.number = text.count("\n", 0, start) + 1
+            blanks = _BLANKS.match(text, place)
+            start = blanks.end() if blanks else place
+            part = _SGF_PART.match(text, start)
+            self.number += text.count("\n", place, start)
             self.text = " ".join(text[start : start + 40].split())
             if not part:
                 self.refuse("malformed", "neither a property nor the start or the end of a game")
@@ -361,8 +364,9 @@ class _SgfReader(_Reader):
             if part[2]:
                 self.property(part[2], [value[1] for value in _SGF_VALUE.finditer(part[3])])
             place = part.end()
+            self.number += text.count("\n", start, place)
+        self.text = ""
         if depth:
-            self.number, self.text = text.count("\n", 0, end) + 1, ""
             self.refuse("malformed", "the last game has no end")
         return self.end()
 
@@ -384,7 +388,8 @@ class _SgfReader(_Reader):
             self.head(name, values)
         elif name in ("W", "B"):
             if not self.boards:
-                self.refuse("malformed", "the players of the game aren't named before its first move")
+                what = "the players of the game aren't named before its first move"
+                self.refuse("malformed", what)
             self.entry(self.boards, "WB".index(name), values[0])
 
     def head(self, name: str, values: List[str]) -> None:

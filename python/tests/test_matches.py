@@ -336,7 +336,7 @@ class Refusals(unittest.TestCase):
             (head + "\n;W[31eh])", "malformed", 2, "no checker moves so: 5/8"),
             (head + "\n;W[31hefe]\n;B[resign])", "malformed", 3, "neither a roll nor a double"),
             (head + "\n;W[31hefe]\n;B[65ya])", "illegal", 3, "root has no checker on the bar"),
-            (head + "\n;W[31hefz])", "illegal", 2, "gnubg bears off with a checker outside"),
+            (head + "\n;W[66hbfz])", "illegal", 2, "gnubg bears off with a checker outside"),
         ):
             self.refused(match, reason, line, what)
         self.assertEqual(len(read_match(head + "\n;W[31hefe]\n;B[41ab])").plays), 2)
