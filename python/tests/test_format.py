@@ -69,6 +69,7 @@ class Written(unittest.TestCase):
         self.assertEqual(f"{here.loss('0,0,0,2,0,0', '21', '0,1,1,0,0,0'):.2f}", "0.11")
         self.assertEqual([f"{choice.loss:.2f}" for choice in here.moves("0,0,0,2,0,0", "21")], ["0.00", "0.11"])
         self.assertEqual(f"{here.epc(six)}", str(here.epc(six)))
+        self.assertEqual(f"{here.epc(six):.30f}", "10.208" + "3" * 27)
         self.assertEqual(f"{share_of_whole(0, 0):.1f}", "0.0")
 
 
