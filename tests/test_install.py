@@ -209,7 +209,7 @@ class TestOddPrefixes:
         need("pkg-config")
         page = (ROOT / "docs/embedding.md").read_text(encoding="utf-8")
         line = re.search(r"(?m)^    (cc example\.c .*)$", page)[1]
-        text = "".join(code_blocks("docs/embedding.md", "c"))
+        text = code_blocks("docs/embedding.md", "c")[0]
         Path("example.c").write_text(text, encoding="utf-8")
         os.symlink(built(44), "race.db")
         installed(room / "odd" / name)

@@ -8,7 +8,6 @@ what the header declares and nothing else. The package for Python passes its own
 by mypy and is installed by pip without a trace in the checkout; the examples of docs/embedding.md
 and docs/analysts.md do what the pages say."""
 
-import collections
 import os
 import re
 import shutil
@@ -18,7 +17,7 @@ from pathlib import Path
 
 import pytest
 
-from running import CALLERS, ROOT, code_blocks, expect, expect_that, need, run, succeed
+from running import CALLERS, ROOT, as_bytes, code_blocks, expect, expect_that, need, run, succeed
 
 FLAGS = ["-O2", "-Wall", "-Wextra", "-Werror", f"-I{ROOT}/c"]
 PRINTED = "1.250 rolls, 10.208 pips\n4/2 2/1"
@@ -106,7 +105,11 @@ def test_exports(library, exported):
     assert declared, "c/bearoff.h declares nothing"
     words = ["nm", "--defined-only", "--format=posix", *exported.split()]
     told = succeed(*words, cwd=library).decode()
-    assert sorted(re.findall(r"(?m)^(\S+) [A-Za-z] ", told)) == declared
+    assert sorted(re.findall(r"(?m)^([^\s@]+)\S* (?!A 0)[A-Za-z] ", told)) == declared
+    if "libbearoff.so" in exported:
+        # each by the first number of its version
+        versions = re.findall(r"(?m)^(bearoff_[a-z_]*)@@BEAROFF_1 T ", told)
+        assert sorted(versions) == declared
 
 
 @pytest.mark.parametrize("bound", COUNTS)
@@ -166,14 +169,11 @@ def test_rooms(caller):
 
 
 def test_example_in_c(library, room, built):
-    Path("example.c").write_text("".join(code_blocks("docs/embedding.md", "c")), encoding="utf-8")
+    Path("example.c").write_text(code_blocks("docs/embedding.md", "c")[0], encoding="utf-8")
     shutil.copy(built(44), "race.db")
     words = ["cc", "-std=c11", *FLAGS, "-o", "example", "example.c", library / "libbearoff.a"]
     expect(run(*words), 0)
     expect(run("./example"), 0, PRINTED)
-
-
-Python = collections.namedtuple("Python", "run")
 
 
 @pytest.fixture(scope="session")
@@ -197,6 +197,16 @@ def gnubg_says(store):
         done = run(sys.executable, "-I", CALLERS / "ask_gnubg.py", file, timeout=600)
         expect_that(done.status in (0, 3), done, "what GNU Backgammon says, or that there is none")
     return file if file.exists() else None
+
+
+@pytest.fixture(scope="session")
+def matches(store):
+    """Matches that GNU Backgammon plays against itself, or None where it can't be had."""
+    folder = store / "matches"
+    if not folder.exists():
+        done = run(sys.executable, "-I", CALLERS / "play_gnubg.py", folder, timeout=900)
+        expect_that(done.status in (0, 3), done, "matches of GNU Backgammon, or that there is none")
+    return folder if folder.exists() and any(folder.iterdir()) else None
 
 
 @pytest.fixture
@@ -235,11 +245,12 @@ def test_gnubg_was_asked(gnubg_says):
 
 
 @pytest.mark.parametrize("name", PYTHON_TESTS)
-def test_python(python, gnubg_says, note, name):
+def test_python(python, gnubg_says, matches, note, name):
     """The tests of the package, over the program's lines too."""
     if b"numpy" in (ROOT / f"python/tests/{name}.py").read_bytes():
         need("pandas")
     more = {"BEAROFF_GNUBG": str(gnubg_says)} if gnubg_says else {}
+    more |= {"BEAROFF_MATCHES": str(matches)} if matches else {}
     done = python("-m", "unittest", "-v", f"tests.{name}", **more)
     expect_that(done.status == 0, done, "no test that fails")
     is_whole = b"skipped" not in done.errors or gnubg_says is None
@@ -252,7 +263,7 @@ def test_example_for_analysts(python, room, built):
     position."""
     need("pandas")
     page = (ROOT / "docs/analysts.md").read_text(encoding="utf-8")
-    exact = re.search(r"(?ms)^## Exact numbers$(.*?)^## Beside", page)
+    exact = re.search(r"(?ms)^## Exact numbers$(.*?)^## Two sides", page)
     lines = re.findall(r"(?m)^    (.*)$", exact[1])
     lines[-1] = f'assert ({lines[-1]}) == database.mean("0,0,0,4,4,1")'
     script = "".join(code_blocks("docs/analysts.md", "python")) + "\n".join(lines) + "\n"
@@ -273,6 +284,46 @@ def example(room, built):
 
 def test_example_in_python(python, example):
     expect(python("example.py", cwd=example), 0, PRINTED)
+
+
+class TestExampleOfAFile:
+    """The example that reads a file of positions."""
+
+    TEXT = b"0,0,0,0,0,1\r\n2,2,2,2,2,2\n0,0,0,0,0,16\nsix"
+    TOLD = """0,0,0,0,0,1: 1.2500 rolls, 10.208 pips
+2,2,2,2,2,2: 6.3603 rolls, 51.943 pips
+line 3: 0,0,0,0,0,16 is refused with status 3
+line 4: six is no position"""
+
+    @pytest.fixture(params=["cc", "c++"])
+    def positions(self, request, library, room, built):
+        text = code_blocks("docs/embedding.md", "c")[1]
+        Path("example.c").write_text(text, encoding="utf-8")
+        Path("positions.txt").write_bytes(self.TEXT)
+        os.symlink(built(44), "race.db")
+        before = ["-std=c11"] if request.param == "cc" else AS_CPP
+        behind = [] if request.param == "cc" else ["-x", "none"]
+        words = [*before, *FLAGS, "-o", "positions", "example.c", *behind]
+        expect(run(request.param, *words, library / "libbearoff.a"), 0)
+        return "./positions"
+
+    def test_lines(self, positions):
+        done = run(positions, "race.db", "positions.txt")
+        expect_that(done.output + done.errors == as_bytes(self.TOLD), done, self.TOLD)
+
+    def test_no_database(self, positions):
+        done = run(positions, "positions.txt", "positions.txt")
+        expect_that(done.output + done.errors == b"positions.txt: header bad-magic\n", done, "the fault")
+
+    def test_one_word(self, positions):
+        done = run(positions, "race.db")
+        expect_that(done.output + done.errors == b"usage: positions DATABASE FILE\n", done, "the usage")
+
+    def test_valgrind(self, positions):
+        need("valgrind")
+        words = [*VALGRIND, "--log-file=said", "--main-stacksize=16777216", positions]
+        run(*words, "race.db", "positions.txt", timeout=600)
+        assert Path("said").read_text() == ""
 
 
 def test_pip(python, example):
@@ -298,7 +349,7 @@ def test_pip(python, example):
 def test_install(program, example):
     """What is installed is enough to build with."""
     need("pkg-config")
-    text = "".join(code_blocks("docs/embedding.md", "c"))
+    text = code_blocks("docs/embedding.md", "c")[0]
     Path("example.c").write_text(text, encoding="utf-8")
     prefix = example / "prefix"
     done = run(ROOT / "packaging/install", prefix, timeout=3600)
@@ -310,3 +361,41 @@ def test_install(program, example):
     expect(run("./installed"), 0, PRINTED)
     succeed(prefix / "bin/bearoff", "--version")
     assert (prefix / "share/man/man1/bearoff.1").stat().st_size > 0
+
+
+class TestCMake:
+    """What was installed is found by CMake, also where it was moved, and by no other first number
+    of the version."""
+
+    @pytest.fixture(params=["installed", "moved"])
+    def project(self, request, program, example):
+        need("cmake")
+        done = run(ROOT / "packaging/install", example / "prefix", timeout=3600)
+        expect_that(done.status == 0, done, "an installation")
+        prefix = example / "prefix"
+        if request.param == "moved":
+            prefix = prefix.rename(example / "a moved one")
+        text = code_blocks("docs/embedding.md", "c")[0]
+        Path("example.c").write_text(text, encoding="utf-8")
+        lines = "".join(code_blocks("docs/embedding.md", "cmake"))
+        lines += "add_executable(of_archive example.c)\n"
+        lines += "target_link_libraries(of_archive bearoff::archive)\n"
+        Path("CMakeLists.txt").write_text(lines, encoding="utf-8")
+        return ["cmake", "-S", ".", "-B", "made", f"-DCMAKE_PREFIX_PATH={prefix}"]
+
+    def test_found(self, project):
+        succeed(*project, timeout=600)
+        succeed("cmake", "--build", "made", timeout=600)
+        for name in ("example", "of_archive"):
+            expect(run(f"made/{name}"), 0, PRINTED)
+
+    @pytest.mark.parametrize("asked", ["0", "0.9", "2", "1.0.1", "99"])
+    def test_another_version(self, project, asked):
+        lines = Path("CMakeLists.txt").read_text(encoding="utf-8")
+        wanted = f"find_package(bearoff {asked} REQUIRED)"
+        lines = lines.replace("find_package(bearoff 1 REQUIRED)", wanted)
+        assert wanted in lines
+        Path("CMakeLists.txt").write_text(lines, encoding="utf-8")
+        done = run(*project, timeout=600)
+        is_so = done.status != 0 and b"bearoff-config.cmake, version: " in done.errors
+        expect_that(is_so, done, "a refusal that says which version there is")

@@ -456,7 +456,7 @@ def compare_version(version):
     for path, said in (
         ("crates/command_line/src/words.rt", r'\.version\("([^"]*)"\)'),
         ("c/bearoff.h", r'#define BEAROFF_VERSION "([^"]*)"'),
-        ("c/bearoff.1", r'\.TH BEAROFF 1 "" "bearoff ([^"]*)"'),
+        ("c/bearoff.1", r'\.TH BEAROFF 1 [0-9-]+ "bearoff ([^"]*)"'),
         ("python/pyproject.toml", r'(?m)^version = "([^"]*)"$'),
         ("python/bearoff/_library.py", r'(?m)^__version__ = "([^"]*)"$'),
         ("js/package.json", r'(?m)^  "version": "([^"]*)",$'),

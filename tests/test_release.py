@@ -19,6 +19,7 @@ from running import ROOT, code_blocks, expect, expect_that, need, run, succeed
 pytestmark = pytest.mark.xdist_group("prover")
 
 VERSION = (ROOT / "VERSION").read_text(encoding="utf-8").strip()
+PACKAGES = ("bearoff", "libbearoff1", "libbearoff-dev")
 QUESTION, ANSWER = "mean 0,0,0,0,0,1", "mean 5/4 epc 245/24 10.208"
 PRINTED = "1.250 rolls, 10.208 pips\n4/2 2/1"
 
@@ -29,7 +30,7 @@ class Release:
     def __init__(self, work):
         self.one, self.two = work / "one", work / "another folder" / "two"
         self.archive = self.one / f"bearoff-{VERSION}-x86_64-linux.tar.gz"
-        self.package = self.one / f"bearoff_{VERSION}_amd64.deb"
+        self.packages = {name: self.one / f"{name}_{VERSION}_amd64.deb" for name in PACKAGES}
         self.javascript = self.one / f"bearoff-{VERSION}.tgz"
         self.tree = work / f"bearoff-{VERSION}-x86_64-linux"
         self.unpacked, self.database = work / "package", work / "race.db"
@@ -43,7 +44,8 @@ class Release:
         self.took.append(time.time() - began)
         with tarfile.open(self.archive) as archive:
             archive.extractall(work)
-        succeed("dpkg-deb", "-x", self.package, self.unpacked)
+        for package in self.packages.values():
+            succeed("dpkg-deb", "-x", package, self.unpacked)
         succeed(self.tree / "bin/bearoff", "build", "--pips", 44, self.database)
 
     @staticmethod
@@ -111,17 +113,44 @@ def test_the_files_of_the_archive(release):
         assert file.exists() and file.stat().st_size > 0, f"the archive has no {name}"
 
 
-def test_the_version_of_the_package(release):
-    expect(run("dpkg-deb", "-f", release.package, "Version"), 0, VERSION)
+@pytest.mark.parametrize("name", PACKAGES)
+def test_the_version_of_a_package(release, name):
+    expect(run("dpkg-deb", "-f", release.packages[name], "Version"), 0, VERSION)
 
 
 def test_the_packages_program(release):
     expect(run(release.unpacked / "usr/bin/bearoff", input=QUESTION), 0, ANSWER)
 
 
-def test_the_sums_in_the_package(release, room):
-    succeed("dpkg-deb", "-e", release.package, room / "control")
-    succeed("md5sum", "--quiet", "-c", room / "control/md5sums", cwd=release.unpacked)
+@pytest.mark.parametrize("name", PACKAGES)
+def test_the_sums_in_a_package(release, room, name):
+    """Each file of the package has its sum there."""
+    succeed("dpkg-deb", "-e", release.packages[name], room / "control")
+    succeed("dpkg-deb", "-x", release.packages[name], room / "alone")
+    succeed("md5sum", "--quiet", "-c", room / "control/md5sums", cwd=room / "alone")
+    lines = (room / "control/md5sums").read_text(encoding="utf-8").splitlines()
+    there = [str(path.relative_to(room / "alone")) for path in (room / "alone").rglob("*")
+             if path.is_file() and not path.is_symlink()]
+    assert sorted(line[34:] for line in lines) == sorted(there)
+
+
+def test_lintian(release):
+    """The one error that may stay is that there is no licence."""
+    need("lintian")
+    words = ["--allow-root", "--fail-on", "none", "--tag-display-limit", "0"]
+    told = run("lintian", *words, *release.packages.values(), timeout=600)
+    lines = sorted((told.output + told.errors).decode().splitlines())
+    assert lines == sorted(f"E: {name}: no-copyright-file" for name in PACKAGES)
+
+
+def test_twine(release):
+    need("twine")
+    succeed("twine", "check", "--strict", *release.one.glob("*.whl"), timeout=300)
+
+
+def test_mandoc():
+    need("mandoc")
+    succeed("mandoc", "-T", "lint", ROOT / "c/bearoff.1")
 
 
 @pytest.mark.parametrize("which", ["archive", "package"])
@@ -129,7 +158,7 @@ def test_a_c_program(release, room, which):
     """The guide's line, by the file for pkg-config: what the header and the library say, and an
     answer."""
     need("pkg-config")
-    Path("example.c").write_text("".join(code_blocks("docs/embedding.md", "c")), encoding="utf-8")
+    Path("example.c").write_text(code_blocks("docs/embedding.md", "c")[0], encoding="utf-8")
     os.symlink(release.database, "race.db")
     page = (ROOT / "docs/embedding.md").read_text(encoding="utf-8")
     line = re.search(r"(?m)^    (cc example\.c .*)$", page)[1]

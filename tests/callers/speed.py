@@ -3,6 +3,8 @@
 usage: speed.py FILE             how many means a second it answers, one call each, over all positions in no order
        speed.py FILE --tables    how many microseconds all means take as an array of numpy, and all distributions,
                                  and both as floats
+       speed.py FILE --ranks     how many ranks a second it finds for a million rows of an array of numpy, in no order,
+                                 for bytes and for numbers of 64 bits
 """
 import random
 import sys
@@ -41,5 +43,15 @@ def tables(database):
         print(name, "as floats", int(1e6 * least(lambda: numpy.asarray(table()) @ bearoff.WEIGHTS)), "us")
 
 
+def ranks(database):
+    import numpy
+
+    found = numpy.random.default_rng(1).integers(0, len(database), 1_000_000)
+    for kind in "uint8", "int64":
+        rows = numpy.asarray(database.positions())[found].astype(kind)
+        assert (numpy.asarray(database.ranks(rows)) == found).all()
+        print(kind, int(len(rows) / least(lambda: database.ranks(rows))), "ranks a second")
+
+
 database = bearoff.Database.open(sys.argv[1])
-tables(database) if sys.argv[2:] == ["--tables"] else calls(database)
+{"--tables": tables, "--ranks": ranks}.get("".join(sys.argv[2:]), calls)(database)

@@ -7,7 +7,9 @@
 // has.
 import assert from "node:assert/strict";
 import { spawnSync } from "node:child_process";
-import { cpSync, existsSync, mkdirSync, mkdtempSync, readFileSync, rmSync, writeFileSync } from "node:fs";
+import {
+    cpSync, existsSync, mkdirSync, mkdtempSync, readdirSync, readFileSync, rmSync, writeFileSync,
+} from "node:fs";
 import { tmpdir } from "node:os";
 import { join } from "node:path";
 import { after, test } from "node:test";
@@ -18,7 +20,15 @@ import { modulesFolder, programPath, ROOT, testedFolder } from "./given.mjs";
 const WIDE = "--experimental-wasm-memory64";
 const TYPED = "XGID=-C--B-A------------d--cba-:0:0:-1:21:0:0:0:0:10 AAAA2vEAAAAAAA:cAkFAAAAAAAE top 21; 38; "
     + "malformed; 5; 4; 6/4 4/3; 0,0,1,0,0,0; 0; 0,0,0,0,0,1; 1.000; 2; 4208; 0.75; damaged too-short "
-    + "header too-short\n";
+    + "header too-short; 10208; true; 1250; "
+    + '[{"numerator":"5","denominator":"4","thousandths":1250},{"numerator":"0","denominator":"1"}]\n';
+// what belongs in the package, and nothing else
+const BELONGS = [
+    "README.md", "package.json", "wide.wasm", "narrow.wasm",
+    ...["bearoff", "notation"].flatMap((name) => [`${name}.js`, `${name}.d.ts`, `${name}.d.cts`]),
+    ...["abilities", "checks", "database", "engine", "errors", "fractions", "modules", "numbers"]
+        .map((name) => `${name}.js`),
+].sort();
 const PRINTED = "1.250 rolls, 10.208 pips\n4/2 2/1\n";
 const version = readFileSync(join(ROOT, "VERSION"), "utf8").trim();
 const archive = `bearoff-${version}.tgz`;
@@ -50,7 +60,8 @@ const site = join(work, "site");
 mkdirSync(join(site, "node_modules"), { recursive: true });
 cpSync(folder, join(site, "node_modules/bearoff"), { recursive: true });
 cpSync(join(testedFolder(), "race.db"), join(site, "race.db"));
-for (const name of ["typed.ts", "tsconfig.json"]) cpSync(join(ROOT, "js/tests", name), join(site, name));
+const typed = readdirSync(join(ROOT, "js/tests")).filter((name) => name.startsWith("typed"));
+for (const name of [...typed, "tsconfig.json"]) cpSync(join(ROOT, "js/tests", name), join(site, name));
 writeFileSync(join(site, "package.json"), '{ "type": "module" }\n');
 
 // The blocks of code of a page, one behind the other.
@@ -74,6 +85,16 @@ test("the archive has the files of the folder", () => {
     run(["diff", "-r", folder, join(made[0], "package")]);
 });
 
+test("it has what belongs there, and nothing else", () => {
+    assert.deepEqual(readdirSync(folder).sort(), BELONGS);
+});
+
+test("npm would pack what belongs there", { skip: skip("npm") }, () => {
+    const told = run(["npm", "pack", "--dry-run", "--offline", "--json"],
+        { cwd: join(made[0], "package"), env: { ...process.env, HOME: work } });
+    assert.deepEqual(JSON.parse(told)[0].files.map(({ path }) => path).sort(), BELONGS);
+});
+
 test("npm packs the same files", { skip: skip("npm") }, () => {
     run(["npm", "pack", "--offline", "--silent", "--pack-destination", work],
         { cwd: join(made[0], "package"), env: { ...process.env, HOME: work } });
@@ -83,6 +104,7 @@ test("npm packs the same files", { skip: skip("npm") }, () => {
 test("what it answers", () => { script("answers.mjs"); });
 test("what it refuses", () => { script("hostile.mjs"); });
 test("its memory", () => { script("memory.mjs"); });
+test("fractions, lists and closing", () => { script("fractions.mjs"); });
 test("other notations", () => { script("notation.mjs"); });
 test("what GNU Backgammon says of notations is there", {
     skip: existsSync("/usr/games/gnubg") ? false : skip("gnubg"),
@@ -104,6 +126,16 @@ test("its types", () => {
     assert.equal(run([process.execPath, "typed.js"], { cwd: site }), TYPED);
 });
 
+const [major, minor] = process.versions.node.split(".").map(Number);
+const requires = major > 22 || (major === 22 && minor >= 12) || (major === 20 && minor >= 19);
+test("what is written as CommonJS", {
+    skip: requires ? false : "this node gives CommonJS no module, so that is compiled and not run",
+}, () => {
+    run(["tsc", "--project", "."], { cwd: site });
+    assert.equal(run([process.execPath, "typed_common.cjs"], { cwd: site }),
+        '1.25 malformed {"numerator":"5","denominator":"4","thousandths":1250}\n');
+});
+
 test("the example of docs/embedding.md", () => {
     writeFileSync(join(site, "example.js"), blocks("docs/embedding.md"));
     assert.equal(run([process.execPath, "example.js"], { cwd: site }), PRINTED);
@@ -111,10 +143,10 @@ test("the example of docs/embedding.md", () => {
 
 test("the examples of js/README.md", () => {
     // one behind the other: a line that tells its answer has it
-    const told = blocks("js/README.md").replace(/^(?!const )(.*); \/\/ (.*)$/gm, "assert.deepStrictEqual($1, $2);");
+    const told = blocks("js/README.md").replace(/^(?!const )(.*); \/\/ (.*)$/gm, "assert.deepStrictEqual(structuredClone($1), $2);");
     const tables = "assert.deepStrictEqual([means, points, shares].map((table) => table.length / 26314), [1, 6, 23]);";
     const text = `import assert from "node:assert";\n${told}${tables}\n`;
-    assert.equal(text.match(/^assert/gm).length, 10, "js/README.md has no examples that tell nine answers");
+    assert.equal(text.match(/^assert/gm).length, 11, "js/README.md has no examples that tell ten answers");
     writeFileSync(join(site, "readme.js"), text);
     assert.equal(run([process.execPath, "readme.js"], { cwd: site }), "");
 });
