@@ -303,6 +303,21 @@ class Singles(Rows):
         self.assertEqual(here.play_to("0,0,0,2,0,0", "12", "0,1,1,0,0,0").text, "4/2 4/3")
         self.assertEqual(here.play_to("0,0,0,0,0,15", "66", "0,0,0,0,0,11").text, "6/off 6/off 6/off 6/off")
 
+    def test_texts(self) -> None:
+        """Blanks may stand around and between counts and dice."""
+        here, wanted = database(8), Position(1, 0, 0, 0, 0, 1)
+        for blank in ("", " ", "  ", "\t", "\u00a0", "\r\n"):
+            for spelt in (f"{blank}1,0,0,0,0,1{blank}", f"{blank},{blank}".join("100001")):
+                self.assertEqual(Position.parse(spelt), wanted)
+                self.assertEqual(here.mean(spelt), here.mean(wanted))
+                self.assertIn(spelt, here)
+            for roll in ("21", "12", "66"):
+                spelt = blank.join(["", *roll, ""])
+                dice = (int(roll[0]), int(roll[1]))
+                self.assertEqual(here.play(wanted, spelt), here.play(wanted, dice))
+                self.assertEqual(here.moves(wanted, spelt), here.moves(wanted, dice))
+        self.assertEqual(Position.parse("12,0,100,999,7,0"), (12, 0, 100, 999, 7, 0))
+
     def test_indexes(self) -> None:
         for bound in (8, 44):
             here, rows = database(bound), positions(bound)
