@@ -2,7 +2,7 @@
 and matches that GNU Backgammon plays against itself, whose boards are its own and whose losses are
 those of the program.
 
-BEAROFF_MATCHES names a folder that tools/callers/play_gnubg.py has filled; without it the test
+BEAROFF_MATCHES names a folder that tests/callers/play_gnubg.py has filled; without it the test
 lets GNU Backgammon play, and leaves these matches out where there is none.
 """
 
@@ -46,7 +46,7 @@ def played() -> Dict[str, Tuple[str, List[Dict[str, Any]], str]]:
     with tempfile.TemporaryDirectory() as made:
         folder = os.environ.get("BEAROFF_MATCHES") or made
         if folder == made:
-            script = str(ROOT / "tools/callers/play_gnubg.py")
+            script = str(ROOT / "tests/callers/play_gnubg.py")
             if subprocess.run([sys.executable, "-I", script, folder]).returncode == 3:
                 return {}
         return {

@@ -1,1 +1,0 @@
-../tests/page/browser.mjs
