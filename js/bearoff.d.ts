@@ -12,11 +12,21 @@
  * code `not-open`. A call that was refused changes nothing.
  */
 
+declare global {
+    // as in the types of newer versions of JavaScript, with which these merge: `using` closes a database
+    interface SymbolConstructor {
+        readonly dispose: unique symbol;
+    }
+    interface Disposable {
+        [Symbol.dispose](): void;
+    }
+}
+
 /**
  * How many checkers stand on the points 1 to 6 of the home board, the ace point first; the others of 15 are borne off.
- * Each count is a whole number from 0 to 255, and they are a position where they add up to at most 15.
+ * Six counts, each a whole number from 0 to 255, and they are a position where they add up to at most 15.
  */
-export type Position = readonly [number, number, number, number, number, number] | Uint8Array;
+export type Position = readonly number[] | Uint8Array;
 
 /** Six counts, the ace point first, in a list of the caller's own. */
 export type Counts = [number, number, number, number, number, number];
@@ -30,13 +40,26 @@ export interface Fraction {
     readonly denominator: bigint;
 }
 
+/** What `JSON.stringify` writes of a fraction: JSON has no bigint, so each is a text of its digits. */
+export interface FractionText {
+    readonly numerator: string;
+    readonly denominator: string;
+}
+
+/** An exact number that a call has answered. `JSON.stringify` takes it. */
+export interface Exact extends Fraction {
+    toJSON(): FractionText;
+}
+
 /** A number in thousandths: a whole number. */
 export interface Thousandths {
     readonly thousandths: number;
 }
 
 /** An exact number in lowest terms, and in thousandths, rounded to the nearest and a half up. */
-export interface Rounded extends Fraction, Thousandths {}
+export interface Rounded extends Exact, Thousandths {
+    toJSON(): FractionText & Thousandths;
+}
 
 /** One checker's move: from a point, 1 to 6, to a lower one, or to 0 where it is borne off. */
 export interface Move {
@@ -56,7 +79,7 @@ export interface Play {
  */
 export interface Choice {
     readonly to: Counts;
-    readonly loss: Fraction;
+    readonly loss: Exact;
 }
 
 /** The pip count of a position, 0 to 90, its checkers, 0 to 15, and how many of 15 are borne off. */
@@ -164,6 +187,9 @@ export class Bearoff {
     /** Lets go of the memory. Every later call is refused as `not-open`, but for another `close`, which does nothing. */
     close(): void;
 
+    /** The same as `close`, for `using`, where JavaScript has it. */
+    [Symbol.dispose](): void;
+
     /** Whether it wasn't closed. */
     readonly isOpen: boolean;
 
@@ -195,7 +221,7 @@ export class Bearoff {
      * The chances of being off in exactly 0 to 22 rolls, from a position of the database by the recorded plays: 23
      * fractions over 36^22, whose numerators add up to 36^22.
      */
-    distribution(position: Position): Fraction[];
+    distribution(position: Position): Exact[];
 
     /**
      * The chance of being off within a number of rolls, 0 or more, from a position of the database by the recorded plays,
@@ -231,7 +257,7 @@ export class Bearoff {
      * What a play to the position `to` costs, in rolls and in lowest terms, beside the best one. Refused as `play` is, and as
      * `not-legal`.
      */
-    loss(position: Position, roll: Roll, to: Position): Fraction;
+    loss(position: Position, roll: Roll, to: Position): Exact;
 
     /**
      * Every position that a roll can lead to from a position of the database, once, at most 1,296, the best first, and of

@@ -4,6 +4,7 @@ import {
 } from "./checks.js";
 import { Engine, OUTPUT_BYTES } from "./engine.js";
 import { BearoffError, refusal } from "./errors.js";
+import { Fraction } from "./fractions.js";
 
 // How many bytes the elements of a whole table have.
 const POSITION_BYTES = 6;
@@ -114,7 +115,7 @@ export class Database {
     distribution(position) {
         const engine = this.#askOf("distribution", "bearoff_distribution", position);
         return Array.from({ length: MOST_ROLLS + 1 }, (_, rolls) =>
-            ({ numerator: engine.wide(engine.output + 16 * rolls), denominator: WHOLE }));
+            new Fraction(engine.wide(engine.output + 16 * rolls), WHOLE));
     }
 
     within(position, rolls) {

@@ -1,6 +1,7 @@
 // One instance of the proved module: its memory, what lies where in it, and its calls. Every number here comes out of the
 // module; what is done is to hand over bytes and to read what came back.
 import { BearoffError, DamagedError, refusal } from "./errors.js";
+import { Fraction, Rounded } from "./fractions.js";
 
 const PAGE_BYTES = 65536;
 const LINE_BYTES = 256; // more than any line that asks something
@@ -194,12 +195,12 @@ export class Engine {
     }
 
     fractionAt(place) {
-        return { numerator: this.wide(place), denominator: this.wide(place + 16) };
+        return new Fraction(this.wide(place), this.wide(place + 16));
     }
 
     // A fraction with its thousandths behind it.
     roundedAt(place) {
-        return { numerator: this.wide(place), denominator: this.wide(place + 16), thousandths: this.number(place + 32) };
+        return new Rounded(this.wide(place), this.wide(place + 16), this.number(place + 32));
     }
 
     // A number of 64 bits that is small.

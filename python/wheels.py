@@ -1,5 +1,5 @@
 """Makes wheels of the package: for pip, whose build backend this is, and, with the library and the program in it, for
-tools/wheel.py. It needs Python alone, so neither a network nor another package, and writes into no folder but the one
+packaging/wheel.py. It needs Python alone, so neither a network nor another package, and writes into no folder but the one
 that it is given. Where SOURCE_DATE_EPOCH is set the times are that, so the same files give the same bytes."""
 import base64
 import hashlib

@@ -3,7 +3,7 @@
 // Chromium isn't installed it says so.
 import { createServer } from "node:http";
 import { extname } from "node:path";
-import { Browser, installed } from "../../tools/browser.mjs";
+import { Browser, installed } from "../../tests/page/browser.mjs";
 import { bytesOf, end, equal, linesOf, packageBytes, wrong } from "./given.mjs";
 
 const TYPES = { ".js": "text/javascript", ".wasm": "application/wasm", "/": "text/html; charset=utf-8" };

@@ -1,11 +1,11 @@
 // Positions as players have them: what is read, what is refused and by which line, that what is written is read as the same,
-// and what GNU Backgammon says of the same texts, where the folder has the file gnubg_says that tools/callers/ask_gnubg.py
+// and what GNU Backgammon says of the same texts, where the folder has the file gnubg_says that tests/callers/ask_gnubg.py
 // writes. notation.mjs PACKAGE PROGRAM FOLDER
 import { existsSync, readFileSync } from "node:fs";
 import { at, end, equal, partOf, wrong } from "./given.mjs";
 
 const { BearoffError, NoRaceError, fromGnubg, fromXgid, read, toGnubg, toXgid } = await partOf("notation.js");
-const texts = JSON.parse(readFileSync(new URL("../../tools/callers/notation_texts.json", import.meta.url), "utf8"));
+const texts = JSON.parse(readFileSync(new URL("../../tests/callers/notation_texts.json", import.meta.url), "utf8"));
 const CODES = ["malformed", "too-many", "bar", "outside", "contact", "other-side"];
 const SIX = [0, 0, 0, 0, 0, 1];
 const NONE = [0, 0, 0, 0, 0, 0];

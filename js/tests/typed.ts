@@ -1,6 +1,6 @@
 // What the types let through, and what they refuse: a line below @ts-expect-error that compiles is an error.
 import { asDoubles, asNumber, Bearoff, BearoffError, DamagedError, loadModule } from "bearoff";
-import type { Choice, Counts, Fraction, Play, Position, Roll, Rounded } from "bearoff";
+import type { Choice, Counts, Exact, Fraction, FractionText, Play, Position, Roll, Rounded } from "bearoff";
 import { fromGnubg, fromXgid, NoRaceError, read, toGnubg, toXgid } from "bearoff/notation";
 import type { GivenRace, NoRaceCode, OnRoll, Race } from "bearoff/notation";
 
@@ -18,6 +18,13 @@ const counts: Counts = database.position(database.rank(new Uint8Array([0, 0, 0, 
 const halves: BigUint64Array = database.means(0, 3);
 const doubles: Float64Array = asDoubles(halves);
 const texts: string[] = play.moves.map(({ from, to }) => `${from}/${to}`);
+const split: number[] = "0,0,0,0,0,1".split(",").map(Number);
+const effective: Rounded = database.epc(split);
+const share: Exact | undefined = database.distribution(split)[1];
+const digits: FractionText | undefined = share?.toJSON();
+const thousandths: number = mean.toJSON().thousandths;
+const closing: Disposable = await Bearoff.build(0);
+closing[Symbol.dispose]();
 const again: Bearoff = await Bearoff.open(database.upgrade(), { module: await loadModule() });
 
 const race: Race = read("xwQAgHY8AAAAAA:MAEFAAAAAAAE");
@@ -39,15 +46,20 @@ const refused: string = await Bearoff.open(new ArrayBuffer(3)).then(() => "none"
 const refusal: string = await Promise.resolve("").then(read).then(() => "none", named);
 const told = [notations.join(" "), pips, refusal,
     exact, mean.denominator, texts.join(" "), first?.to.join(), loss.numerator, counts.join(), doubles[1]?.toFixed(3), again.version,
-    again.wastage(six).thousandths, asNumber(again.distribution(six)[1]!).toFixed(2), refused];
+    again.wastage(six).thousandths, asNumber(again.distribution(six)[1]!).toFixed(2), refused,
+    effective.thousandths, digits?.numerator === `${share?.numerator}`, thousandths, JSON.stringify([mean, loss])];
 console.log(told.join("; "));
 
 // What doesn't compile, and is never called.
 export async function wrong(): Promise<void> {
-    // @ts-expect-error five counts
-    database.mean([0, 0, 0, 0, 1]);
-    // @ts-expect-error seven counts
-    database.mean([0, 0, 0, 0, 0, 0, 1]);
+    // @ts-expect-error a number
+    database.mean(6);
+    // @ts-expect-error texts in a list of the caller's
+    database.mean("0,0,0,0,0,1".split(","));
+    // @ts-expect-error a fraction as JSON has it is none
+    asNumber(mean.toJSON());
+    // @ts-expect-error nothing that closes it is handed over
+    database[Symbol.dispose](database);
     // @ts-expect-error a text
     database.mean("0,0,0,0,0,1");
     // @ts-expect-error a text among counts

@@ -11,31 +11,52 @@ library that this package calls, and so is what the library answers; this packag
 
 A position is six counts of checkers, that of the ace point first, or a text of them. A roll is its two dice,
 in either order. All numbers are exact: `fractions.Fraction`, in rolls, in pips, or a chance. Whole tables
-come as arrays, by rising rank, which `memoryview` and numpy read without a copy. `bearoff.notation` reads and
-writes positions as other programs have them.
+come as arrays, by rising rank, which `memoryview` and numpy read without a copy, exact or as floats, and
+`Database.ranks` finds the rows of many positions in them. `bearoff.notation` reads and writes positions as
+other programs have them. `grade`, and ``python -m bearoff grade``, tells what the bearoff plays of a match have
+lost.
 """
 
 from ._library import __version__
 from .database import Database
-from .errors import BadArgument, BearoffError, Changed, Damaged, NoLibrary, NoRace, Refused
+from .errors import (
+    BadArgument,
+    BadMatch,
+    BearoffError,
+    Changed,
+    Damaged,
+    NoLibrary,
+    NoRace,
+    OutOfRange,
+    Refused,
+)
 from .exact import WEIGHTS, WHOLE
-from .positions import Choice, EffectivePips, Move, Play, Position
+from .grading import Graded, GradedPlay, GradedPlayer, grade
+from .positions import Choice, EffectivePips, Move, Play, Position, Standing, Wastage
 
 __all__ = [
     "WEIGHTS",
     "WHOLE",
     "BadArgument",
+    "BadMatch",
     "BearoffError",
     "Changed",
     "Choice",
     "Damaged",
     "Database",
     "EffectivePips",
+    "Graded",
+    "GradedPlay",
+    "GradedPlayer",
     "Move",
     "NoLibrary",
     "NoRace",
+    "OutOfRange",
     "Play",
     "Position",
     "Refused",
+    "Standing",
+    "Wastage",
     "__version__",
+    "grade",
 ]

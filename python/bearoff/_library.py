@@ -33,6 +33,7 @@ SHARES = Struct("=46Q")
 PLAY = Struct("=8BB6B")
 RESULT = Struct("=6B2x4Q")
 COUNTS = Struct("=6B")
+STANDING = Struct("=3B")
 
 # rooms for one of them
 WideRoom = ctypes.c_char * WIDE.size
@@ -41,6 +42,7 @@ PipsRoom = ctypes.c_char * PIPS.size
 SharesRoom = ctypes.c_char * SHARES.size
 PlayRoom = ctypes.c_char * PLAY.size
 CountsRoom = ctypes.c_char * COUNTS.size
+StandingRoom = ctypes.c_char * STANDING.size
 
 
 class DatabaseStruct(ctypes.Structure):
@@ -84,7 +86,9 @@ _SHORT_CALLS: _Calls = {
     "mean": None,
     "epc": None,
     "distribution": None,
+    "standing": None,
     "play": (_POINTER, _POINTER, _BYTE, _BYTE, _POINTER),
+    "play_to": (_POINTER, _BYTE, _BYTE, _POINTER, _POINTER),
     "loss": (_POINTER, _POINTER, _BYTE, _BYTE, _POINTER, _POINTER),
     "results": (_POINTER, _POINTER, _BYTE, _BYTE, _POINTER, _SIZE, _POINTER),
     "answer_line": (_POINTER, _POINTER, _SIZE, _POINTER, _SIZE, _POINTER),

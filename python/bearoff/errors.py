@@ -1,16 +1,22 @@
 """The errors of this package. Each is a `BearoffError`, and so a ValueError.
 
-What the system refuses stays what Python says of it: OSError where a file can't be read, and MemoryError.
+What the system refuses stays what Python says of it: OSError where a file can't be read, and
+MemoryError.
 """
 
 from __future__ import annotations
 
+import re
 from typing import Tuple, Type
+
+_MOST_SHOWN = 100
 
 NOT_OPEN = 1
 TOO_MANY = 3
 OVER_BOUND = 4
+NOT_LEGAL = 6
 SHORT = 8
+NO_RANK = 10
 
 _REASONS = {
     NOT_OPEN: "the database is not open",
@@ -18,11 +24,11 @@ _REASONS = {
     TOO_MANY: "more than 15 checkers",
     OVER_BOUND: "more pips than the bound",
     5: "no checker is left",
-    6: "the roll doesn't lead there",
+    NOT_LEGAL: "the roll doesn't lead there",
     7: "the bytes were changed since they were checked",
     SHORT: "the room is too small",
     9: "the file is of version 2 already",
-    10: "the database has no position of that rank",
+    NO_RANK: "the database has no position of that rank",
 }
 
 
@@ -35,8 +41,8 @@ class BadArgument(BearoffError):
 
 
 class NoRace(BadArgument):
-    """A text is no bearoff race, or can't be read as one, or a race can't be written. `reason` is one of
-    `bearoff.notation.REASONS`; the message says what is wrong, and of which text.
+    """A text is no bearoff race, or can't be read as one, or a race can't be written. `reason` is
+    one of `bearoff.notation.REASONS`; the message says what is wrong, and of which text.
     """
 
     def __init__(self, reason: str, line: str) -> None:
@@ -48,12 +54,34 @@ class NoRace(BadArgument):
         return type(self), (self.reason, self.line)
 
 
-class Refused(BearoffError):
-    """The library gave no answer. `status` is the number that it gave instead, as in ``bearoff.h``.
+class BadMatch(BadArgument):
+    """A text is no match, or one that can't be replayed. `reason` is ``malformed``, where it isn't
+    written as matches are; ``illegal``, where a play can't be made on the board; ``turn``, where a
+    player rolls who can't; or ``variation``, where it is another game than backgammon. `line` is
+    the number of the line, from 1 on; the message has it, what is wrong, and the line.
+    """
 
-    The message says why, and what was asked: the database is closed, a position has more than 15 checkers
-    or more pips than the bound, a die isn't 1 to 6, no checker is left, the roll doesn't lead to the
-    position, or there is no position of that rank.
+    def __init__(self, reason: str, line: int, what: str, text: str = "") -> None:
+        shown = re.sub("[^ -~]", "?", " ".join(text.split()))
+        short = shown if len(shown) <= _MOST_SHOWN else shown[:_MOST_SHOWN] + "..."
+        told = re.sub("[^ -~]", "?", what)
+        super().__init__(f"line {line}: {told}: {short}" if short else f"line {line}: {told}")
+        self.reason = reason
+        self.line = line
+        self.what = what
+        self.text = text
+
+    def __reduce__(self) -> Tuple[Type[BadMatch], Tuple[str, int, str, str]]:
+        return type(self), (self.reason, self.line, self.what, self.text)
+
+
+class Refused(BearoffError):
+    """The library gave no answer. `status` is the number that it gave instead, as in
+    ``bearoff.h``.
+
+    The message says why, and what was asked: the database is closed, a position has more than 15
+    checkers or more pips than the bound, a die isn't 1 to 6, no checker is left, the roll doesn't
+    lead to the position, or there is no position of that rank.
     """
 
     def __init__(self, status: int, asked: str = "") -> None:
@@ -64,6 +92,10 @@ class Refused(BearoffError):
 
     def __reduce__(self) -> Tuple[Type[Refused], Tuple[int, str]]:
         return type(self), (self.status, self.asked)
+
+
+class OutOfRange(Refused, IndexError):
+    """A database was indexed by a rank that it hasn't."""
 
 
 class Damaged(BearoffError):

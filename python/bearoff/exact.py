@@ -2,33 +2,87 @@
 
 from __future__ import annotations
 
-from fractions import Fraction
+import fractions
+import re
+import sys
+from decimal import Decimal
 from math import gcd
+from typing import Any, Callable, Iterable, Iterator
 
 WHOLE = 36**22
 """The denominator of every number in a database: 36 throws, and at most 22 rolls."""
 
 WEIGHTS = (2.0**64 / WHOLE, 1.0 / WHOLE)
-"""What the high and the low half of a numerator over 36^22 count, as floats: the halves, each times its
-weight, add up to the number of rolls, or to the chance, with a relative error of less than 1e-15.
+"""What the high and the low half of a numerator over 36^22 count, as floats: the halves, each
+times its weight, add up to the number of rolls, or to the chance, with a relative error of less
+than 1e-15.
 """
 
+if sys.version_info >= (3, 12):
+    from fractions import Fraction as Fraction
+else:
+    _FIXED = re.compile(r".*?(?:\.([0-9]+))?([f%])", re.DOTALL | re.IGNORECASE)
 
-def share_of_whole(high: int, low: int) -> Fraction:
+    class Fraction(fractions.Fraction):
+        """A fraction of Python that `format` takes, as it takes every fraction from Python 3.12
+        on: with ``f`` and ``%`` rounded exactly, a half to the even digit, and with ``e`` and
+        ``g`` as the float that is near to it. What is computed with it by an operator can be
+        formatted too.
+        """
+
+        __slots__ = ()
+
+        def __format__(self, spec: str) -> str:
+            fixed = _FIXED.fullmatch(spec)
+            if not fixed:
+                if spec[-1:] in ("e", "E", "g", "G"):
+                    return format(float(self), spec)
+                return super().__format__(spec)
+            digits = int(fixed[1] or 6) + 2 * (fixed[2] == "%")
+            # all digits that are wanted and no more, so that what formats them has nothing to
+            # round
+            scaled = str(round(abs(self) * 10**digits))
+            sign = int(self.numerator < 0)
+            return format(Decimal((sign, tuple(map(int, scaled)), -digits)), spec)
+
+    def _kept(operator: Callable[..., Any]) -> Callable[..., Any]:
+        """An operator whose answer can be formatted, where it is a fraction."""
+
+        def kept(*operands: Any) -> Any:
+            told = operator(*operands)
+            if type(told) is fractions.Fraction:
+                return lowest_terms(told.numerator, told.denominator)
+            return told
+
+        return kept
+
+    for _name in ("add", "sub", "mul", "truediv", "mod", "pow"):
+        for _side in ("", "r"):
+            _operator = f"__{_side}{_name}__"
+            setattr(Fraction, _operator, _kept(getattr(fractions.Fraction, _operator)))
+    for _operator in ("__neg__", "__pos__", "__abs__", "__round__"):
+        setattr(Fraction, _operator, _kept(getattr(fractions.Fraction, _operator)))
+
+
+def share_of_whole(high: int, low: int) -> fractions.Fraction:
     """A numerator over 36^22."""
-    numerator = (high << 64) + low
+    return over_whole((high << 64) + low)
+
+
+def over_whole(numerator: int) -> fractions.Fraction:
+    """A numerator over 36^22."""
     common = gcd(numerator, WHOLE)
     return lowest_terms(numerator // common, WHOLE // common)
 
 
-def fraction_of(high: int, low: int, denominator_high: int, denominator_low: int) -> Fraction:
-    """A fraction that the library tells in lowest terms."""
-    return lowest_terms((high << 64) + low, (denominator_high << 64) + denominator_low)
+def fraction_of(high: int, low: int, below_high: int, below_low: int) -> fractions.Fraction:
+    """A fraction that the library tells in lowest terms, the halves of the denominator last."""
+    return lowest_terms((high << 64) + low, (below_high << 64) + below_low)
 
 
-def lowest_terms(numerator: int, denominator: int) -> Fraction:
-    """The fraction of two numbers without a common divisor, the second one over 0. `Fraction` itself would look
-    for a common divisor, which costs as much as all else that a query does.
+def lowest_terms(numerator: int, denominator: int) -> fractions.Fraction:
+    """The fraction of two numbers without a common divisor, the second one over 0. `Fraction`
+    itself would look for a common divisor, which costs as much as all else that a query does.
     """
     fraction = object.__new__(Fraction)
     try:
@@ -37,3 +91,8 @@ def lowest_terms(numerator: int, denominator: int) -> Fraction:
     except AttributeError:
         return Fraction(numerator, denominator)
     return fraction
+
+
+def wide_numbers(highs: Iterable[int], lows: Iterable[int]) -> Iterator[int]:
+    """The numbers of many halves."""
+    return ((high << 64) + low for high, low in zip(highs, lows))

@@ -8,15 +8,19 @@ from fractions import Fraction
 from itertools import islice
 from operator import index
 from reprlib import Repr
-from typing import Any, NamedTuple, Sequence, Tuple, Union
+from typing import Any, NamedTuple, Protocol, Sequence, SupportsIndex, Tuple, Union
 
 from .errors import BadArgument
 
-_TEXT = re.compile(r"(?:(?:0|[1-9][0-9]{0,2}),){5}(?:0|[1-9][0-9]{0,2})")
+_BLANKS = "[ \t\r\n\u00a0]*"
+_COUNT = f"{_BLANKS}(0|[1-9][0-9]{{0,2}}){_BLANKS}"
+_TEXT = re.compile(",".join([_COUNT] * 6))
+_ROLL = re.compile(f"{_BLANKS}([0-9]){_BLANKS}([0-9]){_BLANKS}")
+
 
 class Position(NamedTuple):
-    """How many checkers stand on each point of the home board, the ace point first; the others are borne
-    off. As a text it is the six counts, as in ``0,0,0,0,0,1``.
+    """How many checkers stand on each point of the home board, the ace point first; the others are
+    borne off. As a text it is the six counts, as in ``0,0,0,0,0,1``.
     """
 
     one: int
@@ -28,12 +32,13 @@ class Position(NamedTuple):
 
     @classmethod
     def parse(cls, text: str) -> Position:
-        """The position of a text of six counts, as a line of a query has it: commas between them, and no
-        spaces, signs or leading zeros. Raises `BadArgument` for any other text.
+        """The position of a text of six counts with commas between them, and blanks where they are
+        wanted; there are no signs and no leading zeros. Raises `BadArgument` for any other text.
         """
-        if not isinstance(text, str) or not _TEXT.fullmatch(text):
+        counts = _TEXT.fullmatch(text) if isinstance(text, str) else None
+        if not counts:
             raise BadArgument(f"not a position: {shown(text)}")
-        return cls._make(map(int, text.split(",")))
+        return cls._make(map(int, counts.groups()))
 
     def __str__(self) -> str:
         return ",".join(map(str, self))
@@ -56,11 +61,42 @@ class Move(NamedTuple):
     target: int
 
 
-class EffectivePips(NamedTuple):
-    """An effective pip count, in pips: 49/6 for each roll of the mean (the GNU Backgammon manual)."""
+class Rounded(NamedTuple):
+    """A number of pips: exact, and in thousandths, rounded to the nearest and a half up. `float`
+    and `format` take the exact one.
+    """
 
     exact: Fraction
     thousandths: int
+
+    def __float__(self) -> float:
+        return float(self.exact)
+
+    def __format__(self, spec: str) -> str:
+        return format(self.exact, spec) if spec else str(self)
+
+
+class EffectivePips(Rounded):
+    """An effective pip count, in pips: 49/6 for each roll of the mean (the GNU Backgammon manual).
+    """
+
+    __slots__ = ()
+
+
+class Wastage(Rounded):
+    """An effective pip count less the pip count, in pips."""
+
+    __slots__ = ()
+
+
+class Standing(NamedTuple):
+    """What a position stands at: its pip count, 0 to 90, its checkers, 0 to 15, and how many of 15
+    are borne off.
+    """
+
+    pips: int
+    checkers: int
+    off: int
 
 
 class Play(NamedTuple):
@@ -68,6 +104,13 @@ class Play(NamedTuple):
 
     moves: Tuple[Move, ...]
     to: Position
+
+    @property
+    def text(self) -> str:
+        """The moves as a player writes them: ``4/2 2/1``, and ``6/off`` where a checker is borne
+        off.
+        """
+        return " ".join(f"{source}/{target or 'off'}" for source, target in self.moves)
 
 
 class Choice(NamedTuple):
@@ -77,8 +120,34 @@ class Choice(NamedTuple):
     loss: Fraction
 
 
-AnyPosition = Union[str, Sequence[int]]
-"""What is taken as a position: a `Position`, six counts in a tuple or a list, or a text like ``0,0,0,0,0,1``."""
+class Numbers(Protocol):
+    """Whole numbers in an order: a tuple, a list, or an array of numpy in one dimension."""
+
+    def __len__(self) -> int: ...
+
+    def __getitem__(self, place: int, /) -> SupportsIndex: ...
+
+
+class Array(Protocol):
+    """What numpy takes as an array, as its own arrays and the frames of pandas."""
+
+    def __array__(self) -> Any: ...
+
+
+AnyPosition = Union[str, Numbers]
+"""What is taken as a position: a `Position`, six counts in a tuple, a list or an array, or a text
+like ``0,0,0,0,0,1``.
+"""
+
+AnyRoll = Union[str, Numbers]
+"""What is taken as a roll: its two dice in either order, in a tuple, a list or an array, or a text
+like ``21``.
+"""
+
+AnyPositions = Union[memoryview, Array, Sequence[AnyPosition]]
+"""What is taken as many positions: an array of numpy or a memoryview with six counts in each row,
+or any sequence of positions.
+"""
 
 
 # what `bytes` takes as its elements, and not as its content or its length
@@ -88,11 +157,12 @@ _LISTS = frozenset((tuple, list, Position))
 _MOST_COUNT = 999
 _BYTE = 255
 _MOST_RANK = 65535
+MOST_ROLLS = 22
 
 
 def counts_of(position: AnyPosition) -> bytes:
-    """The six counts as the library takes them, or `BadArgument`. A count that a byte can't hold becomes 255,
-    which is too many too.
+    """The six counts as the library takes them, or `BadArgument`. A count that a byte can't hold
+    becomes 255, which is too many too.
     """
     if type(position) in _LISTS:
         try:
@@ -114,11 +184,15 @@ def position_of(position: AnyPosition) -> Position:
     return Position._make(counts)
 
 
-def dice_of(roll: Sequence[int]) -> Tuple[int, int]:
-    """The two dice as the library takes them, or `BadArgument`. A number that a byte can't hold becomes 0,
-    which is none that a die shows.
+def dice_of(roll: AnyRoll) -> Tuple[int, int]:
+    """The two dice as the library takes them, or `BadArgument`. A number that a byte can't hold
+    becomes 0, which is none that a die shows.
     """
-    dice = _numbers(roll, 2)
+    if isinstance(roll, str):
+        digits = _ROLL.fullmatch(roll)
+        dice = tuple(map(int, digits.groups())) if digits else ()
+    else:
+        dice = _numbers(roll, 2)
     if not dice:
         raise BadArgument(f"not a roll of two dice: {shown(roll)}")
     one, other = (die if 0 <= die <= _BYTE else 0 for die in dice)
@@ -133,15 +207,24 @@ def shown(thing: object) -> str:
         return f"something of the type {type(thing).__name__}"
 
 
-def rank_of(rank: int) -> int:
-    """The rank as the library takes it, or `BadArgument`. One over 65,535 becomes 65,535, which no position
-    has either.
+def rank_of(rank: SupportsIndex) -> int:
+    """The rank as the library takes it, or `BadArgument`. One over 65,535 becomes 65,535, which no
+    position has either.
     """
     return min(number_of(rank, "a rank"), _MOST_RANK)
 
 
-def bound_of(bound: int) -> int:
-    """The pip bound as the library takes it, or `BadArgument`. One over 255 becomes 255, which is over 58 too."""
+def rolls_of(rolls: SupportsIndex) -> int:
+    """A number of rolls, or `BadArgument`. One over 22 becomes 22, within which all checkers are
+    off.
+    """
+    return min(number_of(rolls, "a number of rolls"), MOST_ROLLS)
+
+
+def bound_of(bound: SupportsIndex) -> int:
+    """The pip bound as the library takes it, or `BadArgument`. One over 255 becomes 255, which is
+    over 58 too.
+    """
     return min(number_of(bound, "a pip bound"), _BYTE)
 
 

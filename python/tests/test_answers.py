@@ -118,7 +118,7 @@ class Answers(unittest.TestCase):
         """They are in lowest terms, though no common divisor was looked for."""
         told = database(44).mean((1, 2, 3, 0, 2, 1))
         made = Fraction(told.numerator * 6, told.denominator * 6)
-        self.assertIs(type(told), Fraction)
+        self.assertIsInstance(told, Fraction)
         self.assertEqual((told, hash(told), repr(told), float(told)), (made, hash(made), repr(made), float(made)))
         self.assertEqual((told + 1, 2 * told, told < made + 1), (made + 1, 2 * made, True))
         for share in (told, *database(44).distribution("1,2,3,0,2,1"), database(44).epc("1,2,3,0,2,1").exact):

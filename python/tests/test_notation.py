@@ -1,6 +1,6 @@
 """Positions as players have them: what is read, what is refused, and what GNU Backgammon says of the same texts.
 
-BEAROFF_GNUBG names a file that tools/callers/ask_gnubg.py has written; without it the test asks GNU Backgammon itself,
+BEAROFF_GNUBG names a file that tests/callers/ask_gnubg.py has written; without it the test asks GNU Backgammon itself,
 and leaves the comparison out where there is none.
 """
 
@@ -22,7 +22,7 @@ from bearoff import BadArgument, BearoffError, NoRace, Position, notation
 from bearoff.notation import REASONS, OnRoll, Race, from_gnubg, from_xgid, read, to_gnubg, to_xgid
 
 ROOT = Path(__file__).parents[2]
-TEXTS = json.loads((ROOT / "tools/callers/notation_texts.json").read_text("utf-8"))
+TEXTS = json.loads((ROOT / "tests/callers/notation_texts.json").read_text("utf-8"))
 SIX = Position(0, 0, 0, 0, 0, 1)
 NONE = Position(0, 0, 0, 0, 0, 0)
 
@@ -36,7 +36,7 @@ def gnubg() -> Dict[str, List[Said]]:
     with tempfile.TemporaryDirectory() as folder:
         file = named or os.path.join(folder, "said")
         if not named:
-            run = subprocess.run([sys.executable, "-I", str(ROOT / "tools/callers/ask_gnubg.py"), file])
+            run = subprocess.run([sys.executable, "-I", str(ROOT / "tests/callers/ask_gnubg.py"), file])
             if run.returncode == 3:
                 return {}
         told: Dict[str, List[Said]] = json.loads(Path(file).read_text("ascii"))

@@ -175,7 +175,8 @@ class Threads(unittest.TestCase):
             here = Database.open(FOLDER / "race.db")
             most = (9, 0, 0, 0, 1, 5)
             plays = [here.play(most, (6, 5)), here.moves("3,3,3,3,0,0", (1, 1)), here.answer("moves 3,3,3,3,0,0 11")]
-            tables = [bytes(table()) for table in (here.positions, here.means, here.epcs, here.distributions)]
+            calls: List[Callable[[], memoryview]] = [here.positions, here.means, here.epcs, here.distributions]
+            tables = [bytes(call()) for call in calls]
             return plays, tables, here.epc(most), here.distribution(most), [here.mean(at) for at in positions(16)]
 
         first, *others = self.in_threads(*[answer] * 4)

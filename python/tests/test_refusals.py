@@ -5,7 +5,7 @@ import unittest
 from fractions import Fraction
 from typing import Any, Callable, Tuple, Type
 
-from bearoff import BadArgument, BearoffError, Changed, Damaged, Database, NoLibrary, Position, Refused
+from bearoff import BadArgument, BearoffError, Changed, Damaged, Database, NoLibrary, OutOfRange, Position, Refused
 
 from .given import FOLDER, database
 
@@ -54,19 +54,21 @@ NO_POSITIONS: Tuple[Any, ...] = (
     *((0.0,) * 6, (0, 0, 0, 0, 0, 1.0), [None] * 6, ("0",) * 6, (0, 0, 0, 0, 0, "1"), (Fraction(1),) * 6, (1j,) * 6),
     *(None, 0, 1, 6, 1.5, True, HUGE, object(), type, len, print, Ellipsis, float("nan")),
     *({0, 1, 2, 3, 4, 5}, frozenset(range(6)), {0: 0, 1: 0, 2: 0, 3: 0, 4: 0, 5: 0}, iter(SIX), (c for c in SIX)),
-    *("", " ", "0", "0,0,0,0,0", "0,0,0,0,0,0,0", "0,0,0,0,0,1 ", " 0,0,0,0,0,1", "0, 0, 0, 0, 0, 1", "0,0,0,0,0,1\n"),
+    *("", " ", "0", "0,0,0,0,0", "0,0,0,0,0,0,0", "0 0 0 0 0 1", "0,0,0,0,0,1 0", "0,0,0,0,0,1\f", "0,0,0,0,0,1\u2003"),
     *("0,0,0,0,0,-1", "0,0,0,0,0,+1", "0,0,0,0,0,01", "0,0,0,0,0,1000", "0,0,0,0,0,1.0", "0,0,0,0,0,", ",0,0,0,0,0"),
     *("0;0;0;0;0;1", "000001", "0,0,0,0,0,\u0661", "0,0,0,0,0,1\0", "\ud800", "a" * 10**6, "mean 0,0,0,0,0,1"),
     *(b"", b"0,0,0,0,0,1", bytearray(5), memoryview(bytes(48)), Long([1, 2]), Endless()),
 )
 
 NO_ROLLS: Tuple[Any, ...] = (
-    *((), (1,), (1, 2, 3), [1, 2, 3, 4], None, 21, 2.1, "21", "2-1", {1, 2}, {1: 2, 2: 1}, iter((2, 1))),
+    *((), (1,), (1, 2, 3), [1, 2, 3, 4], None, 21, 2.1, "2-1", {1, 2}, {1: 2, 2: 1}, iter((2, 1))),
     *((1.0, 2), ("2", "1"), (None, None), ((2, 1),), object(), b"", Long([1, 2])),
+    *("", "2", "211", "2,1", "-21", "+21", "2.1", "\u0662\u0661", "21 1", "b1"),
 )
 
 BAD_ROLLS: Tuple[Any, ...] = (
     *((0, 1), (1, 7), (-1, 2), (257, 258), (1, HUGE), [255, 255], (65537, 1), (2**64 + 1, 2), (False, 1)),
+    *("01", "17", "70", "99", " 2 7 "),
 )
 
 NO_RANKS: Tuple[Any, ...] = (-1, -HUGE, 1.0, None, "1", b"1", (1,), [1], object(), float("inf"), Fraction(1), 1j)
@@ -88,12 +90,15 @@ class Refusals(unittest.TestCase):
     def test_what_is_no_position(self) -> None:
         here = database(8)
         for wrong in NO_POSITIONS:
-            for call in (here.mean, here.epc, here.distribution, here.rank, here.__contains__):
+            for call in (here.mean, here.epc, here.wastage, here.distribution, here.rank, here.standing):
                 self.bad(call, wrong)
+            self.assertIs(wrong in here, False)
             self.bad(here.play, wrong, (2, 1))
             self.bad(here.moves, wrong, (2, 1))
-            self.bad(here.loss, wrong, (2, 1), SIX)
-            self.bad(here.loss, SIX, (2, 1), wrong)
+            self.bad(here.within, wrong, 1)
+            for with_target in (here.loss, here.play_to):
+                self.bad(with_target, wrong, (2, 1), SIX)
+                self.bad(with_target, SIX, (2, 1), wrong)
         for wrong in (text for text in NO_POSITIONS if isinstance(text, (str, bytes, type(None), int))):
             self.bad(Position.parse, wrong)
 
@@ -103,10 +108,12 @@ class Refusals(unittest.TestCase):
             self.bad(here.play, SIX, wrong)
             self.bad(here.moves, SIX, wrong)
             self.bad(here.loss, SIX, wrong, SIX)
+            self.bad(here.play_to, SIX, wrong, SIX)
         for wrong in BAD_ROLLS:
             self.refused(2, here.play, SIX, wrong)
             self.refused(2, here.moves, SIX, wrong)
             self.refused(2, here.loss, SIX, wrong, SIX)
+            self.refused(2, here.play_to, SIX, wrong, SIX)
 
     def test_what_is_no_rank(self) -> None:
         for wrong in NO_RANKS:
@@ -115,6 +122,26 @@ class Refusals(unittest.TestCase):
             self.refused(10, database(8).position, beyond)
         self.assertIn("46062", self.refused(10, database(58).position, 46062))
         self.assertEqual(database(8).position(True), (1, 0, 0, 0, 0, 0))
+
+    def test_what_is_no_number_of_rolls(self) -> None:
+        here = database(8)
+        for wrong in NO_RANKS:
+            self.bad(here.within, SIX, wrong)
+            self.bad(here.withins, wrong)
+        for many in (22, 23, 255, 256, 2**64, HUGE):
+            self.assertEqual(here.within(SIX, many), 1)
+            self.assertEqual(set(here.withins(many, floats=True)), {1.0})
+        self.refused(3, here.within, "16,0,0,0,0,0", 1)
+
+    def test_an_index_that_is_none(self) -> None:
+        here = database(8)
+        for beyond in (64, 65, 65536, HUGE, -65, -66, -HUGE):
+            with self.assertRaises(IndexError) as missing:
+                here[beyond]
+            self.assertIsInstance(missing.exception, OutOfRange)
+            self.assertEqual(self.refused(10, here.__getitem__, beyond), str(missing.exception))
+        for wrong in (1.0, None, "1", b"1", (1,), [1], object(), float("inf"), Fraction(1), 1j):
+            self.bad(here.__getitem__, wrong)
 
     def test_what_is_no_bound(self) -> None:
         for wrong in (*NO_RANKS, "44", (44,)):
@@ -141,7 +168,7 @@ class Refusals(unittest.TestCase):
 
     def test_positions_that_have_no_answer(self) -> None:
         here = database(8)
-        for call in (here.mean, here.epc, here.distribution, here.rank):
+        for call in (here.mean, here.epc, here.wastage, here.distribution, here.rank):
             told = self.refused(3, call, (1, 15, 0, 0, 0, 0))
             self.assertEqual(told, "more than 15 checkers: 1,15,0,0,0,0")
             ways: Tuple[Any, ...] = ((255,) * 6, (256,) * 6, [999] * 6, "16,0,0,0,0,0", "0,0,0,0,0,999")
@@ -159,10 +186,14 @@ class Refusals(unittest.TestCase):
             self.refused(3, call, (256,) * 6, (2, 1))
         told = self.refused(6, here.loss, SIX, (2, 1), "1,0,0,0,0,0")
         self.assertEqual(told, "the roll doesn't lead there: 0,0,0,0,0,1 with (2, 1) to 1,0,0,0,0,0")
-        self.refused(3, here.loss, SIX, (2, 1), (16, 0, 0, 0, 0, 0))
+        told = self.refused(6, here.play_to, SIX, "21", "1,0,0,0,0,0")
+        self.assertEqual(told, "the roll doesn't lead there: 0,0,0,0,0,1 with '21' to 1,0,0,0,0,0")
+        for with_target in (here.loss, here.play_to):
+            self.refused(3, with_target, SIX, (2, 1), (16, 0, 0, 0, 0, 0))
+        self.refused(3, here.standing, (255,) * 6)
         for outside in ((1, 15, 0, 0, 0, 0), "0,0,1,0,0,1", (255,) * 6):
             self.assertNotIn(outside, here)
-        self.assertEqual(here.mean(Angry()), 0)  # type: ignore[arg-type]
+        self.assertEqual(here.mean(Angry()), 0)
 
     def test_a_message_of_what_can_not_be_shown(self) -> None:
         class Silent:
@@ -199,12 +230,21 @@ class Refusals(unittest.TestCase):
         here.close()
         here.close()
         self.assertTrue(here.closed)
-        for call in (here.mean, here.epc, here.distribution, here.rank, here.__contains__):
+        for call in (here.mean, here.epc, here.wastage, here.distribution, here.rank, here.__contains__):
             self.refused(1, call, SIX)
+        for wrong in ("abc", None, HUGE):
+            self.refused(1, here.__contains__, wrong)
+        self.refused(1, here.within, SIX, 1)
+        self.refused(1, here.ranks, [SIX])
+        for place in (0, -1, 99, slice(2)):
+            self.refused(1, here.__getitem__, place)
+        self.assertEqual((here.standing(SIX).pips, here.play_to(SIX, "65", (0,) * 6).text), (6, "6/off"))
         with_roll: Calls = (here.play, here.moves)
         for call in with_roll:
             self.refused(1, call, SIX, (2, 1))
-        for ask in (here.positions, here.means, here.epcs, here.distributions, here.upgrade, here.__enter__):
+        tables: Calls = (here.positions, here.means, here.epcs, here.wastages, here.distributions)
+        asks: Calls = (*tables, lambda: here.withins(3), here.upgrade, here.__enter__)
+        for ask in asks:
             self.refused(1, ask)
         any_of_it: Calls = (len, iter, bytes, list, pickle.dumps)
         for every in any_of_it:
@@ -218,10 +258,11 @@ class Refusals(unittest.TestCase):
         self.assertTrue(here)
 
     def test_errors_are_of_one_family_and_can_be_pickled(self) -> None:
-        kinds: Tuple[Type[BearoffError], ...] = (BadArgument, Refused, Damaged, Changed, NoLibrary)
+        kinds: Tuple[Type[BearoffError], ...] = (BadArgument, Refused, OutOfRange, Damaged, Changed, NoLibrary)
         for kind in kinds:
             self.assertTrue(issubclass(kind, BearoffError) and issubclass(kind, ValueError))
-        errors = (Refused(3, "16,0,0,0,0,0"), Damaged(26, "mean rank 1"), BadArgument("x"), Changed("y"), NoLibrary("z"))
+        errors: Tuple[BearoffError, ...] = (Refused(3, "16,0,0,0,0,0"), Damaged(26, "mean rank 1"), BadArgument("x"))
+        errors += (Changed("y"), NoLibrary("z"), OutOfRange(10, "64"))
         for error in errors:
             again = pickle.loads(pickle.dumps(error))
             self.assertEqual((type(again), str(again), vars(again)), (type(error), str(error), vars(error)))

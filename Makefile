@@ -1,0 +1,89 @@
+# What is made here, and of what. `make` alone says what there is. What proofs leave stands in out/
+# of each crate; what is made to be taken away, in out/.
+
+SHELL := bash
+# no source is made of another by a rule that make knows
+MAKEFLAGS += --no-builtin-rules
+.SUFFIXES:
+OUT ?= out
+PREFIX ?= /usr/local
+ARCHIVE ?= crates/bearoff_c/out/libbearoff.a
+VERSION := $(shell cat VERSION)
+
+SOURCES := crates.txt $(shell find crates -name out -prune -o -type f -print)
+PROVED := crates/bearoff_cli/out/fresh
+MODULES := $(OUT)/modules/wide.wasm $(OUT)/modules/narrow.wasm
+PAGE := $(OUT)/bearoff.html
+PACKAGE := $(OUT)/js/bearoff-$(VERSION).tgz
+
+TESTED := $(OUT)/tested/ready
+
+WORK_PAGE := $(OUT)/work.html
+
+.PHONY: help needs prove library page work-page js tested install uninstall release
+.PHONY: test test-python test-node
+.DELETE_ON_ERROR:
+
+help:
+	@echo 'make needs              installs what the tests and the packaging need from Debian'
+	@echo 'make prove              proves and builds the program'
+	@echo 'make test               all tests; pytest tests -k WORD runs those of a name'
+	@echo 'make page               $(PAGE)'
+	@echo 'make work-page          $(WORK_PAGE), the same with source maps, for work on it'
+	@echo 'make js                 $(PACKAGE)'
+	@echo 'make install            into PREFIX ($(PREFIX)), below DESTDIR where that is set'
+	@echo 'make uninstall          takes that away'
+	@echo 'make release DIR=DIR    the files of a release, in a new folder'
+
+needs:
+	tests/needs.py
+
+# proved by `./bearoff --prove` or `rt ci`, and as old as the start of that
+prove: $(PROVED)
+$(PROVED): $(SOURCES)
+	./bearoff --prove $(if $(JOBS),--jobs $(JOBS))
+	@[ $@ -nt .git/rt-ci.lock ] || touch -r .git/rt-ci.lock $@
+
+# only asked, by `make --question`, whether no source has changed since
+crates/bearoff_c/out/fresh .git/rt-ci.lock: $(SOURCES)
+	@echo 'a source has changed since $@ was made' >&2; exit 1
+
+library: $(ARCHIVE)
+$(ARCHIVE): $(SOURCES)
+	packaging/archive $@
+
+page: $(PAGE)
+work-page: $(WORK_PAGE)
+$(PAGE) $(WORK_PAGE): $(MODULES) $(wildcard web/*) $(wildcard js/*.js) VERSION packaging/page.py
+	/usr/bin/python3 -I packaging/page.py web $(OUT)/modules VERSION $@ \
+		$(if $(filter %/work.html,$@),--maps)
+
+$(MODULES) &: $(SOURCES) packaging/modules
+	packaging/modules $(OUT)/modules
+
+js: $(PACKAGE)
+$(PACKAGE): $(MODULES) $(wildcard js/*.js js/*.d.ts js/*.json) js/README.md VERSION packaging/js
+	packaging/js $(OUT)/modules $(OUT)/js
+
+install:
+	DESTDIR='$(DESTDIR)' packaging/install '$(PREFIX)'
+
+uninstall:
+	DESTDIR='$(DESTDIR)' packaging/uninstall '$(PREFIX)'
+
+release:
+	packaging/release '$(DIR)'
+
+# what the tests under node compare with
+tested: $(TESTED)
+$(TESTED): $(PROVED) tests/page/prepare tests/callers/questions.py tests/callers/ask_gnubg.py
+	tests/page/prepare crates/bearoff_cli/out/bearoff_cli $(@D)
+	@touch $@
+
+test: test-python test-node
+
+test-python: prove library
+	pytest -n 4 --dist loadgroup tests
+
+test-node: prove page js tested
+	node --test --test-concurrency=1 tests/page

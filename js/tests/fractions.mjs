@@ -1,0 +1,88 @@
+// Exact numbers as objects and in JSON, lists that are taken as positions, and `using`, which closes a database.
+// fractions.mjs PACKAGE PROGRAM FOLDER
+import { createRequire } from "node:module";
+import { resolve } from "node:path";
+import { bytesOf, end, equal, partOf, wrong } from "./given.mjs";
+
+const { Bearoff, BearoffError, asNumber } = await partOf("bearoff.js");
+const database = await Bearoff.open(bytesOf("eight"));
+const SIX = [0, 0, 0, 0, 0, 1];
+
+// What JSON has of a fraction is its digits, which lead back to it.
+function comparedInJson(name, fraction) {
+    const told = JSON.parse(JSON.stringify(fraction));
+    equal(`${name}, the numerator in JSON`, told.numerator, fraction.numerator.toString());
+    equal(`${name}, the denominator in JSON`, told.denominator, fraction.denominator.toString());
+    equal(`${name}, what JSON has`, Object.keys(told).join(), Object.keys(fraction).join());
+    equal(`${name}, in thousandths`, told.thousandths, fraction.thousandths);
+    const again = { ...told, numerator: BigInt(told.numerator), denominator: BigInt(told.denominator) };
+    equal(`${name}, and back`, asNumber(again), asNumber(fraction));
+    equal(`${name}, as the module takes it`, database.thousandths(again), database.thousandths(fraction));
+    equal(`${name}, cloned`, structuredClone(fraction).numerator, fraction.numerator);
+}
+
+for (let rank = 0; rank < database.positionCount; rank++) {
+    const position = database.position(rank);
+    comparedInJson(`the mean of ${position}`, database.mean(position));
+    comparedInJson(`the effective pip count of ${position}`, database.epc(position));
+    for (const share of database.distribution(position)) comparedInJson(`a share of ${position}`, share);
+    if (rank === 0) continue;
+    for (const { to, loss } of database.moves(position, [2, 1])) {
+        comparedInJson(`the loss of ${position} to ${to}`, loss);
+        comparedInJson(`the loss of ${position} to ${to}, by its call`, database.loss(position, [1, 2], to));
+    }
+}
+equal("a mean in JSON", JSON.stringify(database.mean(SIX)), '{"numerator":"5","denominator":"4","thousandths":1250}');
+equal("a loss in JSON", JSON.stringify(database.loss([0, 0, 0, 2, 0, 0], [2, 1], [0, 1, 1, 0, 0, 0])), '{"numerator":"1","denominator":"9"}');
+equal("choices in JSON", JSON.stringify(database.moves([1, 0, 0, 0, 0, 0], [2, 1])), '[{"to":[0,0,0,0,0,0],"loss":{"numerator":"0","denominator":"1"}}]');
+equal("what a fraction has", JSON.stringify(Object.keys(database.mean(SIX))), '["numerator","denominator","thousandths"]');
+
+// a fraction of JSON is none, and neither is a number
+for (const given of [JSON.parse(JSON.stringify(database.mean(SIX))), 1.25, null]) {
+    let name = "none";
+    try {
+        database.thousandths(given);
+    } catch (error) {
+        name = error.name;
+    }
+    equal(`the thousandths of ${JSON.stringify(given)}`, name, "TypeError");
+}
+
+// lists of six numbers, whatever kind they are of
+for (const kind of [Array, Uint8Array, Int8Array, Uint16Array, Int32Array, Float64Array]) {
+    equal(`a list of the kind ${kind.name}`, asNumber(database.mean(kind.from(SIX))), 1.25);
+}
+equal("a list that is split", asNumber(database.mean("0,0,0,0,0,1".split(",").map(Number))), 1.25);
+for (const list of [[], [1], SIX.slice(1), [...SIX, 0], ["0", "0", "0", "0", "0", "1"], "0,0,0,0,0,1"]) {
+    let name = "none";
+    try {
+        database.mean(list);
+    } catch (error) {
+        name = error.name;
+    }
+    equal(`the list ${JSON.stringify(list)}`, name, "TypeError");
+}
+
+if (Symbol.dispose) {
+    const other = await Bearoff.open(bytesOf("eight"));
+    equal("what closes a database", other[Symbol.dispose], other.close);
+    other[Symbol.dispose]();
+    equal("a database that was closed so", other.isOpen, false);
+    let code = "none";
+    try {
+        other.mean(SIX);
+    } catch (error) {
+        code = error instanceof BearoffError ? error.code : error.name;
+    }
+    equal("what it answers then", code, "not-open");
+}
+
+// what CommonJS is given is the package itself, where this node can give it that
+const [major, minor] = process.versions.node.split(".").map(Number);
+if (major > 22 || (major === 22 && minor >= 12) || (major === 20 && minor >= 19)) {
+    const required = createRequire(import.meta.url)(resolve(process.argv[2], "bearoff.js"));
+    equal("what is required", required.Bearoff, Bearoff);
+} else if (major >= 20) {
+    wrong(`the page says from which node on it can be required, and not that of ${process.versions.node}`);
+}
+end();

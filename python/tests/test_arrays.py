@@ -1,0 +1,334 @@
+"""Many positions at once: ranks of arrays and of sequences, and the tables as floats and as exact
+halves. What needs numpy is left out where that is missing.
+"""
+
+import importlib
+import itertools
+import random
+import sys
+import unittest
+from array import array
+from fractions import Fraction
+from typing import Any, Iterable, Iterator, List, Sequence, Tuple
+from unittest import mock
+
+from bearoff import WHOLE, BadArgument, Database, Position, Refused
+from bearoff.ranking import Ranks
+
+from .given import ROLLS, database, positions, text
+
+try:
+    numpy: Any = importlib.import_module("numpy")
+except ImportError:
+    numpy = None
+
+KINDS = ("uint8", "int8", "uint16", "int16", "uint32", "int32", "uint64", "int64")
+# how many rows an array may have: none, one, and what is about a block of rows
+SIZES = (0, 1, 2, 7, 8191, 8192, 8193, 16384, 20000)
+
+
+def every() -> Iterator[Tuple[int, ...]]:
+    """All 54,264 positions of at most 15 checkers."""
+
+    def lists(left: int, points: int) -> Iterator[Tuple[int, ...]]:
+        if points == 0:
+            yield ()
+            return
+        for count in range(left + 1):
+            for rest in lists(left - count, points - 1):
+                yield (count, *rest)
+
+    return lists(15, 6)
+
+
+def pips(counts: Sequence[int]) -> int:
+    return sum(point * count for point, count in enumerate(counts, 1))
+
+
+def exact(table: memoryview) -> List[Fraction]:
+    """The numbers of a table of numerators over 36^22, or of fractions with thousandths."""
+    flat = table.cast("B").cast("Q").tolist()
+    if table.shape and table.shape[-1] == 5:
+        rows = [flat[at : at + 5] for at in range(0, len(flat), 5)]
+        return [Fraction((row[0] << 64) + row[1], (row[2] << 64) + row[3]) for row in rows]
+    return [Fraction((high << 64) + low, WHOLE) for high, low in zip(flat[::2], flat[1::2])]
+
+
+class Rows(unittest.TestCase):
+    """A test that compares many rows, and tells the first one that differs."""
+
+    def same(self, told: Iterable[Any], wanted: Iterable[Any]) -> None:
+        for place, (is_told, is_wanted) in enumerate(itertools.zip_longest(told, wanted)):
+            if is_told != is_wanted:
+                self.fail(f"row {place} is {is_told} and not {is_wanted}")
+
+
+class RanksOfRows(Rows):
+    def refused(self, rows: Any, status: int, line: str, bound: int = 8) -> None:
+        with self.assertRaises(Refused) as refused:
+            database(bound).ranks(rows)
+        self.assertEqual((refused.exception.status, str(refused.exception)), (status, line))
+
+    def bad(self, rows: Any, line: str = "") -> None:
+        with self.assertRaises(BadArgument) as refused:
+            database(8).ranks(rows)
+        self.assertIn(line, str(refused.exception))
+
+    def test_every_position(self) -> None:
+        """The rank of each is the one that `rank` tells, and what has none is refused as `rank`
+        refuses it.
+        """
+        here = database(58)
+        all_of_them = list(every())
+        self.assertEqual(len(all_of_them), 54264)
+        inside = [counts for counts in all_of_them if pips(counts) <= 58]
+        ranks = here.ranks(inside)
+        self.assertEqual((ranks.format, ranks.shape, len(inside)), ("H", (46062,), 46062))
+        self.same(ranks.tolist(), [here.rank(counts) for counts in inside])
+        for counts in all_of_them:
+            if pips(counts) > 58:
+                self.refused([inside[0], counts], 4, f"more pips than the bound: {text(counts)} in row 1", 58)
+
+    def test_each_way_to_give_positions(self) -> None:
+        here, rows = database(8), positions(8)
+        wanted = list(range(64))
+        ways: List[Any] = [rows, [list(row) for row in rows], [text(row) for row in rows], tuple(rows), list(here)]
+        ways += [[bytes(row) for row in rows], here.positions(), here, [Position(*row) for row in rows]]
+        for way in ways:
+            self.assertEqual(here.ranks(way).tolist(), wanted)
+        self.assertEqual(here.ranks(iter(rows)).tolist(), wanted)  # type: ignore[arg-type]
+        for size in SIZES:
+            some = [rows[at % 64] for at in range(size)]
+            self.same(here.ranks(some).tolist(), [at % 64 for at in range(size)])
+
+    def test_refused(self) -> None:
+        six, none = (0, 0, 0, 0, 0, 1), (0,) * 6
+        self.refused([six, none, (0, 0, 0, 0, 0, 16)], 3, "more than 15 checkers: 0,0,0,0,0,16 in row 2")
+        self.refused([six, (1, 15, 0, 0, 0, 0)], 3, "more than 15 checkers: 1,15,0,0,0,0 in row 1")
+        self.refused([(999,) * 6], 3, "more than 15 checkers: 999,999,999,999,999,999 in row 0")
+        self.refused([(1, 0, 0, 2, 0, 0), "9,0,0,0,0,0"], 4, "more pips than the bound: 1,0,0,2,0,0 in row 0")
+        for rows in ([six, (1,) * 5], [six, None], [six, "x"], [six, (0, 0, 0, 0, 0, -1)], [six, (0.0,) * 6], [six, 7]):
+            self.bad(rows, "in row 1")
+        for rows in (None, 5, 1.5, "0,0,0,0,0,1", b"\0" * 6, bytearray(6), object, memoryview(bytes(6)), {1: 2}, six):
+            self.bad(rows)
+
+    def test_a_table_of_its_own(self) -> None:
+        """What is changed in a table that was given away changes no rank, and copies may be
+        closed.
+        """
+        here = Database.build(8)
+        table: Any = here.positions()
+        table[0, 0] = 7
+        ranks: Any = here.ranks([(0,) * 6])
+        ranks[0] = 9
+        self.assertEqual(here.ranks([(0,) * 6]).tolist(), [0])
+
+    @unittest.skipIf(numpy is None, "numpy is missing")
+    def test_arrays(self) -> None:
+        chance = random.Random(1)
+        for bound in (8, 44, 58):
+            here, rows = database(bound), positions(bound)
+            for kind in KINDS:
+                for size in SIZES if kind in ("uint8", "int64") else (9, 8193):
+                    wanted = [chance.randrange(len(rows)) for _ in range(size)]
+                    table = numpy.array([rows[rank] for rank in wanted], kind).reshape(-1, 6)
+                    ranks = here.ranks(table)
+                    self.assertEqual((ranks.format, ranks.shape), ("H", (size,)))
+                    self.same(ranks.tolist(), wanted)
+            inside = numpy.array([counts for counts in every() if pips(counts) <= bound])
+            self.same(here.ranks(inside).tolist(), [here.rank(counts) for counts in inside.tolist()])
+            wide = numpy.zeros((100, 12), "int32")
+            wide[:, ::2] = numpy.asarray(rows[:100] if bound > 8 else rows[:50] * 2)
+            for way in (wide[:, ::2], numpy.asfortranarray(wide[:, ::2]), wide[::-1, ::2][::-1]):
+                self.same(here.ranks(way).tolist(), [here.rank(row) for row in wide[:, ::2].tolist()])
+        self.assertEqual(database(8).ranks(numpy.eye(6, dtype=bool)[:, ::-1]).tolist(), [database(8).rank(row) for row in numpy.eye(6, dtype=int)[:, ::-1].tolist()])
+        self.assertEqual(database(8).ranks(numpy.array([[0, 0, 0, 0, 0, 1]], object)).tolist(), [database(8).rank("0,0,0,0,0,1")])
+
+    @unittest.skipIf(numpy is None, "numpy is missing")
+    def test_arrays_that_are_refused(self) -> None:
+        """The first row that has no rank is named, in whatever block it stands, with all that a
+        count can be.
+        """
+        for kind in KINDS:
+            most = numpy.iinfo(kind).max
+            for size, place in ((1, 0), (8192, 8191), (8193, 8192), (20000, 12345)):
+                table = numpy.zeros((size, 6), kind)
+                table[place, 2] = 16
+                table[size - 1, 3] = most
+                first = table[place].tolist()
+                line = f"more than 15 checkers: {text([min(count, 999) for count in first])} in row {place}"
+                if max(first) > 999:
+                    self.bad(table, f"in row {place}")
+                else:
+                    self.refused(table, 3, line)
+            for count in {16, 17, 32, 48, 64, 100, 127, most}:
+                for point in range(6):
+                    table = numpy.zeros((3, 6), kind)
+                    table[1, point] = count
+                    with self.assertRaises((Refused, BadArgument)) as refused:
+                        database(58).ranks(table)
+                    self.assertIn("in row 1", str(refused.exception))
+            for counts in ((15, 1, 0, 0, 0, 0), (0, 0, 1, 15, 0, 0), (8, 0, 0, 0, 0, 8), (0, 0, 15, 15, 0, 0), (15,) * 6):
+                self.refused(numpy.array([counts], kind), 3, f"more than 15 checkers: {text(counts)} in row 0", 58)
+            self.refused(numpy.array([(0, 0, 0, 0, 9, 6)], kind), 4, "more pips than the bound: 0,0,0,0,9,6 in row 0", 58)
+        for kind in ("int8", "int16", "int32", "int64"):
+            for point, count in itertools.product(range(6), (-1, -16, -128)):
+                table = numpy.zeros((2, 6), kind)
+                table[1, point] = count
+                self.bad(table, "in row 1")
+        wrong = [numpy.zeros((2, 6)), numpy.zeros((2, 5), int), numpy.zeros((2, 7), int), numpy.zeros(6, int)]
+        wrong += [numpy.zeros((2, 6, 1), int), numpy.zeros((2, 6), complex), numpy.array([["0"] * 6])]
+        for table in [*wrong, numpy.zeros((), int), numpy.zeros((2, 6), "datetime64[s]")]:
+            self.bad(table, "not an array of six whole numbers in each row")
+
+    @unittest.skipIf(numpy is None, "numpy is missing")
+    def test_tables_by_rank(self) -> None:
+        here = database(44)
+        rows = [random.Random(3).choice(positions(44)) for _ in range(500)]
+        ranks = numpy.asarray(here.ranks(numpy.array(rows)))
+        self.same(numpy.asarray(here.positions())[ranks].tolist(), [list(row) for row in rows])
+        means = numpy.asarray(here.means(floats=True))[ranks]
+        self.same(means.tolist(), [float(here.mean(row)) for row in rows])
+        wastages = numpy.asarray(here.wastages(floats=True))[ranks]
+        self.same(wastages.tolist(), [float(here.wastage(row)) for row in rows])
+        withins = numpy.asarray(here.withins(7, floats=True))[ranks]
+        self.same(withins.tolist(), [float(here.within(row, 7)) for row in rows])
+
+    def test_without_numpy(self) -> None:
+        """Rows are looked up one by one where numpy isn't loaded, with the same answers and
+        refusals.
+        """
+        with mock.patch.dict(sys.modules):
+            sys.modules.pop("numpy", None)
+            here = Database.build(8)
+            self.assertEqual(here.ranks(here.positions()).tolist(), list(range(64)))
+            wide = memoryview(array("q", [0, 0, 0, 0, 0, 1, 1, 0, 0, 0, 0, 0])).cast("B").cast("q", (2, 6))
+            self.assertEqual(here.ranks(wide).tolist(), [here.rank("0,0,0,0,0,1"), 1])
+            with self.assertRaises(Refused) as refused:
+                here.ranks(memoryview(bytes([0] * 6 + [1, 15, 0, 0, 0, 0])).cast("B", (2, 6)))
+            self.assertEqual(str(refused.exception), "more than 15 checkers: 1,15,0,0,0,0 in row 1")
+            for wrong in (memoryview(bytes(12)).cast("B", (2, 3, 2)), memoryview(bytes(10)).cast("B", (2, 5)), memoryview(bytes(6))):
+                self.assertRaises(BadArgument, here.ranks, wrong)
+        self.assertIsInstance(Ranks(here.positions()), Ranks)
+
+
+class Floats(Rows):
+    def test_each_is_the_nearest_to_the_exact_number(self) -> None:
+        for bound in (8, 58):
+            here, count = database(bound), len(positions(bound))
+            for table, floats in (
+                (here.means(), here.means(floats=True)),
+                (here.epcs(), here.epcs(floats=True)),
+                (here.wastages(), here.wastages(floats=True)),
+                *((here.withins(rolls), here.withins(rolls, floats=True)) for rolls in (0, 1, 5, 7, 21, 22)),
+            ):
+                self.assertEqual((floats.format, floats.shape, floats.c_contiguous), ("d", (count,), True))
+                self.same(floats.tolist(), [float(number) for number in exact(table)])
+            shares = here.distributions(floats=True)
+            self.assertEqual((shares.format, shares.shape), ("d", (count, 23)))
+            flat = shares.cast("B").cast("d").tolist()
+            self.same(flat, [float(number) for number in exact(here.distributions())])
+
+    def test_wastages(self) -> None:
+        """They are the effective pip counts less the pip counts, in lowest terms, and so are the
+        thousandths.
+        """
+        here, rows = database(58), positions(58)
+        table, epcs = here.wastages(), exact(here.epcs())
+        self.assertEqual((table.format, table.shape), ("Q", (46062, 5)))
+        told = exact(table)
+        self.same(told, [epc - pips(row) for epc, row in zip(epcs, rows)])
+        flat, of_epcs = table.cast("B").cast("Q").tolist(), here.epcs().cast("B").cast("Q").tolist()
+        self.same(flat[4::5], [told - 1000 * pips(row) for told, row in zip(of_epcs[4::5], rows)])
+        self.same(flat[2::5], of_epcs[2::5])
+        self.same(flat[3::5], of_epcs[3::5])
+        denominators = [(high << 64) + low for high, low in zip(flat[2::5], flat[3::5])]
+        self.same([number.denominator for number in told], denominators)
+        self.assertEqual((min(told), told[0]), (0, 0))
+        chance = random.Random(4)
+        for rank in [0, 1, 6, *(chance.randrange(46062) for _ in range(1000))]:
+            wastage = here.wastage(rows[rank])
+            self.assertEqual((wastage.exact, wastage.thousandths), (told[rank], flat[5 * rank + 4]))
+        self.assertEqual(here.wastage("0,0,0,0,0,1"), (Fraction(101, 24), 4208))
+
+    def test_withins(self) -> None:
+        for bound in (8, 44):
+            here, rows = database(bound), positions(bound)
+            some = sorted({0, 1, 2, len(rows) - 1, *(random.Random(5).randrange(len(rows)) for _ in range(300))})
+            for rolls in range(24):
+                table = here.withins(rolls)
+                self.assertEqual((table.format, table.shape), ("Q", (len(rows), 2)))
+                told = exact(table)
+                for rank in some:
+                    wanted = sum(here.distribution(rows[rank])[: rolls + 1])
+                    self.assertEqual((told[rank], here.within(rows[rank], rolls)), (wanted, wanted))
+        self.assertEqual(database(8).within("5,0,0,0,0,0", 2), Fraction(11, 36))
+        self.assertEqual([database(8).within("5,0,0,0,0,0", rolls) for rolls in (0, 1, 3, 22)], [0, 0, 1, 1])
+        self.assertEqual(database(8).within((0,) * 6, 0), 1)
+
+    def test_a_table_belongs_to_the_caller(self) -> None:
+        here = database(8)
+        for call in (here.means, here.epcs, here.wastages, here.distributions):
+            table: Any = call(floats=True)
+            before = table.tolist()
+            table[(5,) * table.ndim] = 7.0
+            self.assertEqual(call(floats=True).tolist(), before)
+
+
+class Singles(Rows):
+    def test_standing(self) -> None:
+        for counts in every():
+            self.assertEqual(Database.standing(counts), (pips(counts), sum(counts), 15 - sum(counts)))
+        standing = database(8).standing("0,0,0,0,9,6")
+        self.assertEqual((standing.pips, standing.checkers, standing.off), (81, 15, 0))
+
+    def test_play_to(self) -> None:
+        """Each position that a roll can lead to is led to by legal moves, and the recorded play is
+        the first one.
+        """
+        here = database(44)
+        for position in random.Random(6).sample(positions(44)[1:], 60):
+            for roll in ROLLS:
+                for choice in here.moves(position, roll):
+                    play = here.play_to(position, roll[::-1], choice.to)
+                    self.assertEqual(play.to, choice.to)
+                    counts = list(position)
+                    for source, target in play.moves:
+                        counts[source - 1] -= 1
+                        if target:
+                            counts[target - 1] += 1
+                    self.assertEqual(tuple(counts), play.to)
+                recorded = here.play(position, roll)
+                self.assertEqual(here.play_to(position, roll, recorded.to), recorded)
+        self.assertEqual(here.play_to("0,0,0,2,0,0", "12", "0,1,1,0,0,0").text, "4/2 4/3")
+        self.assertEqual(here.play_to("0,0,0,0,0,15", "66", "0,0,0,0,0,11").text, "6/off 6/off 6/off 6/off")
+
+    def test_texts(self) -> None:
+        """Blanks may stand around and between counts and dice."""
+        here, wanted = database(8), Position(1, 0, 0, 0, 0, 1)
+        for blank in ("", " ", "  ", "\t", "\u00a0", "\r\n"):
+            for spelt in (f"{blank}1,0,0,0,0,1{blank}", f"{blank},{blank}".join("100001")):
+                self.assertEqual(Position.parse(spelt), wanted)
+                self.assertEqual(here.mean(spelt), here.mean(wanted))
+                self.assertIn(spelt, here)
+            for roll in ("21", "12", "66"):
+                spelt = blank.join(["", *roll, ""])
+                dice = (int(roll[0]), int(roll[1]))
+                self.assertEqual(here.play(wanted, spelt), here.play(wanted, dice))
+                self.assertEqual(here.moves(wanted, spelt), here.moves(wanted, dice))
+        self.assertEqual(Position.parse("12,0,100,999,7,0"), (12, 0, 100, 999, 7, 0))
+
+    def test_indexes(self) -> None:
+        for bound in (8, 44):
+            here, rows = database(bound), positions(bound)
+            self.same([here[rank] for rank in range(len(rows))], rows)
+            self.same([here[rank - len(rows)] for rank in range(len(rows))], rows)
+            for part in (slice(None), slice(3, 9), slice(-5, None), slice(None, None, -7), slice(9, 3), slice(0, 10**9)):
+                self.same(here[part], rows[part])
+            self.same(list(reversed(here)), rows[::-1])
+            self.assertIs(type(here[0]), Position)
+        self.assertEqual(database(8)[True], rows[1])
+
+
+if __name__ == "__main__":
+    unittest.main()

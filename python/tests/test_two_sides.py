@@ -1,0 +1,56 @@
+"""The example of two sides in docs/analysts.md, beside a game that is played out move by move with
+the recorded plays.
+"""
+
+import re
+import unittest
+from fractions import Fraction
+from functools import lru_cache
+from typing import Any, Callable, Dict
+
+from bearoff import Database, Position
+
+from .given import ROLLS, ROOT, database, positions
+
+OFF = (0, 0, 0, 0, 0, 0)
+
+
+def printed(here: Database) -> Callable[[Any, Any], Fraction]:
+    """The function of the page, over a database."""
+    page = (ROOT / "docs/analysts.md").read_text("utf-8")
+    [block] = re.findall(r"```python\n(from itertools.*?)\nprint", page, re.DOTALL)
+    names: Dict[str, Any] = {"database": here}
+    exec(block, names)
+    wins: Callable[[Any, Any], Fraction] = names["wins"]
+    return wins
+
+
+class TwoSides(unittest.TestCase):
+    def test_it_is_the_chance_of_a_game_that_is_played_out(self) -> None:
+        here = database(8)
+        wins = printed(here)
+
+        @lru_cache(maxsize=None)
+        def played(mine: Position, theirs: Position) -> Fraction:
+            """The chance of the player on roll, over all rolls and the recorded plays."""
+            if not any(mine):
+                return Fraction(1)
+            if not any(theirs):
+                return Fraction(0)
+            chance = Fraction(0)
+            for high, low in ROLLS:
+                after = here.play(mine, (high, low)).to
+                lost = Fraction(0) if not any(after) else played(theirs, after)
+                chance += Fraction(1 if high == low else 2, 36) * (1 - lost)
+            return chance
+
+        found = positions(8)
+        for mine in found:
+            for theirs in found:
+                self.assertEqual(wins(mine, theirs), played(here[here.rank(mine)], here[here.rank(theirs)]), (mine, theirs))
+        self.assertEqual((wins(OFF, "0,0,0,0,0,1"), wins("0,0,0,0,0,1", OFF)), (1, 0))
+        self.assertEqual(wins("0,0,0,0,0,1", "0,0,0,0,0,1"), Fraction(3, 4) + Fraction(1, 4) * Fraction(1, 4))
+
+
+if __name__ == "__main__":
+    unittest.main()

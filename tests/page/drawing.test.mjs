@@ -1,0 +1,178 @@
+// What the page's script draws, and what it reads from an address, under node.
+import { board, lookedAt, miniature } from "../../web/board.js";
+import { abilities } from "../../js/abilities.js";
+import { Client } from "../../web/client.js";
+import { bytesOf } from "../../web/packed.js";
+import { decimal, notation, percent } from "../../web/texts.js";
+import { MOST_KEPT, readLink, START, writeLink } from "../../web/link.js";
+import { readPoints } from "../../web/points.js";
+import { chances, kept, numbers } from "../../web/panels.js";
+import { asSvg, linesOf } from "../../web/picture.js";
+import { Bar, reached } from "../../web/progress.js";
+import { byLoss } from "../../web/state.js";
+import { build, draw, h, textOf } from "../../web/tree.js";
+import { Browser } from "./browser.mjs";
+import { equal, part } from "./given.mjs";
+import { newDocument, Window, Worker, tell } from "./stand_in.mjs";
+
+const caption = "<img src=x onerror=\"document.title='no'\"> & \"quotes\", 'too' \u2212 100%";
+const document = newDocument();
+const all = (node, tag) => (node.localName === tag ? [node] : []).concat([...node.childNodes].flatMap((child) => all(child, tag)));
+const classed = (node, tag, name) => all(node, tag).filter((element) => element.getAttribute("class") === name);
+const act = { add() {}, press: () => false, clear() {} };
+const answer = {
+    bound: 44, standing: { pips: 6, checkers: 1, off: 14 }, mean: { text: "1.250", exact: "5/4" },
+    effective: { text: "10.208", exact: "245/24", thousandths: 10208n }, wastage: { text: "4.208" },
+};
+
+part("texts of numbers", async () => {
+    for (const [thousandths, text] of [[0n, "0.000"], [7n, "0.007"], [999n, "0.999"], [1000n, "1.000"], [57000n, "57.000"]]) {
+        equal("a decimal", decimal(thousandths), text);
+    }
+    for (const [thousandths, text] of [[0n, "0.0 %"], [4n, "0.4 %"], [306n, "30.6 %"], [1000n, "100.0 %"]]) equal("a percentage", percent(thousandths), text);
+    equal("a play", notation([[4, 2], [2, 0]]), "4/2 2/off");
+});
+
+part("a step that goes on, and doesn't end before it is done", async () => {
+    const parts = [0, 100, 400, 4000].map((passed) => reached({ from: 0.1, until: 0.5, usual: 400 }, passed));
+    equal("a bar that moves on", parts.every((part, place) => part < 0.5 && (place === 0 ? part === 0.1 : part > parts[place - 1])), true);
+});
+
+part("positions and addresses", async () => {
+    for (const [text, points] of [
+        ["0,0,0,0,0,1", [0, 0, 0, 0, 0, 1]], ["15,0,0,0,0,0", [15, 0, 0, 0, 0, 0]], ["15,1,0,0,0,0", null], ["1,2,3", null],
+        ["", null], ["1,1,1,1,1,-1", null], ["1,1,1,1,1,1,1", null], ["1,1,1,1,1,1e1", null], ["1,1,1,1,1,", null],
+    ]) equal(`the position ${text}`, readPoints(text), points);
+    const state = {
+        points: [0, 0, 0, 0, 0, 1], title: "A lesson & more", roll: [3, 1], guess: true, bound: 58,
+        kept: [{ points: [1, 2, 0, 0, 0, 0], caption }, { points: [15, 0, 0, 0, 0, 0], caption: "" }],
+    };
+    const back = readLink(writeLink(state));
+    for (const name of Object.keys(state)) equal(`what the address keeps: ${name}`, back[name], state[name]);
+    equal("an empty address", readLink("").points, START);
+    equal("a bad address", readLink("#at=99,0,0,0,0,0&p=x&c=lost&roll=70&t=%20&pips=90").kept, []);
+    equal("a roll the other way round", readLink("#roll=13").roll, [3, 1]);
+    const many = Array.from({ length: 14 }, (_, count) => `p=${count},0,0,0,0,0`).join("&");
+    equal("the most positions", readLink(`#${many}`).kept.length, MOST_KEPT);
+});
+
+part("the board", async () => {
+    const drawn = build(document, board([0, 0, 0, 2, 0, 3], [[6, 3], [4, 0]], act));
+    equal("checkers on the board", classed(drawn, "circle", "checker").length, 5);
+    equal("checkers in the tray", classed(drawn, "rect", "checker").length, 10);
+    equal("arcs", classed(drawn, "path", "way").length, 2);
+    equal("a checker that comes down", classed(drawn, "circle", "landing").length, 1);
+    equal("checkers that leave", classed(drawn, "circle", "leaving").map((ring) => ring.getAttribute("cx")), ["50", "250"]);
+    const spins = all(drawn, "g").filter((group) => group.getAttribute("role") === "spinbutton");
+    equal("points", spins.map((spin) => [spin.getAttribute("aria-label"), spin.getAttribute("aria-valuenow")].join(" ")),
+        ["Point 6 3", "Point 5 0", "Point 4 2", "Point 3 0", "Point 2 0", "Point 1 0"]);
+    equal("the most of a point", spins[0].getAttribute("aria-valuemax"), "13");
+    equal("in words", spins.map((spin) => spin.getAttribute("aria-valuetext")).slice(0, 2), ["3 checkers", "0 checkers"]);
+    for (const view of [board([15, 0, 0, 0, 0, 0], [], act), lookedAt([15, 0, 0, 0, 0, 0], [])]) {
+        const checkers = classed(build(document, view), "circle", "checker").map((checker) => Number(checker.getAttribute("cy")));
+        equal("a stack of 15 stays on the board", [checkers.length, checkers.every((y) => y > 20 && y < 330), new Set(checkers).size], [15, true, 15]);
+    }
+    equal("how many stand in a stack", classed(build(document, board([5, 4, 0, 0, 0, 0], [], act)), "text", "tally").map((text) => text.textContent), ["5"]);
+    equal("a miniature", all(build(document, miniature([1, 2, 3, 4, 5, 0])), "circle").map((disc) => disc.getAttribute("cx")).filter((x) => x === "88").length, 1);
+    equal("in a miniature", all(build(document, miniature([1, 2, 3, 4, 5, 0])), "circle").length, 15);
+});
+
+part("pictures as files", async () => {
+    const picture = asSvg([0, 0, 0, 2, 0, 3], caption);
+    equal("checkers in a picture", [picture.match(/<circle /g).length, picture.match(/<rect [^>]*height="18"/g).length], [5, 10]);
+    equal("each shape has its colours", (picture.match(/<(circle|rect|polygon|text) /g) || []).length, (picture.match(/ fill="#/g) || []).length);
+    equal("no markup in a caption", [picture.includes("<img"), picture.includes("&#60;img src=x onerror=&#34;")], [false, true]);
+    equal("the counts below", picture.includes(">0,0,0,2,0,3</text></svg>"), true);
+    equal("half a letter", asSvg([1, 0, 0, 0, 0, 0], "\ud83d\u0007").includes(">\ufffd\ufffd<"), true);
+    equal("the lines of a caption", linesOf(`${"ab ".repeat(20)}${"c".repeat(60)}`).map((line) => line.length), [50, 8, 52, 8]);
+    equal("no line", linesOf(""), []);
+});
+
+part("panels", async () => {
+    const play = (text, loss, exact, isRecorded = false) => ({ text, loss, exact, isRecorded, isBest: exact.startsWith("0/") });
+    const list = [play("4/2 4/3", 111n, "1/9"), play("6/4 2/1", 0n, "0/1"), play("4/2 2/1", 0n, "0/1", true), play("5/3 5/4", 0n, "1/9000")];
+    equal("the best first", byLoss(list).map(({ text }) => text), ["4/2 2/1", "6/4 2/1", "5/3 5/4", "4/2 4/3"]);
+    const chance = (number, exactly, within) => ({ rolls: number, exactly, within, exactlyText: percent(exactly), withinText: percent(within) });
+    const table = chances([chance(2, 306n, 306n), chance(3, 612n, 918n), chance(4, 82n, 1000n), chance(5, 0n, 1000n), chance(6, 0n, 1000n)]);
+    equal("chances", ["2 30.6 %", "61.2 %", "91.8 %", "100.0 %", "less than 0.05 %: 5, 6."].every((word) => textOf(table).includes(word)), true);
+    equal("bars", all(build(document, table), "rect").map((bar) => Number(bar.getAttribute("width")).toFixed(1)), ["50.0", "100.0", "13.4"]);
+    const figures = (tree) => all(build(document, h("div", {}, tree)), "dd").map((node) => node.textContent.trim().split(" ")[0]);
+    equal("numbers", figures(numbers(answer)), ["6", "1.250", "10.208", "4.208", "5/4", "245/24"]);
+    equal("numbers that come", figures(numbers(undefined, true)), Array(6).fill("\u2026"));
+    equal("numbers that don't", figures(numbers(undefined, false)), ["\u2013", "\u2013", "\u2013", "\u2013"]);
+    const over = (pips, bound) => textOf(numbers({ refusal: "Over.", status: 4, bound, standing: { pips } }));
+    equal("over 44", [over(50, 44).includes("50 pips. Over."), over(50, 44).includes("58 pips has it")], [true, true]);
+    equal("over 58", [over(60, 58), over(60, 44)], ["60 pips. Over. It goes to 58 pips.", "60 pips. Over. It goes to 44 pips."]);
+    const entries = [{ points: [0, 0, 0, 0, 0, 1], caption }, { points: [2, 0, 0, 0, 0, 0], caption: "" }];
+    const rows = build(document, kept(entries, ([first]) => (first === 0 ? answer : undefined), false, {}));
+    equal("captions", all(rows, "input").map((input) => input.getAttribute("value")), [caption, ""]);
+    equal("a caption makes no element", all(rows, "img").length, 0);
+    equal("a caption in print", classed(rows, "span", "printed").map((node) => node.textContent), [caption, ""]);
+    equal("wastage is the last", all(rows, "td").filter((cell) => cell.getAttribute("data-head") === "Wastage").map((cell) => cell.textContent), ["4.208", "\u2026"]);
+    equal("a refusal in a row", textOf(kept([entries[0]], () => ({ refusal: "Over.", standing: { pips: 60 } }), false, {})).includes("60 Over."), true);
+});
+
+part("what is drawn anew stays where it can", async () => {
+    const place = document.createElement("div");
+    const button = (key, ...text) => h("button", { "data-key": key, title: text[0] === "A" ? "first" : null }, ...text);
+    document.body.appendChild(place);
+    draw(document, place, [button("a", "A"), button("b", "B"), h("input", { "data-key": "c", value: "one" })]);
+    const [first, second, field] = place.childNodes;
+    second.focus();
+    field.value = "edited";
+    draw(document, place, [button("b", "B2"), button("a", "other"), h("input", { "data-key": "c", value: "one" })]);
+    equal("elements stay by their keys", [place.childNodes[0] === second, place.childNodes[1] === first, place.childNodes[2] === field], [true, true, true]);
+    equal("with other texts", place.textContent, "B2other");
+    equal("an attribute goes", first.getAttribute("title"), null);
+    equal("the focus stays", document.activeElement === second, true);
+    equal("what is typed stays", field.value, "edited");
+    draw(document, place, [h("input", { "data-key": "c", value: "two" })]);
+    equal("another value is shown", [field.value, place.childNodes.length], ["two", 1]);
+    const clicks = [];
+    draw(document, place, [h("button", { click: () => clicks.push(1) })]);
+    draw(document, place, [h("button", { click: () => clicks.push(2) })]);
+    draw(document, place, [h("button", {})]);
+    tell(place.childNodes[0], "click");
+    draw(document, place, [h("button", { click: () => clicks.push(3) })]);
+    tell(place.childNodes[0], "click");
+    equal("a button does what it was given last, once", clicks, [3]);
+});
+
+part("the bar", async () => {
+    const bar = new Bar(document, new Window());
+    bar.show({ from: 0.1, until: 0.5, usual: 400, text: "Building" });
+    equal("a step", [document.getElementById("bar").hidden, document.getElementById("step").textContent, document.getElementById("progress").value], [false, "Building", 0.1]);
+    bar.show(null);
+    equal("no step", document.getElementById("bar").hidden, true);
+});
+
+part("the page's side of the worker", async () => {
+    globalThis.Worker = Worker;
+    const steps = [];
+    const client = new Client("", (step) => steps.push(step));
+    const [one, other] = [client.ask({ kind: "one" }), client.ask({ kind: "other" })];
+    client.worker.onmessage({ data: { step: "building" } });
+    client.worker.onmessage({ data: { number: 2, reply: "second" } });
+    client.worker.onmessage({ data: { number: 1, failure: { message: "no", status: 25, line: "record 1" } } });
+    const refusal = await one.catch((failure) => failure);
+    equal("replies", [await other, refusal.message, refusal.status, refusal.line, steps], ["second", "no", 25, "record 1", ["building"]]);
+    const late = client.ask({ kind: "late" });
+    client.worker.onerror({ message: "gone" });
+    equal("a worker that is gone", [(await late.catch(({ message }) => message)), await client.ask({}).catch(({ message }) => message), client.isDead], ["gone", "gone", true]);
+});
+
+part("a browser that ends makes what waits for it fail", async () => {
+    for (const [ended, how] of [["/bin/false", "the browser ended with 1"], ["/nowhere/browser", "the browser doesn't start: spawn /nowhere/browser ENOENT"]]) {
+        const dead = new Browser(ended);
+        equal("a browser that is gone", await dead.send("Browser.getVersion").catch(({ message }) => message), how);
+        equal("and is asked later", await dead.send("Browser.getVersion").catch(({ message }) => message), how);
+    }
+});
+
+part("what a browser can", () => {
+    equal("no WebAssembly", abilities(null), "none");
+    equal("this node", ["wide", "narrow"].includes(abilities()), true);
+    equal("no 64-bit memories", abilities({ validate: (bytes) => bytes.length === 8 }), "narrow");
+    equal("neither", abilities({ validate: () => false }), "none");
+    equal("base 64", [...bytesOf("AGFz")], [0, 97, 115]);
+});

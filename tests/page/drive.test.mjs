@@ -1,0 +1,804 @@
+// Drives the page in the headless browsers that are installed, Chromium and Firefox, as a reader would,
+// and compares what it shows with the program's replies. The variable BROWSERS names those to be driven,
+// PARTS the parts alone that are, and PICTURES a folder for a picture of each width and colours.
+import { execFileSync, spawn } from "node:child_process";
+import { readFileSync, writeFileSync } from "node:fs";
+import { createServer } from "node:http";
+import { availableParallelism } from "node:os";
+import { join } from "node:path";
+import { after, test } from "node:test";
+import { pathToFileURL } from "node:url";
+import { installed, started } from "./browser.mjs";
+import { positions } from "../../web/trainer.js";
+import { audit } from "./audit.mjs";
+import { equal as same, pagePath, part, programPath, testedFolder, wrong as fault } from "./given.mjs";
+
+const address = pathToFileURL(pagePath()).href;
+const program = programPath();
+const folder = testedFolder();
+const pictures = process.env.PICTURES;
+const chosen = process.env.PARTS?.split(" ");
+const asked = new Map();
+let browserName = "";
+
+const wrong = (text) => fault(`in ${browserName}: ${text}`);
+const equal = (name, is, wanted) => same(`in ${browserName}: ${name}`, is, wanted);
+const FOCUS = 'document.activeElement.getAttribute("data-key") || document.activeElement.id';
+const wait = (milliseconds) => new Promise((keep) => setTimeout(keep, milliseconds));
+
+// The program's reply to a line.
+function ask(line) {
+    if (!asked.has(line)) {
+        const reply = execFileSync(program, ["query", join(folder, "race.db")], { input: `${line}\n`, encoding: "utf8" });
+        asked.set(line, reply.trim());
+    }
+    return asked.get(line);
+}
+
+const pipsOf = (position) => position.split(",").reduce((sum, count, place) => sum + count * (place + 1), 0);
+const READY = 'document.body.dataset.ready && document.querySelector("#numbers .figures")';
+const KNOWN = '!document.querySelector(".figures").textContent.includes("\\u2026")';
+
+// Keeps what the bar shows, each position with the numbers beside it, and what the page's policy refuses. Without
+// frames, as where a browser draws none, nothing is kept of the bar.
+const WATCH = `window.watched = { ready: 0, bar: [], pairs: [], refused: [] };
+document.addEventListener("securitypolicyviolation", ({ violatedDirective, blockedURI }) => watched.refused.push(violatedDirective + " " + blockedURI));
+(function look() {
+    const bar = document.getElementById("bar");
+    if (document.body && document.body.dataset.ready) {
+        watched.ready = performance.now();
+        return;
+    }
+    if (bar && !bar.hidden) watched.bar.push(document.getElementById("progress").value);
+    requestAnimationFrame(look);
+})();
+(function observe() {
+    const seen = new Set();
+    const keep = (...pair) => {
+        const text = JSON.stringify(pair);
+        if (!seen.has(text)) watched.pairs.push(pair);
+        seen.add(text);
+    };
+    new MutationObserver(() => {
+        const board = [...document.querySelectorAll("[role=spinbutton]")].map((point) => point.getAttribute("aria-valuenow")).reverse().join();
+        const figures = [...document.querySelectorAll(".figure dd")].map((figure) => figure.textContent.trim().split(" ")[0]);
+        if (figures.length === 4) keep(board, figures);
+        const refusal = document.querySelector(".refusal")?.textContent.match(/^\\d+ pips/);
+        if (refusal) keep(board, [refusal[0].split(" ")[0]]);
+        for (const row of document.querySelectorAll(".kept tbody tr")) {
+            const position = row.querySelector(".show").getAttribute("aria-label").match(/\\d+/g).join();
+            const cells = [...row.querySelectorAll("td[data-head]")].map((cell) => cell.textContent);
+            if (cells.length === 4) keep(position, cells);
+        }
+    }).observe(document, { subtree: true, childList: true, characterData: true, attributes: true });
+})();`;
+
+// Every number that was ever beside a position is the program's for it.
+async function compareWatched(page, name, least) {
+    const { pairs, refused } = await page.value("watched");
+    let told = 0;
+    for (const [position, figures] of pairs) {
+        const right = [String(pipsOf(position))];
+        if (pipsOf(position) <= 44 && figures.length === 4 && figures[1] !== "\u2026") {
+            const [, mean, , , effective] = ask(`mean ${position}`).split(" ");
+            const [above, below] = mean.split("/").map(BigInt);
+            const thousandths = (2000n * above + below) / (2n * below);
+            right.push((Number(thousandths) / 1000).toFixed(3), effective, (Number(effective) - pipsOf(position)).toFixed(3));
+            told += 1;
+        }
+        figures.forEach((figure, place) => {
+            if (figure !== "\u2026" && figure !== "\u2013" && right[place] !== undefined && figure !== right[place]) {
+                wrong(`${name}: beside ${position} once stood ${figures.join(" ")}, and right is ${right.join(" ")}`);
+            }
+        });
+    }
+    if (told < least) wrong(`${name}: only ${told} positions had numbers`);
+    equal(`${name}: what the policy refused`, refused, []);
+}
+
+// What the page shows, read from it.
+const SHOWN = `({
+    values: [...document.querySelectorAll("[role=spinbutton]")].map((point) => Number(point.getAttribute("aria-valuenow"))).reverse().join(),
+    figures: [...document.querySelectorAll(".figure dd")].map((figure) => figure.textContent.trim().split(" ")[0]),
+    exact: [...document.querySelectorAll(".exact dd")].map((figure) => figure.textContent),
+    said: document.getElementById("said").textContent,
+})`;
+
+// The numbers on the page are those of the program for the position.
+async function compare(page, name, position) {
+    await page.until(`document.getElementById("counts").value === "${position}"`, 5000).catch(() => wrong(`${name}: the board isn't ${position}`));
+    const [, mean, , epc, rounded] = ask(`mean ${position}`).split(" ");
+    await page.until(`document.querySelectorAll(".figure dd")[2].textContent.startsWith("${rounded}")`, 5000)
+        .catch(() => wrong(`${name}: no effective pip count of ${rounded}`));
+    const shown = await page.value(SHOWN);
+    const pips = pipsOf(position);
+    equal(`${name}, the points`, shown.values, position);
+    equal(`${name}, pips and effective`, [shown.figures[0], shown.figures[2]], [String(pips), rounded]);
+    equal(`${name}, exact`, shown.exact, [mean, epc]);
+    equal(`${name}, wastage`, shown.figures[3], (Number(rounded) - pips).toFixed(3));
+    equal(`${name}, said`, shown.said.includes(`effective pip count ${rounded}`), true);
+}
+
+// Every roll's best play is the recorded one with the loss of the next best, and the chosen roll's plays are those of the
+// program.
+async function compareRolls(page, position) {
+    await page.until('document.querySelector(".rolls .next")');
+    const rolls = await page.value(`[...document.querySelectorAll(".rolls button")].map((roll) =>
+        [roll.dataset.key.slice(5), roll.querySelector(".best").textContent, roll.querySelector(".next").textContent])`);
+    equal("how many rolls", rolls.length, 21);
+    for (const [roll, text, next] of rolls) {
+        equal(`the best play of ${roll}`, `play ${text}`, ask(`play ${position} ${roll}`).split(" to ")[0]);
+        const losses = ask(`moves ${position} ${roll}`).split(" ").slice(1).map((word) => word.split(":")[1].split("/").map(BigInt))
+            .map(([above, below]) => (2000n * above + below) / (2n * below)).sort((one, other) => (one < other ? -1 : one > other ? 1 : 0));
+        equal(`the next best of ${roll}`, next, losses.length === 1 ? "only play" : `then \u2212${(Number(losses[1]) / 1000).toFixed(3)}`);
+    }
+    await page.click('[data-key="roll 31"]');
+    await page.until('document.querySelector(".plays")');
+    const costs = await page.value('[...document.querySelectorAll("#plays .cost")].map((cost) => cost.title.split(" ")[0])');
+    equal("what the plays of 31 lose", costs, ask(`moves ${position} 31`).split(" ").slice(1).map((word) => word.split(":")[1]));
+    equal("arcs on the board", await page.value('document.querySelectorAll("#board .arc").length'), 2);
+    await page.click(".plays button:last-child");
+    equal("exactly", await page.value('document.querySelector(".loss").textContent.includes(" loses " + document.querySelector(".plays button:last-child .cost").title)'), true);
+    await page.until('!document.querySelector(".loss").textContent.includes("\u2026")');
+    const [above, below] = costs.at(-1).split("/").map(BigInt);
+    const lost = (Number((2n * 49000n * above + 6n * below) / (12n * below)) / 1000).toFixed(3);
+    equal("in EPC", (await page.value('document.querySelector(".loss").textContent')).split(", ")[1] ?? "nothing", above === 0n ? "nothing" : `${lost} of EPC.`);
+}
+
+// The bars are as long as the chances beside them.
+async function compareBars(page) {
+    const bars = await page.value(`[...document.querySelectorAll(".chances tbody tr")].map((row) =>
+        [Number(row.querySelector(".share").textContent.split(" ")[0]), row.querySelector("rect").getBoundingClientRect().width])`);
+    const most = bars.reduce((one, other) => (other[0] > one[0] ? other : one));
+    for (const [share, width] of bars) {
+        if (Math.abs(width / most[1] - share / most[0]) > 0.02) wrong(`a bar for ${share} % is ${width} wide, where ${most[0]} % has ${most[1]}`);
+    }
+    if (most[1] < 50) wrong(`the longest bar is ${most[1]} wide`);
+}
+
+async function driveBoard(browser) {
+    const page = await browser.open(address, { before: WATCH });
+    await page.until(READY);
+    const [isMouse, how] = await page.value('[matchMedia("(hover: hover)").matches, document.getElementById("how").innerText]');
+    equal("how a point is set", how.startsWith(isMouse ? "Click" : "Tap"), true);
+    if (browser.name === "Chromium") equal("with a mouse", isMouse, true);
+    await compare(page, "the first position", "2,2,2,2,2,2");
+    await compareBars(page);
+    await compareRolls(page, "2,2,2,2,2,2");
+    await page.click('[data-key="clear"]');
+    await page.until('document.getElementById("counts").value === "0,0,0,0,0,0"');
+    for (const point of [6, 6, 4]) await page.click(`[data-key="point ${point}"]`);
+    await compare(page, "set up by clicks", "0,0,0,1,0,2");
+    await page.click('[data-key="point 6"]', { shift: true });
+    await page.click('[data-key="Add 1"]');
+    await page.click('[data-key="Remove 4"]');
+    await compare(page, "changed by clicks", "1,0,0,0,0,1");
+    await page.click('[data-key="point 1"]', { button: "right" });
+    await compare(page, "a right-click", "0,0,0,0,0,1");
+    await page.value('document.querySelector(\'[data-key="point 5"]\').focus()');
+    for (const key of ["4", "ArrowLeft", "ArrowUp", "ArrowRight", "ArrowRight", "3", "ArrowDown"]) await page.key(key);
+    await compare(page, "set up by keyboard", "0,0,0,2,4,2");
+    await page.click('[data-key="clear"]');
+    await page.value('document.querySelector(\'[data-key="point 1"]\').focus()');
+    for (const key of ["1", "2"]) await page.key(key);
+    await compare(page, "two digits", "12,0,0,0,0,0");
+    await page.click("#counts");
+    await page.value('document.getElementById("counts").select()');
+    for (const key of ["9", " ", "9", "Enter"]) await page.key(key);
+    await page.until('!document.getElementById("why").hidden');
+    equal("why not", await page.value('document.getElementById("why").textContent'), "Six counts are wanted, and here are 2.");
+    await page.value('document.getElementById("counts").select()');
+    for (const key of ["0", " ", "0", " ", "0", " ", "4", " ", "4", " ", "1", "Enter"]) await page.key(key);
+    await compare(page, "nine checkers", "0,0,0,4,4,1");
+    await compareRolls(page, "0,0,0,4,4,1");
+    equal("nothing went wrong", page.troubles(), []);
+    return page;
+}
+
+// How long it takes, and that the bar moves on.
+async function driveTimes(page) {
+    const { ready, bar } = await page.value("watched");
+    console.log(`page: ready after ${ready.toFixed(0)} ms, with a bar that moved ${new Set(bar).size} times`);
+    (new Set(bar).size > 5 && bar.every((part, place) => place === 0 || part >= bar[place - 1])) || wrong(`the bar moved on so: ${bar.join(" ")}`);
+    const times = await page.value(`(async () => {
+        const times = [];
+        for (const [key, pips] of [["Add 2", 44], ["Remove 2", 42], ["Add 1", 43], ["Remove 1", 42], ["Add 2", 44]]) {
+            const start = performance.now();
+            document.querySelector('[data-key="' + key + '"]').click();
+            while (!document.getElementById("said").textContent.startsWith(pips + " pips")) await new Promise((keep) => setTimeout(keep, 1));
+            times.push(performance.now() - start);
+        }
+        return times.sort((one, other) => one - other);
+    })()`);
+    console.log(`page: a click was answered in ${times[2].toFixed(0)} ms, the middle of five`);
+    await compareWatched(page, "the board", 6);
+}
+
+// One stop of Tab for the rolls and one for the plays, arrows within them, and the focus where one was.
+async function driveKeyboard(browser) {
+    const page = await browser.open(`${address}#at=0,0,0,1,0,1&p=1,0,0,0,0,0&p=2,0,0,0,0,0`);
+    await page.until(`${READY} && document.querySelector(".rolls .next")`);
+    const go = async (from, keys) => {
+        await page.value(`document.querySelector(${JSON.stringify(from)}).focus()`);
+        const path = [];
+        for (const key of keys) {
+            await page.key(key);
+            await wait(50);
+            path.push(await page.value(FOCUS));
+        }
+        return path;
+    };
+    const plays = ask("moves 0,0,0,1,0,1 21").split(" ").length - 1;
+    const path = await go("#guess", ["Tab", "ArrowRight", "ArrowRight", "ArrowLeft", "Enter", "Tab", "End", "Tab", "Enter"]);
+    const texts = path.map((key) => (key.startsWith("play ") ? "play" : key));
+    equal("where keys lead", texts, ["roll 11", "roll 21", "roll 22", "roll 21", "roll 21", "play", "play", "onward", "roll 21"]);
+    equal("to the first and the last play", path[5] !== path[6], plays > 1);
+    await page.until(`document.getElementById("counts").value === "${ask("play 0,0,0,1,0,1 21").split(" to ")[1]}"`);
+    equal("Keep", await go("#keep", ["Enter"]), ["keep"]);
+    equal("kept", await page.value('document.querySelectorAll(".kept tbody tr").length'), 3);
+    equal("Escape", (await go('[data-key="roll 31"]', ["Enter", "Tab", "Escape"])).map((key) => key.split(" ")[0]), ["roll", "play", "roll"]);
+    await page.until('![...document.querySelectorAll(".kept td[data-head]")].some((cell) => cell.textContent === "\u2026")');
+    const rows = await page.value('[...document.querySelectorAll(".kept .remove")].map((button) => button.dataset.key)');
+    equal("Remove", await go(`[data-key="${rows[0]}"]`, ["Enter", "Enter", "Enter"]), [rows[1], rows[2], "keep"]);
+    equal("nothing went wrong", page.troubles(), []);
+}
+
+async function driveGuess(page) {
+    await page.click("#guess");
+    await page.click('[data-key="roll 21"]');
+    await page.until('document.querySelector(".plays")');
+    equal("a guess hides the best play", await page.value('document.querySelector("#grid").textContent.includes("/")'), false);
+    equal("a guess shows no arc", await page.value('document.querySelectorAll(".arc").length'), 0);
+    equal("a guess tells no loss", await page.value('document.querySelectorAll("#plays .cost").length'), 0);
+    await page.click(".plays button:last-child");
+    await page.until('document.querySelector(".verdict") && !document.querySelector(".verdict").textContent.includes("\u2026")');
+    const verdict = await page.value('document.querySelector(".verdict p").textContent');
+    /One guess has lost \d+\.\d{3} of a roll\./.test(verdict) || wrong(`the verdict: ${verdict}`);
+    const said = await page.value('document.getElementById("said").textContent');
+    verdict.startsWith(said) || wrong(`said is ${said}, and the verdict ${verdict}`);
+    await page.click('[data-key="reset"]');
+    await page.until('document.querySelector("#plays h3").textContent.includes("Which play is best?")');
+    await page.click("#guess");
+}
+
+// The lesson of three losses of 1/18.
+async function driveSum(browser) {
+    const page = await browser.open(`${address}#at=0,0,0,1,0,1&guess=1&p=0,0,0,1,0,0&p=1,1,0,0,0,0`);
+    await page.until(`${READY} && document.querySelector(".rolls button")`);
+    equal("the kept numbers are hidden", await page.value('[...new Set([...document.querySelectorAll(".kept td[data-head]")].map((cell) => cell.textContent))]'), ["\u2026"]);
+    let sum = [0n, 1n];
+    for (const roll of ["52", "61", "41"]) {
+        await page.click(`[data-key="roll ${roll}"]`);
+        await page.until('document.querySelector(".plays")');
+        const text = await page.value('document.querySelector(".plays button:last-child .moves").textContent');
+        await page.click(".plays button:last-child");
+        await page.until('document.querySelector(".verdict") && !document.querySelector(".verdict").textContent.includes("\u2026")');
+        const [above, below] = (await page.value(`document.querySelector('[data-key="play ${text}"] .cost').title`)).split(" ")[0].split("/").map(BigInt);
+        sum = [sum[0] * below + above * sum[1], sum[1] * below];
+    }
+    const told = (await page.value('document.querySelector(".verdict p").textContent')).match(/Exactly: (\d+)\/(\d+)/);
+    equal("the sum of three losses", told ? BigInt(told[1]) * sum[1] === BigInt(told[2]) * sum[0] : sum[0] === 0n, true);
+    equal("then the kept numbers are there", await page.value('document.querySelector(".kept").textContent.includes("\u2026")'), false);
+}
+
+// Drops a file on the page, or chooses it at its foot.
+const put = (page, bytes, how = "drop") => page.value(`(() => {
+    const bytes = Uint8Array.from(atob(${JSON.stringify(Buffer.from(bytes).toString("base64"))}), (letter) => letter.charCodeAt(0));
+    const transfer = new DataTransfer();
+    transfer.items.add(new File([bytes], "own.db"));
+    if (${JSON.stringify(how)} === "drop") {
+        document.body.dispatchEvent(new DragEvent("drop", { dataTransfer: transfer, bubbles: true, cancelable: true }));
+    } else {
+        document.getElementById("file").files = transfer.files;
+        document.getElementById("file").dispatchEvent(new Event("change", { bubbles: true }));
+    }
+})()`);
+
+async function driveFiles(page) {
+    const eight = readFileSync(join(folder, "eight"));
+    const damaged = Buffer.from(eight);
+    damaged[32 + 426 + 3] ^= 1;
+    await put(page, damaged);
+    await page.until('!document.getElementById("trouble").hidden');
+    const trouble = await page.value('document.getElementById("trouble").textContent');
+    let line = "";
+    writeFileSync(join(folder, "damaged"), damaged);
+    try {
+        execFileSync(program, ["check", join(folder, "damaged")], { stdio: "pipe" });
+    } catch (error) {
+        line = error.stderr.toString().replace("bearoff: refused ", "").trim();
+    }
+    (line && trouble.includes(`First fault: ${line}.`)) || wrong(`the refusal says "${trouble}", and the program "${line}"`);
+    equal("the former database stays", await page.value('document.getElementById("open").textContent'), "44 pips");
+    await put(page, eight, "choose");
+    await page.until('document.getElementById("open").textContent === "8 pips"');
+    equal("the trouble is gone", await page.value('document.getElementById("trouble").hidden'), true);
+    await page.click('[data-key="clear"]');
+    for (let checker = 0; checker < 5; checker += 1) await page.click('[data-key="Add 1"]');
+    await compare(page, "over a file of one's own", "5,0,0,0,0,0");
+}
+
+// A board that changes while a dropped file is checked and while 58 pips are built, twice in a tick, and with Keep in
+// between: no number is ever beside a position that it isn't of.
+async function driveMoments(browser) {
+    const race = readFileSync(join(folder, "race.db"));
+    race[race.length - 1] ^= 1;
+    const page = await browser.open(`${address}#p=2,2,2,2,2,2`, { before: WATCH });
+    await page.until(`${READY} && ${KNOWN}`);
+    await page.value(`window.dropped = (bytes) => {
+        const transfer = new DataTransfer();
+        transfer.items.add(new File([Uint8Array.from(atob(bytes), (letter) => letter.charCodeAt(0))], "own.db"));
+        document.body.dispatchEvent(new DragEvent("drop", { dataTransfer: transfer, bubbles: true, cancelable: true }));
+    }`);
+    await page.value(`(async () => {
+        dropped(${JSON.stringify(race.toString("base64"))});
+        await new Promise((keep) => setTimeout(keep, 100));
+        document.querySelector('[data-key="Remove 6"]').click();
+        document.getElementById("keep").click();
+        document.querySelector('[data-key="Remove 5"]').click();
+        document.querySelector('[data-key="Remove 5"]').click();
+    })()`);
+    equal("a board that changes while a file is checked", await page.value(`({ board: ${SHOWN}.values, bar: document.getElementById("bar").hidden })`), { board: "2,2,2,2,0,1", bar: false });
+    await page.until('!document.getElementById("trouble").hidden');
+    await compare(page, "after the refusal", "2,2,2,2,0,1");
+    await page.until('![...document.querySelectorAll(".kept td[data-head]")].some((cell) => cell.textContent === "\u2026")');
+    await compareWatched(page, "while a file is checked", 3);
+
+    const wider = await browser.open(`${address}#at=0,0,0,3,5,3`, { before: WATCH });
+    await wider.until('document.body.dataset.ready && document.querySelector(".refusal")');
+    equal("more pips than the database", await wider.value('document.querySelector(".refusal").textContent.includes("55 pips.")'), true);
+    await wider.value(`(async () => {
+        document.getElementById("wider").click();
+        for (const count of [1, 2, 3]) {
+            await new Promise((keep) => setTimeout(keep, 40));
+            document.querySelector('[data-key="Remove 6"]').click();
+        }
+        document.getElementById("keep").click();
+        document.querySelector('[data-key="Add 1"]').click();
+        document.querySelector('[data-key="Add 1"]').click();
+    })()`);
+    await wider.until('document.getElementById("open").textContent === "58 pips"', 60000);
+    await compare(wider, "after 58 pips were built", "2,0,0,3,5,0");
+    await wider.until('document.querySelectorAll(".kept td[data-head]").length === 4 && !document.querySelector(".kept").textContent.includes("\u2026")');
+    await compareWatched(wider, "while 58 pips are built", 2);
+    await wider.until('location.hash.includes("pips=58")', 3000).catch(() => wrong("the address doesn't say 58"));
+}
+
+// Each of three kept positions has its numbers.
+const SORTED = `${READY} && document.querySelectorAll(".kept [data-head=EPC]").length === 3 && !document.querySelector(".kept").textContent.includes("\\u2026")`;
+const LESSON = new URLSearchParams([["t", "<b>A lesson</b>"], ["p", "0,0,0,4,4,1"], ["c", '<img src=x onerror="document.title=1"> & "quotes"'], ["p", "15,0,0,0,0,0"], ["c", "'fifteen'"], ["p", "2,2,2,2,2,2"]]);
+
+async function driveLesson(browser) {
+    const caption = LESSON.get("c");
+    const page = await browser.open(`${address}#${LESSON}`);
+    await page.until(SORTED);
+    equal("captions are text", await page.value('[...document.querySelectorAll(".kept input")].map((input) => input.value)'), [caption, "", "'fifteen'"]);
+    equal("no markup was read", await page.value('document.querySelectorAll("img, b:not(dialog b)").length'), 0);
+    equal("the title is text", await page.value('document.getElementById("lesson").textContent'), "<b>A lesson</b>");
+    equal("the title of the page", await page.value("document.title"), "Bearing off, proved");
+    equal("sorted", await page.value('[...document.querySelectorAll(".kept [data-head=EPC]")].map((cell) => cell.textContent)'),
+        ["0,0,0,4,4,1", "2,2,2,2,2,2", "15,0,0,0,0,0"].map((position) => ask(`mean ${position}`).split(" ").pop()));
+    equal("wastage", await page.value('[...document.querySelectorAll(".kept [data-head=Wastage]")].map((cell) => cell.textContent)'),
+        ["0,0,0,4,4,1", "2,2,2,2,2,2", "15,0,0,0,0,0"].map((position) => (Number(ask(`mean ${position}`).split(" ").pop()) - pipsOf(position)).toFixed(3)));
+    await page.until('location.hash.includes("at=")', 3000);
+    const kept = await page.value("location.hash");
+    const again = await browser.open(address + kept);
+    await again.until(SORTED);
+    equal("the address keeps all", await again.value('[...document.querySelectorAll(".kept input")].map((input) => input.value)'), [caption, "", "'fifteen'"]);
+    equal("nothing went wrong", [...page.troubles(), ...again.troubles()], []);
+}
+
+async function driveHistory(browser) {
+    const page = await browser.open(`${address}#at=1,0,0,0,0,0`);
+    await page.until(`${READY} && ${KNOWN}`);
+    await page.until('location.hash === "#at=1,0,0,0,0,0"');
+    await page.value('document.querySelector(\'[data-key="Add 4"]\').click()');
+    await wait(400);
+    await page.value('document.getElementById("keep").click()');
+    await wait(400);
+    await page.click('[data-key="roll 21"]');
+    await wait(400);
+    const state = '[document.getElementById("counts").value, document.querySelectorAll(".kept tbody tr").length, document.querySelectorAll(".rolls [aria-pressed=true]").length].join(" ")';
+    equal("before Back", await page.value(state), "1,0,0,1,0,0 1 1");
+    for (const [move, wanted] of [["back", "1,0,0,1,0,0 1 0"], ["back", "1,0,0,1,0,0 0 0"], ["back", "1,0,0,0,0,0 0 0"], ["forward", "1,0,0,1,0,0 0 0"], ["forward", "1,0,0,1,0,0 1 0"], ["forward", "1,0,0,1,0,0 1 1"]]) {
+        await page[move]();
+        await page.until(`${state} === "${wanted}"`, 3000).catch(async () => wrong(`${move}: ${await page.value(state)}, and not ${wanted}`));
+    }
+    await compare(page, "after Forward", "1,0,0,1,0,0");
+    await page.value('location.hash = "#at=0,0,0,3,5,3&pips=58"');
+    await page.until('document.getElementById("open").textContent === "58 pips" && document.querySelector(".figures")', 60000);
+    await page.until('document.querySelector(".figure dd").textContent.trim() === "55"');
+}
+
+async function driveCopy(browser) {
+    const page = await browser.open(`${address}#at=1,0,0,0,0,0`);
+    await page.until(`${READY} && ${KNOWN}`);
+    await page.click('[data-key="Add 4"]');
+    await page.click("#copy");
+    await page.until('document.getElementById("copied").textContent');
+    equal("on a disk it says so", await page.value('document.getElementById("copied").textContent.includes("opens only here")'), true);
+    equal("the address is as it is now", await page.value('location.hash'), "#at=1,0,0,1,0,0");
+    const field = await page.value('[document.getElementById("link").hidden, document.getElementById("link").value === location.href, document.getElementById("copy").textContent]');
+    (field[0] && field[2] === "Copied") || (!field[0] && field[1]) || wrong(`the link: ${field.join(" ")}`);
+}
+
+// The pictures that the page saves, kept for the test.
+const SAVED = `(() => {
+    window.saved = [];
+    URL.createObjectURL = (file) => { saved.push({ file }); return "blob:kept"; };
+    HTMLAnchorElement.prototype.click = function () { saved.at(-1).name = this.download; };
+})()`;
+
+// An SVG file that is well-formed, and a PNG one with a checker where one stands.
+async function driveSaved(browser) {
+    const words = new URLSearchParams([["at", "1,0,0,2,0,0"], ["p", "1,0,0,2,0,0"], ["c", "<b>Three</b> & more"]]);
+    const page = await browser.open(`${address}#${words}`);
+    await page.until(`${READY} && ${KNOWN} && document.querySelector(".rolls .next")`);
+    await page.value(SAVED); // once the worker, which comes from such an address too, is there
+    await page.click("#save-svg");
+    await page.until("saved[0]?.name");
+    const svg = await page.value(`saved[0].file.text().then((text) => {
+        const whole = new DOMParser().parseFromString(text, "image/svg+xml");
+        return [whole.documentElement.localName, whole.querySelectorAll("circle").length, whole.querySelectorAll("b").length,
+            [...whole.querySelectorAll("text")].slice(-2).map((line) => line.textContent)];
+    })`);
+    equal("an SVG file", svg, ["svg", 3, 0, ["<b>Three</b> & more", "1,0,0,2,0,0"]]);
+    await page.click("#save-png");
+    await page.until("saved[1]?.name");
+    const png = await page.value(`createImageBitmap(saved[1].file).then((picture) => {
+        const canvas = document.createElement("canvas");
+        [canvas.width, canvas.height] = [picture.width, picture.height];
+        const context = canvas.getContext("2d");
+        context.drawImage(picture, 0, 0);
+        const isChecker = (x, y) => [...context.getImageData(2 * x, 2 * y, 1, 1).data].join() === "38,65,58,255";
+        const counts = [550, 450, 350, 250, 150, 50].map((x) => [300, 240, 180].filter((y) => isChecker(x, y)).length);
+        return [picture.width, picture.height, counts.join(), saved[1].file.type, saved.map(({ name }) => name)];
+    })`);
+    equal("a PNG file", png, [1400, 914, "1,0,0,2,0,0", "image/png", ["bearoff-1-0-0-2-0-0.svg", "bearoff-1-0-0-2-0-0.png"]]);
+    equal("nothing went wrong", page.troubles(), []);
+}
+
+// A browser without memories of 64-bit addresses gets the narrowed module; one without WebAssembly, without workers or
+// without script is told so, and but for the last has the board all the same.
+async function driveOlder(browser) {
+    const older = "const validate = WebAssembly.validate; WebAssembly.validate = (bytes) => bytes.length === 8 && validate(bytes); delete window.DecompressionStream;";
+    const page = await browser.open(`${address}#at=7,4,2,0,0,0`, { before: older });
+    await page.until(READY);
+    await compare(page, "with 32-bit addresses", "7,4,2,0,0,0");
+    equal("nothing went wrong", page.troubles(), []);
+    for (const [what, words] of [["WebAssembly", "runs no WebAssembly"], ["Worker", "runs no workers"]]) {
+        const poor = await browser.open(address, { before: `delete window.${what};` });
+        await poor.until('!document.getElementById("trouble").hidden && document.querySelector("[role=spinbutton]")');
+        equal(`no ${what}`, await poor.value(`document.getElementById("trouble").textContent.startsWith("Nothing can be computed here: this browser ${words}")`), true);
+        equal(`no wait without ${what}`, await poor.value('document.getElementById("bar").hidden'), true);
+    }
+    const still = await browser.open(address, { scripts: false });
+    await still.send("DOM.enable");
+    let text = "";
+    for (let tries = 0; tries < 100 && !text.includes("scripts are turned off"); tries += 1) {
+        await wait(50);
+        const { nodes } = await still.send("Accessibility.getFullAXTree");
+        text = nodes.map(({ name }) => name?.value || "").join(" ");
+    }
+    equal("no script", [text.includes("scripts are turned off"), text.includes("Starting")], [true, false]);
+}
+
+// On a server the page asks for nothing but itself, and its policy lets it ask for nothing.
+async function driveHosted(browser) {
+    const requests = [];
+    const server = createServer((request, response) => {
+        requests.push(request.url);
+        response.writeHead(200, { "Content-Type": "text/html; charset=utf-8" });
+        response.end(readFileSync(pagePath()));
+    });
+    await new Promise((keep) => server.listen(0, "127.0.0.1", keep));
+    try {
+        const here = `http://127.0.0.1:${server.address().port}/bearoff.html`;
+        const page = await browser.open(`${here}#at=7,4,2,0,0,0&p=15,0,0,0,0,0`, { before: WATCH });
+        await page.until(`${READY} && ${KNOWN}`);
+        await compare(page, "on a server", "7,4,2,0,0,0");
+        await page.click("#copy");
+        await page.until('document.getElementById("copied").textContent');
+        equal("on a server the link opens elsewhere too", await page.value('document.getElementById("copied").textContent.includes("only here")'), false);
+        await compareWatched(page, "on a server", 1);
+        equal("nothing went wrong", page.troubles(), []);
+        const tried = await page.value(`Promise.all([
+            fetch("/x").then(() => "fetched", () => "refused"),
+            new Promise((keep) => { const image = new Image(); image.onload = () => keep("loaded"); image.onerror = () => keep("refused"); image.src = "/x.png"; }),
+            new Promise((keep) => { const code = document.createElement("script"); code.textContent = "window.ran = true"; document.body.append(code); keep(window.ran ? "ran" : "refused"); }),
+            new Promise((keep) => { const code = document.createElement("script"); code.onload = () => keep("ran"); code.onerror = () => keep("refused"); code.src = "/x.js"; document.body.append(code); }),
+        ])`);
+        equal("what the policy refuses", tried, ["refused", "refused", "refused", "refused"]);
+        equal("what was asked for", requests, ["/bearoff.html"]);
+    } finally {
+        server.closeAllConnections();
+        server.close();
+    }
+}
+
+// A drill of twenty by its seed: each question's best play, or another one, is chosen; the score is that of the program.
+async function driveDrill(browser) {
+    const page = await browser.open(`${address}#drill=middle&seed=2026&ask=play`);
+    await page.until(`${READY} && document.querySelector('[data-key="next question"]')`);
+    let sum = [0n, 1n];
+    for (let place = 0; place < 20; place += 1) {
+        await page.until(`document.querySelector("#coach .asks").textContent.startsWith("Question ${place + 1} of 20.") && document.querySelector(".plays")`);
+        const [position, roll, texts] = await page.value(`[document.getElementById("counts").value, document.querySelector('.rolls [aria-pressed="true"]').dataset.key.slice(5),
+            [...document.querySelectorAll(".plays .moves")].map((node) => node.textContent)]`);
+        const losses = ask(`moves ${position} ${roll}`).split(" ").slice(1).map((word) => word.split(":")[1]);
+        if (losses.length < 2 || losses.filter((loss) => loss.startsWith("0/")).length !== 1) wrong(`${position} ${roll} has nothing to decide`);
+        equal(`question ${place + 1} tells no loss`, await page.value('document.querySelectorAll("#plays .cost").length'), 0);
+        const text = texts[(7 * place) % texts.length];
+        await page.click(`[data-key="play ${text}"]`);
+        await page.until('document.querySelector("#plays .cost")');
+        const loss = await page.value(`document.querySelector('[data-key="play ${text}"] .cost').title.split(" ")[0]`);
+        if (!losses.includes(loss)) wrong(`${text} of ${position} ${roll} loses ${loss}, and the program knows ${losses.join(" ")}`);
+        const best = ask(`play ${position} ${roll}`).split(" to ")[0].slice(5);
+        equal(`${text} of ${position} ${roll}`, loss.startsWith("0/"), text === best);
+        const [above, below] = loss.split("/").map(BigInt);
+        sum = [sum[0] * below + above * sum[1], sum[1] * below];
+        await page.click(`[data-key="${place % 2 === 0 ? "next question" : "question after"}"]`);
+    }
+    await page.until('document.querySelector(".score") && !document.querySelector(".score").textContent.includes("\u2026")');
+    const told = await page.value('document.querySelector(".score").textContent');
+    const nearest = ([above, below]) => (Number((2000n * above + below) / (2n * below)) / 1000).toFixed(3);
+    const exact = told.match(/Exactly: (\d+)\/(\d+) of/).slice(1).map(BigInt);
+    equal("the score, exactly", exact[0] * sum[1] === sum[0] * exact[1], true);
+    equal("the score", told.split(" Exactly")[0], `20 of 20 were played. They lost ${nearest(sum)} rolls, or ${nearest([49n * sum[0], 6n * sum[1]])} of EPC.`);
+    await page.click('[data-key="mistakes"]');
+    await page.until('document.querySelector("#coach h2").textContent === "Mistakes of a drill"');
+    for (const position of ["0,0,0,0,4,4", "3,0,0,0,0,0", "7,4,2,0,0,0"]) {
+        const rank = Number(ask(`rank ${position}`).split(" ")[1]);
+        equal(`the rank of ${position}`, positions()[rank].join(), position);
+    }
+    equal("nothing went wrong", page.troubles(), []);
+}
+
+// Each lesson that comes with the page, step by step: its text, its board, and its answer, which opens; and an estimate.
+async function driveLessons(browser) {
+    const page = await browser.open(address);
+    await page.until(READY);
+    const count = await page.value('document.querySelectorAll(".lessons a").length');
+    equal("how many lessons", count, 12);
+    for (let number = 1; number <= count; number += 1) {
+        const title = await page.value(`document.querySelector('[data-key="lesson ${number}"]').textContent`);
+        await page.click(`[data-key="lesson ${number}"]`);
+        await page.until(`document.querySelector("#coach h2")?.textContent === ${JSON.stringify(title)}`);
+        for (let step = 1, last = false; !last; step += 1) {
+            await page.until(`document.querySelector("#coach .how").textContent.startsWith("Step ${step} of")`);
+            const position = await page.value('document.getElementById("counts").value');
+            equal(`${title}, step ${step}`, (await page.value(SHOWN)).values, position);
+            const isNumber = await page.value(`document.querySelectorAll(".figure").length === 0`);
+            if (await page.value('Boolean(document.querySelector(\'[data-key="answer"]\'))')) {
+                equal(`${title}, step ${step}: closed`, await page.value('Boolean(document.querySelector(".answers"))'), false);
+                await page.click('[data-key="answer"]');
+                await page.until('document.querySelector(".answers").textContent.length > 0');
+                await page.until(`document.querySelector(".figure") && ${KNOWN}`);
+                if (isNumber) equal(`${title}, step ${step}: its number`, (await page.value(SHOWN)).figures[2], ask(`mean ${position}`).split(" ")[4]);
+            }
+            last = !(await page.value('Boolean(document.querySelector(\'[data-key="next step"]\'))'));
+            if (!last) await page.click('[data-key="next step"]');
+        }
+    }
+    const guess = await browser.open(`${address}#at=7,4,2,0,0,0&estimate=effective`);
+    await guess.until('document.body.dataset.ready && document.querySelector(".estimate input")');
+    equal("no number before the estimate", await guess.value('document.querySelectorAll(".figure").length + document.querySelectorAll(".chances").length'), 0);
+    await guess.click(".estimate input");
+    for (const key of ["5", "1", "Enter"]) await guess.key(key);
+    await guess.until('document.querySelector("#numbers .verdict")');
+    const off = Math.abs(51 - Number(ask("mean 7,4,2,0,0,0").split(" ")[4])).toFixed(3);
+    equal("how far off", await guess.value('document.querySelector("#numbers .verdict").textContent'), `You said 51.000: ${off} off. The mean error so far is ${off}.`);
+    const small = await browser.open(`${address}#view=board&at=7,4,2,0,0,0`, { width: 480, height: 320 });
+    await small.until(`${READY} && ${KNOWN}`);
+    equal("a compact board fits", await small.value("[document.documentElement.scrollWidth <= 480, document.documentElement.scrollHeight <= 320]"), [true, true]);
+    equal("nothing went wrong", page.troubles(), []);
+}
+
+// Keeps where each thing that can be clicked stands in the page, from the first drawing on, and moved where it isn't
+// there any more or is another element.
+const PLACES = `window.places = { first: null, count: 0, seen: 0, moved: [] };
+new MutationObserver(() => {
+    const things = () => [...document.querySelectorAll("main a, main button, main input, main select, main summary, main [role=spinbutton]")];
+    const nameOf = (thing) => thing.dataset.key || thing.id || thing.localName;
+    const placeOf = (thing) => {
+        const { left, top, width } = thing.getBoundingClientRect();
+        return width > 0 ? [left + scrollX, top + scrollY] : null;
+    };
+    if (!document.querySelector('[data-key="lesson 1"]')) return;
+    if (document.body.dataset.ready) places.seen += 1;
+    places.first ||= new Map(things().map((thing) => [thing, placeOf(thing)]).filter(([, place]) => place));
+    places.count = Math.max(places.count, places.first.size);
+    for (const [thing, place] of places.first) {
+        const now = thing.isConnected ? placeOf(thing) : null;
+        const far = now ? Math.max(Math.abs(now[0] - place[0]), Math.abs(now[1] - place[1])) : Infinity;
+        if (far < 1) continue;
+        places.moved.push(nameOf(thing) + (now ? " by " + far.toFixed(0) : " is gone"));
+        places.first.delete(thing);
+    }
+}).observe(document, { subtree: true, childList: true, characterData: true, attributes: true });`;
+
+// Nothing that can be clicked moves while the database is built and the first answers come, and beside the board nor
+// while another position is answered; so what was aimed at is what is clicked.
+async function driveStill(browser) {
+    for (const [width, height, mobile] of [[1280, 900, false], [768, 1024, true], [360, 780, true]]) {
+        const page = await browser.open(address, { width, height, mobile, before: PLACES });
+        await page.until(`${READY} && ${KNOWN} && document.querySelector(".rolls .next")`);
+        const told = await page.value("[places.count > 40, places.seen > 1, places.moved.length, places.moved.slice(0, 3)]");
+        equal(`${width} x ${height}: what moved while the page began`, told, [true, true, 0, []]);
+        if (mobile) continue;
+        await page.value('document.querySelector(\'[data-key="Remove 6"]\').click()');
+        await page.until(`document.getElementById("said").textContent.startsWith("36 pips") && document.querySelector(".rolls .next")`);
+        equal(`${width} x ${height}: what moved with another position`, await page.value("places.moved.slice(0, 3)"), []);
+    }
+}
+
+// Keeps a processor busy, until the test has ended at the latest.
+const BUSY = "const parent = process.ppid; while (process.ppid === parent);";
+
+// A click on a lesson opens it, whenever it comes: what is aimed at before the database is open is clicked at each tenth
+// millisecond from when the page is ready to half a second later, and another lesson as soon as that one is open; at each
+// other of these times on a busy machine.
+async function driveClicks(browser) {
+    const lost = [];
+    const isOpen = (number) => `location.hash.includes("lesson=${number}&") && document.querySelector("#coach h2")?.textContent
+        === document.querySelector('[data-key="lesson ${number}"]').textContent`;
+    const clickAt = async (offset, number) => {
+        const page = await browser.open(address);
+        const place = await page.aim(`[data-key="lesson ${number}"]`);
+        const early = !(await page.value("document.body.dataset.ready"));
+        await page.until(READY);
+        await wait(offset);
+        await page.press(place);
+        const opened = async (what, which) => {
+            const isLost = await page.until(isOpen(which), 10000).then(() => false, () => true);
+            if (isLost) lost.push(`${what} at ${offset} ms`);
+            return !isLost;
+        };
+        const next = number % 12 + 1;
+        if (await opened("the first", number)) {
+            await page.click(`[data-key="lesson ${next}"]`);
+            await opened("the second", next);
+        }
+        equal("nothing went wrong", page.troubles(), []);
+        await page.close();
+        return early;
+    };
+    let early = 0;
+    for (const isBusy of [false, true]) {
+        const count = isBusy ? availableParallelism() : 0;
+        const loops = Array.from({ length: count }, () => spawn(process.execPath, ["-e", BUSY]));
+        try {
+            for (let offset = isBusy ? 10 : 0; offset <= 500 && lost.length < 5; offset += 20) {
+                early += await clickAt(offset, offset / 10 % 12 + 1);
+            }
+        } finally {
+            for (const loop of loops) loop.kill();
+        }
+    }
+    equal("clicks on lessons that were lost", lost, []);
+    if (lost.length === 0) equal("aimed at before the page was ready", early > 40, true);
+}
+
+const TEACHING = encodeURI("#t=What wastage is&at=0,0,0,4,4,1&roll=31&p=0,0,0,4,4,1&c=Nine on the high points&p=2,2,2,2,2,2&c=Two on each point&p=15,0,0,0,0,0&c=Fifteen on the ace point");
+
+// A telephone and a tablet: the plays of a tapped roll are in sight with a board, and so is what they lose exactly.
+async function driveTouch(browser) {
+    for (const [width, height] of [[360, 780], [768, 1024]]) {
+        const name = `${width} x ${height}`;
+        const page = await browser.open(`${address}#at=0,0,0,4,4,1&p=2,2,2,2,2,2`, { width, height, mobile: true });
+        await page.until(`${READY} && document.querySelector(".rolls .next")`);
+        const seen = (selector) => `(() => {
+            const box = document.querySelector(${JSON.stringify(selector)}).getBoundingClientRect();
+            const { left, top, right, bottom } = box;
+            const at = document.elementFromPoint((left + right) / 2, (top + bottom) / 2);
+            return box.width > 0 && top >= 0 && left >= 0 && bottom <= innerHeight && right <= innerWidth
+                && Boolean(at && at.closest(${JSON.stringify(selector)}));
+        })()`;
+        const words = await page.value('document.getElementById("how").innerText');
+        equal(`${name}: no mouse`, [words.includes("right-click"), words.startsWith("Tap")], [false, true]);
+        equal(`${name}: no plays yet`, await page.value('document.getElementById("plays").offsetHeight'), 0);
+        await page.value('document.querySelector(\'[data-key="roll 53"]\').scrollIntoView({ block: "center" })');
+        await page.tap('[data-key="roll 53"]');
+        await page.until('document.querySelector(".plays")');
+        for (const selector of [".small", ".plays button", '[data-key="close"]', '[data-key="onward"]', ".shown .loss"]) {
+            equal(`${name}: ${selector} is in sight`, await page.value(seen(selector)), true);
+        }
+        equal(`${name}: so is the tile`, await page.value(`document.querySelector('[data-key="roll 53"]').getBoundingClientRect().bottom
+            <= document.getElementById("plays").getBoundingClientRect().top`), true);
+        await page.tap(".plays button:nth-child(2)");
+        await page.until('document.querySelector(".plays button:nth-child(2)").getAttribute("aria-pressed") === "true"');
+        const [loss, title] = await page.value('[document.querySelector(".loss").textContent, document.querySelector(".plays button:nth-child(2) .cost").title]');
+        equal(`${name}: the exact loss`, loss.includes(title.startsWith("0/") ? "loses nothing" : `loses ${title}`), true);
+        equal(`${name}: the small board shows it`, await page.value('document.querySelectorAll(".small .arc").length'), 2);
+        await page.tap('[data-key="close"]');
+        await page.until('document.getElementById("plays").offsetHeight === 0');
+        equal(`${name}: what one taps is big enough`, await page.value(`[...document.querySelectorAll("button:not(.plain)")]
+            .filter((button) => button.offsetHeight > 0 && (button.offsetHeight < 24 || button.offsetWidth < 24)).map((button) => button.outerHTML.slice(0, 80))`), []);
+        equal(`${name}: nothing went wrong`, page.troubles(), []);
+    }
+    const page = await browser.open(address + TEACHING, { width: 360, height: 780, mobile: true });
+    await page.until(`${READY} && document.querySelector(".plays")`);
+    await page.value('document.documentElement.style.fontSize = "32px"');
+    equal("twice the font at 360 pixels", await page.value("document.documentElement.scrollWidth"), 360);
+    await page.value('document.querySelector("details").open = true');
+    equal("with fractions", await page.value("document.documentElement.scrollWidth"), 360);
+}
+
+// One page of A4, and one of US Letter.
+async function drivePrint(browser) {
+    for (const [what, hash] of [["a lesson", TEACHING], ["ten positions", `#at=2,2,2,2,2,2&roll=11&t=Ten&${Array.from({ length: 10 }, (_, count) => `p=${count},1,0,0,0,1&c=number ${count}`).join("&")}`], ["a guess", `${TEACHING}&guess=1`]]) {
+        const page = await browser.open(address + encodeURI(decodeURI(hash)));
+        await page.until(`${READY} && document.querySelector(".plays")`);
+        for (const [paper, width, height] of [["A4", 8.27, 11.69], ["US Letter", 8.5, 11]]) {
+            const bytes = await page.pdf(width, height);
+            const pages = bytes.toString("latin1").match(/\/Type\s*\/Page\b(?!s)/g) || [];
+            equal(`pages of ${paper} for ${what}`, [bytes.subarray(0, 5).toString(), pages.length], ["%PDF-", 1]);
+            if (pictures) writeFileSync(join(pictures, `${what} on ${paper}.pdf`.replaceAll(" ", "-")), bytes);
+        }
+    }
+}
+
+async function driveAudit(browser) {
+    let [compared, labels] = [0, 0];
+    for (const [width, height, mobile] of [[360, 780, true], [1180, 800, false]]) {
+        for (const colours of ["light", "dark", "forced"]) {
+            const page = await browser.open(address + TEACHING, { width, height, mobile, colours });
+            await page.until(`${READY} && document.querySelector(".plays") && ${KNOWN}`);
+            const told = await audit(page);
+            for (const fault of told.faults) wrong(`${width} wide, ${colours}: ${fault}`);
+            compared += told.compared;
+            labels += told.labels;
+        }
+    }
+    console.log(`page: ${compared} contrasts and ${labels} names were compared`);
+}
+
+async function takePictures(browser) {
+    for (const [width, height] of [[360, 780], [768, 1024], [1180, 800], [1920, 1080]]) {
+        for (const colours of ["light", "dark", "forced"]) {
+            const page = await browser.open(address + TEACHING, { width, height, colours, mobile: width < 900 });
+            await page.until(`${READY} && document.querySelector(".plays") && ${KNOWN}`);
+            equal(`nothing stands out at ${width}, ${colours}`, await page.value("document.documentElement.scrollWidth"), width);
+            if (pictures) writeFileSync(join(pictures, `${width}-${colours}.png`), await page.picture(false));
+            if (pictures) writeFileSync(join(pictures, `${width}-${colours}-whole.png`), await page.picture(true));
+        }
+    }
+}
+
+// The parts in which Chromium alone is driven, since a script runs first there and media are set.
+const OWN = {
+    times: async (browser) => driveTimes(await driveBoard(browser)),
+    files: async (browser) => {
+        const page = await browser.open(`${address}#at=0,0,0,4,4,1`);
+        await page.until(`${READY} && ${KNOWN}`);
+        await driveGuess(page);
+        await driveFiles(page);
+    },
+    moments: driveMoments, older: driveOlder, hosted: driveHosted, touch: driveTouch, print: drivePrint,
+    audit: driveAudit, pictures: takePictures, drill: driveDrill, lessons: driveLessons, still: driveStill, clicks: driveClicks,
+};
+
+// Those in which each browser is.
+const ALL = {
+    board: driveBoard, keyboard: driveKeyboard, sum: driveSum, lesson: driveLesson, history: driveHistory, copy: driveCopy, saved: driveSaved,
+};
+
+function drive(browser) {
+    const isChromium = browser.name === "Chromium";
+    const whole = isChromium ? { ...OWN, ...ALL, board: null } : ALL;
+    for (const [name, body] of Object.entries(whole)) {
+        if (body === null || (chosen && !chosen.includes(name))) continue;
+        part(`${name}, in ${browser.name}`, async () => {
+            browserName = browser.name;
+            await body(browser);
+        });
+    }
+}
+
+const kinds = process.env.BROWSERS?.split(" ") || ["chromium", "firefox"];
+for (const kind of kinds.filter((name) => !installed(name))) {
+    test(`in ${kind}`, { skip: `${kind} is not installed, and can't be had from Debian` }, () => {});
+}
+const browsers = await started(kinds.filter((name) => installed(name)));
+browsers.forEach(drive);
+after(() => Promise.all(browsers.map((browser) => browser.close())));

@@ -1,0 +1,59 @@
+// What the tests under node are given: the program that was proved here, the page and the two
+// modules that `make page` made, and the folder that `make tested` made of the program's files and
+// replies. The variables PROGRAM, PAGE, MODULES and TESTED name others. And how a part of a test
+// is told.
+import assert from "node:assert/strict";
+import { existsSync, readFileSync } from "node:fs";
+import { join, resolve } from "node:path";
+import { test } from "node:test";
+import { fileURLToPath } from "node:url";
+
+export const ROOT = fileURLToPath(new URL("../../", import.meta.url));
+
+// The path of what a variable names, or of what is made here, which has to be there.
+function made(variable, path, how) {
+    const place = resolve(process.env[variable] || join(ROOT, path));
+    if (!existsSync(place)) throw new Error(`${place} is missing: run ${how}`);
+    return place;
+}
+
+export const programPath = () =>
+    made("PROGRAM", "crates/bearoff_cli/out/bearoff_cli", "./bearoff --prove");
+export const pagePath = () => made("PAGE", "out/bearoff.html", "make page");
+export const modulesFolder = () => made("MODULES", "out/modules", "make page");
+export const testedFolder = () => made("TESTED", "out/tested", "make tested");
+export const linesOf = (name) =>
+    readFileSync(join(testedFolder(), name), "utf8").trimEnd().split("\n");
+
+// What is wrong in the part that runs; it goes on, so that all of it is told.
+let faults = [];
+
+export const wrong = (text) => faults.push(text);
+
+// What is kept of a value that is compared: objects as JSON has them.
+const plain = (value) =>
+    (typeof value === "object" && value !== null ? JSON.parse(JSON.stringify(value)) : value);
+
+export function equal(name, is, wanted) {
+    try {
+        assert.deepEqual(plain(is), plain(wanted));
+    } catch (error) {
+        wrong(`${name}: ${error.message}`);
+    }
+}
+
+// A test of some part, which fails with all that is wrong in it.
+export function part(name, body, options = {}) {
+    test(name, options, async (context) => {
+        faults = [];
+        let thrown = null;
+        try {
+            await body(context);
+        } catch (error) {
+            thrown = error;
+        }
+        const told = faults.slice(0, 20).join("\n");
+        if (faults.length > 0) assert.fail(`${told}\n${faults.length} wrong${thrown ? `, and ${thrown.stack}` : ""}`);
+        if (thrown) throw thrown;
+    });
+}

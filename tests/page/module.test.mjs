@@ -1,0 +1,197 @@
+// Lets the page's worker answer under node, over one of the two modules, and compares what it would
+// show with the program's replies to the same questions. What the module answers to each call, and
+// refuses, package.test.mjs tries.
+import { spawnSync } from "node:child_process";
+import { mkdtempSync, readFileSync, rmSync, writeFileSync } from "node:fs";
+import { tmpdir } from "node:os";
+import { join } from "node:path";
+import { playsOf, roundText, signedOf } from "../../web/answers.js";
+import { readPoints } from "../../web/points.js";
+import { ROLLS } from "../../web/rolls.js";
+import { decimal, FAULTS, notation } from "../../web/texts.js";
+import { answer, Desk, drawn, rollsOf, serve } from "../../web/worker.js";
+import { equal, linesOf, modulesFolder, part, programPath, testedFolder, wrong } from "./given.mjs";
+
+const program = programPath();
+const folder = testedFolder();
+const bytes = readFileSync(join(modulesFolder(), "narrow.wasm"));
+const module = await WebAssembly.compile(bytes);
+const WHOLE = 36n ** 22n;
+
+// A number over another in thousandths, to the nearest and a half up, as the definition says.
+const nearest = (numerator, denominator) => (2000n * numerator + denominator) / (2n * denominator);
+
+const over = (fraction) => fraction.split("/").map(BigInt);
+
+function comparePlays(name, plays, reply) {
+    const listed = reply.split(" ").slice(1);
+    equal(`${name}, as the program lists them`, plays.map((play) => `${play.to}:${play.exact}`).join(" "), listed.join(" "));
+    for (const play of plays) {
+        equal(`${name}, the loss of ${play.text}`, play.loss, nearest(...over(play.exact)));
+        equal(`${name}, its text`, play.lossText, decimal(play.loss));
+        equal(`${name}, best`, play.isBest, play.exact === "0/1");
+        equal(`${name}, the moves`, notation(play.moves), play.text);
+    }
+    equal(`${name}, recorded`, plays.filter(({ isRecorded }) => isRecorded).length, 1);
+}
+
+function compareChances(name, rows, reply) {
+    const told = reply.split(" ").slice(1).map((word) => word.split(":"));
+    equal(`${name}, which`, rows.map(({ rolls }) => rolls).join(), told.map(([rolls]) => rolls).join());
+    let total = 0n;
+    told.forEach(([, share], place) => {
+        const [numerator, denominator] = over(share);
+        total += (numerator * WHOLE) / denominator;
+        equal(`${name}, exactly`, rows[place].exactly, nearest(numerator, denominator));
+        equal(`${name}, within`, rows[place].within, nearest(total, WHOLE));
+    });
+    equal(`${name}, in all`, total, WHOLE);
+}
+
+function compareMean(name, shown, points, reply) {
+    equal(name, `mean ${shown.mean.exact} epc ${shown.effective.exact} ${shown.effective.text}`, reply);
+    const { pips, checkers, off } = shown.standing;
+    equal(`${name}, pips`, pips, points.reduce((sum, count, place) => sum + count * (place + 1), 0));
+    equal(`${name}, checkers`, checkers, points.reduce((sum, count) => sum + count, 0));
+    equal(`${name}, off`, off, 15 - checkers);
+    equal(`${name}, the mean in thousandths`, shown.mean.thousandths, nearest(...over(shown.mean.exact)));
+    equal(`${name}, the mean's text`, shown.mean.text, decimal(shown.mean.thousandths));
+    const waste = shown.effective.thousandths - 1000n * BigInt(pips);
+    equal(`${name}, wastage`, shown.wastage.text, (waste < 0n ? "\u2212" : "") + decimal(waste < 0n ? -waste : waste));
+    equal(`${name}, its size`, shown.wastage.thousandths, waste < 0n ? -waste : waste);
+}
+
+// What is shown of a position that was refused.
+const REFUSED = { "error too-many": [3, "A position has at most 15 checkers."], "error over-bound": [4, "The position has more pips than the database."] };
+
+function compareLines(database, bound) {
+    const replies = linesOf(`replies_${bound}`);
+    const plays = new Map();
+    const seen = {};
+    linesOf(`questions_${bound}`).forEach((line, place) => {
+        const [word, at, dice] = line.split(" ");
+        const reply = replies[place];
+        if (!["mean", "dist", "play", "moves"].includes(word) || reply.endsWith("bad-line")) return;
+        const name = `${line}, over ${bound} pips`;
+        const points = at.split(",").map(Number);
+        seen[reply.split(" ")[0]] = true;
+        if (word === "mean" || word === "dist") {
+            const shown = answer(database, points);
+            equal(`${name}, of which`, [shown.points.join(), shown.bound].join(), [at, bound].join());
+            if (REFUSED[reply]) equal(`${name}, refused`, [shown.status, shown.refusal].join(), REFUSED[reply].join());
+            else if (word === "mean") compareMean(name, shown, points, reply);
+            else compareChances(name, shown.distribution, reply);
+        } else if (reply.startsWith("moves")) {
+            const roll = [...dice].map(Number);
+            plays.set(`${at} ${[...roll].sort().reverse().join("")}`, playsOf(database, points, roll));
+            comparePlays(name, plays.get(`${at} ${[...roll].sort().reverse().join("")}`), reply);
+        }
+    });
+    // the recorded play of each roll whose plays were told
+    linesOf(`questions_${bound}`).forEach((line, place) => {
+        const [word, at, dice] = line.split(" ");
+        const told = word === "play" && plays.get(`${at} ${dice}`);
+        if (!told) return;
+        const recorded = told.find(({ isRecorded }) => isRecorded);
+        equal(`${line}, over ${bound} pips`, `play ${recorded.text} to ${recorded.to}`, replies[place]);
+        seen.play = true;
+    });
+    for (const kind of ["mean", "dist", "play", "moves", "error"]) seen[kind] || wrong(`no reply ${kind} over ${bound} pips`);
+    const rolls = rollsOf(database, [1, 0, 0, 0, 0, 1]);
+    equal("how many rolls", rolls.map(({ dice }) => dice.join("")).join(), ROLLS.map((dice) => dice.join("")).join());
+    equal("the plays of a roll", rolls[1].plays.map(({ to }) => `${to}`).sort().join(" "), "0,0,0,1,0,0 1,0,1,0,0,0");
+    equal("no rolls without checkers", rollsOf(database, [0, 0, 0, 0, 0, 0]).length, 0);
+}
+
+// A built database answers as the program's file does.
+async function compareBuilt(bound, positions) {
+    const told = [];
+    const desk = new Desk(module, ({ from, until, text }) => told.push(`${from} to ${until} ${text}`));
+    const opened = await desk.build(bound);
+    equal(`the database of ${bound} pips`, [opened.bound, opened.positions].join(), [bound, positions].join());
+    const megabytes = { 8: "0", 44: "11" }[bound];
+    equal("the steps of the bar", told.join("; "), `0.1 to 0.55 Building the database of ${bound} pips\u2026; 0.55 to 1 Checking all of its ${megabytes} MB\u2026`);
+    compareLines(desk.database, bound);
+    return desk;
+}
+
+// A refused file leaves the open database as it was; each fault has its words.
+async function compareDamaged(desk) {
+    const file = new Uint8Array(readFileSync(join(folder, "eight")));
+    const before = JSON.stringify(await desk.take({ kind: "ask", points: [0, 1, 0, 0, 0, 0] }), (_, value) => (typeof value === "bigint" ? String(value) : value));
+    const own = mkdtempSync(join(tmpdir(), "damaged-"));
+    for (const place of [0, 8, 9, 12, 16, 20, 28, 32 + 426 * 3, 32 + 426 * 5 + 16, 32 + 426 * 7 + 30, 32 + 426 * 9 + 100, -1]) {
+        const other = place < 0 ? file.slice(0, -1) : file.slice();
+        if (place >= 0) other[place] ^= 1;
+        writeFileSync(join(own, "file"), other);
+        const { stderr } = spawnSync(program, ["check", join(own, "file")], { encoding: "utf8" });
+        const why = await desk.take({ kind: "open", file: other }).then(() => ({ line: "accepted" }), (failure) => failure);
+        equal(`the damage at ${place}`, `bearoff: refused ${why.line}\n`, stderr);
+        FAULTS[why.status] || wrong(`no words for the status ${why.status}`);
+        const after = JSON.stringify(await desk.take({ kind: "ask", points: [0, 1, 0, 0, 0, 0] }), (_, value) => (typeof value === "bigint" ? String(value) : value));
+        equal(`after the damage at ${place}`, after, before);
+    }
+    rmSync(own, { recursive: true });
+    const opened = await desk.take({ kind: "open", file });
+    equal("a right file after them", [opened.bound, opened.positions].join(), "8,64");
+}
+
+// What a drill asks has a play that is best alone, and another.
+async function compareDrawn(desk) {
+    const drill = { theme: "gaps", seed: 7, ask: "play" };
+    const questions = drawn(desk.database, drill);
+    equal("how many questions", questions.length, 20);
+    for (const { points, roll } of questions) {
+        const best = playsOf(desk.database, points, roll).map(({ isBest }) => isBest);
+        equal(`${points} ${roll}`, [best.length > 1, best.filter(Boolean).length].join(), "true,1");
+    }
+    equal("the same drill", JSON.stringify(await desk.take({ kind: "draw", drill })), JSON.stringify(questions));
+}
+
+function compareRounded(database) {
+    for (const fraction of ["0/1", "1/6", "1/2000", "999/2000000", "31/2", `${7n ** 40n}/${36n ** 22n}`, `${7n ** 43n}/${36n ** 22n}`, "180/1"]) {
+        equal(`${fraction} in decimals`, roundText(database, fraction), decimal(nearest(...over(fraction))));
+    }
+    equal("a negative number", signedOf({ thousandths: -5 }).text, "\u22120.005");
+    equal("and a positive one", signedOf({ thousandths: 4208 }).text, "4.208");
+}
+
+// The messages of a page, and what is answered to them.
+async function compareServed() {
+    const posted = [];
+    const scope = { postMessage: (message) => posted.push(message) };
+    serve(scope);
+    const questions = [
+        { kind: "ask", points: [0, 0, 0, 0, 0, 1] }, { kind: "start", module: { text: bytes.toString("base64"), isPacked: false }, bound: 8 },
+        { kind: "ask", points: [0, 0, 0, 0, 0, 1] }, { kind: "open", file: new Uint8Array(3) }, { kind: "round", fraction: "181/1" }, { kind: "nothing" },
+        { kind: "round", fraction: "5/4" },
+    ];
+    questions.forEach((question, number) => scope.onmessage({ data: { number, question } }));
+    while (!posted.some(({ number }) => number === questions.length - 1)) await new Promise((keep) => setTimeout(keep, 5));
+    const replies = posted.filter(({ number }) => number !== undefined);
+    equal("the order of replies", replies.map(({ number }) => number).join(), "0,1,2,3,4,5,6");
+    equal("a question before the start", replies[0].failure.message, "the module didn't start");
+    equal("the start", replies[1].reply.positions, 64);
+    equal("an answer", replies[2].reply.mean.exact, "5/4");
+    equal("a refused file", [replies[3].failure.status, replies[3].failure.line].join(), "16,header too-short");
+    equal("a sum over 180 rolls", replies[4].failure.status, 0);
+    equal("no question", replies[5].failure.message, "no such question");
+    equal("the last one", replies[6].reply, "1.250");
+}
+
+let small = null;
+let large = null;
+
+part("a text of a position is read", () => {
+    if (readPoints("0,0,0,0,0,1") === null) wrong("points.js reads no position");
+});
+part("a built database of 8 pips", async () => { small = await compareBuilt(8, 64); });
+part("a built database of 44 pips", async () => { large = await compareBuilt(44, 26314); });
+part("damaged files", () => compareDamaged(small));
+part("drills", async () => {
+    await compareDrawn(large);
+    const drill = { theme: "gaps", seed: 7, ask: "play" };
+    equal("a small database has no drill", drawn(small.database, drill).length, 0);
+});
+part("rounded fractions", () => compareRounded(small.database));
+part("messages", compareServed);

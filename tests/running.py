@@ -1,0 +1,119 @@
+"""Runs commands as a user does, and compares what came with what was wanted."""
+
+import collections
+import os
+import re
+import shlex
+import subprocess
+from pathlib import Path
+
+import pytest
+
+import needs
+
+ROOT = Path(__file__).resolve().parent.parent
+HERE = ROOT / "tests"
+CALLERS = HERE / "callers"
+
+Done = collections.namedtuple("Done", "words folder input status output errors")
+
+
+def as_bytes(text):
+    """What a command is given or has to say: bytes as they are, and a text as the lines that it
+    has."""
+    if isinstance(text, bytes):
+        return text
+    return (text if not text or text.endswith("\n") else text + "\n").encode()
+
+
+def run(*words, input=b"", cwd=None, timeout=120, **more):
+    """Runs a command with an input, and tells its status and both outputs."""
+    words = [str(word) for word in words]
+    given = as_bytes(input)
+    try:
+        done = subprocess.run(
+            words, input=given, capture_output=True, cwd=cwd, timeout=timeout, **more
+        )
+    except subprocess.TimeoutExpired as late:
+        pytest.fail(f"ran:    {shlex.join(words)}\ncame:   no end within {late.timeout} s")
+    return Done(words, str(cwd or os.getcwd()), given, done.returncode, done.stdout, done.stderr)
+
+
+def shown(data, most=1500):
+    return f"{data!r}" if len(data) <= most else f"{data[:most]!r}.. ({len(data)} bytes)"
+
+
+def told(done):
+    """What was run and what came, for a failure."""
+    given = f"\ninput:  {shown(done.input, 300)}" if done.input else ""
+    return (
+        f"ran:    {shlex.join(done.words)}{given}\nin:     {done.folder}\n"
+        f"came:   status {done.status}, output {shown(done.output)}, errors {shown(done.errors)}"
+    )
+
+
+def expect(done, status=0, output="", errors=""):
+    """The status, and the whole of both outputs."""
+    __tracebackhide__ = True
+    output, errors = as_bytes(output), as_bytes(errors)
+    if (done.status, done.output, done.errors) != (status, output, errors):
+        pytest.fail(
+            f"{told(done)}\nwanted: status {status}, output {shown(output)},"
+            f" errors {shown(errors)}",
+            pytrace=False,
+        )
+
+
+def expect_that(is_so, done, wanted):
+    """That something holds of what came, which is said in words."""
+    __tracebackhide__ = True
+    if not is_so:
+        pytest.fail(f"{told(done)}\nwanted: {wanted}", pytrace=False)
+
+
+def succeed(*words, **how):
+    """Runs a command that has to end with status 0, and tells what it wrote."""
+    __tracebackhide__ = True
+    done = run(*words, **how)
+    expect_that(done.status == 0, done, "status 0")
+    return done.output
+
+
+def expect_same(one, other, what):
+    """That two files, or bytes, are the same."""
+    __tracebackhide__ = True
+    here, there = (
+        data if isinstance(data, bytes) else Path(data).read_bytes() for data in (one, other)
+    )
+    if here != there:
+        at = next(
+            (place for place, (a, b) in enumerate(zip(here, there)) if a != b),
+            min(len(here), len(there)),
+        )
+        pytest.fail(
+            f"{what}: {'what came' if isinstance(one, bytes) else one} differs from byte {at} on\n"
+            f"came:   {shown(here[at:at + 60])} of {len(here)} bytes\n"
+            f"wanted: {shown(there[at:at + 60])} of {len(there)} bytes",
+            pytrace=False,
+        )
+
+
+def need(*names):
+    """Installs what a test needs where it is missing. What can't be had is a failure, or, where it
+    is optional, leaves the test out."""
+    for name in needs.install(names):
+        packages = " ".join(needs.BY_NAME[name].packages)
+        if needs.BY_NAME[name].is_optional:
+            pytest.skip(f"Debian's {packages} can't be had here")
+        pytest.fail(
+            f"Debian's {packages} is needed and can't be installed: tests/needs.py {name}",
+            pytrace=False,
+        )
+
+
+def code_blocks(page, kind):
+    """The blocks of code of a kind in a page of the repository."""
+    found = re.findall(rf"(?ms)^```{kind}\n(.*?)^```$", (ROOT / page).read_text(encoding="utf-8"))
+    if not found:
+        pytest.fail(f"{page} has no block of {kind}", pytrace=False)
+    return found

@@ -1,0 +1,226 @@
+"""What packaging/install puts down and packaging/uninstall takes away: over a program that runs,
+over other people's files, where a folder stands in a file's place, with odd characters in the
+prefix, and with lists that lead elsewhere; and the same by `make`."""
+
+import os
+import re
+import shutil
+import subprocess
+from pathlib import Path
+
+import pytest
+
+from running import ROOT, code_blocks, expect, expect_that, need, run, succeed
+
+INSTALL, UNINSTALL = ROOT / "packaging/install", ROOT / "packaging/uninstall"
+QUESTION, ANSWER = "mean 0,0,0,0,0,1", "mean 5/4 epc 245/24 10.208"
+PRINTED = "1.250 rolls, 10.208 pips\n4/2 2/1"
+
+
+@pytest.fixture(scope="module", autouse=True)
+def proved(program):
+    """The program is there, so that none of these has to prove it."""
+    need("cc")
+
+
+@pytest.fixture(scope="module")
+def listed():
+    return sorted(succeed(INSTALL, "--list").decode().splitlines())
+
+
+LISTED = re.findall(r"(?m)^(?:\d+|link) (\S+) ", (ROOT / "packaging/put_down").read_text())
+LISTED = sorted(name.replace("$lib", "lib") for name in [*LISTED, "share/bearoff/installed"])
+
+
+def files_of(folder):
+    """The files below a folder."""
+    found = [os.path.relpath(os.path.join(place, name), folder)
+             for place, folders, names in os.walk(folder)
+             for name in [*names, *(it for it in folders if os.path.islink(f"{place}/{it}"))]]
+    return sorted(found)
+
+
+def install(prefix, **environment):
+    return run(INSTALL, prefix, env={**os.environ, **environment})
+
+
+def installed(prefix, **environment):
+    done = install(prefix, **environment)
+    expect_that(done.status == 0, done, "an installation")
+
+
+def expect_refused(done, status, said):
+    """Nothing is written, and one line on standard error has some words."""
+    errors = done.errors.decode()
+    is_line = errors.count("\n") == 1 and said in errors
+    is_so = (done.status, done.output) == (status, b"") and is_line
+    expect_that(is_so, done, f"status {status}, and one line with '{said}'")
+
+
+def test_the_list_is_known_beforehand(listed):
+    assert LISTED == listed
+
+
+class TestAPrefixWithASpace:
+    """With a space, under a strict mask, beside a program that runs, and back."""
+
+    @pytest.fixture
+    def prefix(self, room):
+        prefix = room / "a prefix"
+        done = run("sh", "-c", 'umask 077 && "$0" "$1"', INSTALL, prefix)
+        expect_that(done.status == 0, done, "an installation")
+        return prefix
+
+    def test_files(self, prefix, listed):
+        assert files_of(prefix) == listed
+
+    def test_modes(self, prefix):
+        """Folders and files that everybody can read."""
+        for place, _, names in os.walk(prefix):
+            assert os.stat(place).st_mode & 0o777 == 0o755, place
+            for name in names:
+                mode = os.stat(os.path.join(place, name)).st_mode & 0o777
+                assert mode in (0o644, 0o755), name
+
+    def test_over_a_program_that_runs(self, prefix):
+        with subprocess.Popen([prefix / "bin/bearoff"], stdin=subprocess.PIPE,
+                              stdout=subprocess.PIPE) as child:
+            installed(prefix)
+            output, _ = child.communicate(f"{QUESTION}\n".encode(), timeout=60)
+        assert (child.returncode, output.decode()) == (0, ANSWER + "\n")
+
+    def test_program(self, prefix):
+        expect(run(prefix / "bin/bearoff", input=QUESTION), 0, ANSWER)
+
+    def test_uninstall(self, prefix):
+        (prefix / "bin/another").touch()
+        succeed(UNINSTALL, prefix)
+        assert files_of(prefix) == ["bin/another"]
+        assert not (prefix / "share/bearoff").exists(), "uninstall leaves the list's folder"
+
+
+def test_destdir(room, listed):
+    stage = room / "stage"
+    done = run("sh", "-c", 'umask 077 && "$0" /usr/local', INSTALL,
+               env={**os.environ, "DESTDIR": str(stage)})
+    expect_that(done.status == 0, done, "an installation")
+    assert files_of(stage / "usr/local") == listed
+    lines = (stage / "usr/local/lib/pkgconfig/bearoff.pc").read_text().splitlines()
+    assert "prefix=/usr/local" in lines
+    succeed(UNINSTALL, "/usr/local", env={**os.environ, "DESTDIR": str(stage)})
+    assert files_of(stage) == []
+
+
+def test_make(room, listed):
+    """`make install` and `make uninstall` do the same, with PREFIX and DESTDIR."""
+    environment = {name: value for name, value in os.environ.items() if "MAKE" not in name}
+    words = ["make", "-s", "-C", ROOT, f"DESTDIR={room}/stage", "PREFIX=/usr"]
+    succeed(*words, "install", env=environment)
+    assert files_of(room / "stage/usr") == listed
+    succeed(*words, "uninstall", env=environment)
+    assert files_of(room / "stage") == []
+
+
+@pytest.mark.parametrize("script", [INSTALL, UNINSTALL], ids=["install", "uninstall"])
+def test_usage(script):
+    assert succeed(script, "--help").startswith(b"usage:")
+    assert run(script).status == 2
+
+
+class TestTakenPlaces:
+    """A folder in the place of each file, and a file in that of a folder: nothing is put down."""
+
+    @pytest.mark.parametrize("file", LISTED)
+    def test_a_folder(self, room, file):
+        (room / "taken" / file).mkdir(parents=True)
+        expect_refused(run(INSTALL, room / "taken"), 1, f"{room}/taken/{file} is a folder")
+        assert files_of("taken") == []
+
+    @pytest.mark.parametrize("file", LISTED)
+    def test_a_file(self, room, file):
+        over = Path("taken") / os.path.dirname(file)
+        over.parent.mkdir(parents=True, exist_ok=True)
+        over.touch()
+        expect_refused(run(INSTALL, room / "taken"), 1, f"{room}/{over} is no folder")
+        assert files_of("taken") == [os.path.dirname(file)]
+
+    def test_a_folder_with_the_programs_name(self, room):
+        (room / "taken/bearoff").mkdir(parents=True)
+        done = run(INSTALL, "--program", room / "taken")
+        expect_refused(done, 1, f"{room}/taken/bearoff is a folder")
+        assert files_of("taken") == []
+
+    def test_the_program_alone(self, room):
+        succeed(INSTALL, "--program", room / "alone")
+        assert files_of("alone") == ["bearoff"]
+        expect(run("alone/bearoff", input=QUESTION), 0, ANSWER)
+
+    def test_other_peoples_files(self, room):
+        """They stay where nothing was installed."""
+        for file in LISTED:
+            (room / "foreign" / file).parent.mkdir(parents=True, exist_ok=True)
+            (room / "foreign" / file).write_text("theirs\n")
+        shutil.rmtree(room / "foreign/share/bearoff")
+        before = files_of("foreign")
+        expect_refused(run(UNINSTALL, room / "foreign"), 1, "nothing was installed here")
+        assert files_of("foreign") == before
+
+
+class TestLists:
+    """A list that leads elsewhere is not followed; one of an older version is gone through too,
+    and one that is cut."""
+
+    @pytest.mark.parametrize("name", ["../outside", "@/outside", "bin/../../outside", "bin/..",
+                                      ".", "..", "/", "", "bin//bearoff", "./bin/bearoff"])
+    def test_elsewhere(self, room, listed, name):
+        name = name.replace("@", str(room))
+        (room / "outside").write_text("theirs\n")
+        prefix = room / "a prefix"
+        installed(prefix)
+        with open(prefix / "share/bearoff/installed", "a", encoding="utf-8") as file:
+            file.write(f"{name}\n")
+        expect_refused(run(UNINSTALL, prefix), 1, f"names '{name}'")
+        assert (room / "outside").exists() and files_of(prefix) == listed
+
+    def test_an_older_one(self, room):
+        (room / "share/bearoff").mkdir(parents=True)
+        (room / "share/another").write_text("theirs\n")
+        (room / "share/old file").write_text("ours\n")
+        (room / "share/bearoff/installed").write_text("bin/bearoff\nshare/old file")
+        installed(room)
+        succeed(UNINSTALL, room)
+        assert files_of(room) == ["share/another"]
+
+    def test_one_that_is_cut(self, room):
+        (room / "share/bearoff").mkdir(parents=True)
+        (room / "share/another").write_text("theirs\n")
+        (room / "share/bearoff/installed").write_text("bin/bearoff\nshare/another")
+        succeed(UNINSTALL, room)
+        assert files_of(room) == []
+
+
+class TestOddPrefixes:
+    """The guide's line, behind eval, takes a prefix with an odd character, or it is refused."""
+
+    @pytest.mark.parametrize("name", [
+        "a b", " ab", "a\\b", "ab\\", "a*b", "a?b", "a[b]c", "a!b", "a%b", "a@b", "a^b", "a=b",
+        "a+b", "a~b", "~ab", "-ab", "aäb", "@LIB@", "@PREFIX@"])
+    def test_taken(self, room, built, name):
+        need("pkg-config")
+        page = (ROOT / "docs/embedding.md").read_text(encoding="utf-8")
+        line = re.search(r"(?m)^    (cc example\.c .*)$", page)[1]
+        text = code_blocks("docs/embedding.md", "c")[0]
+        Path("example.c").write_text(text, encoding="utf-8")
+        os.symlink(built(44), "race.db")
+        installed(room / "odd" / name)
+        environment = {**os.environ, "PKG_CONFIG_PATH": f"{room}/odd/{name}/lib/pkgconfig"}
+        succeed("bash", "-c", f'eval "{line}"', env=environment)
+        expect(run("./a.out"), 0, PRINTED)
+
+    @pytest.mark.parametrize("name", [
+        "ab ", "a\tb", "ab\t", "a\nb", "a\rb", "a\x01b", 'a"b', "a'b", "a$b", "a${b}", "a`b",
+        "a#b", "a #b", "a(b", "a)b", "a{b", "a}b", "a;b", "a&b", "a|b", "a<b", "a>b", "a,b", "a:b"])
+    def test_refused(self, room, name):
+        said = "pkg-config can tell a compiler no folder whose name has"
+        expect_refused(run(INSTALL, room / "odd" / name), 1, said)
+        assert not (room / "odd").exists()

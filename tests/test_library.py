@@ -1,0 +1,401 @@
+"""The library for C under callers in C, C++ and Python: every position of 8 pips, and a thousand
+of 44 and of 58, give what the program's own lines give, and so do the lines that the library
+answers itself, good and bad; each refusal gives its status and leaves the rest of the caller's
+memory alone (under valgrind, and with AddressSanitizer in the caller), bytes that are changed
+after they were opened lead no call outside them, rooms of exactly the size of a file are enough
+and smaller ones aren't, threads with a database each answer the same, and both libraries export
+what the header declares and nothing else. The package for Python passes its own tests, is accepted
+by mypy and is installed by pip without a trace in the checkout; the examples of docs/embedding.md
+and docs/analysts.md do what the pages say."""
+
+import os
+import re
+import shutil
+import subprocess
+import sys
+from pathlib import Path
+
+import pytest
+
+from running import CALLERS, ROOT, as_bytes, code_blocks, expect, expect_that, need, run, succeed
+
+FLAGS = ["-O2", "-Wall", "-Wextra", "-Werror", f"-I{ROOT}/c"]
+PRINTED = "1.250 rolls, 10.208 pips\n4/2 2/1"
+SANITIZED = ["-g", "-fsanitize=address,undefined", "-fno-sanitize-recover"]
+AS_CPP = ["-std=c++17", "-x", "c++"]
+
+# each caller: the compiler and its words before the source, and those behind it
+STATIC = ["libbearoff.a"]
+CALLER_WORDS = {
+    "lines_c": ("cc", ["-std=c11"], "lines.c", [*STATIC, "-lpthread"]),
+    "lines_cpp": ("c++", AS_CPP, "lines.c", ["-x", "none", *STATIC, "-lpthread"]),
+    "lines_shared": ("cc", ["-std=c11"], "lines.c",
+                     ["-L.", "-lbearoff", "-lpthread", "-Wl,-rpath,$ORIGIN"]),
+    "refusals_c": ("cc", ["-std=c11", "-g"], "refusals.c", STATIC),
+    "refusals_cpp": ("c++", AS_CPP, "refusals.c", ["-x", "none", *STATIC]),
+    "refusals_asan": ("cc", ["-std=c11", *SANITIZED], "refusals.c", STATIC),
+    "reads_outside": ("cc", ["-std=c11"], "reads_outside.c", STATIC),
+    "rooms": ("cc", ["-std=c11"], "rooms.c", [*STATIC, "-lpthread"]),
+}
+LINE_CALLERS = ["lines_c", "lines_cpp", "lines_shared"]
+
+
+@pytest.fixture(scope="session")
+def library(request, store):
+    """A folder with both libraries, made of what was proved here, and the callers."""
+    need("cc", "c++")
+    folder = store / "library"
+    if not folder.exists():
+        done = run(ROOT / "packaging/library", f"{folder}.part", timeout=3600)
+        expect_that(done.status == 0, done, "the libraries; make prove proves them first")
+        os.rename(f"{folder}.part", folder)
+    return folder
+
+
+@pytest.fixture(scope="session")
+def caller(library):
+    """A caller, compiled once."""
+    def compiled(name):
+        compiler, before, source, behind = CALLER_WORDS[name]
+        if not (library / name).exists():
+            words = [compiler, *before, *FLAGS, "-o", name, CALLERS / source, *behind]
+            expect(run(*words, cwd=library), 0)
+        return library / name
+    return compiled
+
+
+BAD = [b"", b" "] + [line.encode() for line in (
+    "mean", "mean ", " mean 0,0,0,0,0,1", "mean  0,0,0,0,0,1", "mean 0,0,0,0,0,1 ",
+    "Mean 0,0,0,0,0,1", "mean 0,0,0,0,0,01", "mean 0,0,0,0,0,1000", "mean 0,0,0,0,0,-1",
+    "mean 0,0,0,0,1", "mean 0,0,0,0,0,0,1", "play 0,0,0,0,0,1", "play 0,0,0,0,0,1 2",
+    "play 0,0,0,0,0,1 07", "play 0,0,0,0,0,16 07", "play 0,0,0,0,0,16 21", "loss 0,0,0,0,0,1 21",
+    "loss 0,0,0,0,0,1 21 0,0,0,0,0", "loss 0,0,0,0,0,1 21 0,0,0,0,0,16",
+    "loss 0,0,0,0,0,0 21 0,0,0,0,0,0", "loss 0,0,0,0,0,16 21 0,0,0,0,0", "moves 0,0,0,0,0,0 21",
+    "moves 15,0,0,0,0,0 66", "rank 0,0,0,0,0,0", "rank 0,0,0,0,0,1", "rank 0,0,0,0,4,4",
+    "rank 9,0,0,0,1,5", "rank 0,0,0,0,0,15", "rank 0,0,0,0,0,16", "mean 0,0,0,0,0,1\tx",
+    "mean\t0,0,0,0,0,1")] + [b"\377\376", b"mean 0,0,0,0,0,1\0", b"\0", b"mean 0,0,0,0,0,1\r "]
+for length in (127, 128, 129, 130, 131, 5000):
+    BAD += [b" " * length, b"mean " + b"0,0,0,0,0,1".rjust(length)]
+BAD = b"".join(line + b"\n" for line in BAD)
+
+COUNTS = {8: [], 44: [1000], 58: [1000]}
+
+
+@pytest.fixture(scope="session")
+def asked(program, built):
+    """Questions about positions of a bound, and the program's replies."""
+    kept = {}
+
+    def of(bound, with_bad=False):
+        if (bound, with_bad) not in kept:
+            words = [sys.executable, "-I", CALLERS / "questions.py", bound, *COUNTS[bound]]
+            lines = succeed(*words) + (BAD if with_bad else b"")
+            replies = succeed(program, "query", built(bound), input=lines)
+            assert replies.count(b"\n") == lines.count(b"\n")
+            kept[bound, with_bad] = lines, replies
+        return kept[bound, with_bad]
+    return of
+
+
+@pytest.mark.parametrize("exported", ["-g libbearoff.a", "-D libbearoff.so"])
+def test_exports(library, exported):
+    """What the header declares, and nothing else, is what a caller can link against."""
+    header = (ROOT / "c/bearoff.h").read_text(encoding="utf-8")
+    declared = sorted(re.findall(r"(?m)^(?:uint32_t|bool) (bearoff_[a-z_]*)\(.*", header))
+    assert declared, "c/bearoff.h declares nothing"
+    words = ["nm", "--defined-only", "--format=posix", *exported.split()]
+    told = succeed(*words, cwd=library).decode()
+    assert sorted(re.findall(r"(?m)^([^\s@]+)\S* (?!A 0)[A-Za-z] ", told)) == declared
+    if "libbearoff.so" in exported:
+        # each by the first number of its version
+        versions = re.findall(r"(?m)^(bearoff_[a-z_]*)@@BEAROFF_1 T ", told)
+        assert sorted(versions) == declared
+
+
+@pytest.mark.parametrize("bound", COUNTS)
+@pytest.mark.parametrize("name", LINE_CALLERS)
+def test_calls(caller, built, asked, name, bound):
+    lines, replies = asked(bound)
+    expect(run(caller(name), built(bound), input=lines), 0, replies)
+
+
+@pytest.mark.parametrize("bound", COUNTS)
+@pytest.mark.parametrize("name", LINE_CALLERS)
+def test_lines_as_text(caller, built, asked, name, bound):
+    lines, replies = asked(bound, with_bad=True)
+    expect(run(caller(name), built(bound), "--text", input=lines), 0, replies)
+
+
+@pytest.mark.parametrize("bound", COUNTS)
+def test_two_threads(caller, built, asked, bound):
+    lines, replies = asked(bound)
+    expect(run(caller("lines_c"), built(bound), 2, input=lines), 0, replies)
+
+
+@pytest.mark.parametrize("name", ["refusals_c", "refusals_cpp", "refusals_asan"])
+def test_refusals(caller, built, name):
+    expect(run(caller(name), built(8)), 0)
+
+
+VALGRIND = ["valgrind", "-q", "--error-exitcode=9", "--leak-check=full"]
+
+
+def test_refusals_under_valgrind(caller, built):
+    need("valgrind")
+    words = [*VALGRIND, "--main-stacksize=16777216", caller("refusals_c"), built(8)]
+    expect(run(*words, timeout=600))
+
+
+@pytest.mark.parametrize("with_bad, words", [(False, ["2"]), (True, ["--text"])],
+                         ids=["two threads", "text"])
+def test_lines_under_valgrind(caller, program, built, asked, with_bad, words):
+    need("valgrind")
+    lines = b"".join(asked(8)[0].splitlines(True)[:300]) + (BAD if with_bad else b"")
+    replies = succeed(program, "query", built(8), input=lines)
+    words = [*VALGRIND, caller("lines_c"), built(8), *words]
+    expect(run(*words, input=lines, timeout=600), 0, replies)
+
+
+@pytest.mark.parametrize("bound, times", [(8, 4000), (44, 100)])
+@pytest.mark.parametrize("is_new", [False, True], ids=["version 1", "version 2"])
+def test_changed_bytes(caller, built, bound, times, is_new):
+    """Bytes that are changed after they were opened."""
+    succeed(caller("reads_outside"), built(bound, is_new), times, timeout=600)
+
+
+def test_rooms(caller):
+    """Rooms of each size that matters."""
+    expect(run(caller("rooms"), timeout=600), 0)
+
+
+def test_example_in_c(library, room, built):
+    Path("example.c").write_text(code_blocks("docs/embedding.md", "c")[0], encoding="utf-8")
+    shutil.copy(built(44), "race.db")
+    words = ["cc", "-std=c11", *FLAGS, "-o", "example", "example.c", library / "libbearoff.a"]
+    expect(run(*words), 0)
+    expect(run("./example"), 0, PRINTED)
+
+
+@pytest.fixture(scope="session")
+def databases(store, built):
+    """A folder as the packages' tests want it."""
+    folder = store / "databases"
+    folder.mkdir(exist_ok=True)
+    for name, bound, is_new in (
+            ("eight", 8, False), ("race.db", 44, False), ("large.db", 58, False),
+            ("eight_new", 8, True), ("race_new.db", 44, True)):
+        if not (folder / name).exists():
+            os.symlink(built(bound, is_new), folder / name)
+    return folder
+
+
+@pytest.fixture(scope="session")
+def gnubg_says(store):
+    """What GNU Backgammon says of positions, or None where it can't be had."""
+    file = store / "gnubg_says"
+    if not file.exists():
+        done = run(sys.executable, "-I", CALLERS / "ask_gnubg.py", file, timeout=600)
+        expect_that(done.status in (0, 3), done, "what GNU Backgammon says, or that there is none")
+    return file if file.exists() else None
+
+
+@pytest.fixture(scope="session")
+def matches(store):
+    """Matches that GNU Backgammon plays against itself, or None where it can't be had."""
+    folder = store / "matches"
+    if not folder.exists():
+        done = run(sys.executable, "-I", CALLERS / "play_gnubg.py", folder, timeout=900)
+        expect_that(done.status in (0, 3), done, "matches of GNU Backgammon, or that there is none")
+    return folder if folder.exists() and any(folder.iterdir()) else None
+
+
+@pytest.fixture
+def python(library, program, databases):
+    """Runs Debian's Python with the package of this repository."""
+    def run_it(*words, cwd=ROOT / "python", path=ROOT / "python", **more):
+        environment = {
+            **os.environ, "PYTHONPATH": str(path),
+            "BEAROFF_LIBRARY": str(library / "libbearoff.so"),
+            "BEAROFF_PROGRAM": str(program), "BEAROFF_DATABASES": str(databases),
+            "PYTHONDONTWRITEBYTECODE": "1", **more}
+        return run("/usr/bin/python3", *words, cwd=cwd, env=environment, timeout=900)
+    return run_it
+
+
+def test_python_types():
+    need("mypy")
+    words = ["/usr/bin/mypy", "--strict", "--cache-dir=/dev/null", "bearoff", "tests"]
+    done = run(*words, cwd=ROOT / "python", timeout=600)
+    expect_that(done.status == 0, done, "no fault of the types")
+
+
+PYTHON_TESTS = sorted(path.stem for path in (ROOT / "python/tests").glob("test_*.py"))
+
+
+def counted(done):
+    """How many tests of unittest there were."""
+    found = re.search(rb"Ran (\d+) tests? in", done.errors)
+    expect_that(found and int(found[1]) > 0, done, "tests that ran")
+    return int(found[1])
+
+
+def test_gnubg_was_asked(gnubg_says):
+    need("gnubg")
+    assert gnubg_says.stat().st_size > 0
+
+
+@pytest.mark.parametrize("name", PYTHON_TESTS)
+def test_python(python, gnubg_says, matches, note, name):
+    """The tests of the package, over the program's lines too."""
+    if b"numpy" in (ROOT / f"python/tests/{name}.py").read_bytes():
+        need("pandas")
+    more = {"BEAROFF_GNUBG": str(gnubg_says)} if gnubg_says else {}
+    more |= {"BEAROFF_MATCHES": str(matches)} if matches else {}
+    done = python("-m", "unittest", "-v", f"tests.{name}", **more)
+    expect_that(done.status == 0, done, "no test that fails")
+    is_whole = b"skipped" not in done.errors or gnubg_says is None
+    expect_that(is_whole, done, "no test that is left out")
+    note(f"python/tests/{name}.py: {counted(done)} tests")
+
+
+def test_example_for_analysts(python, room, built):
+    """The example, and behind it the lines about exact numbers, the last of which is the mean of a
+    position."""
+    need("pandas")
+    page = (ROOT / "docs/analysts.md").read_text(encoding="utf-8")
+    exact = re.search(r"(?ms)^## Exact numbers$(.*?)^## Two sides", page)
+    lines = re.findall(r"(?m)^    (.*)$", exact[1])
+    lines[-1] = f'assert ({lines[-1]}) == database.mean("0,0,0,4,4,1")'
+    script = "".join(code_blocks("docs/analysts.md", "python")) + "\n".join(lines) + "\n"
+    Path("analysts.py").write_text(script, encoding="utf-8")
+    shutil.copy(built(44), "race.db")
+    wanted = "".join(code_blocks("docs/analysts.md", "text"))
+    expect(python("analysts.py", cwd=room), 0, wanted)
+
+
+@pytest.fixture
+def example(room, built):
+    """A folder with the example of the page and its database."""
+    text = "".join(code_blocks("docs/embedding.md", "python"))
+    Path("example.py").write_text(text, encoding="utf-8")
+    shutil.copy(built(44), "race.db")
+    return room
+
+
+def test_example_in_python(python, example):
+    expect(python("example.py", cwd=example), 0, PRINTED)
+
+
+class TestExampleOfAFile:
+    """The example that reads a file of positions."""
+
+    TEXT = b"0,0,0,0,0,1\r\n2,2,2,2,2,2\n0,0,0,0,0,16\nsix"
+    TOLD = """0,0,0,0,0,1: 1.2500 rolls, 10.208 pips
+2,2,2,2,2,2: 6.3603 rolls, 51.943 pips
+line 3: 0,0,0,0,0,16 is refused with status 3
+line 4: six is no position"""
+
+    @pytest.fixture(params=["cc", "c++"])
+    def positions(self, request, library, room, built):
+        text = code_blocks("docs/embedding.md", "c")[1]
+        Path("example.c").write_text(text, encoding="utf-8")
+        Path("positions.txt").write_bytes(self.TEXT)
+        os.symlink(built(44), "race.db")
+        before = ["-std=c11"] if request.param == "cc" else AS_CPP
+        behind = [] if request.param == "cc" else ["-x", "none"]
+        words = [*before, *FLAGS, "-o", "positions", "example.c", *behind]
+        expect(run(request.param, *words, library / "libbearoff.a"), 0)
+        return "./positions"
+
+    def test_lines(self, positions):
+        done = run(positions, "race.db", "positions.txt")
+        expect_that(done.output + done.errors == as_bytes(self.TOLD), done, self.TOLD)
+
+    def test_no_database(self, positions):
+        done = run(positions, "positions.txt", "positions.txt")
+        expect_that(done.output + done.errors == b"positions.txt: header bad-magic\n", done, "the fault")
+
+    def test_one_word(self, positions):
+        done = run(positions, "race.db")
+        expect_that(done.output + done.errors == b"usage: positions DATABASE FILE\n", done, "the usage")
+
+    def test_valgrind(self, positions):
+        need("valgrind")
+        words = [*VALGRIND, "--log-file=said", "--main-stacksize=16777216", positions]
+        run(*words, "race.db", "positions.txt", timeout=600)
+        assert Path("said").read_text() == ""
+
+
+def test_pip(python, example):
+    """The package as pip installs it, without a network, out of a checkout, in which it leaves
+    nothing that git would show."""
+    need("pip", "git")
+    os.mkdir("checkout")
+    # what a test beside this one has compiled is not in a checkout
+    left_out = shutil.ignore_patterns("__pycache__")
+    shutil.copytree(ROOT / "python", "checkout/python", ignore=left_out)
+    shutil.copy(ROOT / ".gitignore", "checkout/")
+    succeed("git", "init", "-q", "checkout")
+    succeed("git", "-C", "checkout", "add", "-A")
+    site = example / "site"
+    words = ["-m", "pip", "install", "-q", "--no-index", "--no-deps", "--target", site]
+    done = python(*words, "./checkout/python", cwd=example, path="")
+    expect_that(done.status == 0, done, "pip to install the package")
+    words = ["ls-files", "--others", "--modified", "--exclude-standard"]
+    expect(run("git", "-C", "checkout", *words))
+    expect(python("example.py", cwd=example, path=site), 0, PRINTED)
+
+
+def test_install(program, example):
+    """What is installed is enough to build with."""
+    need("pkg-config")
+    text = code_blocks("docs/embedding.md", "c")[0]
+    Path("example.c").write_text(text, encoding="utf-8")
+    prefix = example / "prefix"
+    done = run(ROOT / "packaging/install", prefix, timeout=3600)
+    expect_that(done.status == 0, done, "an installation")
+    told = succeed("pkg-config", "--cflags", "--libs", "bearoff",
+                   env={**os.environ, "PKG_CONFIG_PATH": f"{prefix}/lib/pkgconfig"}).decode()
+    words = ["-o", "installed", "example.c", *told.split(), f"-Wl,-rpath,{prefix}/lib"]
+    expect(run("cc", "-std=c11", *words), 0)
+    expect(run("./installed"), 0, PRINTED)
+    succeed(prefix / "bin/bearoff", "--version")
+    assert (prefix / "share/man/man1/bearoff.1").stat().st_size > 0
+
+
+class TestCMake:
+    """What was installed is found by CMake, also where it was moved, and by no other first number
+    of the version."""
+
+    @pytest.fixture(params=["installed", "moved"])
+    def project(self, request, program, example):
+        need("cmake")
+        done = run(ROOT / "packaging/install", example / "prefix", timeout=3600)
+        expect_that(done.status == 0, done, "an installation")
+        prefix = example / "prefix"
+        if request.param == "moved":
+            prefix = prefix.rename(example / "a moved one")
+        text = code_blocks("docs/embedding.md", "c")[0]
+        Path("example.c").write_text(text, encoding="utf-8")
+        lines = "".join(code_blocks("docs/embedding.md", "cmake"))
+        lines += "add_executable(of_archive example.c)\n"
+        lines += "target_link_libraries(of_archive bearoff::archive)\n"
+        Path("CMakeLists.txt").write_text(lines, encoding="utf-8")
+        return ["cmake", "-S", ".", "-B", "made", f"-DCMAKE_PREFIX_PATH={prefix}"]
+
+    def test_found(self, project):
+        succeed(*project, timeout=600)
+        succeed("cmake", "--build", "made", timeout=600)
+        for name in ("example", "of_archive"):
+            expect(run(f"made/{name}"), 0, PRINTED)
+
+    @pytest.mark.parametrize("asked", ["0", "0.9", "2", "1.0.1", "99"])
+    def test_another_version(self, project, asked):
+        lines = Path("CMakeLists.txt").read_text(encoding="utf-8")
+        wanted = f"find_package(bearoff {asked} REQUIRED)"
+        lines = lines.replace("find_package(bearoff 1 REQUIRED)", wanted)
+        assert wanted in lines
+        Path("CMakeLists.txt").write_text(lines, encoding="utf-8")
+        done = run(*project, timeout=600)
+        is_so = done.status != 0 and b"bearoff-config.cmake, version: " in done.errors
+        expect_that(is_so, done, "a refusal that says which version there is")

@@ -1,0 +1,759 @@
+"""The built program as a user runs it: each command with its words, files and streams, also those
+that fail; databases that are refused; lines and their replies; files that change or are longer
+than any database; and each bound once, with the sizes and the digests that were counted
+outside."""
+
+import hashlib
+import os
+import resource
+import shutil
+import subprocess
+import sys
+from collections import Counter
+from pathlib import Path
+
+import pytest
+
+from running import (
+    CALLERS,
+    ROOT,
+    as_bytes,
+    code_blocks,
+    expect,
+    expect_same,
+    expect_that,
+    run,
+    succeed,
+)
+
+THREE = "mean 0,0,0,0,0,1\ndist 5,0,0,0,0,0\nplay 0,0,0,2,0,0 21\n"
+REPLIES = "mean 5/4 epc 245/24 10.208\ndist 2:11/36 3:25/36\nplay 4/2 2/1 to 1,0,0,1,0,0"
+AUDIT = """pips 0 positions 1 least 0/1 greatest 0/1
+pips 1 positions 1 least 1/1 greatest 1/1
+pips 2 positions 2 least 1/1 greatest 1/1
+pips 3 positions 3 least 1/1 greatest 11/6"""
+READERS = ("check", "query", "query --cache 1", "audit")
+
+
+def rows(text):
+    """The lines of a table, each cut at its bars."""
+    return [tuple(cell.strip() for cell in line.split("|")) for line in text.strip().split("\n")]
+
+
+def is_gone(path):
+    return not os.path.lexists(path)
+
+
+def digest(data):
+    return hashlib.sha256(data).hexdigest()
+
+
+def damage(file, source, place, *values):
+    """A copy of a file with some bytes changed."""
+    data = bytearray(Path(source).read_bytes())
+    data[place : place + len(values)] = bytes(values)
+    Path(file).write_bytes(data)
+
+
+def expect_refused(ask, command, file, line):
+    """A command that reads a database refuses it with a line, and upgrade opens no file for it."""
+    words = [*command.split(), file, *(["newer"] if command == "upgrade" else [])]
+    expect(ask(words, THREE), 3, "", f"bearoff: refused {line}")
+    assert is_gone("newer"), f"a file was opened for {file}"
+
+
+class TestCommands:
+    """Each command, with its words, and the files and the outputs that fail."""
+
+    @pytest.mark.parametrize(
+        "words, input, output",
+        [
+            pytest.param(words, input, output, id=name or words)
+            for name, words, input, output in (
+                ("", "build --pips 8 made", "", "built pips 8 positions 64"),
+                ("", "check eight", "", "ok pips 8 positions 64"),
+                ("", "query eight", THREE, REPLIES),
+                *(("", f"query --cache {it} eight", THREE, REPLIES) for it in (1, 2, 64, 65535)),
+                ("no words", "", THREE, REPLIES),
+                ("a last line without a line feed", "", THREE[:-1].encode(), REPLIES),
+                ("no input", "", "", ""),
+                ("", "audit three", "", AUDIT),
+                ("", "upgrade eight made", "", "upgraded pips 8 positions 64"),
+                ("query of an upgrade", "query new", THREE, REPLIES),
+            )
+        ],
+    )
+    def test_answers(self, files, ask, words, input, output):
+        expect(ask(words, input), 0, output)
+
+    @pytest.mark.parametrize(
+        "words, status, error",
+        [
+            ("upgrade new newer", 3, "not-old"),
+            ("upgrade nothing newer", 1, "open"),
+            ("upgrade eight .", 1, "open"),
+            ("upgrade eight /dev/full", 1, "write"),
+            ("build --pips 1 .", 1, "open"),
+            ("build --pips 8 /dev/full", 1, "write"),
+            ("build --pips 59 newer", 2, "over-bound"),
+            ("build --pips 255 newer", 2, "over-bound"),
+            *((f"{command} nothing", 1, "open") for command in READERS),
+            *((f"{command} .", 1, "file") for command in READERS),
+        ],
+    )
+    def test_faults(self, files, ask, words, status, error):
+        expect(ask(words), status, "", f"bearoff: {error}")
+        assert is_gone("newer"), "a file was opened for nothing"
+
+    def test_upgrade_of_a_new_file_over_an_old_one(self, files, ask):
+        shutil.copy("new", "same")
+        expect(ask("upgrade same eight"), 3, "", "bearoff: not-old")
+        expect_same("same", "new", "the new file")
+
+    def test_upgrade_over_itself(self, files, ask):
+        expect(ask("upgrade eight eight"), 0, "upgraded pips 8 positions 64")
+        expect_same("eight", "new", "the upgrade of a file over itself")
+
+    # other spellings: an option with `=`, or behind the file; and behind `--` each word is a file.
+    # Each makes its file.
+    @pytest.mark.parametrize(
+        "words, file",
+        rows(
+            """
+        --pips=6 other|other
+        other --pips 6|other
+        other --pips=6|other
+        --pips 6 -- other|other
+        --pips=6 -- other|other
+        --pips 6 -|-
+        --pips=6 -- --pips|--pips
+        --pips 6 -- -x|-x
+    """
+        ),
+    )
+    def test_spellings_of_build(self, files, ask, words, file):
+        expect(ask("build " + words), 0, "built pips 6 positions 30")
+        expect_same(file, "six", f"build {words}")
+
+    @pytest.mark.parametrize("words, file", rows("-- six other|other\n-- six -y|-y\n-- -x --|--"))
+    def test_spellings_of_upgrade(self, files, ask, built, words, file):
+        shutil.copy("six", "-x")
+        expect(ask("upgrade " + words), 0, "upgraded pips 6 positions 30")
+        expect_same(file, built(6, is_new=True), f"upgrade {words}")
+
+    @pytest.mark.parametrize(
+        "words", ["-- six", "six --", "-", "-- -", "-- --pips", "-- -x", "-- -y", "-- --"]
+    )
+    def test_spellings_of_check(self, files, ask, words):
+        for name in ("-", "--pips", "-x", "-y", "--"):
+            shutil.copy("six", name)
+        expect(ask("check " + words), 0, "ok pips 6 positions 30")
+
+    @pytest.mark.parametrize(
+        "words",
+        [
+            "--cache=3 eight",
+            "eight --cache 3",
+            "eight --cache=3",
+            "-- eight",
+            "--cache 3 -- eight",
+            "--cache=3 -- eight",
+        ],
+    )
+    def test_spellings_of_query(self, files, ask, words):
+        expect(ask("query " + words, THREE), 0, REPLIES)
+
+    def test_query_of_a_file_with_a_dash(self, files, ask):
+        os.rename("three", "-z")
+        expect(
+            ask("query -- -z", "mean 0,0,1,0,0,0\nmean 0,0,0,1,0,0"),
+            0,
+            "mean 1/1 epc 49/6 8.167\nerror over-bound",
+        )
+
+    @pytest.mark.parametrize("words", ["-- three", "three --", "-- -z"])
+    def test_spellings_of_audit(self, files, ask, words):
+        shutil.copy("three", "-z")
+        expect(ask("audit " + words), 0, AUDIT)
+
+    @pytest.mark.skipif(os.getuid() == 0, reason="root may read each file")
+    def test_no_leave_to_read(self, files, ask):
+        os.chmod("eight", 0)
+        expect(ask("check eight"), 1, "", "bearoff: open")
+
+    # words that are refused: a text on standard error alone, and no file
+    @pytest.mark.parametrize(
+        "words",
+        [
+            "build --pips x large",
+            "build --pips 256 large",
+            "build large",
+            "build --pips 8",
+            "check",
+            "query --cache 0 eight",
+            "query --cache 65536 eight",
+            "query eight eight",
+            "upgrade eight",
+            "build --pips=x large",
+            "build --pips= large",
+            "build --pips=256 large",
+            "build --pips=8",
+            "build --pips=8 --",
+            "build -- large --pips 8",
+            "build -- --pips 8 large",
+            "build --pips=8 --pips=8 large",
+            "build --pips=8 -large",
+            "query --cache=0 eight",
+            "query --cache=65536 eight",
+            "query --cache= eight",
+            "query -- eight --cache=3",
+            "check --",
+            "audit --",
+            "query --",
+            "upgrade --",
+            "upgrade -- eight",
+            "-- check eight",
+            "upgrade eight large large",
+            "nothing",
+        ],
+    )
+    def test_words_that_are_refused(self, files, ask, words):
+        done = ask(words)
+        is_so = done.status == 2 and done.output == b"" and done.errors != b""
+        expect_that(is_so, done, "status 2, and a text on standard error alone")
+        assert is_gone("large"), "a file was opened for wrong words"
+
+    @pytest.mark.parametrize(
+        "words",
+        [
+            "--help",
+            "--version",
+            "help build",
+            "check --help",
+            "query -h",
+            "audit --help",
+            "upgrade --help",
+        ],
+    )
+    def test_words_that_tell_a_text(self, files, ask, words):
+        done = ask(words)
+        is_so = done.status == 0 and done.output != b"" and done.errors == b""
+        expect_that(is_so, done, "status 0, and a text on standard output alone")
+
+    @pytest.mark.parametrize(
+        "words",
+        [
+            "",
+            "--help",
+            "check one",
+            "query one",
+            "audit one",
+            "build --pips 1 other",
+            "upgrade eight other",
+        ],
+    )
+    def test_a_full_output(self, files, program, words):
+        with open("/dev/full", "wb") as full:
+            done = subprocess.run(
+                [program, *words.split()],
+                input=b"mean 0,0,0,0,0,0\n",
+                stdout=full,
+                stderr=subprocess.PIPE,
+            )
+        assert (done.returncode, done.stderr) == (1, b"bearoff: write\n")
+
+    def test_full_outputs(self, files, program):
+        with open("/dev/full", "wb") as full:
+            done = subprocess.run(
+                [program, "check", "nothing"], stdin=subprocess.DEVNULL, stdout=full, stderr=full
+            )
+        assert done.returncode == 1
+
+    def test_a_reader_that_goes_away(self, room, program):
+        with open("lines", "wb") as lines:
+            lines.write(b"mean 0,0,0,0,0,1\n" * 200000)
+        with open("lines", "rb") as lines, subprocess.Popen(
+            [program], stdin=lines, stdout=subprocess.PIPE, stderr=subprocess.PIPE
+        ) as child:
+            assert child.stdout.readline() == b"mean 5/4 epc 245/24 10.208\n"
+            child.stdout.close()
+            errors = child.stderr.read()
+            assert (child.wait(60), errors) == (1, b"bearoff: write\n")
+
+
+class TestClosedStreams:
+    """Each of the seven ways to start with standard streams that are closed: a file that is opened
+    never becomes one of them, so a command says what it says of a stream that fails, or works
+    where it needs none."""
+
+    @pytest.mark.parametrize("closed", ["0", "1", "2", "01", "02", "12", "012"])
+    @pytest.mark.parametrize(
+        "words",
+        [
+            "",
+            "--help",
+            "build --pips 3 made",
+            "check three",
+            "query three",
+            "query --cache 2 three",
+            "audit three",
+            "upgrade three made",
+        ],
+    )
+    def test_streams(self, files, ask, words, closed):
+        ample = ask(words, THREE)
+        expect_that(ample.status == 0, ample, "status 0")
+        whole = None
+        if os.path.exists("made"):
+            whole = Path("made").read_bytes()
+            os.remove("made")
+        reads = words == "" or words.startswith("query")
+        error = (
+            "bearoff: read"
+            if reads and "0" in closed
+            else "bearoff: write"
+            if "1" in closed
+            else ""
+        )
+
+        def close():
+            for stream in closed:
+                os.close(int(stream))
+
+        done = ask(words, THREE if "0" not in closed else "", preexec_fn=close)
+        expect(
+            done, 1 if error else 0, b"" if error else ample.output, "" if "2" in closed else error
+        )
+        if whole is not None:
+            expect_same("made", whole, f"'{words}' with the streams {closed} closed")
+        assert os.path.getsize("three") == 3014
+
+
+HEADERS = {
+    "no bytes": (lambda: Path("bad").write_bytes(b""), "header too-short"),
+    "31 bytes": (
+        lambda: Path("bad").write_bytes(Path("one").read_bytes()[:31]),
+        "header too-short",
+    ),
+    "a byte less": (
+        lambda: Path("bad").write_bytes(Path("one").read_bytes()[:883]),
+        "header bad-length",
+    ),
+    "a byte more": (lambda: damage("bad", "one", 884, 0), "header bad-length"),
+    "magic": (lambda: damage("bad", "one", 0, 0), "header bad-magic"),
+    "version 3": (lambda: damage("bad", "one", 9, 3), "header bad-version"),
+    "version 2": (lambda: damage("bad", "one", 9, 2), "header bad-record-bytes"),
+    "bound": (lambda: damage("bad", "one", 11, 45), "header bad-bound"),
+    "count": (lambda: damage("bad", "one", 15, 3), "header bad-count"),
+    "record bytes": (lambda: damage("bad", "one", 19, 171), "header bad-record-bytes"),
+    "reserved": (lambda: damage("bad", "one", 31, 1), "header bad-reserved"),
+}
+# a mean, a play, a share, a play that isn't least (of rank 44, the one of 21 recorded as rank 13),
+# numbers that are too large to be added, and a mean in a file of version 2
+RECORDS = {
+    "a mean": (lambda: damage("bad", "one", 473, 1), "mean rank 1"),
+    "a play": (lambda: damage("bad", "one", 475, 1), "play rank 1 roll 0"),
+    "a share": (lambda: damage("bad", "one", 883, 1), "spread rank 1 k 22"),
+    "not least": (
+        lambda: damage("bad", "eight", 32 + 426 * 44 + 18, 0, 13),
+        "not-least rank 44 roll 1",
+    ),
+    "large numbers": (
+        lambda: Path("bad").write_bytes(Path("one").read_bytes()[:458] + b"\xff" * 426),
+        "play rank 1 roll 0",
+    ),
+    "a mean of version 2": (lambda: damage("bad", "one_new", 90 + 15, 1), "mean rank 1"),
+}
+
+
+class TestRefusals:
+    """Headers that are refused, cut, a byte too long, and a byte changed in each part; and records
+    that are refused."""
+
+    @pytest.mark.parametrize("command", [*READERS, "upgrade"])
+    @pytest.mark.parametrize("which", [*HEADERS, *RECORDS])
+    def test_refused(self, files, ask, built, which, command):
+        shutil.copy(built(1, is_new=True), "one_new")
+        make, line = {**HEADERS, **RECORDS}[which]
+        make()
+        expect_refused(ask, command, "bad", line)
+
+
+class TestLongFiles:
+    """Files that are longer than their database, also than any database, and than what is read of
+    a file."""
+
+    @pytest.mark.parametrize("command", [*READERS, "upgrade"])
+    @pytest.mark.parametrize(
+        "size",
+        [
+            27297,
+            15060844,
+            16777216,
+            16777217,
+            16804512,
+            20000000,
+            20000001,
+            20000002,
+            20065537,
+            40000000,
+        ],
+    )
+    def test_longer(self, files, ask, size, command):
+        os.truncate("eight", size)
+        expect_refused(ask, command, "eight", "header bad-length")
+
+
+class TestLongestFiles:
+    """The same of the longest database, from one byte more on."""
+
+    def test_whole(self, built, ask):
+        expect(ask(["check", built(58)]), 0, "ok pips 58 positions 46062")
+
+    @pytest.mark.parametrize("command", [*READERS, "upgrade"])
+    @pytest.mark.parametrize(
+        "size", [15060845, 16777216, 16777217, 20000000, 20000001, 20000002, 20065537, 40000000]
+    )
+    def test_longer(self, room, built, ask, size, command):
+        shutil.copy(built(58), "long")
+        os.truncate("long", size)
+        expect_refused(ask, command, "long", "header bad-length")
+
+
+class TestLongestList:
+    def test_words(self, built, ask):
+        """The longest list of moves of all positions and rolls: 108 results, counted outside."""
+        done = ask(["query", built(58)], "moves 3,3,2,2,2,3 11")
+        expect_that(len(set(done.output.split())) == 109, done, "109 different words")
+
+
+class TestTies:
+    """A tied play that the builder would not choose (of rank 21, the one of 21 recorded as rank 5)
+    is told, and kept by an upgrade."""
+
+    LINE = "play 0,1,0,1,0,0 21"
+
+    def test_the_play_of_the_builder(self, files, ask):
+        expect(ask("query six", self.LINE), 0, "play 2/off 4/3 to 0,0,1,0,0,0")
+
+    @pytest.mark.parametrize("file", ["tied", "kept"])
+    @pytest.mark.parametrize("command", ["check", "query", "query --cache 1"])
+    def test_a_tied_play(self, files, ask, file, command):
+        damage("tied", "six", 32 + 426 * 21 + 18, 0, 5)
+        expect(ask("upgrade tied kept"), 0, "upgraded pips 6 positions 30")
+        assert os.path.getsize("kept") == 3228
+        told = "ok pips 6 positions 30" if command == "check" else "play 4/2 2/1 to 1,1,0,0,0,0"
+        expect(ask(f"{command} {file}", self.LINE), 0, told)
+
+
+class TestLongLines:
+    @pytest.mark.parametrize("length", [127, 128, 129, 130, 131, 1000000])
+    def test_long(self, ask, length):
+        """Lines that are too long, by one byte and by many, and one that only its spaces make
+        wrong."""
+        lines = b"rank 1,0,0,0,0,0".ljust(length) + b"\r\nrank 1,0,0,0,0,0\n"
+        expect(ask("", lines), 0, "error bad-line\nrank 1")
+
+
+class TestOneAtATime:
+    @pytest.mark.parametrize("words", ["", "query eight", "query --cache 1 eight"])
+    def test_a_thousand(self, files, program, words):
+        """One line, one reply, a thousand times."""
+        with subprocess.Popen(
+            [program, *words.split()], stdin=subprocess.PIPE, stdout=subprocess.PIPE
+        ) as child:
+            for _ in range(1000):
+                child.stdin.write(b"mean 0,0,0,0,0,1\n")
+                child.stdin.flush()
+                assert child.stdout.readline() == b"mean 5/4 epc 245/24 10.208\n"
+            child.stdin.close()
+            assert (child.stdout.read(), child.wait(60)) == (b"", 0)
+
+
+class TestChanges:
+    """A file that is overwritten after its check, and one that is cut: the fault is told, and no
+    line of any kind is answered by the bytes that stand there now. The record that was kept may
+    still be told."""
+
+    KEPT = b"mean 0,1,0,0,0,0\n", b"mean 1/1 epc 49/6 8.167\n"
+
+    @pytest.mark.parametrize(
+        "size, beyond", [(3014, b"\xff" * 2982), (0, b"")], ids=["overwritten", "cut"]
+    )
+    @pytest.mark.parametrize(
+        "line",
+        [
+            "mean 1,0,0,0,0,0",
+            "dist 1,0,0,0,0,0",
+            "play 1,1,0,0,0,0 21",
+            "moves 1,1,0,0,0,0 21",
+            "loss 1,1,0,0,0,0 21 1,0,0,0,0,0",
+        ],
+    )
+    @pytest.mark.parametrize(
+        "first", [b"", KEPT[0]], ids=["alone", "behind the one that was kept"]
+    )
+    def test_changed(self, files, program, size, beyond, line, first):
+        words = [program, "query", "--cache", "1", "three"]
+        with subprocess.Popen(
+            words, stdin=subprocess.PIPE, stdout=subprocess.PIPE, stderr=subprocess.PIPE
+        ) as child:
+            child.stdin.write(self.KEPT[0])
+            child.stdin.flush()
+            assert child.stdout.readline() == self.KEPT[1]
+            with open("three", "r+b") as file:
+                file.seek(32)
+                file.write(beyond)
+                file.truncate(size)
+            output, errors = child.communicate(first + as_bytes(line) + self.KEPT[0], timeout=60)
+        assert output in (b"", self.KEPT[1] if first else b"")
+        assert (child.returncode, errors) == (1, b"bearoff: file\n")
+
+
+def reads(program, *words):
+    """How often the program has read anything when one line is answered."""
+    with subprocess.Popen(
+        [program, *words], stdin=subprocess.PIPE, stdout=subprocess.PIPE
+    ) as child:
+        child.stdin.write(b"rank 1,0,0,0,0,0\n")
+        child.stdin.flush()
+        assert child.stdout.readline() == b"rank 1\n"
+        counts = Path(f"/proc/{child.pid}/io").read_text(encoding="ascii")
+        return int(counts.split("syscr: ")[1].split()[0])
+
+
+def expect_reads(program, path, positions, many, few):
+    """By each of so many pages each record of the file is read once, and by each of so few the
+    file is read less often the more they are."""
+    without = reads(program)
+    by_pages = lambda *words: reads(program, "query", *words) - without
+    once = positions + 1
+    for records in many:
+        assert (
+            by_pages("--cache", records, path) == once
+        ), f"{records} pages, a header and {positions} records"
+    told = [by_pages("--cache", records, path) for records in few] + [once]
+    assert all(
+        less > more for less, more in zip(told, told[1:])
+    ), f"{told} reads by more and more pages"
+    last = few[-1]
+    for words in (
+        [f"--cache={last}", path],
+        [path, "--cache", last],
+        [path, f"--cache={last}"],
+        [f"--cache={last}", "--", path],
+    ):
+        assert by_pages(*words) == told[-2], f"as many reads by {words} as by {few[-1]} pages"
+
+
+class TestReads:
+    def test_of_64_positions(self, files, program):
+        expect_reads(
+            program, "eight", 64, ["64", "100", "65535"], ["1", "2", "4", "8", "16", "32"]
+        )
+
+
+class TestManyReads:
+    def test_of_44_pips(self, program, built):
+        expect_reads(
+            program, str(built(44)), 26314, ["26314", "65535"], ["1", "100", "1000", "10000"]
+        )
+
+
+class TestExample:
+    """The example of the page for users, as it stands there, over a database and over a file that
+    is refused."""
+
+    @pytest.fixture
+    def example(self, room, program):
+        Path("example.py").write_text(
+            "".join(code_blocks("docs/using.md", "python")), encoding="utf-8"
+        )
+        return lambda: run(sys.executable, "-I", "example.py", program)
+
+    def test_over_a_database(self, example, ask):
+        succeed(*ask("build --pips 12 race.db").words)
+        expect(example(), 0, "0,0,0,0,0,1 5/4\n0,0,0,2,0,0 277/162\n2,2,2,0,0,0 65441/23328")
+
+    def test_over_a_file_that_is_refused(self, example):
+        Path("race.db").write_bytes(b"no database")
+        expect(example(), 1, "", "bearoff: refused header too-short\nbearoff ended with status 3")
+
+
+class TestPipes:
+    def test_a_reader_that_goes_away(self, room, program):
+        """A build into a pipe gives its reader the first levels at once, and ends where the reader
+        goes away."""
+        os.mkfifo("pipe")
+        with subprocess.Popen(["head", "-c", "458", "pipe"], stdout=subprocess.PIPE) as reader:
+            expect(
+                run(program, "build", "--pips", "44", "pipe", timeout=20), 1, "", "bearoff: write"
+            )
+            front = reader.communicate(timeout=20)[0]
+        assert len(front) == 458
+
+
+def count_positions():
+    """How many positions have at most so many pips, by their checkers and their pips from point to
+    point."""
+    ways = Counter({(0, 0): 1})
+    for point in range(1, 7):
+        wider = Counter()
+        for (checkers, pips), number in ways.items():
+            for more in range(16 - checkers):
+                wider[checkers + more, pips + more * point] += number
+        ways = wider
+    return [
+        sum(number for (_, pips), number in ways.items() if pips <= bound) for bound in range(59)
+    ]
+
+
+COUNTS = count_positions()
+COUNTED = {
+    int(bound): (int(size), sha)
+    for bound, size, sha in map(
+        str.split, (CALLERS / "files_of_version_2").read_text(encoding="ascii").splitlines()
+    )
+}
+
+
+def expect_bound(ask, bound):
+    """One bound: version 1 to 44 pips, and its upgrade; and from there on version 2. The files of
+    version 2 are those that were counted outside."""
+    count, (size, sha) = COUNTS[bound], COUNTED[bound]
+    expect(
+        ask(f"build --pips {bound} file", timeout=300), 0, f"built pips {bound} positions {count}"
+    )
+    expect(ask("check file"), 0, f"ok pips {bound} positions {count}")
+    newest = "file"
+    if bound <= 44:
+        assert os.path.getsize("file") == 32 + 426 * count
+        expect(ask("upgrade file upgraded"), 0, f"upgraded pips {bound} positions {count}")
+        expect(ask("check upgraded"), 0, f"ok pips {bound} positions {count}")
+        newest = "upgraded"
+    assert os.path.getsize(newest) == size
+    assert (
+        digest(Path(newest).read_bytes()) == sha
+    ), f"the file of version 2 of {bound} pips, counted outside"
+
+
+class TestLowBounds:
+    @pytest.mark.parametrize("bound", range(13))
+    def test_bound(self, room, ask, bound):
+        expect_bound(ask, bound)
+
+
+class TestBounds:
+    @pytest.mark.parametrize("bound", range(13, 59))
+    def test_bound(self, room, ask, bound):
+        expect_bound(ask, bound)
+
+    def test_there_are_59(self):
+        assert sorted(COUNTED) == list(range(59))
+
+    @pytest.mark.parametrize(
+        "bound, sha",
+        [
+            (8, "65ad1f8b4cba6dd688b02284c450711349947df7c961a65a1e03b0f65bee5cd9"),
+            (44, "c5aedb6ab5951c7e4e0845a494c4f332b51e06fcad7346a88390d6a1a0242162"),
+        ],
+    )
+    def test_digest_of_version_1(self, built, bound, sha):
+        assert digest(built(bound).read_bytes()) == sha
+
+    def test_worked_lines(self, built, ask):
+        lines = (CALLERS / "lines_of_44").read_bytes()
+        expect(ask(["query", built(44)], lines), 0, (CALLERS / "replies_of_44").read_bytes())
+
+    def test_replies_over_an_upgrade(self, built, ask):
+        lines = (CALLERS / "lines_of_44").read_bytes()
+        lines += succeed(sys.executable, "-I", CALLERS / "questions.py", 44, 1000)
+        before, after = ask(["query", built(44)], lines), ask(
+            ["query", built(44, is_new=True)], lines
+        )
+        expect_that(
+            before.status == after.status == 0 and before.output, after, "status 0, and replies"
+        )
+        expect_same(after.output, before.output, "replies over an upgrade")
+
+    def test_upgrade_over_itself(self, room, built, ask):
+        shutil.copy(built(44), "same")
+        expect(ask("upgrade same same"), 0, "upgraded pips 44 positions 26314")
+        expect_same("same", built(44, is_new=True), "the upgrade of 44 pips over itself")
+
+    def test_the_last_position_of_58_pips(self, built, ask):
+        expect(ask(["query", built(58)], "rank 6,0,0,1,0,8"), 0, "rank 46061")
+
+
+def expect_audit(ask, built, bound, sha, **how):
+    """The lines of an audit, all of them, have the digest that was counted outside."""
+    done = ask(["audit", built(bound)], **how)
+    expect_that(
+        done.status == 0 and digest(done.output) == sha,
+        done,
+        f"status 0, and the audit with digest {sha}",
+    )
+
+
+AUDIT_OF_58 = "efcf3cd9e443566c68d98ee992ddc05fc44574da556e8fc658fd88f3796b1ab2"
+
+
+class TestAudits:
+    def test_of_8(self, ask, built):
+        expect_audit(
+            ask, built, 8, "3041c5b24c9e44ff66126de1f8b8282b862e173eae54d046657a8655eac28635"
+        )
+
+
+class TestLongAudits:
+    def test_of_44(self, ask, built):
+        expect_audit(
+            ask, built, 44, "15ed1886bb3205fe704966262c6270292adb462fb6422948b1fdb00049aa3392"
+        )
+
+    def test_of_58(self, ask, built):
+        expect_audit(ask, built, 58, AUDIT_OF_58)
+
+
+class TestSmallStack:
+    """Each command over the greatest bounds on 1 MB of stack, on which the environment lies too,
+    as docs/using.md promises."""
+
+    LINES = "mean 0,0,0,0,0,1\nmoves 0,0,0,2,0,0 21"
+    TOLD = "mean 5/4 epc 245/24 10.208\nmoves 1,0,0,1,0,0:0/1 0,1,1,0,0,0:1/9"
+
+    @pytest.fixture
+    def ask_it(self, ask):
+        def lower():
+            resource.setrlimit(resource.RLIMIT_STACK, (1024 * 1024, 1024 * 1024))
+
+        return lambda words, input="", **more: ask(
+            words, input, env={}, preexec_fn=lower, timeout=300
+        )
+
+    def test_build_of_44(self, room, ask_it, built):
+        expect(ask_it("build --pips 44 old"), 0, "built pips 44 positions 26314")
+        expect_same("old", built(44), "the database of 44 pips")
+
+    def test_upgrade(self, room, ask_it, built):
+        expect(ask_it(["upgrade", str(built(44)), "new"]), 0, "upgraded pips 44 positions 26314")
+
+    def test_build_of_58(self, room, ask_it):
+        expect(ask_it("build --pips 58 large"), 0, "built pips 58 positions 46062")
+
+    def test_check(self, ask_it, built):
+        expect(ask_it(["check", str(built(58))]), 0, "ok pips 58 positions 46062")
+
+    @pytest.mark.parametrize("words", [[], ["--cache", "9"]], ids=["in memory", "by pages"])
+    def test_query(self, ask_it, built, words):
+        expect(ask_it(["query", *words, str(built(58))], self.LINES), 0, self.TOLD)
+
+    def test_no_words(self, ask_it):
+        expect(ask_it("", self.LINES.split("\n")[0]), 0, self.TOLD.split("\n")[0])
+
+    def test_audit(self, ask_it, built):
+        expect_audit(ask_it, built, 58, AUDIT_OF_58)
+
+
+def test_the_page_for_users_is_there():
+    assert (ROOT / "docs/using.md").is_file()

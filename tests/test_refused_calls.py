@@ -1,0 +1,237 @@
+"""Refuses each call of a kind in turn, the first, then the second and so on, under the built
+program and under crates/failing_calls, by a library that is preloaded (refused_calls.c): each
+growth of memory, each opening, read, write and seek, and each call that brings a new file to the
+disk and puts it in its place. Each such run has to end with the status and the line that the fault
+has, with whole replies before it, or as if nothing had been refused, where HARMLESS says so. After
+a fault the file that was to be written is the old one, or the new one where it was in its place by
+then, and nothing else is left. A call that a signal interrupts once is either made again, and then
+all ends as ever, or a fault like any other; REPEATED says which."""
+
+import os
+import shutil
+import subprocess
+from pathlib import Path
+
+import pytest
+
+from running import HERE, need, run
+
+LINES = "rank 1,0,0,0,0,0\nmoves 0,0,0,2,0,0 21\nmean 0,0,1,0,0,0\n\nplay 0,0,0,2,0,0 21"
+
+# the lines that a refused call of a kind may end with; a growth has the line of the call that it
+# was inside of
+FAULTS = {
+    "growth": ("memory", "open", "file", "write"),
+    "open": ("open", "write"),
+    "closed-open": ("open",),
+    "link": ("open",),
+    "tell": ("open",),
+    "sync": ("write",),
+    "unable-sync": ("write",),
+    "rename": ("write",),
+    "seek": ("file",),
+    "input": ("read",),
+    "output": ("write",),
+    "idle-output": ("write",),
+    "load": ("file",),
+    "store": ("write",),
+    "idle-store": ("write",),
+    "interrupted-input": ("read",),
+    "interrupted-load": ("file",),
+    "interrupted-output": ("write",),
+}
+
+# the kinds of calls that come behind the one that puts the new file in its place, too
+AFTER_IT = ["open", "output", "idle-output", "interrupted-output", "sync"]
+
+# the kinds that may also leave no trace: a growth of the cache's, a folder that may not be written
+# or read, a file that can't have the old one's mode, and what is asked for a name alone
+HARMLESS = ["closed-open", "link", "tell", "mode", "unable-sync"]
+
+# the first opening asks whether a standard stream is closed, and is wanted for nothing else
+FIRST = "open:1"
+
+# the kinds whose interrupted calls are made again: by the commands with the word, or by all where
+# there is none
+REPEATED = {
+    "interrupted-open": None,
+    "interrupted-store": None,
+    "interrupted-load": "--cache",
+    "interrupted-output": "--help",
+    "interrupted-mode": None,
+    "interrupted-sync": None,
+}
+
+
+GIVEN = ["input", "interrupted-input", "slow-input"]
+TOLD = ["output", "idle-output", "interrupted-output", "slow-output"]
+OPENED = ["open", "interrupted-open"]
+LOADED = ["load", "interrupted-load", "slow-load"]
+STORED = [
+    "store",
+    "idle-store",
+    "interrupted-store",
+    "slow-store",
+    "closed-open",
+    "link",
+    "tell",
+    "mode",
+    "interrupted-mode",
+    "sync",
+    "unable-sync",
+    "interrupted-sync",
+    "rename",
+]
+
+COMMANDS = {
+    "no words": ("", ["growth", *GIVEN, *TOLD]),
+    "build": ("build --pips 8 made", ["growth", *OPENED, *STORED, *TOLD]),
+    "check": ("check eight", ["growth", *OPENED, *LOADED, *TOLD]),
+    "query": ("query eight", ["growth", *OPENED, *LOADED, *GIVEN, *TOLD]),
+    "query by pages": (
+        "query --cache 2 eight",
+        ["growth", "seek", *OPENED, *LOADED, *GIVEN, *TOLD],
+    ),
+    "audit": ("audit eight", ["growth", *OPENED, *LOADED, *TOLD]),
+    "upgrade": ("upgrade eight made", ["growth", *OPENED, *LOADED, *STORED, *TOLD]),
+    "help": ("--help", ["growth", "output", "interrupted-output"]),
+}
+
+# the trials of crates/failing_calls, and how a refused growth of each may end
+TRIALS = {
+    "build": ["memory", "later"],
+    "push": ["memory", "later"],
+    "moves": ["memory"],
+    "run": ["later"],
+    "pages": ["memory", "whole"],
+    "puts": ["whole"],
+}
+
+
+def clang():
+    kit = shutil.which("rt")
+    kit = os.path.dirname(os.path.dirname(os.path.realpath(kit))) if kit else ""
+    inside = os.path.join(kit, "toolchain", "bin", "clang")
+    if os.path.exists(inside):
+        return inside
+    need("cc")
+    return "cc"
+
+
+@pytest.fixture(scope="session")
+def library(store):
+    made = store / "refused_calls.so"
+    words = [clang(), "-O1", "-shared", "-fPIC", "-o", made, HERE / "refused_calls.c"]
+    subprocess.run(words, check=True)
+    return made
+
+
+@pytest.fixture
+def refusing(library, files):
+    """Runs a command with a call refused: the outcome, and how many calls of that kind there were.
+    The file `made` is each time the old one again."""
+    old = Path("three").read_bytes()
+
+    def run_it(command, call):
+        Path("count").unlink(missing_ok=True)
+        Path("made").write_bytes(old)
+        environment = {"LD_PRELOAD": str(library), "REFUSED_CALL": call, "REFUSED_COUNT": "count"}
+        done = run(*command, input=LINES, env=environment, timeout=60)
+        return done, int(Path("count").read_text()) if os.path.exists("count") else 0
+
+    run_it.old = old
+    return run_it
+
+
+def made():
+    return Path("made").read_bytes()
+
+
+def is_whole(kind, old, whole):
+    """Whether what stands after a fault is the old file, or the new one where the call can come
+    behind it, and nothing else."""
+    stands = [old] + ([whole] if kind in AFTER_IT else [])
+    return made() in stands and not [name for name in os.listdir() if name.endswith(".tmp")]
+
+
+def came(name, which, got):
+    return (
+        f"{name}: with {which} refused it ends with status {got.status},"
+        f" {got.output[-60:]!r}, {got.errors[-60:]!r}, {len(made())} bytes"
+    )
+
+
+@pytest.mark.parametrize(
+    "name, kind", [(name, kind) for name, (_, kinds) in COMMANDS.items() for kind in kinds]
+)
+def test_program(program, refusing, note, name, kind):
+    words = COMMANDS[name][0].split()
+    command = [program, *words]
+    ample, calls = refusing(command, kind + ":0")
+    whole, harmless, wrong = made(), 0, []
+    assert calls > 0, f"{name}: no call of the kind {kind}"
+    if kind.startswith("slow-"):
+        got, calls = refusing(command, kind + ":1+")
+        assert (got.status, got.output, got.errors) == (0, ample.output, b""), came(
+            name, kind, got
+        )
+        assert made() == whole, f"{name}: with one byte a call the file is another one"
+        note(f"{name}: {calls} calls of the kind {kind}")
+        return
+    is_repeated = kind in REPEATED and REPEATED[kind] in [None] + words
+    # a call that is interrupted each time anew never ends, so one is
+    ends = [""] if kind.startswith("interrupted-") else ["", "+"]
+    for which in [f"{kind}:{call}{end}" for call in range(1, calls + 1) for end in ends]:
+        got, _ = refusing(command, which)
+        lines = [f"bearoff: {line}\n".encode() for line in FAULTS.get(kind, ())]
+        is_prefix = ample.output.startswith(got.output)
+        is_lines = got.output == b"" or got.output.endswith(b"\n")
+        is_same = got[3:] == ample[3:]
+        may_be_harmless = (
+            kind in HARMLESS or which == FIRST or (kind == "growth" and "--cache" in words)
+        )
+        if is_repeated or (may_be_harmless and is_same):
+            harmless += not which.endswith("+")
+            if not is_same or made() != whole:
+                wrong.append(came(name, which, got))
+        elif not (
+            got.status == 1
+            and got.errors in lines
+            and is_prefix
+            and is_lines
+            and is_whole(kind, refusing.old, whole)
+        ):
+            wrong.append(came(name, which, got))
+    assert not wrong, "\n".join(wrong)
+    told = f", {harmless} of them without a trace" if harmless else ""
+    note(f"{name}: {calls} calls of the kind {kind}{told}")
+
+
+def test_standard_error_fails_too(program, refusing):
+    """The status stands."""
+    got, calls = refusing([program, "check", "nothing"], "errors:1+")
+    assert calls > 0
+    assert (got.status, got.output, got.errors) == (1, b"", b"")
+
+
+@pytest.mark.parametrize("word", TRIALS)
+def test_trial(trials, refusing, note, word):
+    """A trial of crates/failing_calls, which says itself whether what came of it is right."""
+    wanted = TRIALS[word]
+    ample, calls = refusing([trials, word], "growth:0")
+    assert ample.output == b"whole\n", f"{word} with ample memory: {ample}"
+    seen = {}
+    for call in range(1, calls + 1):
+        for which in [f"growth:{call}"] + ([f"growth:{call}+"] if word == "puts" else []):
+            got, _ = refusing([trials, word], which)
+            text = got.output.decode().strip()
+            if got.status == 1 and text == "" and got.errors:
+                text = "before"
+            else:
+                is_known = got.status == 0 and text in ("memory", "later", "whole", "own")
+                assert is_known, came(word, which, got)
+            seen[text] = seen.get(text, 0) + 1
+    assert set(wanted) <= set(seen), f"{word}: no refused growth ends as some of {wanted}: {seen}"
+    assert set(seen) <= {*wanted, "before", "own"}, f"{word}: a refused growth ends as {seen}"
+    counts = ", ".join(f"{count} {text}" for text, count in sorted(seen.items()))
+    note(f"{word}: {calls} growths: {counts}")
