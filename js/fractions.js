@@ -1,4 +1,4 @@
-// Exact numbers as the calls answer them. JSON has no bigint: there each is written as a text of its digits.
+// Exact numbers as the calls answer them. JSON has no bigint: there each is a text of its digits.
 
 export class Fraction {
     constructor(numerator, denominator) {

@@ -33,9 +33,11 @@ for (let rank = 0; rank < database.positionCount; rank++) {
     }
 }
 equal("a mean in JSON", JSON.stringify(database.mean(SIX)), '{"numerator":"5","denominator":"4","thousandths":1250}');
-equal("a loss in JSON", JSON.stringify(database.loss([0, 0, 0, 2, 0, 0], [2, 1], [0, 1, 1, 0, 0, 0])), '{"numerator":"1","denominator":"9"}');
-equal("choices in JSON", JSON.stringify(database.moves([1, 0, 0, 0, 0, 0], [2, 1])), '[{"to":[0,0,0,0,0,0],"loss":{"numerator":"0","denominator":"1"}}]');
-equal("what a fraction has", JSON.stringify(Object.keys(database.mean(SIX))), '["numerator","denominator","thousandths"]');
+const loss = database.loss([0, 0, 0, 2, 0, 0], [2, 1], [0, 1, 1, 0, 0, 0]);
+equal("a loss in JSON", JSON.stringify(loss), '{"numerator":"1","denominator":"9"}');
+const choices = '[{"to":[0,0,0,0,0,0],"loss":{"numerator":"0","denominator":"1"}}]';
+equal("choices in JSON", JSON.stringify(database.moves([1, 0, 0, 0, 0, 0], [2, 1])), choices);
+equal("what a fraction has", Object.keys(database.mean(SIX)).join(), "numerator,denominator,thousandths");
 
 // a fraction of JSON is none, and neither is a number
 for (const given of [JSON.parse(JSON.stringify(database.mean(SIX))), 1.25, null]) {

@@ -400,7 +400,9 @@ class Database:
         pips = self._pips()
         numerators = [
             numerator - denominator * count
-            for numerator, denominator, count in zip(wide_numbers(*columns[:2]), denominators, pips)
+            for numerator, denominator, count in zip(
+                wide_numbers(*columns[:2]), denominators, pips
+            )
         ]
         flat[0::5] = _column(numerator >> 64 for numerator in numerators)
         flat[1::5] = _column(numerator & _LOW for numerator in numerators)

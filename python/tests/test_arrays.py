@@ -4,6 +4,7 @@ halves. What needs numpy is left out where that is missing.
 
 import importlib
 import itertools
+import math
 import random
 import sys
 import unittest
@@ -107,8 +108,8 @@ class RanksOfRows(Rows):
         self.refused([six, (1, 15, 0, 0, 0, 0)], 3, "more than 15 checkers: 1,15,0,0,0,0 in row 1")
         self.refused([(999,) * 6], 3, "more than 15 checkers: 999,999,999,999,999,999 in row 0")
         self.refused([(1, 0, 0, 2, 0, 0), "9,0,0,0,0,0"], 4, "more pips than the bound: 1,0,0,2,0,0 in row 0")
-        for rows in ([six, (1,) * 5], [six, None], [six, "x"], [six, (0, 0, 0, 0, 0, -1)], [six, (0.0,) * 6], [six, 7]):
-            self.bad(rows, "in row 1")
+        for wrong in ((1,) * 5, None, "x", (0, 0, 0, 0, 0, -1), (0.0,) * 6, 7):
+            self.bad([six, wrong], "in row 1")
         for rows in (None, 5, 1.5, "0,0,0,0,0,1", b"\0" * 6, bytearray(6), object, memoryview(bytes(6)), {1: 2}, six):
             self.bad(rows)
 
@@ -141,8 +142,10 @@ class RanksOfRows(Rows):
             wide[:, ::2] = numpy.asarray(rows[:100] if bound > 8 else rows[:50] * 2)
             for way in (wide[:, ::2], numpy.asfortranarray(wide[:, ::2]), wide[::-1, ::2][::-1]):
                 self.same(here.ranks(way).tolist(), [here.rank(row) for row in wide[:, ::2].tolist()])
-        self.assertEqual(database(8).ranks(numpy.eye(6, dtype=bool)[:, ::-1]).tolist(), [database(8).rank(row) for row in numpy.eye(6, dtype=int)[:, ::-1].tolist()])
-        self.assertEqual(database(8).ranks(numpy.array([[0, 0, 0, 0, 0, 1]], object)).tolist(), [database(8).rank("0,0,0,0,0,1")])
+        here, ones = database(8), numpy.eye(6, dtype=int)[:, ::-1]
+        ranks_of_ones = [here.rank(row) for row in ones.tolist()]
+        for other in ("bool", "object"):
+            self.assertEqual(here.ranks(ones.astype(other)).tolist(), ranks_of_ones)
 
     @unittest.skipIf(numpy is None, "numpy is missing")
     def test_arrays_that_are_refused(self) -> None:
@@ -168,9 +171,12 @@ class RanksOfRows(Rows):
                     with self.assertRaises((Refused, BadArgument)) as refused:
                         database(58).ranks(table)
                     self.assertIn("in row 1", str(refused.exception))
-            for counts in ((15, 1, 0, 0, 0, 0), (0, 0, 1, 15, 0, 0), (8, 0, 0, 0, 0, 8), (0, 0, 15, 15, 0, 0), (15,) * 6):
-                self.refused(numpy.array([counts], kind), 3, f"more than 15 checkers: {text(counts)} in row 0", 58)
-            self.refused(numpy.array([(0, 0, 0, 0, 9, 6)], kind), 4, "more pips than the bound: 0,0,0,0,9,6 in row 0", 58)
+            many = [(15, 1, 0, 0, 0, 0), (0, 0, 1, 15, 0, 0), (8, 0, 0, 0, 0, 8), (0, 0, 15, 15, 0, 0)]
+            for counts in (*many, (15,) * 6):
+                line = f"more than 15 checkers: {text(counts)} in row 0"
+                self.refused(numpy.array([counts], kind), 3, line, 58)
+            line = "more pips than the bound: 0,0,0,0,9,6 in row 0"
+            self.refused(numpy.array([(0, 0, 0, 0, 9, 6)], kind), 4, line, 58)
         for kind in ("int8", "int16", "int32", "int64"):
             for point, count in itertools.product(range(6), (-1, -16, -128)):
                 table = numpy.zeros((2, 6), kind)
@@ -207,7 +213,8 @@ class RanksOfRows(Rows):
             with self.assertRaises(Refused) as refused:
                 here.ranks(memoryview(bytes([0] * 6 + [1, 15, 0, 0, 0, 0])).cast("B", (2, 6)))
             self.assertEqual(str(refused.exception), "more than 15 checkers: 1,15,0,0,0,0 in row 1")
-            for wrong in (memoryview(bytes(12)).cast("B", (2, 3, 2)), memoryview(bytes(10)).cast("B", (2, 5)), memoryview(bytes(6))):
+            for shape in ((2, 3, 2), (2, 5), (6,)):
+                wrong = memoryview(bytes(math.prod(shape))).cast("B", shape)
                 self.assertRaises(BadArgument, here.ranks, wrong)
         self.assertIsInstance(Ranks(here.positions()), Ranks)
 
@@ -323,7 +330,8 @@ class Singles(Rows):
             here, rows = database(bound), positions(bound)
             self.same([here[rank] for rank in range(len(rows))], rows)
             self.same([here[rank - len(rows)] for rank in range(len(rows))], rows)
-            for part in (slice(None), slice(3, 9), slice(-5, None), slice(None, None, -7), slice(9, 3), slice(0, 10**9)):
+            parts = [slice(None), slice(3, 9), slice(-5, None), slice(None, None, -7), slice(9, 3)]
+            for part in (*parts, slice(0, 10**9)):
                 self.same(here[part], rows[part])
             self.same(list(reversed(here)), rows[::-1])
             self.assertIs(type(here[0]), Position)

@@ -26,12 +26,14 @@ def made(numerator: int, denominator: int) -> Fraction:
 # a fraction, how it is to be written, and the text
 WRITTEN = (
     *((5, 4, ".3f", "1.250"), (5, 4, ".1f", "1.2"), (15, 4, ".1f", "3.8"), (1, 2, ".0f", "0"), (3, 2, ".0f", "2")),
-    *((-1, 8, ".2f", "-0.12"), (-3, 8, ".2f", "-0.38"), (2, 3, ".0f", "1"), (1, 3, "f", "0.333333"), (0, 1, ".2f", "0.00")),
+    *((-1, 8, ".2f", "-0.12"), (-3, 8, ".2f", "-0.38"), (2, 3, ".0f", "1"), (0, 1, ".2f", "0.00")),
+    (1, 3, "f", "0.333333"),
     *((-1, 1000, ".2f", "-0.00"), (1, 3, ".1%", "33.3%"), (1, 3, "%", "33.333333%"), (1, 8, ".0%", "12%")),
     *((245, 24, "10.3f", "    10.208"), (245, 24, "<10.3f", "10.208    "), (245, 24, "^10.2f", "  10.21   ")),
-    *((245, 24, "*>9.2f", "****10.21"), (245, 24, "08.3f", "0010.208"), (245, 24, "+.1f", "+10.2"), (245, 24, " .1f", " 10.2")),
-    *((123456789, 4, ",.2f", "30,864,197.25"), (5, 4, ".3F", "1.250"), (999, 1000, ".2f", "1.00"), (199, 2, ".0f", "100")),
-    *((5, 4, "e", "1.250000e+00"), (5, 4, ".2E", "1.25E+00"), (5, 4, "g", "1.25"), (1, 3, ".3g", "0.333"), (5, 4, "", "5/4")),
+    *((245, 24, "*>9.2f", "****10.21"), (245, 24, "08.3f", "0010.208"), (245, 24, "+.1f", "+10.2")),
+    *((245, 24, " .1f", " 10.2"), (123456789, 4, ",.2f", "30,864,197.25"), (5, 4, ".3F", "1.250")),
+    *((999, 1000, ".2f", "1.00"), (199, 2, ".0f", "100"), (5, 4, "", "5/4"), (5, 4, "g", "1.25")),
+    *((5, 4, "e", "1.250000e+00"), (5, 4, ".2E", "1.25E+00"), (1, 3, ".3g", "0.333")),
     (1, 3, ".30f", "0." + "3" * 30),
     (1, WHOLE, ".40f", "0.0000000000000000000000000000000000577225"),
 )
@@ -65,7 +67,8 @@ class Written(unittest.TestCase):
         here, six = database(8), "0,0,0,0,0,1"
         self.assertEqual(f"{here.mean(six):.3f} {here.epc(six):.3f} {here.wastage(six):.3f}", "1.250 10.208 4.208")
         self.assertEqual((float(here.epc(six)), float(here.wastage(six))), (245 / 24, 101 / 24))
-        self.assertEqual(f"{here.within('5,0,0,0,0,0', 2):.1%} {here.distribution('5,0,0,0,0,0')[3]:.4f}", "30.6% 0.6944")
+        self.assertEqual(f"{here.within('5,0,0,0,0,0', 2):.1%}", "30.6%")
+        self.assertEqual(f"{here.distribution('5,0,0,0,0,0')[3]:.4f}", "0.6944")
         self.assertEqual(f"{here.loss('0,0,0,2,0,0', '21', '0,1,1,0,0,0'):.2f}", "0.11")
         self.assertEqual([f"{choice.loss:.2f}" for choice in here.moves("0,0,0,2,0,0", "21")], ["0.00", "0.11"])
         self.assertEqual(f"{here.epc(six)}", str(here.epc(six)))
@@ -97,7 +100,8 @@ class Computed(unittest.TestCase):
                 self.assertEqual((told, hash(told), repr(told)), (wanted, hash(wanted), repr(wanted)))
                 self.assertEqual(format(told, ".1f"), format(made(told.numerator, told.denominator), ".1f"))
             self.assertEqual((type(operator(one, 0.5)), operator(one, 0.5)), (float, operator(plain, 0.5)))
-        unary: List[Callable[[Any], Any]] = [lambda it: -it, lambda it: +it, abs, lambda it: it**3, lambda it: round(it, 1)]
+        unary: List[Callable[[Any], Any]] = [lambda it: -it, lambda it: +it, abs]
+        unary += [lambda it: it**3, lambda it: round(it, 1)]
         for call in unary:
             for number, same in ((one, plain), (other, second)):
                 told = call(number)

@@ -380,7 +380,8 @@ class Played(unittest.TestCase):
                 with self.subTest(match=name, line=play.line):
                     mine, other = notation._sides_of(turn["board"], "")
                     self.assertEqual(("XO"[play.player], list(play.dice)), (turn["player"], turn["dice"]))
-                    self.assertEqual((play.game, list(play.before[1:]), list(play.other[1:])), (turn["game"], mine, other))
+                    sides = list(play.before[1:]), list(play.other[1:])
+                    self.assertEqual((play.game, *sides), (turn["game"], mine, other))
 
     def test_losses_are_those_of_the_program(self) -> None:
         count = lost = 0
@@ -469,7 +470,8 @@ class Command(unittest.TestCase):
         self.assertEqual(len(told["plays"]), len(graded.plays))
         for row, play in zip(told["plays"], graded.plays):
             self.assertEqual((row["game"], row["move"], row["line"]), (play.game, play.move, play.line))
-            self.assertEqual((row["player"], row["position"], row["roll"]), (play.player, [*play.position], [*play.dice]))
+            told_of = (play.player, [*play.position], [*play.dice])
+            self.assertEqual((row["player"], row["position"], row["roll"]), told_of)
             self.assertEqual((row["play"], row["to"], row["choices"]), (play.text, [*play.to], play.choices))
             self.assertEqual((row["best"], row["best_to"]), (play.best.text, [*play.best.to]))
             self.compare_losses(row, play.loss)
@@ -489,8 +491,9 @@ class Command(unittest.TestCase):
             bad, empty = Path(folder, "bad.mat"), Path(folder, "empty.db")
             bad.write_text(changed(25, "5/0 2/1", "5/0"), "ascii")
             empty.write_bytes(b"")
+            what = "line 25: no play of 51 leads from 0,2,0,1,5,2 to 0,2,0,1,4,2: 5/0"
             for words, status, line in (
-                ((str(bad), large), 3, f"bearoff: {bad}: line 25: no play of 51 leads from 0,2,0,1,5,2 to 0,2,0,1,4,2: 5/0"),
+                ((str(bad), large), 3, f"bearoff: {bad}: {what}"),
                 ((str(STORED), str(empty)), 3, f"bearoff: {empty}: no right database: header too-short"),
                 ((str(STORED), f"{folder}/none"), 1, "bearoff: [Errno 2] No such file or directory"),
                 ((f"{folder}/none", race), 1, "bearoff: [Errno 2] No such file or directory"),
@@ -508,7 +511,9 @@ class Command(unittest.TestCase):
             self.assertIn("is no library", run.stderr)
         with open("/dev/full", "w") as full:
             command = [sys.executable, "-m", "bearoff", "grade", str(STORED), race]
-            full_run = subprocess.run(command, cwd=ROOT / "python", stdout=full, stderr=subprocess.PIPE, encoding="utf-8")
+            full_run = subprocess.run(
+                command, cwd=ROOT / "python", stdout=full, stderr=subprocess.PIPE, encoding="utf-8"
+            )
         self.assertEqual((full_run.returncode, full_run.stderr), (1, "bearoff: [Errno 28] No space left on device\n"))
 
     def test_names_that_are_of_another_code(self) -> None:

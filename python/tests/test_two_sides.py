@@ -47,7 +47,8 @@ class TwoSides(unittest.TestCase):
         found = positions(8)
         for mine in found:
             for theirs in found:
-                self.assertEqual(wins(mine, theirs), played(here[here.rank(mine)], here[here.rank(theirs)]), (mine, theirs))
+                wanted = played(here[here.rank(mine)], here[here.rank(theirs)])
+                self.assertEqual(wins(mine, theirs), wanted, (mine, theirs))
         self.assertEqual((wins(OFF, "0,0,0,0,0,1"), wins("0,0,0,0,0,1", OFF)), (1, 0))
         self.assertEqual(wins("0,0,0,0,0,1", "0,0,0,0,0,1"), Fraction(3, 4) + Fraction(1, 4) * Fraction(1, 4))
 

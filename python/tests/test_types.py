@@ -1,5 +1,6 @@
-"""What the types of the package let through, and what they refuse: a line with `# type: ignore` that isn't refused is an
-error. It needs mypy, and for arrays numpy; where one is missing its part is left out.
+"""What the types of the package let through, and what they refuse: a line with `# type: ignore`
+that isn't refused is an error. It needs mypy, and for arrays numpy; where one is missing its part
+is left out.
 """
 
 import importlib.util

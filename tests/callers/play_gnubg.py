@@ -16,15 +16,22 @@ import sys
 import tempfile
 
 # the name, what is played, and the first number of the dice
-PLAYED = (("long", "match 25", 3), ("short", "match 1", 47), ("three", "match 3", 11), ("money", "session", 8))
+PLAYED = (
+    ("long", "match 25", 3),
+    ("short", "match 1", 47),
+    ("three", "match 3", 11),
+    ("money", "session", 8),
+)
 
 
 def play(folder):
     """Runs in GNU Backgammon's own Python."""
     import gnubg
 
-    for words in ("automatic roll on", "automatic move on", "display off", "confirm new off", "delay 0", "rng mersenne"):
+    for words in ("automatic roll on", "automatic move on", "display off", "delay 0"):
         gnubg.command(f"set {words}")
+    gnubg.command("set confirm new off")
+    gnubg.command("set rng mersenne")
     for player in (0, 1):
         gnubg.command(f"set player {player} gnubg")
         for decision in ("chequerplay", "cubedecision"):
