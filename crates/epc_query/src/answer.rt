@@ -1,9 +1,8 @@
 //! The answer to a line.
-ghost use Rattle.std.specs.Prelude.{◌≡◌, ℕ, ◌<◌, ◌≤◌, List, None, Err, IfSome, IfOk, IfErr, OnOk};
+ghost use Rattle.std.specs.Prelude.{◌≡◌, ℕ, ◌<◌, ◌≤◌, List, Err, IfOk, IfErr, OnOk};
 ghost use Rattle.race_model.specs.Positions.{pips};
 ghost use Rattle.race_model.specs.Ranks.{rank as rank_of};
-ghost use Rattle.race_model.specs.Files.{bound_of, mean as mean_of};
-ghost use Rattle.race_model.specs.Fractions.{IsMean, IsEffectivePips};
+ghost use Rattle.race_model.specs.Files.{bound_of};
 ghost use Rattle.race_model.specs.Queries.{IsAccepted};
 ghost use Rattle.db_reader.specs.Telling.{WhereTold};
 ghost use Rattle.certificate.specs.Databases.{Stays};
@@ -11,16 +10,22 @@ ghost use Rattle.epc_query.specs.Readings.{asked};
 ghost use Rattle.epc_query.specs.Answers.{IsReplyTo};
 ghost use Rattle.epc_query.specs.Faults.{IsAnswerable, IsFaultOf, stop_of, IsHeard, IsStopOf};
 
+use crate::answers::Answers;
 use crate::losses::loss;
 use crate::move_list::moves;
 use crate::query::{LineFault, Query, read_query};
 use crate::reply::{Refusal, Reply};
+use crate::run_fault::RunFault;
+use crate::text::Text;
+use crate::writing::write_reply_by;
 use certificate::{Checked, QueryFault};
+use db_layout::WriteFault;
 use db_reader::Table;
-use fixed_fraction::{Fraction, epc, mean, mean_and_epc};
+use fixed_fraction::{epc, mean};
 use home_board::Position;
-use ranking::Ranks;
+use race_model::laws;
 use std::alloc::Global;
+use std::io::Write;
 
 /// Why a line is not answered.
 #[derive(Clone, Copy, Debug, PartialEq, Eq)]
@@ -84,25 +89,6 @@ fn ask<T: Table>(alloc: Global, checked: &mut Checked<T>, query: Query) -> Resul
     }
 }
 
-/// The mean number of rolls of a position of at most the bound, and its effective pip count; none
-/// where a record could not be read, or holds numbers that no accepted record can hold.
-pub(crate) fn known_mean<T: Table>(
-    checked: &mut Checked<T>,
-    position: &Position,
-) -> Option<(Fraction, Fraction)>
-    requires { pips position.now ≤ checked.old.bound }
-    ensures mean { WhereTold checked.old.told (λ file. IfSome result (λ known.
-        IsMean (mean_of file position.now) known.0.numerator known.0.denominator)) }
-    ensures epc { WhereTold checked.old.told (λ file. IfSome result (λ known.
-        IsEffectivePips (mean_of file position.now) known.1.numerator known.1.denominator)) }
-    ensures stays { Stays checked.old checked.new (result ≡ None) }
-{
-    match checked.scaled(position) {
-        Ok(rolls) => Some(mean_and_epc(rolls)),
-        Err(_) => None,
-    }
-}
-
 /// The rank of a position of at most the bound.
 #[inline(never)]
 fn rank<T: Table>(checked: &Checked<T>, position: &Position) -> Result<u16, QueryFault>
@@ -114,7 +100,7 @@ fn rank<T: Table>(checked: &Checked<T>, position: &Position) -> Result<u16, Quer
     if position.pips() > checked.bound() {
         return Err(QueryFault::OverBound);
     }
-    Ok(Ranks::new().rank(position))
+    Ok(checked.ranks().rank(position))
 }
 
 /// Answers a line, which comes without its line feed: with what the database says, or why it is
@@ -141,5 +127,30 @@ pub fn answer_line<T: Table>(
         },
         Err(LineFault::BadLine) => Ok(Reply::Refused(Refusal::BadLine)),
         Err(LineFault::TooMany) => Ok(Reply::Refused(Refusal::TooMany)),
+    }
+}
+
+/// An accepted table answers lines by its replies.
+impl<T: Table> Answers for Checked<T> {
+    ghost seen = { λ checked. checked };
+
+    fn write_answer<W: Write>(
+        &mut self,
+        alloc: Global,
+        line: &[u8],
+        text: &mut Text,
+        writer: &mut W,
+    ) -> Result<(), RunFault> {
+        laws::law_lines();
+        crate::laws::law_reply_text();
+        let _bound = self.bound();
+        match answer_line(alloc, self, line) {
+            Ok(reply) => match write_reply_by(text, &reply, writer) {
+                Ok(()) => Ok(()),
+                Err(WriteFault) => Err(RunFault::Write),
+            },
+            Err(Stop::Memory) => Err(RunFault::Memory),
+            Err(Stop::Read) => Err(RunFault::Table),
+        }
     }
 }

@@ -10,6 +10,7 @@
 #![tactic(auto)]
 
 mod answer;
+mod answers;
 pub mod laws;
 mod levels;
 mod line_buffer;
@@ -24,14 +25,15 @@ mod text;
 mod writing;
 
 pub use answer::{Stop, answer_line};
+pub use answers::Answers;
 pub use levels::audit_level;
 pub use losses::loss;
-pub use move_list::{Cost, include_cost, moves, price};
-pub use query::{LineFault, Query, read_query};
+pub use move_list::{Cost, MOST_RESULTS, include_cost, moves, price};
+pub use query::{LineFault, Query, read_mean, read_query};
 pub use reply::{Choice, Level, Refusal, Reply};
 pub use run_fault::RunFault;
-pub use running::run;
+pub use running::{run, run_lines};
 pub use text::{
-    Text, put_choice, put_dist, put_loss, put_mean, put_moves, put_play, put_rank, put_refusal,
+    Text, push_choice, put_dist, put_loss, put_mean, put_moves, put_play, put_rank, put_refusal,
 };
-pub use writing::{write_level, write_reply};
+pub use writing::{write_level, write_line, write_reply};

@@ -7,77 +7,13 @@ ghost use Rattle.db_reader.specs.Telling.{WhereTold};
 ghost use Rattle.certificate.specs.Databases.{Stays};
 ghost use Rattle.epc_query.specs.Runs.{HasReplies, IsStoppedAt, IsFirstFeed, IsAnswered};
 
-use crate::answer::{Stop, answer_line, known_mean};
+use crate::answers::Answers;
 use crate::line_buffer::{LineBuffer, whole_line};
-use crate::query::read_mean;
 use crate::run_fault::RunFault;
-use crate::text::{Text, put_mean};
-use crate::writing::{write_line, write_reply_by};
-use certificate::Checked;
-use db_layout::WriteFault;
-use db_reader::Table;
+use crate::text::Text;
 use race_model::laws;
 use std::alloc::Global;
 use std::io::Write;
-
-/// Writes the reply to a line, by way of a text that the lines share. A mean is written as it
-/// stands, since a `Reply` has room for much more, which would be cleared and copied.
-fn answer<T: Table, W: Write>(
-    alloc: Global,
-    checked: &mut Checked<T>,
-    line: &[u8],
-    text: &mut Text,
-    writer: &mut W,
-) -> Result<(), RunFault>
-    ensures answered { WhereTold checked.old.told (λ file. MatchResult result
-        (λ _. HasReplies file (line.now ∷ []) (W.contents writer.old) (W.contents writer.new))
-        (IsStoppedAt file (line.now ∷ []) (W.contents writer.old) (W.contents writer.new))) }
-    ensures stays { Stays checked.old checked.new (result ≡ Err RunFault.Table) }
-{
-    crate::laws::law_reply_text();
-    let bound = checked.bound();
-    let Some(position) = read_mean(line) else {
-        return answer_any(alloc, checked, line, text, writer);
-    };
-    if position.pips() > bound {
-        return answer_any(alloc, checked, line, text, writer);
-    }
-    let Some(known) = known_mean(checked, &position) else {
-        return Err(RunFault::Table);
-    };
-    put_mean(text, known.0, known.1);
-    match write_line(text, writer) {
-        Ok(()) => Ok(()),
-        Err(WriteFault) => Err(RunFault::Write),
-    }
-}
-
-/// Writes the reply to a line of any kind, by way of a text that the lines share.
-#[inline(never)]
-fn answer_any<T: Table, W: Write>(
-    alloc: Global,
-    checked: &mut Checked<T>,
-    line: &[u8],
-    text: &mut Text,
-    writer: &mut W,
-) -> Result<(), RunFault>
-    ensures answered { WhereTold checked.old.told (λ file. MatchResult result
-        (λ _. HasReplies file (line.now ∷ []) (W.contents writer.old) (W.contents writer.new))
-        (IsStoppedAt file (line.now ∷ []) (W.contents writer.old) (W.contents writer.new))) }
-    ensures stays { Stays checked.old checked.new (result ≡ Err RunFault.Table) }
-{
-    laws::law_lines();
-    crate::laws::law_reply_text();
-    let _bound = checked.bound();
-    match answer_line(alloc, checked, line) {
-        Ok(reply) => match write_reply_by(text, &reply, writer) {
-            Ok(()) => Ok(()),
-            Err(WriteFault) => Err(RunFault::Write),
-        },
-        Err(Stop::Memory) => Err(RunFault::Memory),
-        Err(Stop::Read) => Err(RunFault::Table),
-    }
-}
 
 /// Where the first line feed of some bytes stands.
 fn first_feed(bytes: &[u8]) -> Option<usize>
@@ -92,16 +28,16 @@ fn first_feed(bytes: &[u8]) -> Option<usize>
 }
 
 /// Answers the line that some bytes without a line feed end, after those that are kept.
-fn answer_piece<T: Table, W: Write>(
+fn answer_piece<A: Answers, W: Write>(
     alloc: Global,
-    checked: &mut Checked<T>,
+    answers: &mut A,
     held: &mut LineBuffer,
     piece: &[u8],
     text: &mut Text,
     writer: &mut W,
 ) -> Result<(), RunFault>
     requires { HasNoFeed piece.now }
-    ensures answered { WhereTold checked.old.told
+    ensures answered { WhereTold (A.seen answers.old).told
         (λ file. (done : List ℕ) (start : Option (List ℕ))
         → IsAnswered file done start (W.contents writer.old) held.old → MatchResult result
         (λ _. IsAnswered file ((done ++ piece.now) ++ 10 ∷ []) start (W.contents writer.new)
@@ -109,46 +45,46 @@ fn answer_piece<T: Table, W: Write>(
         ≡ length (whole_lines done) + 1))
         (IsStoppedAt file (whole_lines ((done ++ piece.now) ++ 10 ∷ [])) start
         (W.contents writer.new))) }
-    ensures stays { Stays checked.old checked.new (result ≡ Err RunFault.Table) }
+    ensures stays { Stays (A.seen answers.old) (A.seen answers.new) (result ≡ Err RunFault.Table) }
 {
     laws::law_lines();
     laws::law_input_lines();
     if held.rest().is_empty() {
-        answer(alloc, checked, whole_line(piece), text, writer)?;
+        answers.write_answer(alloc, whole_line(piece), text, writer)?;
         return Ok(());
     }
     held.extend(piece);
-    answer(alloc, checked, held.line(), text, writer)?;
+    answers.write_answer(alloc, held.line(), text, writer)?;
     held.clear();
     Ok(())
 }
 
 /// Takes the next bytes of the input: a line feed ends a line, which is answered, and what stands
 /// after the last one is kept. It gives how many lines were answered.
-pub(crate) fn answer_chunk<T: Table, W: Write>(
+pub(crate) fn answer_chunk<A: Answers, W: Write>(
     alloc: Global,
-    checked: &mut Checked<T>,
+    answers: &mut A,
     held: &mut LineBuffer,
     chunk: &[u8],
     text: &mut Text,
     writer: &mut W,
 ) -> Result<u64, RunFault>
     requires { length chunk.now < 2 ^ 32 }
-    ensures answered { WhereTold checked.old.told
+    ensures answered { WhereTold (A.seen answers.old).told
         (λ file. (done : List ℕ) (start : Option (List ℕ))
         → IsAnswered file done start (W.contents writer.old) held.old → MatchResult result
         (λ n. IsAnswered file (done ++ chunk.now) start (W.contents writer.new) held.new
         × (length (whole_lines (done ++ chunk.now)) ≡ length (whole_lines done) + n))
         (IsStoppedAt file (whole_lines (done ++ chunk.now)) start (W.contents writer.new))) }
     ensures few { IfOk result (λ n. n ≤ length chunk.now) }
-    ensures stays { Stays checked.old checked.new (result ≡ Err RunFault.Table) }
+    ensures stays { Stays (A.seen answers.old) (A.seen answers.new) (result ≡ Err RunFault.Table) }
 {
     laws::law_input_lines();
     let mut start = 0;
     let mut count = 0;
     while let Some(length) = first_feed(&chunk[start..]) {
         let rest = &chunk[start..];
-        answer_piece(alloc, checked, held, &rest[..length], text, writer)?;
+        answer_piece(alloc, answers, held, &rest[..length], text, writer)?;
         start = start + length + 1;
         count += 1;
     }
@@ -158,27 +94,27 @@ pub(crate) fn answer_chunk<T: Table, W: Write>(
 
 /// Answers the line that stands after the last line feed, at the end of the input, unless it is
 /// empty. It gives how many lines were answered, 0 or 1.
-pub(crate) fn answer_last<T: Table, W: Write>(
+pub(crate) fn answer_last<A: Answers, W: Write>(
     alloc: Global,
-    checked: &mut Checked<T>,
+    answers: &mut A,
     held: &LineBuffer,
     text: &mut Text,
     writer: &mut W,
 ) -> Result<u64, RunFault>
-    ensures answered { WhereTold checked.old.told
+    ensures answered { WhereTold (A.seen answers.old).told
         (λ file. (done : List ℕ) (start : Option (List ℕ))
         → IsAnswered file done start (W.contents writer.old) held.now → MatchResult result
         (λ n. HasReplies file (lines_of done) start (W.contents writer.new)
         × (length (lines_of done) ≡ length (whole_lines done) + n))
         (IsStoppedAt file (lines_of done) start (W.contents writer.new))) }
     ensures few { IfOk result (λ n. n ≤ 1) }
-    ensures stays { Stays checked.old checked.new (result ≡ Err RunFault.Table) }
+    ensures stays { Stays (A.seen answers.old) (A.seen answers.new) (result ≡ Err RunFault.Table) }
 {
     laws::law_lines();
     let line = held.rest();
     if line.is_empty() {
         return Ok(0);
     }
-    answer(alloc, checked, line, text, writer)?;
+    answers.write_answer(alloc, line, text, writer)?;
     Ok(1)
 }

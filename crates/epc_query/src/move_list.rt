@@ -30,6 +30,9 @@ use std::alloc::Global;
 /// A result of a roll as it is put in order: its mean as a numerator over 36 ^ 22, and its rank.
 pub type Cost = (u128, u16);
 
+/// How many positions a roll leads to at most.
+pub const MOST_RESULTS: usize = 127;
+
 /// Every result of a roll once, by rising loss and then by rising rank. Refused as `OverBound`
 /// where the position has more pips than the bound, else as `Finished` where no checker is left,
 /// and else as `Memory` where the list can't be had, or as `Read` where a record could not be
@@ -72,10 +75,10 @@ pub fn moves<T: Table>(
 fn costs_of<T: Table>(
     checked: &mut Checked<T>,
     found: &[Position],
-    costs: &mut ArrayVec<Cost, 1296>,
+    costs: &mut ArrayVec<Cost, MOST_RESULTS>,
 ) -> Result<(), QueryFault>
     requires none { costs.old.items ≡ [] }
-    requires few { length found.now ≤ 1296 }
+    requires few { length found.now ≤ 127 }
     requires within { All (λ y. pips y ≤ checked.old.bound) found.now }
     ensures fault { OnErr result (result ≡ Err QueryFault.Read) }
     ensures ordered { OnOk result (IsByCost costs.new.items) }
@@ -96,8 +99,8 @@ fn costs_of<T: Table>(
 
 /// Adds a result to those in order, the smaller mean first and of equal means the lower rank,
 /// unless it is there.
-pub fn include_cost(costs: &mut ArrayVec<Cost, 1296>, cost: Cost)
-    requires room { array_vec_len costs.old < 1296 }
+pub fn include_cost(costs: &mut ArrayVec<Cost, MOST_RESULTS>, cost: Cost)
+    requires room { array_vec_len costs.old < 127 }
     requires ordered { IsByCost costs.old.items }
     ensures members { (other : ℕ × ℕ)
         → Contains costs.new.items other ↔ (Contains costs.old.items other ⊎ (other ≡ cost)) }
@@ -119,20 +122,22 @@ fn priced(ranks: &Ranks, choices: Vec<Choice>, costs: &[Cost]) -> Vec<Choice>
 {
     let mut choices = choices;
     for cost in costs {
-        let choice = price(ranks, *cost, costs[0]);
+        let to = ranks.unrank(cost.1).unwrap();
+        let choice = price(to, *cost, costs[0]);
         choices.push(choice).unwrap();
     }
     choices
 }
 
 /// A result with what it costs against the first of those in order, whose mean is the least.
-pub fn price(ranks: &Ranks, cost: Cost, first: Cost) -> Choice
+pub fn price(to: Position, cost: Cost, first: Cost) -> Choice
+    requires to { to ≡ at_rank cost.1 }
     requires bounded { IsCost cost }
     requires first { first.0 ≤ cost.0 }
     ensures { IsPriced first cost result }
 {
     Choice {
-        to: ranks.unrank(cost.1).unwrap(),
+        to,
         loss: mean(Scaled::new(cost.0 - first.0).unwrap()),
     }
 }

@@ -70,7 +70,7 @@ pub fn read_query(line: &[u8]) -> Result<Query, LineFault>
 
 /// The position whose mean a line asks for, where it asks for one and is not refused by what
 /// stands there: what `read_query` tells too, without a look at the words of other kinds.
-pub(crate) fn read_mean(line: &[u8]) -> Option<Position>
+pub fn read_mean(line: &[u8]) -> Option<Position>
     ensures { IfSome result (λ position. IsQuery line.now (mean_query position)
         × (¬ HasTooMany (mean_query position))) }
 {

@@ -8,6 +8,7 @@ ghost use Rattle.certificate.specs.Databases.{Stays};
 ghost use Rattle.epc_query.specs.Runs.{HasReplies, IsStoppedAt, IsAnswered, IsRunStopped};
 ghost use Rattle.epc_query.specs.UsedReads.{HasUsed};
 
+use crate::answers::Answers;
 use crate::line_buffer::LineBuffer;
 use crate::lines::{answer_chunk, answer_last};
 use crate::run_fault::RunFault;
@@ -52,6 +53,30 @@ pub fn run<T: Table, R: Read, W: Write>(
         (λ input. IfErr result (HasUsed turns input (R.remaining reader.new)))) }
     ensures stays { Stays checked.old checked.new (result ≡ Err RunFault.Table) }
 {
+    run_lines(alloc, checked, reader, writer, turns)
+}
+
+/// Answers each line of an input from whatever answers lines, as `run` does from an accepted table:
+/// with the same replies, reads and refusals.
+pub fn run_lines<A: Answers, R: Read, W: Write>(
+    alloc: Global,
+    answers: &mut A,
+    reader: &mut R,
+    writer: &mut W,
+    turns: u64,
+) -> Result<u64, RunFault>
+    ensures done { WhereTold (A.seen answers.old).told (λ file. WhereTold (R.remaining reader.old)
+        (λ input. IfOk result
+        (λ n. IsAtEnd (R.remaining reader.new) × (n ≡ length (lines_of input))
+        × HasReplies file (lines_of input) (W.contents writer.old) (W.contents writer.new)))) }
+    ensures stopped { WhereTold (A.seen answers.old).told (λ file.
+        WhereTold (R.remaining reader.old) (λ input. IfErr result
+        (IsRunStopped file input (R.remaining reader.new) (W.contents writer.old)
+        (W.contents writer.new)))) }
+    ensures used { WhereTold (A.seen answers.old).told (λ _. WhereTold (R.remaining reader.old)
+        (λ input. IfErr result (HasUsed turns input (R.remaining reader.new)))) }
+    ensures stays { Stays (A.seen answers.old) (A.seen answers.new) (result ≡ Err RunFault.Table) }
+{
     laws::law_input_lines();
     let mut held = LineBuffer::new();
     let mut chunk = [0; 4096];
@@ -62,12 +87,12 @@ pub fn run<T: Table, R: Read, W: Write>(
             return Err(RunFault::Read);
         };
         if taken == 0 {
-            count += answer_end(alloc, checked, &held, &mut text, writer)?;
+            count += answer_end(alloc, answers, &held, &mut text, writer)?;
             return Ok(count);
         }
         count += answer_read(
             alloc,
-            checked,
+            answers,
             &mut held,
             &chunk[..taken],
             &mut text,
@@ -78,47 +103,47 @@ pub fn run<T: Table, R: Read, W: Write>(
 }
 
 /// Takes what one read gave, and flushes the replies.
-fn answer_read<T: Table, W: Write>(
+fn answer_read<A: Answers, W: Write>(
     alloc: Global,
-    checked: &mut Checked<T>,
+    answers: &mut A,
     held: &mut LineBuffer,
     bytes: &[u8],
     text: &mut Text,
     writer: &mut W,
 ) -> Result<u64, RunFault>
     requires { length bytes.now < 2 ^ 32 }
-    ensures answered { WhereTold checked.old.told
+    ensures answered { WhereTold (A.seen answers.old).told
         (λ file. (done : List ℕ) (start : Option (List ℕ))
         → IsAnswered file done start (W.contents writer.old) held.old → MatchResult result
         (λ n. IsAnswered file (done ++ bytes.now) start (W.contents writer.new) held.new
         × (length (whole_lines (done ++ bytes.now)) ≡ length (whole_lines done) + n))
         (IsStoppedAt file (whole_lines (done ++ bytes.now)) start (W.contents writer.new))) }
     ensures few { IfOk result (λ n. n ≤ length bytes.now) }
-    ensures stays { Stays checked.old checked.new (result ≡ Err RunFault.Table) }
+    ensures stays { Stays (A.seen answers.old) (A.seen answers.new) (result ≡ Err RunFault.Table) }
 {
-    let count = answer_chunk(alloc, checked, held, bytes, text, writer)?;
+    let count = answer_chunk(alloc, answers, held, bytes, text, writer)?;
     flush(writer)?;
     Ok(count)
 }
 
 /// Answers what stands after the last line feed, and flushes the reply.
-fn answer_end<T: Table, W: Write>(
+fn answer_end<A: Answers, W: Write>(
     alloc: Global,
-    checked: &mut Checked<T>,
+    answers: &mut A,
     held: &LineBuffer,
     text: &mut Text,
     writer: &mut W,
 ) -> Result<u64, RunFault>
-    ensures answered { WhereTold checked.old.told
+    ensures answered { WhereTold (A.seen answers.old).told
         (λ file. (done : List ℕ) (start : Option (List ℕ))
         → IsAnswered file done start (W.contents writer.old) held.now → MatchResult result
         (λ n. HasReplies file (lines_of done) start (W.contents writer.new)
         × (length (lines_of done) ≡ length (whole_lines done) + n))
         (IsStoppedAt file (lines_of done) start (W.contents writer.new))) }
     ensures few { IfOk result (λ n. n ≤ 1) }
-    ensures stays { Stays checked.old checked.new (result ≡ Err RunFault.Table) }
+    ensures stays { Stays (A.seen answers.old) (A.seen answers.new) (result ≡ Err RunFault.Table) }
 {
-    let count = answer_last(alloc, checked, held, text, writer)?;
+    let count = answer_last(alloc, answers, held, text, writer)?;
     flush(writer)?;
     Ok(count)
 }

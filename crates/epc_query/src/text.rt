@@ -15,14 +15,14 @@ use itoa::Buffer;
 use legal_plays::{Play, write_play};
 
 /// Room for the text of any reply but a long list of moves.
-pub type Text = ArrayString<4096>;
+pub type Text = ArrayString<12288>;
 
 /// 10 ^ 18. A number of more than 18 digits is written in two parts, each by divisions of 64 bits.
 const HALF: u128 = 1_000_000_000_000_000_000;
 
 /// Adds a number in decimal.
 fn push_number(text: &mut Text, number: u128)
-    requires { array_string_len text.old + 40 ≤ 4096 }
+    requires { array_string_len text.old + 40 ≤ 12288 }
     ensures bytes { text.new.bytes ≡ text.old.bytes ++ decimal number }
     ensures len { array_string_len text.new ≤ array_string_len text.old + 40 }
 {
@@ -40,7 +40,7 @@ fn push_number(text: &mut Text, number: u128)
 fn push_last_digits(text: &mut Text, power: u64, rest: u64)
     requires short { power ≤ 10 ^ 18 }
     requires few { rest < power }
-    requires room { array_string_len text.old + 18 ≤ 4096 }
+    requires room { array_string_len text.old + 18 ≤ 12288 }
     ensures bytes { text.new.bytes ≡ text.old.bytes ++ drop 1 (decimal (power + rest)) }
     ensures len { array_string_len text.new ≤ array_string_len text.old + 18 }
 {
@@ -51,7 +51,7 @@ fn push_last_digits(text: &mut Text, power: u64, rest: u64)
 
 /// Adds a fraction, as 5/4.
 fn push_fraction(text: &mut Text, fraction: Fraction)
-    requires { array_string_len text.old + 81 ≤ 4096 }
+    requires { array_string_len text.old + 81 ≤ 12288 }
     ensures bytes { text.new.bytes
         ≡ text.old.bytes ++ fraction_text fraction.numerator fraction.denominator }
     ensures len { array_string_len text.new ≤ array_string_len text.old + 81 }
@@ -63,7 +63,7 @@ fn push_fraction(text: &mut Text, fraction: Fraction)
 
 /// Adds a number of thousandths, as 10.208.
 fn push_thousandths(text: &mut Text, number: u128)
-    requires { array_string_len text.old + 161 ≤ 4096 }
+    requires { array_string_len text.old + 161 ≤ 12288 }
     ensures bytes { text.new.bytes ≡ text.old.bytes ++ thousandths_text number }
     ensures len { array_string_len text.new ≤ array_string_len text.old + 161 }
 {
@@ -74,7 +74,7 @@ fn push_thousandths(text: &mut Text, number: u128)
 
 /// Adds the text of a position.
 fn push_position(text: &mut Text, position: &Position)
-    requires { array_string_len text.old + 12 ≤ 4096 }
+    requires { array_string_len text.old + 12 ≤ 12288 }
     ensures bytes { text.new.bytes ≡ text.old.bytes ++ position_text position.now }
     ensures len { array_string_len text.new ≤ array_string_len text.old + 12 }
 {
@@ -84,7 +84,7 @@ fn push_position(text: &mut Text, position: &Position)
 
 /// Adds the share of exactly `k` rolls, unless it is zero.
 fn push_share(text: &mut Text, spread: &Spread, k: u8)
-    requires { array_string_len text.old + 130 ≤ 4096 }
+    requires { array_string_len text.old + 130 ≤ 12288 }
     ensures part { (part : List ℕ) × IsSharePart (slice_index spread.now k) k part
         × (text.new.bytes ≡ text.old.bytes ++ part) }
     ensures len { array_string_len text.new ≤ array_string_len text.old + 130 }
@@ -100,7 +100,7 @@ fn push_share(text: &mut Text, spread: &Spread, k: u8)
 
 /// Adds the moves of a play, each after a space.
 fn push_play(text: &mut Text, play: &Play)
-    requires { array_string_len text.old + 24 ≤ 4096 }
+    requires { array_string_len text.old + 24 ≤ 12288 }
     ensures bytes { text.new.bytes
         ≡ text.old.bytes ++ flat_map (λ m. codes " " ++ move_text m) (moves_of play.now.items) }
     ensures len { array_string_len text.new ≤ array_string_len text.old + 24 }
@@ -112,9 +112,10 @@ fn push_play(text: &mut Text, play: &Play)
     text.push_str(write_play(play).as_str());
 }
 
-/// Adds a result and its loss, after a space: at most 95 bytes.
-pub(crate) fn push_choice(text: &mut Text, choice: &Choice)
-    requires { array_string_len text.old + 95 ≤ 4096 }
+/// Adds a result and its loss, as they stand in a list of moves after what is before them: a space,
+/// the position, a colon, and the loss in rolls, at most 95 bytes.
+pub fn push_choice(text: &mut Text, choice: &Choice)
+    requires { array_string_len text.old + 95 ≤ 12288 }
     ensures bytes { text.new.bytes ≡ text.old.bytes ++ choice_text choice.now }
     ensures len { array_string_len text.new ≤ array_string_len text.old + 95 }
 {
@@ -122,16 +123,6 @@ pub(crate) fn push_choice(text: &mut Text, choice: &Choice)
     push_position(text, &choice.to);
     text.push_str(":");
     push_fraction(text, choice.loss);
-}
-
-/// Makes a text that of a result and its loss, as it stands in a list of moves after what is
-/// before it: a space, the position, a colon, and the loss in rolls, at most 95 bytes.
-pub fn put_choice(text: &mut Text, choice: &Choice)
-    ensures text { text.new.bytes ≡ choice_text choice.now }
-    ensures len { array_string_len text.new ≤ 95 }
-{
-    text.clear();
-    push_choice(text, choice);
 }
 
 /// Makes a text the word with which a list of moves begins.

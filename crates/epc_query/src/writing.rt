@@ -64,8 +64,8 @@ pub fn write_level<W: Write>(level: &Level, writer: &mut W) -> Result<(), WriteF
 }
 
 /// Writes a text and a line feed.
-pub(crate) fn write_line<W: Write>(text: &mut Text, writer: &mut W) -> Result<(), WriteFault>
-    requires { array_string_len text.old + 1 ≤ 4096 }
+pub fn write_line<W: Write>(text: &mut Text, writer: &mut W) -> Result<(), WriteFault>
+    requires { array_string_len text.old + 1 ≤ 12288 }
     ensures all { OnOk result
         (Appends (W.contents writer.old) (W.contents writer.new) (text.old.bytes ++ 10 ∷ [])) }
     ensures part { OnErr result

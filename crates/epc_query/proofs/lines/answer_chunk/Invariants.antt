@@ -9,7 +9,7 @@ use Rattle.epc_query.proofs.lines.answer_chunk.Given as goal
 abbrev pub invariant-loop-length : goal.invariant-loop-length
 invariant-loop-length g l = record {
   within : l.start ≤ length l.chunk;
-  taken : WhereTold l.initial.checked.told
+  taken : WhereTold (g.A.Answers.seen l.initial.answers).told
       (λ file. (done : List ℕ) (start : Option (List ℕ))
       → IsAnswered file done start (g.W.Write.contents l.initial.writer) l.initial.held
       → IsAnswered file (done ++ take l.start l.chunk) start
@@ -17,7 +17,7 @@ invariant-loop-length g l = record {
       × (length (whole_lines (done ++ take l.start l.chunk)) ≡ length
       (whole_lines done) + l.count));
   few : l.count ≤ l.start;
-  stays : Stays l.initial.checked l.checked ⊥;
+  stays : Stays (g.A.Answers.seen l.initial.answers) (g.A.Answers.seen l.answers) ⊥;
 }
 
 -- what is left of the chunk falls

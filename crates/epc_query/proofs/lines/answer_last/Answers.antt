@@ -3,11 +3,12 @@ use Rattle.std.proofs.lemmas.Bool.{eqb-false}
 use Rattle.epc_query.proofs.Runs.{last_ended, last_stopped}
 use Rattle.epc_query.proofs.lines.answer_last.Goals as goal
 
-pub returns-in_err-answer-clause-answered : goal.returns-in_err-answer-clause-answered
-returns-in_err-answer-clause-answered g c = λ file t done start is.
-    let fault = c.in_err-answer.field-0.0 in
+pub returns-in_err-write_answer-clause-answered : goal.returns-in_err-write_answer-clause-answered
+returns-in_err-write_answer-clause-answered g c = λ file t done start is.
+    let fault = c.in_err-write_answer.field-0.0 in
     let same : c.from_residual.result ≡ Err fault = search rules in
-    let stopped = rw c.rest-line.ensures at ((c.in_err-answer.ensures {u = tt}).answered file t) in
+    let stopped = rw c.rest-line.ensures at
+    ((c.in_err-write_answer.ensures {u = tt}).answered file t) in
     let none = eqb-false _ _ (sym c.if-is_empty.ensures) in
     let some : 0 < length c.args.held.now = omega (arith, ap length c.rest-line.ensures) in
     rw same
@@ -16,7 +17,8 @@ returns-in_err-answer-clause-answered g c = λ file t done start is.
 
 pub returns-clause-answered : goal.returns-clause-answered
 returns-clause-answered g c = λ file t done start is.
-    let has = rw c.rest-line.ensures at ((c.in_ok-answer.ensures {u = tt}).answered file t) in
+    let has = rw c.rest-line.ensures at
+    ((c.in_ok-write_answer.ensures {u = tt}).answered file t) in
     let none = eqb-false _ _ (sym c.if-is_empty.ensures) in
     let some : 0 < length c.args.held.now = omega (arith, ap length c.rest-line.ensures) in
     last_ended c.law_lines.ensures.short file done start _ _ c.args.held.now is some has

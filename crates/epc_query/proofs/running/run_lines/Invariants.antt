@@ -4,12 +4,12 @@ use Rattle.race_model.specs.InputLines.{whole_lines}
 use Rattle.db_reader.specs.Telling.{WhereTold}
 use Rattle.certificate.specs.Databases.{Stays}
 use Rattle.epc_query.specs.Runs.{IsAnswered}
-use Rattle.epc_query.proofs.running.run.Given as goal
+use Rattle.epc_query.proofs.running.run_lines.Given as goal
 
 -- what was read so far was answered
 abbrev pub invariant-loop-turn : goal.invariant-loop-turn
 invariant-loop-turn g l = record {
-  taken : WhereTold l.initial.checked.told
+  taken : WhereTold (g.A.Answers.seen l.initial.answers).told
       (λ file. WhereTold (g.R.Read.remaining l.initial.reader) (λ input. (done : List ℕ)
       × Consumes (Some input) (g.R.Read.remaining l.reader) done
       × IsAnswered file done (g.W.Write.contents l.initial.writer)
@@ -17,5 +17,5 @@ invariant-loop-turn g l = record {
       × (length (whole_lines done) ≡ l.count) × (l._turn ≤ length done)));
   few : l.count ≤ 4096 * l._turn;
   long : length l.chunk ≡ 4096;
-  stays : Stays l.initial.checked l.checked ⊥;
+  stays : Stays (g.A.Answers.seen l.initial.answers) (g.A.Answers.seen l.answers) ⊥;
 }

@@ -4,7 +4,7 @@ use Rattle.race_model.specs.InputLines.{lines_of}
 use Rattle.certificate.proofs.Databases.{stays_more}
 use Rattle.epc_query.proofs.Runs.{read_none, read_more, read_all, read_front, stopped_in, run_stopped}
 use Rattle.epc_query.proofs.UsedReads.{used_in, longer}
-use Rattle.epc_query.proofs.running.run.Goals as goal
+use Rattle.epc_query.proofs.running.run_lines.Goals as goal
 
 pub returns-in_default-clause-stopped : goal.returns-in_default-clause-stopped
 returns-in_default-clause-stopped g c = λ file t input u.

@@ -1,0 +1,206 @@
+//! A database in bytes that somebody lends, and what it says of a position.
+ghost use Rattle.std.specs.Prelude.{◌≡◌, ℕ, ◌≤◌, ◌↔◌, Err, IsOk, IfOk, IfErr, IsSome, IfSome, slice_index};
+ghost use Rattle.race_model.specs.Positions.{IsPosition, pips as pips_of};
+ghost use Rattle.race_model.specs.Ranks.{rank as rank_of, count_to};
+ghost use Rattle.race_model.specs.Versions.{version_by, version_number};
+ghost use Rattle.race_model.specs.Files.{version_of, bound_of, record_at, mean as mean_of, spread as spread_of};
+ghost use Rattle.race_model.specs.RightFiles.{IsRight, follow};
+ghost use Rattle.race_model.specs.Strategies.{IsLeast, count_of};
+ghost use Rattle.ranking.specs.Tables.{IsRankTable};
+ghost use Rattle.certificate.specs.CheckFaults.{IsFirst};
+ghost use Rattle.database.specs.Opened.{IsOpened};
+
+use crate::lent_records::LentRecords;
+use certificate::{CheckFault, check, spread_in};
+use db_layout::RecordView;
+use db_reader::Whole;
+use fixed_fraction::{Scaled, Spread};
+use home_board::Position;
+use race_model::laws;
+use ranking::RankTable;
+use std::marker::Model;
+
+/// A database in bytes that somebody lends, which are a right file: for each position of at most
+/// its bound the recorded mean is the least over all strategies, also those that look at the
+/// history; the recorded plays are legal and reach it; and the recorded shares are those of these
+/// plays. It is made by `open`, or of what was kept of a database that `open` made.
+///
+/// What may be missing of an answer is missing only where the bytes were changed since they were
+/// checked, as another program may do; no clause speaks of that.
+#[derive(Drop)]
+pub struct Database<'a> {
+    bytes: &'a [u8],
+    version: u16,
+    bound: u8,
+    ranks: &'a RankTable,
+}
+
+// Clauses see the bytes.
+impl<'a> Model for Database<'a> {
+    ghost use Rattle.std.specs.Prelude.{ℕ, List};
+    ghost use Rattle.database.specs.Opened.{IsOpened};
+
+    ghost Value = { List ℕ };
+
+    ghost view = { λ database. database.bytes.now };
+
+    ghost invariant = { λ database.
+        IsOpened database.bytes.now database.version database.bound database.ranks.now };
+}
+
+/// What is kept of bytes that were accepted.
+#[derive(Clone, Copy, Debug, PartialEq, Eq)]
+pub struct Accepted {
+    /// The version of the file, 1 or 2.
+    pub version: u16,
+
+    /// The pip bound, 0 to 58.
+    pub bound: u8,
+}
+
+/// Checks bytes: they are accepted exactly where they are a right file of at most 58 pips, and else
+/// refused with their first fault.
+// so that the room of the check is not part of its caller's
+#[inline(never)]
+pub fn accept(bytes: &[u8]) -> Result<Accepted, CheckFault>
+    ensures right { IsOk result ↔ IsRight bytes.now }
+    ensures version { IfOk result (λ accepted.
+        accepted.version ≡ version_number (version_of bytes.now)) }
+    ensures bound { IfOk result (λ accepted. accepted.bound ≡ bound_of bytes.now) }
+    ensures fault { IfErr result (IsFirst bytes.now) }
+    ensures read { ¬ (result ≡ Err CheckFault.Read) }
+{
+    match check(Whole::new(bytes)) {
+        Ok(checked) => Ok(Accepted {
+            version: checked.version(),
+            bound: checked.bound(),
+        }),
+        Err((_, fault)) => Err(fault),
+    }
+}
+
+impl<'a> Database<'a> {
+    /// Checks bytes and opens a database over them, by a table of ranks. Refused as `accept` is.
+    pub fn open(bytes: &'a [u8], ranks: &'a RankTable) -> Result<Database<'a>, CheckFault>
+        requires { IsRankTable ranks.now }
+        ensures right { IsOk result ↔ IsRight bytes.now }
+        ensures bytes { IfOk result (λ database. database ≡ bytes.now) }
+        ensures fault { IfErr result (IsFirst bytes.now) }
+    {
+        let accepted = accept(bytes)?;
+        Ok(Database::kept(bytes, accepted, ranks))
+    }
+
+    /// The database over bytes that were accepted before, by what was kept of that.
+    pub fn kept(bytes: &'a [u8], accepted: Accepted, ranks: &'a RankTable) -> Database<'a>
+        requires { IsOpened bytes.now accepted.version accepted.bound ranks.now }
+        ensures { result ≡ bytes.now }
+    {
+        Database {
+            bytes,
+            version: accepted.version,
+            bound: accepted.bound,
+            ranks,
+        }
+    }
+
+    /// The pip bound, 0 to 58.
+    pub fn bound(&self) -> u8
+        ensures bound { result ≡ bound_of self.now }
+        ensures right { IsRight self.now }
+        ensures range { result ≤ 58 }
+    {
+        self.bound
+    }
+
+    /// The version of the file, 1 or 2.
+    pub fn version(&self) -> u16
+        ensures version { result ≡ version_number (version_of self.now) }
+    {
+        self.version
+    }
+
+    /// How many positions the database has: those of at most the bound.
+    pub fn positions(&self) -> u16
+        ensures { result ≡ count_to (bound_of self.now) }
+    {
+        self.ranks.count_to(self.bound)
+    }
+
+    /// The table of ranks.
+    pub fn ranks(&self) -> &'a RankTable
+        ensures { IsRankTable result.now }
+    {
+        self.ranks
+    }
+
+    /// The bytes, and by what a place in them is found.
+    pub(crate) fn lent(&self) -> LentRecords<'a>
+        ensures bytes { result.bytes.now ≡ self.now }
+        ensures version { version_by result.version ≡ version_of self.now }
+        ensures bound { result.bound ≡ bound_of self.now }
+    {
+        LentRecords {
+            bytes: self.bytes,
+            version: self.version,
+            bound: self.bound,
+            ranks: self.ranks,
+        }
+    }
+
+    /// The record of a position of at most the bound, whose rank is known.
+    fn record_ranked(&self, position: &Position, rank: u16) -> RecordView<'a>
+        requires within { pips_of position.now ≤ bound_of self.now }
+        requires rank { rank ≡ rank_of position.now }
+        ensures record { result ≡ record_at self.now (rank_of position.now) }
+        ensures position { IsPosition position.now }
+    {
+        self.lent().record(position.pips(), rank)
+    }
+
+    /// The record of a position of at most the bound.
+    pub fn record(&self, position: &Position) -> RecordView<'a>
+        requires { pips_of position.now ≤ bound_of self.now }
+        ensures record { result ≡ record_at self.now (rank_of position.now) }
+        ensures position { IsPosition position.now }
+    {
+        self.record_ranked(position, self.ranks.rank(position))
+    }
+
+    /// The mean of a position of at most the bound, whose rank is known.
+    pub(crate) fn mean_ranked(&self, position: &Position, rank: u16) -> Option<Scaled>
+        requires within { pips_of position.now ≤ bound_of self.now }
+        requires rank { rank ≡ rank_of position.now }
+        ensures some { IsSome result }
+        ensures least { IfSome result (IsLeast position.now) }
+        ensures recorded { IfSome result (λ rolls. rolls ≡ mean_of self.now position.now) }
+    {
+        let _bound = self.bound();
+        Scaled::new(self.record_ranked(position, rank).mean())
+    }
+
+    /// The least mean number of rolls of a position of at most the bound over all strategies, also
+    /// those that look at the history, as a numerator over 36 ^ 22.
+    pub fn mean(&self, position: &Position) -> Option<Scaled>
+        requires { pips_of position.now ≤ bound_of self.now }
+        ensures some { IsSome result }
+        ensures least { IfSome result (IsLeast position.now) }
+        ensures recorded { IfSome result (λ rolls. rolls ≡ mean_of self.now position.now) }
+    {
+        self.mean_ranked(position, self.ranks.rank(position))
+    }
+
+    /// How the number of rolls of a position of at most the bound is spread where each play is the
+    /// recorded one.
+    pub fn spread(&self, position: &Position) -> Option<Spread>
+        requires { pips_of position.now ≤ bound_of self.now }
+        ensures some { IsSome result }
+        ensures shares { IfSome result (λ spread. (k : ℕ) → k ≤ 22
+            → slice_index spread k ≡ count_of (follow self.now 22 position.now) k) }
+        ensures recorded { IfSome result (λ spread. (k : ℕ) → k ≤ 22
+            → slice_index spread k ≡ spread_of self.now position.now k) }
+    {
+        let _bound = self.bound();
+        spread_in(&self.record(position))
+    }
+}
