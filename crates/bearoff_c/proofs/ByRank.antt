@@ -1,13 +1,12 @@
 -- What is listed by rank, item after item.
-use Rattle.std.proofs.Common.{◌≡◌, ℕ, ◌+◌, ◌<◌, ◌≤◌, ◌⊎◌, inl, inr, List, length, get_or, set, sym, ap, subst, ◌∙◌, arith}
+use Rattle.std.proofs.Common.{◌≡◌, ℕ, ◌+◌, ◌<◌, ◌≤◌, ◌⊎◌, inl, inr, List, length, get_or, set, sym, ap}
+use Rattle.std.proofs.Common.{subst, ◌∙◌, arith}
 use Rattle.std.proofs.lemmas.Bool.{cases_lt}
 use Rattle.std.proofs.lemmas.List.{get_or-set_other}
 use Rattle.std.proofs.lemmas.Grind.{get_or-set_at}
-use Rattle.race_model.specs.Positions.{Board, IsPosition}
+use Rattle.race_model.specs.Positions.{Board, IsPosition, pips}
 use Rattle.race_model.specs.Ranks.{rank, count_to}
 use Rattle.race_model.proofs.Ranks.RankOrder.{rank_bound}
-use Rattle.bearoff_c.specs.Databases.{IsOpened, IsKnown}
-use Rattle.bearoff_c.proofs.Known.{opened_knows}
 
 -- the first n items of a list say so of their positions
 abbrev pub SaysTo : {T : Type 0} → ℕ → ℕ → List T → (Board → T → Type 0) → Type 0
@@ -30,9 +29,8 @@ says_more n first items item Says low was is x i d at ranked under = by_cases (c
       subst (Says x) (sym (get_or-set_at items n i item d same low))
       (is x at (ranked ∙ ap (λ k. first + k) same))
 
--- an open database knows the positions of its ranks
-pub ranked_known : (f : List ℕ) (bound first n i : ℕ) (x : Board) → IsOpened f bound
-    → IsPosition x → rank x ≡ first + i → i < n → first + n ≤ count_to bound → IsKnown f x
-ranked_known f bound first n i x opened at ranked under within =
-    opened_knows f bound x opened at
-    ((rank_bound x bound at).0 (omega (arith, ranked, under, within)))
+-- a position of a rank that is listed has at most the bound's pips
+pub ranked_within : (bound first n i : ℕ) (x : Board) → IsPosition x → rank x ≡ first + i → i < n
+    → first + n ≤ count_to bound → pips x ≤ bound
+ranked_within bound first n i x at ranked under within =
+    (rank_bound x bound at).0 (omega (arith, ranked, under, within))

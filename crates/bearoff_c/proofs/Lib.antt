@@ -1,5 +1,4 @@
 pub mod AddedShares
-pub mod Copied
-pub mod Known
-pub mod Refusing
 pub mod ByRank
+pub mod Opened
+pub mod Refusing

@@ -7,8 +7,3 @@ pub record HasText (text old new : List ℕ) (told : ℕ) : Type 0 where
   pub told_is : told ≡ length text
   pub written : length text ≤ length old → new ≡ text ++ drop (length text) old
   pub short : length old < length text → new ≡ old
-
--- a buffer has a text in front where all of it has room; else only its length is known
-pub record IsCopied (text old new : List ℕ) : Type 0 where
-  pub size : length new ≡ length old
-  pub written : length text ≤ length old → new ≡ text ++ drop (length text) old

@@ -1,6 +1,6 @@
 -- What a refusal leaves of a database.
 use Rattle.std.specs.Prelude.{◌≡◌}
-use Rattle.bearoff_c.specs.declared.database.Database.{Database}
+use Rattle.bearoff_c.specs.declared.kept.Database.{Database}
 
 -- but for whether it is open the database is as it was
 pub record IsElseSame (old new : Database) : Type 0 where

@@ -1,11 +1,9 @@
 pub mod Wides
-pub mod Databases
 pub mod Refusals
 pub mod Buffers
 pub mod FileFaults
 pub mod PlayLists
 pub mod ResultLists
 pub mod RoundedPips
-pub mod Places
 pub mod Listed
 pub mod Closing

@@ -3,9 +3,9 @@ use Rattle.std.specs.Prelude.{ℕ, ◌+◌, ◌==◌, nat_lt, nat_le, ◌&&◌, 
 use Rattle.std.specs.Prelude.{Option, Some, None, Result, Ok, Err}
 use Rattle.race_model.specs.Positions.{Board, checkers, pips}
 use Rattle.race_model.specs.Ranks.{count_to}
-use Rattle.bearoff_c.specs.declared.refusal.Refusal.{Refusal}
-use Rattle.bearoff_c.specs.declared.refusal.Refusal.TheVariants.{NotOpen, BadRoll, TooMany, OverBound, Finished}
-use Rattle.bearoff_c.specs.declared.refusal.Refusal.TheVariants.{NotLegal, Changed, NoRank}
+use Rattle.bearoff_c.specs.declared.statuses.Refusal.{Refusal}
+use Rattle.bearoff_c.specs.declared.statuses.Refusal.TheVariants.{NotOpen, BadRoll, TooMany, OverBound, Finished}
+use Rattle.bearoff_c.specs.declared.statuses.Refusal.TheVariants.{NotLegal, Changed, NoRank}
 
 -- the status: 0 where nothing was refused
 abbrev pub status_of : Option Refusal → ℕ

@@ -7,7 +7,7 @@ use Rattle.race_model.specs.LocalEquations.{whole}
 use Rattle.race_model.specs.Fractions.{IsFraction}
 use Rattle.race_model.specs.Losses.{loss}
 use Rattle.legal_plays.specs.RankOrder.{IsInRankOrder}
-use Rattle.bearoff_c.specs.declared.choice.Choice.{Choice}
+use Rattle.bearoff_c.specs.declared.results.Choice.{Choice}
 use Rattle.bearoff_c.specs.Wides.{number_of}
 
 -- the positions of results

@@ -1,6 +1,6 @@
 -- Numbers of 128 bits in two halves.
 use Rattle.std.specs.Prelude.{ℕ, ◌+◌, ◌*◌, ◌^◌}
-use Rattle.bearoff_c.specs.declared.wide.Wide.{Wide}
+use Rattle.bearoff_c.specs.declared.numbers.Wide.{Wide}
 
 -- the number whose halves these are
 abbrev pub number_of : Wide → ℕ

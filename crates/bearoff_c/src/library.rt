@@ -1,7 +1,7 @@
 //! The version of the library.
 ghost use Rattle.std.specs.Prelude.{◌≡◌};
 
-use crate::refusal::OK;
+use crate::statuses::OK;
 
 /// The version of the library, 1.2.3 as 1, 2 and 3. The status is 0.
 #[unsafe(no_mangle)]

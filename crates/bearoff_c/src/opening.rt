@@ -1,21 +1,21 @@
-ghost use Rattle.std.specs.Prelude.{◌≡◌, ◌<◌, ◌≤◌, ◌↔◌, IsTrue, Some, length};
+//! The opening of a database, and what it says of itself.
+ghost use Rattle.std.specs.Prelude.{◌≡◌, ◌<◌, ◌≤◌, ◌↔◌, IsTrue};
 ghost use Rattle.race_model.specs.Ranks.{count_to};
 ghost use Rattle.race_model.specs.Versions.{version_number};
 ghost use Rattle.race_model.specs.Files.{version_of, bound_of};
 ghost use Rattle.race_model.specs.RightFiles.{IsRight};
 ghost use Rattle.certificate.specs.declared.check_fault.CheckFault.{CheckFault as Fault};
 ghost use Rattle.certificate.specs.CheckFaults.{IsFirst, line_of};
-ghost use Rattle.bearoff_c.specs.FileFaults.{fault_status};
+ghost use Rattle.bearoff_c.specs.FileFaults.{fault_status as status_of_fault};
 ghost use Rattle.bearoff_c.specs.Buffers.{HasText};
 ghost use Rattle.bearoff_c.specs.Closing.{IsElseSame};
 ghost use Rattle.bearoff_c.specs.Refusals.{open_refusal, status_of};
 
-use crate::database::Database;
-use crate::refusal::{OK, Refusal};
-use crate::text::put_text;
-use certificate::{CheckFault, Checked, check, fault_line};
-use db_layout::HeaderFault;
-use db_reader::Whole;
+use crate::kept::Database;
+use crate::lines::put_text;
+use crate::statuses::{OK, fault_status};
+use certificate::fault_line;
+use database::accept;
 use ranking::RankTable;
 
 /// Checks the bytes of a file and opens a database over them. The status is 0 exactly where they
@@ -36,61 +36,29 @@ pub extern "C" fn bearoff_open<'a>(
     ensures bytes { result ≡ 0 → database.new.bytes.now ≡ bytes.now }
     ensures bound { result ≡ 0 → database.new.bound ≡ bound_of bytes.now }
     ensures fault { ¬ (result ≡ 0) → (fault : Fault) × IsFirst bytes.now fault
-        × (result ≡ fault_status fault) × HasText (line_of fault) line.old line.new needed.new }
+        × (result ≡ status_of_fault fault) × HasText (line_of fault) line.old line.new needed.new }
     ensures read { result < 28 }
     ensures none { result ≡ 0 → (needed.new ≡ 0) × (line.new ≡ line.old) }
     ensures most { needed.new ≤ 32 }
     ensures left { ¬ (result ≡ 0) → IsElseSame database.old database.new }
 {
-    match check(Whole::new(bytes)) {
-        Ok(checked) => {
-            *database = opened(bytes, &checked);
+    match accept(bytes) {
+        Ok(accepted) => {
+            *database = Database {
+                bytes,
+                is_open: true,
+                bound: accepted.bound,
+                version: accepted.version,
+                ranks: RankTable::new(),
+            };
             *needed = 0;
             OK
         }
-        Err((_, fault)) => {
+        Err(fault) => {
             database.is_open = false;
             put_text(fault_line(&fault).as_str().as_bytes(), line, needed);
-            status(&fault)
+            fault_status(&fault)
         }
-    }
-}
-
-/// The database over accepted bytes.
-fn opened<'a>(bytes: &'a [u8], checked: &Checked<Whole<'a>>) -> Database<'a>
-    requires { checked.now.told ≡ Some bytes.now }
-    ensures opened { IsTrue result.is_open }
-    ensures bytes { result.bytes.now ≡ bytes.now }
-    ensures bound { result.bound ≡ bound_of bytes.now }
-{
-    Database {
-        bytes,
-        is_open: true,
-        bound: checked.bound(),
-        version: checked.version(),
-        ranks: RankTable::new(),
-    }
-}
-
-/// The status of a fault of a file: 16 to 27, and 28 for a read that failed, which bytes in memory
-/// never do.
-pub fn status(fault: &CheckFault) -> u32
-    ensures { result ≡ fault_status fault.now }
-{
-    match *fault {
-        CheckFault::Header(HeaderFault::TooShort) => 16,
-        CheckFault::Header(HeaderFault::BadMagic) => 17,
-        CheckFault::Header(HeaderFault::BadVersion) => 18,
-        CheckFault::Header(HeaderFault::BadBound) => 19,
-        CheckFault::Header(HeaderFault::BadCount) => 20,
-        CheckFault::Header(HeaderFault::BadRecordBytes) => 21,
-        CheckFault::Header(HeaderFault::BadReserved) => 22,
-        CheckFault::Header(HeaderFault::BadLength) => 23,
-        CheckFault::Play { .. } => 24,
-        CheckFault::NotLeast { .. } => 25,
-        CheckFault::Mean { .. } => 26,
-        CheckFault::Spread { .. } => 27,
-        CheckFault::Read => 28,
     }
 }
 
@@ -103,11 +71,13 @@ pub extern "C" fn bearoff_version(database: &Database<'_>, version: &mut u16) ->
         version.new ≡ version_number (version_of database.now.bytes.now) }
     ensures left { ¬ (result ≡ 0) → version.new ≡ version.old }
 {
-    if !database.is_open {
-        return Refusal::NotOpen.status();
+    match database.opened() {
+        Ok(opened) => {
+            *version = opened.version();
+            OK
+        }
+        Err(refusal) => refusal.status(),
     }
-    *version = database.version;
-    OK
 }
 
 /// The pip bound of the database, 0 to 58. Refused as `NotOpen`; then `bound` stays as it was.
@@ -117,11 +87,13 @@ pub extern "C" fn bearoff_bound(database: &Database<'_>, bound: &mut u8) -> u32
     ensures value { result ≡ 0 → bound.new ≡ bound_of database.now.bytes.now }
     ensures left { ¬ (result ≡ 0) → bound.new ≡ bound.old }
 {
-    if !database.is_open {
-        return Refusal::NotOpen.status();
+    match database.opened() {
+        Ok(opened) => {
+            *bound = opened.bound();
+            OK
+        }
+        Err(refusal) => refusal.status(),
     }
-    *bound = database.bound;
-    OK
 }
 
 /// How many positions the database has: those of at most its bound. Refused as `NotOpen`; then
@@ -132,9 +104,11 @@ pub extern "C" fn bearoff_positions(database: &Database<'_>, positions: &mut u32
     ensures value { result ≡ 0 → positions.new ≡ count_to (bound_of database.now.bytes.now) }
     ensures left { ¬ (result ≡ 0) → positions.new ≡ positions.old }
 {
-    if !database.is_open {
-        return Refusal::NotOpen.status();
+    match database.opened() {
+        Ok(opened) => {
+            *positions = u32::from(opened.positions());
+            OK
+        }
+        Err(refusal) => refusal.status(),
     }
-    *positions = u32::from(database.positions());
-    OK
 }

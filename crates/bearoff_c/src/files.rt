@@ -1,0 +1,145 @@
+//! Files that are made in rooms that the caller lends: a build, and an upgrade.
+ghost use Rattle.std.specs.Prelude.{◌≡◌, ◌+◌, ◌<◌, ◌≤◌, ◌↔◌, ◌++◌, Some, [], length, take, drop};
+ghost use Rattle.std.specs.Prelude.{if◌then◌else◌, nat_le};
+ghost use Rattle.race_model.specs.BuiltFile.{IsBuilt};
+ghost use Rattle.race_model.specs.Versions.{compact};
+ghost use Rattle.race_model.specs.Files.{version_of};
+ghost use Rattle.race_model.specs.RightFiles.{IsRight};
+ghost use Rattle.race_model.specs.Upgrades.{IsUpgrade};
+ghost use Rattle.retrograde.specs.UsualVersion.{usual_version};
+ghost use Rattle.certificate.specs.declared.check_fault.CheckFault.{CheckFault as Fault};
+ghost use Rattle.certificate.specs.CheckFaults.{IsFirst};
+ghost use Rattle.bearoff_c.specs.FileFaults.{fault_status as status_of_fault};
+
+use crate::statuses::{OK, Refusal, SHORT, fault_status};
+use certificate::{UpgradeFault, check};
+use db_reader::Whole;
+use retrograde::{BuildFault, build_in_place};
+use std::io;
+use std::io::Write;
+
+/// Where a build writes: a room that is lent, of which the front is written.
+#[derive(Drop)]
+struct Room<'a> {
+    bytes: &'a mut [u8],
+    written: usize,
+    ghost within: { written ≤ length bytes.now },
+}
+
+impl<'a> Room<'a> {
+    /// Copies what was written into the front of another room, and tells how many bytes it is: the
+    /// status 0. With the status 8, exactly where they have no room there, that room and the count
+    /// stay as they were.
+    fn hand_over(&self, room: &mut [u8], filled: &mut usize) -> u32
+        ensures status { result ≡ (if nat_le self.now.written (length room.old) then 0 else 8) }
+        ensures done { result ≡ 0 → (filled.new ≡ self.now.written)
+            × (room.new
+            ≡ take self.now.written self.now.bytes.now ++ drop self.now.written room.old) }
+        ensures left { ¬ (result ≡ 0) → room.new ≡ room.old }
+        ensures untold { ¬ (result ≡ 0) → filled.new ≡ filled.old }
+    {
+        let count = self.written;
+        if count > room.len() {
+            return SHORT;
+        }
+        room[..count].copy_from_slice(&self.bytes[..count]);
+        *filled = count;
+        OK
+    }
+}
+
+impl<'a> Write for Room<'a> {
+    ghost contents = { λ room. Some (take room.written room.bytes.now) };
+
+    /// Takes as many bytes as there is room for.
+    fn write(&mut self, buf: &[u8]) -> io::Result<usize> {
+        let count = buf.len().min(self.bytes.len() - self.written);
+        let end = self.written + count;
+        self.bytes[self.written..end].copy_from_slice(&buf[..count]);
+        self.written = end;
+        Ok(count)
+    }
+
+    fn flush(&mut self) -> io::Result<()> {
+        Ok(())
+    }
+}
+
+/// Builds the database of a pip bound into the front of a room; `filled` is how many bytes it has.
+/// `work` is a room of at least as many bytes, which the build uses as it likes; both need
+/// 11,209,796 bytes for 44 pips and 15,060,844 for 58. It needs 20 MB of stack. Refused as
+/// `OverBound` where the bound is over 58, and with the status 8 where a room is too small; then
+/// `room` and `filled` stay as they were. (That a work room which is too small has the status 8,
+/// and one that isn't never has it, is tested: no clause says when a writer takes no more.)
+#[unsafe(no_mangle)]
+pub extern "C" fn bearoff_build(
+    bound: u8,
+    work: &mut [u8],
+    room: &mut [u8],
+    filled: &mut usize,
+) -> u32
+    ensures built { result ≡ 0 → IsBuilt (usual_version bound) bound (take filled.new room.new) }
+    ensures fits { result ≡ 0 → filled.new ≤ length room.old }
+    ensures rest { result ≡ 0 → drop filled.new room.new ≡ drop filled.new room.old }
+    ensures over { result ≡ 4 → 58 < bound }
+    ensures short { result ≡ 8 → bound ≤ 58 }
+    ensures read { ¬ (result ≡ 0) → ¬ (result ≡ 4) → result ≡ 8 }
+    ensures left { ¬ (result ≡ 0) → room.new ≡ room.old }
+    ensures untold { ¬ (result ≡ 0) → filled.new ≡ filled.old }
+{
+    let mut built = Room {
+        bytes: work,
+        written: 0,
+    };
+    match build_in_place(bound, &mut built) {
+        Ok(()) => built.hand_over(room, filled),
+        Err(BuildFault::OverBound) => Refusal::OverBound.status(),
+        Err(_) => SHORT,
+    }
+}
+
+/// The status of a file that is to be upgraded and is of version 2 already.
+const NOT_OLD: u32 = 9;
+
+/// Writes the database in the bytes of a file of version 1 into the front of a room as a file of
+/// version 2, which has the same bound, means, plays and shares, and so the same reply to each
+/// line; `filled` is how many bytes it has. `work` is a room of at least as many bytes, which the
+/// call uses as it likes; both need 7,608,420 bytes for 44 pips. The bytes are checked first: a
+/// status of 16 to 27 names their first fault. Refused with the status 9 exactly where they are a
+/// right database of version 2, and with 8 where a room is too small. Where the status is not 0
+/// `room` and `filled` stay as they were. (Of the work room and the status 8 the same holds as of
+/// `bearoff_build`.)
+#[unsafe(no_mangle)]
+pub extern "C" fn bearoff_upgrade(
+    bytes: &[u8],
+    work: &mut [u8],
+    room: &mut [u8],
+    filled: &mut usize,
+) -> u32
+    ensures upgraded { result ≡ 0 → IsUpgrade bytes.now (take filled.new room.new) }
+    ensures fits { result ≡ 0 → filled.new ≤ length room.old }
+    ensures rest { result ≡ 0 → drop filled.new room.new ≡ drop filled.new room.old }
+    ensures right { (result < 10) ↔ IsRight bytes.now }
+    ensures not_old { (result ≡ 9) ↔ (IsRight bytes.now × (version_of bytes.now ≡ compact)) }
+    ensures fault { 9 < result → (fault : Fault) × IsFirst bytes.now fault
+        × (result ≡ status_of_fault fault) }
+    ensures read { result < 28 }
+    ensures short { 0 < result → result < 9 → result ≡ 8 }
+    ensures left { ¬ (result ≡ 0) → room.new ≡ room.old }
+    ensures untold { ¬ (result ≡ 0) → filled.new ≡ filled.old }
+{
+    match check(Whole::new(bytes)) {
+        Ok(mut checked) => {
+            let mut new = Room {
+                bytes: work,
+                written: 0,
+            };
+            match checked.upgrade(&mut new) {
+                Ok(()) => new.hand_over(room, filled),
+                Err(UpgradeFault::NotOld) => NOT_OLD,
+                Err(_) => SHORT,
+            }
+        }
+        Err((_, fault)) => fault_status(&fault),
+    }
+}
