@@ -46,12 +46,12 @@ read_of remaining file items (Err e) read = tt
 
 -- the levels of what was read
 pub levels_read : {A E F : Type 0} (remaining : F → Option (List ℕ)) (file : List ℕ)
-    (old new : Option (List ℕ)) (r : Result A E) → IsReadFrom remaining file
-    → OnOk r (IsRight file × WritesLevels file (suc (bound_of file)) old new)
+    (old new : Option (List ℕ)) (r : Result A E) → IsReadFrom remaining file → IsRight file
+    → OnOk r (WritesLevels file (suc (bound_of file)) old new)
     → OnOk r (SaysLevels remaining old new)
-levels_read remaining file old new (Ok x) read h =
-    record { file = file; read = read; right = h.0; levels = h.1 }
-levels_read remaining file old new (Err e) read h = tt
+levels_read remaining file old new (Ok x) read right levels =
+    record { file = file; read = read; right = right; levels = levels }
+levels_read remaining file old new (Err e) read right levels = tt
 
 -- a version that is not the second is the first
 pub is_full : (v : Version) → ¬ (version_number v ≡ 2) → v ≡ full

@@ -1,8 +1,7 @@
 -- What stands in the output where a command failed, from what its parts wrote.
-use Rattle.std.proofs.Common.{◌≡◌, ℕ, ◌+◌, suc, ◌≤◌, ◌⊎◌, inl, inr, List, ◌∷◌, [], ◌++◌, Option, Result, Ok, Err}
-use Rattle.std.proofs.Common.{IfOk, IfErr, refl, subst, arith}
-use Rattle.std.specs.Prelude.{OnOk, OnErr}
-use Rattle.std.specs.Io.KnownBytes.{Appends}
+use Rattle.std.proofs.Common.{◌≡◌, ℕ, suc, ◌≤◌, ◌⊎◌, inl, inr, List, ◌∷◌, [], ◌++◌, Option, Result, Ok, Err}
+use Rattle.std.proofs.Common.{IfErr, refl, subst, arith}
+use Rattle.std.specs.Prelude.{OnErr}
 use Rattle.race_model.specs.BuiltFile.{IsBuilt}
 use Rattle.race_model.specs.Files.{bound_of}
 use Rattle.race_model.specs.Levels.{IsLevelLine}
@@ -55,25 +54,11 @@ pub read_part : {A F : Type 0} (remaining : F → Option (List ℕ)) (Says : Lis
 read_part remaining Says file old new (Ok x) read right says = tt
 read_part remaining Says file old new (Err e) read right says = inr (file, read, right, says)
 
--- .. where it was accepted; where it was refused, nothing was written
-pub told_part : {A C D F : Type 0} (Refuses : D → Type 0) (remaining : F → Option (List ℕ))
-    (Says : List ℕ → Type 0) (file : List ℕ) (old new : Option (List ℕ)) (told : Result C D)
-    (r : Result A Fault) → IsReadFrom remaining file → OnOk told (IsRight file)
-    → IfErr told (λ d. Refuses d × (new ≡ old)) → OnOk told (OnErr r (Says file))
-    → OnErr r (IsNothingOr remaining Says old new)
-told_part Refuses remaining Says file old new (Ok c) r read right refused says =
-    read_part remaining Says file old new r read right says
-told_part Refuses remaining Says file old new (Err d) (Ok x) read right refused says = tt
-told_part Refuses remaining Says file old new (Err d) (Err e) read right refused says = inl refused.1
-
--- what stopped, where the database was accepted; where it was refused, nothing was written
-pub told_stopped : {A C D : Type 0} (N : Type 0) (Refuses : D → Type 0) (Stops : Fault → Type 0)
-    (told : Result C D) (r : Result A Fault) → IfErr told (λ d. Refuses d × N)
-    → OnOk told (IfErr r Stops) → IfErr r (λ fault. N ⊎ Stops fault)
-told_stopped N Refuses Stops (Ok c) (Ok x) refused stops = tt
-told_stopped N Refuses Stops (Ok c) (Err e) refused stops = inr stops
-told_stopped N Refuses Stops (Err d) (Ok x) refused stops = tt
-told_stopped N Refuses Stops (Err d) (Err e) refused stops = inl refused.1
+-- where it stopped, it did so with nothing written, or so
+pub may_be_stopped : {A : Type 0} (N : Type 0) (Stops : Fault → Type 0) (r : Result A Fault)
+    → IfErr r Stops → IfErr r (λ fault. N ⊎ Stops fault)
+may_be_stopped N Stops (Ok x) stops = tt
+may_be_stopped N Stops (Err e) stops = inr stops
 
 -- .. over a database that was read
 pub read_stopped : {A F : Type 0} (remaining : F → Option (List ℕ)) (file given : List ℕ)

@@ -6,11 +6,8 @@ use Rattle.race_model.specs.Versions.{Version, full, compact}
 use Rattle.certificate.specs.declared.upgrade_fault.UpgradeFault.{UpgradeFault}
 use Rattle.certificate.specs.declared.upgrade_fault.UpgradeFault.TheVariants.{NotOld as IsNotOld, Read as OldRead}
 use Rattle.certificate.specs.declared.upgrade_fault.UpgradeFault.TheVariants.{Write as NewWrite}
-use Rattle.race_model.specs.RightFiles.{IsRight}
 use Rattle.db_layout.proofs.Known.{appends_none}
-use Rattle.db_reader.specs.Telling.{RoseWhere}
 use Rattle.certificate.specs.CheckFaults.{IsFirst}
-use Rattle.certificate.proofs.FileTests.{none-of_right}
 use Rattle.certificate.specs.declared.check_fault.CheckFault.{CheckFault}
 use Rattle.certificate.specs.declared.check_fault.CheckFault.TheVariants.{Header, Play, NotLeast, Mean, Spread}
 use Rattle.certificate.specs.declared.check_fault.CheckFault.TheVariants.{Read as TableRead}
@@ -42,6 +39,11 @@ check_in file (NotLeast rank roll) is = is
 check_in file (Mean rank) is = is
 check_in file (Spread rank k) is = is
 check_in file TableRead is = tt
+
+-- .. as the fault that is told
+pub first_in : (file : List ℕ) (fault : Fault)
+    → (cause : CheckFault) × IsFirst file cause × (fault ≡ of_check cause) → IsFaultIn file fault
+first_in file fault (cause, first, is) = rw is (check_in file cause first)
 
 -- what failed is no database
 pub status_in : (file : List ℕ) (fault : Fault) → status_of fault ≡ 1 → IsFaultIn file fault
@@ -83,47 +85,6 @@ old_status IsNotOld version r is says old =
 old_status OldRead version r is says old = refl
 old_status NewWrite version r is says old = refl
 
-abbrev IsRead : CheckFault → Type 0
-IsRead TableRead = Unit {0}
-IsRead (Header fault) = ⊥
-IsRead (Play rank roll) = ⊥
-IsRead (NotLeast rank roll) = ⊥
-IsRead (Mean rank) = ⊥
-IsRead (Spread rank k) = ⊥
-
--- by no other fault a read failed
-no_read : (fault : CheckFault) → ¬ (IsRead fault) → RoseWhere (fault ≡ TableRead) 0 0
-no_read fault isnt = record {
-  rose = λ e. absurd (isnt (subst (λ f. IsRead f) (sym e) tt));
-  same = λ other. refl;
-}
-
--- a right file is refused where a read failed alone
-refused_status : (file : List ℕ) (cause : CheckFault) → IsRight file → IsFirst file cause
-    → status_of (of_check cause) ≡ 1
-refused_status file TableRead right first = refl
-refused_status file (Header fault) right first =
-    absurd (none-of_right file 0 0 (Header fault) first (no_read (Header fault) (λ x. x)) refl right)
-refused_status file (Play rank roll) right first =
-    absurd (none-of_right file 0 0 (Play rank roll) first (no_read (Play rank roll) (λ x. x)) refl right)
-refused_status file (NotLeast rank roll) right first =
-    absurd (none-of_right file 0 0 (NotLeast rank roll) first (no_read (NotLeast rank roll) (λ x. x)) refl right)
-refused_status file (Mean rank) right first =
-    absurd (none-of_right file 0 0 (Mean rank) first (no_read (Mean rank) (λ x. x)) refl right)
-refused_status file (Spread rank k) right first =
-    absurd (none-of_right file 0 0 (Spread rank k) first (no_read (Spread rank k) (λ x. x)) refl right)
-
--- .. so a command over it fails by no database
-pub right_status : {A C T : Type 0} (N : Type 0) (file : List ℕ) (told : Result C (T × CheckFault))
-    (r : Result A Fault) → IsRight file
-    → IfErr told (λ refused. IsFirst file refused.1)
-    → IfErr told (λ refused. (r ≡ Err (of_check refused.1)) × N)
-    → OnOk told (IfErr r (λ fault. status_of fault ≡ 1))
-    → IfErr r (λ fault. status_of fault ≡ 1)
-right_status N file (Ok checked) r right first refusal status = status
-right_status N file (Err refused) r right first refusal status =
-    rw refusal.0 (refused_status file refused.1 right first)
-
 -- a check refuses a database, or could not read it
 check_status : (cause : CheckFault) → (status_of (of_check cause) ≡ 1) ⊎ IsRefused (of_check cause)
 check_status TableRead = inl refl
@@ -134,13 +95,13 @@ check_status (Mean rank) = inr tt
 check_status (Spread rank k) = inr tt
 
 -- .. so a command over a table fails by no database, or it was refused
-pub told_status : {A C T : Type 0} (N : Type 0) (told : Result C (T × CheckFault)) (r : Result A Fault)
-    → IfErr told (λ refused. (r ≡ Err (of_check refused.1)) × N)
+pub told_status : {A C T : Type 0} (told : Result C (T × CheckFault)) (r : Result A Fault)
+    → IfErr told (λ refused. r ≡ Err (of_check refused.1))
     → OnOk told (IfErr r (λ fault. status_of fault ≡ 1))
     → IfErr r (λ fault. (status_of fault ≡ 1) ⊎ IsRefused fault)
-told_status N (Ok checked) (Ok x) refusal status = tt
-told_status N (Ok checked) (Err fault) refusal status = inl status
-told_status N (Err refused) r refusal status = rw refusal.0 (check_status refused.1)
+told_status (Ok checked) (Ok x) refusal status = tt
+told_status (Ok checked) (Err fault) refusal status = inl status
+told_status (Err refused) r refusal status = rw refusal (check_status refused.1)
 
 -- want of memory may come to each request
 pub memory_of : {F : Type 0} (remaining : F → Option (List ℕ)) (request : Request)

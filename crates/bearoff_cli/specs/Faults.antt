@@ -11,8 +11,6 @@ use Rattle.exit_status.specs.declared.fault.Fault.{Fault}
 use Rattle.exit_status.specs.declared.fault.Fault.TheVariants.{Open, File, Read, Write, Memory, Turns, OverBound}
 use Rattle.exit_status.specs.declared.fault.Fault.TheVariants.{Refused, NotOld}
 use Rattle.bearoff_cli.specs.FileAnswers.{IsReadFrom}
-use Rattle.bearoff_cli.specs.declared.act.Refusal.{Refusal}
-use Rattle.bearoff_cli.specs.declared.act.Refusal.TheVariants.{Words, Failed}
 
 -- what a fault says of a file: a refused one has this first fault, and one that is no old one is
 -- right and of version 2

@@ -1,8 +1,10 @@
 //! The whole program, over the files of a system, a reader and two writers.
-ghost use Rattle.std.specs.Prelude.{◌≡◌, ℕ, ◌<◌, ◌≤◌, ◌⊎◌, List, map, Some, Ok, Err, IfOk, IfErr, OnOk, OnErr, suc};
+ghost use Rattle.std.specs.Prelude.{◌≡◌, ℕ, ◌<◌, ◌≤◌, ◌⊎◌, List, map, Some, Ok, Err, IfOk, IfErr, IsOk, OnOk};
+ghost use Rattle.std.specs.Prelude.{OnErr, suc};
 ghost use Rattle.std.specs.Io.KnownBytes.{Appends};
 ghost use Rattle.race_model.specs.BuiltFile.{IsBuilt};
-ghost use Rattle.race_model.specs.Files.{bound_of};
+ghost use Rattle.race_model.specs.Files.{version_of, bound_of};
+ghost use Rattle.race_model.specs.Versions.{version_number};
 ghost use Rattle.race_model.specs.RightFiles.{IsRight};
 ghost use Rattle.race_model.specs.Ranks.{count_to};
 ghost use Rattle.db_reader.specs.Telling.{WhereTold};
@@ -14,6 +16,7 @@ ghost use Rattle.exit_status.specs.declared.fault.Fault.{Fault};
 ghost use Rattle.exit_status.specs.declared.fault.Fault.TheVariants.{OverBound};
 ghost use Rattle.command_line.specs.declared.words.Request.{Request};
 ghost use Rattle.certificate.specs.CheckFaults.{IsFirst};
+ghost use Rattle.certificate.specs.declared.check_fault.CheckFault.{CheckFault};
 ghost use Rattle.bearoff_cli.specs.Tellings.{IsToldBy};
 ghost use Rattle.bearoff_cli.specs.Faults.{IsFaultIn, IsFaultOf, IsOwnFault, IsRefused};
 ghost use Rattle.bearoff_cli.specs.InputAnswers.{AreAnswered, AreAnsweredOver};
@@ -36,14 +39,15 @@ use certificate::{CheckFault, Checked, check};
 use clap::Error;
 use clap::error::ErrorKind;
 use command_line::{Request, read_words};
+use database::{Accepted, Database, accept};
 use db_layout::{COMPACT_VERSION, WriteFault, write_bytes};
 use db_reader::{FileSource, Paged, Table, Whole};
 use epc_query::laws::law_level_text;
-use epc_query::{audit_level, run, write_level};
+use epc_query::{run, run_lines, write_level};
 use exit_status::{Fault, write_fault};
 use home_board::MAX_BOUND;
 use itoa::Buffer;
-use ranking::Ranks;
+use ranking::{RankTable, Ranks};
 use retrograde::build;
 use std::alloc::Global;
 use std::convert::AsStr;
@@ -238,7 +242,7 @@ fn answer_default<I: Read, O: Write>(
     probe_stack(alloc)?;
     let mut bytes = Vec::new(alloc);
     build(alloc, DEFAULT_BOUND, &mut bytes)?;
-    answer_lines(alloc, Whole::new(bytes.as_slice()), input, output)
+    answer_bytes(alloc, bytes.as_slice(), input, output)
 }
 
 /// Answers each line of the input over the database in a file, which is read whole.
@@ -260,7 +264,7 @@ fn answer_file<R: Files, I: Read, O: Write>(
         (O.contents output.old) (O.contents output.new))) }
 {
     let file = read_file(rt, alloc, path)?;
-    answer_lines(alloc, Whole::new(file.as_slice()), input, output)
+    answer_bytes(alloc, file.as_slice(), input, output)
 }
 
 /// Answers each line of the input over the database in a file, of which at most so many records
@@ -283,40 +287,93 @@ fn answer_pages<R: Files, I: Read, O: Write>(
     match Paged::new(alloc, FileSource::new(file), affordable(alloc, records)) {
         Ok(pages) => {
             drop(room);
-            answer_lines(alloc, pages, input, output)
+            answer_table(alloc, pages, input, output)
         }
         Err(_) => Err(Fault::Memory),
     }
 }
 
-/// Answers each line of the input over the database of a table.
-// a checked table takes 18 KB of stack: inlined, each function that checks would add one to the
-// room of its caller
+/// Answers each line of the input over the database in bytes.
+fn answer_bytes<I: Read, O: Write>(
+    alloc: Global,
+    bytes: &[u8],
+    input: &mut I,
+    output: &mut O,
+) -> Result<(), Fault>
+    ensures refused { KeepsIfRefused result (O.contents output.old) (O.contents output.new) }
+    ensures right { IsRight bytes.now → IfErr result (λ fault. status_of fault ≡ 1) }
+    ensures fault { IfErr result (λ fault. IsFaultIn bytes.now fault) }
+    ensures left { WhereTold (I.remaining input.old) (λ given. IfErr result
+        (λ fault. (O.contents output.new ≡ O.contents output.old)
+        ⊎ AreStopped bytes.now given (I.remaining input.new) (O.contents output.old)
+        (O.contents output.new) fault)) }
+    ensures answers { WhereTold (I.remaining input.old) (λ given. IfOk result
+        (λ _. AreAnswered bytes.now given (I.remaining input.new)
+        (O.contents output.old) (O.contents output.new))) }
+{
+    let accepted = accept_bytes(bytes)?;
+    answer_accepted(alloc, bytes, accepted, input, output)
+}
+
+/// What is kept of bytes that are a right database.
+fn accept_bytes(bytes: &[u8]) -> Result<Accepted, Fault>
+    ensures right { OnOk result (IsRight bytes.now) }
+    ensures version { IfOk result (λ accepted.
+        accepted.version ≡ version_number (version_of bytes.now)) }
+    ensures bound { IfOk result (λ accepted. accepted.bound ≡ bound_of bytes.now) }
+    ensures exactly { IsRight bytes.now → IsOk result }
+    ensures fault { IfErr result (λ fault. (cause : CheckFault) × IsFirst bytes.now cause
+        × (fault ≡ of_check cause)) }
+{
+    match accept(bytes) {
+        Ok(accepted) => Ok(accepted),
+        Err(fault) => Err(Fault::from(fault)),
+    }
+}
+
+/// Answers each line of the input over the database in bytes that were accepted.
+// so that its room is not on the stack while the bytes are checked
 #[inline(never)]
-fn answer_lines<T: Table + Drop, I: Read, O: Write>(
+fn answer_accepted<I: Read, O: Write>(
+    alloc: Global,
+    bytes: &[u8],
+    accepted: Accepted,
+    input: &mut I,
+    output: &mut O,
+) -> Result<(), Fault>
+    requires right { IsRight bytes.now }
+    requires version { accepted.version ≡ version_number (version_of bytes.now) }
+    requires bound { accepted.bound ≡ bound_of bytes.now }
+    ensures status { IfErr result (λ fault. status_of fault ≡ 1) }
+    ensures left { WhereTold (I.remaining input.old) (λ given. IfErr result
+        (AreStopped bytes.now given (I.remaining input.new) (O.contents output.old)
+        (O.contents output.new))) }
+    ensures answers { WhereTold (I.remaining input.old) (λ given. IfOk result
+        (λ _. AreAnswered bytes.now given (I.remaining input.new)
+        (O.contents output.old) (O.contents output.new))) }
+{
+    let ranks = RankTable::new();
+    let mut database = Database::kept(bytes, accepted, &ranks);
+    run_lines(alloc, &mut database, input, output, TURNS)?;
+    Ok(())
+}
+
+/// Answers each line of the input over the database of a table that isn't in memory.
+// a checked table takes 18 KB of stack: inlined, it would add them to the room of its caller
+#[inline(never)]
+fn answer_table<T: Table + Drop, I: Read, O: Write>(
     alloc: Global,
     table: T,
     input: &mut I,
     output: &mut O,
 ) -> Result<(), Fault>
     ensures refused { KeepsIfRefused result (O.contents output.old) (O.contents output.new) }
-    ensures statuses { IfErr result (λ fault. (status_of fault ≡ 1) ⊎ IsRefused fault) }
-    ensures right { WhereTold (T.tells table)
-        (λ file. IsRight file → IfErr result (λ fault. status_of fault ≡ 1)) }
-    ensures fault { WhereTold (T.tells table)
-        (λ file. IfErr result (λ fault. IsFaultIn file fault)) }
-    ensures left { WhereTold (T.tells table) (λ file. WhereTold (I.remaining input.old)
-        (λ given. IfErr result (λ fault. (O.contents output.new ≡ O.contents output.old)
-        ⊎ AreStopped file given (I.remaining input.new) (O.contents output.old)
-        (O.contents output.new) fault))) }
-    ensures answers { WhereTold (T.tells table) (λ file. WhereTold (I.remaining input.old)
-        (λ given. IfOk result (λ _. AreAnswered file given (I.remaining input.new)
-        (O.contents output.old) (O.contents output.new)))) }
+    ensures fault { IfErr result (λ fault. (status_of fault ≡ 1) ⊎ IsRefused fault) }
 {
     reply(alloc, check(table), input, output)
 }
 
-/// Answers each line of the input over a database, where it was accepted.
+/// Answers each line of the input over the database of a table, where it was accepted.
 // so that its room is not on the stack while the database is checked
 #[inline(never)]
 fn reply<T: Table + Drop, I: Read, O: Write>(
@@ -326,19 +383,8 @@ fn reply<T: Table + Drop, I: Read, O: Write>(
     output: &mut O,
 ) -> Result<(), Fault>
     ensures refused { KeepsIfRefused result (O.contents output.old) (O.contents output.new) }
-    ensures refusal { IfErr told (λ refused. (result ≡ Err (of_check refused.1))
-        × (O.contents output.new ≡ O.contents output.old)) }
+    ensures refusal { IfErr told (λ refused. result ≡ Err (of_check refused.1)) }
     ensures status { OnOk told (IfErr result (λ fault. status_of fault ≡ 1)) }
-    ensures fault { (file : List ℕ) → IfErr told (λ refused. IsFirst file refused.1)
-        → IfErr result (λ fault. IsFaultIn file fault) }
-    ensures left { (file : List ℕ) → OnOk told (IsRight file)
-        → IfOk told (λ checked. checked.told ≡ Some file) → WhereTold (I.remaining input.old)
-        (λ given. OnOk told (IfErr result (AreStopped file given (I.remaining input.new)
-        (O.contents output.old) (O.contents output.new)))) }
-    ensures answers { (file : List ℕ) → OnOk told (IsRight file)
-        → IfOk told (λ checked. checked.told ≡ Some file) → WhereTold (I.remaining input.old)
-        (λ given. IfOk result (λ _. AreAnswered file given (I.remaining input.new)
-        (O.contents output.old) (O.contents output.new))) }
 {
     match &mut told {
         Ok(checked) => {
@@ -388,7 +434,7 @@ fn write_database<R: Files, O: Write>(
         return Err(Fault::OverBound);
     }
     build_file(rt, alloc, pips, path)?;
-    write_count(Done::Built, pips, Ranks::new().count_to(pips), output)
+    write_count(Done::Built, pips, output)
 }
 
 /// Checks the database in a file, and says that it was accepted.
@@ -408,9 +454,8 @@ fn check_database<R: Files, O: Write>(
         (SaysRight R.File.remaining (O.contents output.old) (O.contents output.new)) }
 {
     let bytes = read_file(rt, alloc, path)?;
-    let mut found = check(Whole::new(bytes.as_slice()));
-    let checked = accepted(&mut found)?;
-    write_count(Done::Checked, checked.bound(), checked.positions(), output)
+    let accepted = accept_bytes(bytes.as_slice())?;
+    write_count(Done::Checked, accepted.bound, output)
 }
 
 /// Checks the database in a file, and writes a line for each pip count.
@@ -430,47 +475,39 @@ fn audit_database<R: Files, O: Write>(
         (SaysLevels R.File.remaining (O.contents output.old) (O.contents output.new)) }
 {
     let bytes = read_file(rt, alloc, path)?;
-    write_levels(check(Whole::new(bytes.as_slice())), output)
+    let accepted = accept_bytes(bytes.as_slice())?;
+    write_levels(bytes.as_slice(), accepted, output)
 }
 
-/// Writes a line for each pip count of a database, where it was accepted.
-// so that its room is not on the stack while the database is checked
+/// Writes a line for each pip count of the database in bytes that were accepted.
+// so that its room is not on the stack while the bytes are checked
 #[inline(never)]
-fn write_levels<T: Table + Drop, O: Write>(
-    mut told: Result<Checked<T>, (T, CheckFault)>,
-    output: &mut O,
-) -> Result<(), Fault>
-    ensures refused { KeepsIfRefused result (O.contents output.old) (O.contents output.new) }
-    ensures refusal { IfErr told (λ refused. (result ≡ Err (of_check refused.1))
-        × (O.contents output.new ≡ O.contents output.old)) }
-    ensures fault { (file : List ℕ) → IfErr told (λ refused. IsFirst file refused.1)
-        → IfErr result (λ fault. IsFaultIn file fault) }
-    ensures left { (file : List ℕ) → IfOk told (λ checked. checked.told ≡ Some file)
-        → OnOk told (OnErr result (WritesLevelPart file (O.contents output.old)
-        (O.contents output.new))) }
-    ensures levels { (file : List ℕ) → OnOk told (IsRight file)
-        → IfOk told (λ checked. checked.told ≡ Some file)
-        → OnOk result (IsRight file × WritesLevels file (suc (bound_of file))
+fn write_levels<O: Write>(bytes: &[u8], accepted: Accepted, output: &mut O) -> Result<(), Fault>
+    requires right { IsRight bytes.now }
+    requires version { accepted.version ≡ version_number (version_of bytes.now) }
+    requires bound { accepted.bound ≡ bound_of bytes.now }
+    ensures status { IfErr result (λ fault. status_of fault ≡ 1) }
+    ensures part { OnErr result (WritesLevelPart bytes.now
+        (O.contents output.old) (O.contents output.new)) }
+    ensures levels { OnOk result (WritesLevels bytes.now (suc (bound_of bytes.now))
         (O.contents output.old) (O.contents output.new)) }
 {
-    write_each_level(accepted(&mut told)?, output)?;
+    let ranks = RankTable::new();
+    write_each_level(&Database::kept(bytes, accepted, &ranks), output)?;
     flush(output)
 }
 
-/// Writes a line for each pip count of an accepted database.
-fn write_each_level<T: Table, O: Write>(
-    checked: &mut Checked<T>,
-    output: &mut O,
-) -> Result<(), Fault>
+/// Writes a line for each pip count of a database.
+fn write_each_level<O: Write>(database: &Database<'_>, output: &mut O) -> Result<(), Fault>
     ensures status { IfErr result (λ fault. status_of fault ≡ 1) }
-    ensures part { WhereTold checked.old.told (λ file. OnErr result
-        (WritesLevelPart file (O.contents output.old) (O.contents output.new))) }
-    ensures levels { WhereTold checked.old.told (λ file. OnOk result
-        (WritesLevels file (suc (bound_of file)) (O.contents output.old) (O.contents output.new))) }
+    ensures part { OnErr result (WritesLevelPart database.now
+        (O.contents output.old) (O.contents output.new)) }
+    ensures levels { OnOk result (WritesLevels database.now (suc (bound_of database.now))
+        (O.contents output.old) (O.contents output.new)) }
 {
     law_level_text();
-    for pips in 0..checked.bound() + 1 {
-        let Ok(level) = audit_level(checked, pips) else {
+    for pips in 0..database.bound() + 1 {
+        let Some(level) = database.level(pips) else {
             return Err(Fault::File);
         };
         if write_level(&level, output).is_err() {
@@ -506,7 +543,7 @@ fn upgrade_database<R: Files, O: Write>(
         return Err(Fault::NotOld);
     }
     upgrade_file(rt, alloc, checked, new)?;
-    write_count(Done::Upgraded, checked.bound(), checked.positions(), output)
+    write_count(Done::Upgraded, checked.bound(), output)
 }
 
 /// What was done with a database.
@@ -517,14 +554,16 @@ enum Done {
 }
 
 /// Writes what was done, with the pip bound and the number of positions.
-fn write_count<O: Write>(done: Done, pips: u8, positions: u16, output: &mut O) -> Result<(), Fault>
+// so that the room of the ranks is not part of its caller's
+#[inline(never)]
+fn write_count<O: Write>(done: Done, pips: u8, output: &mut O) -> Result<(), Fault>
     ensures status { IfErr result (λ fault. status_of fault ≡ 1) }
     ensures part { OnErr result (AppendsPart (O.contents output.old) (O.contents output.new)
-        (count_line done pips positions)) }
+        (count_line done pips (count_to pips))) }
     ensures all { OnOk result (Appends (O.contents output.old) (O.contents output.new)
-        (count_line done pips positions)) }
+        (count_line done pips (count_to pips))) }
 {
-    let line = count_line(done, pips, positions);
+    let line = count_line(done, pips, Ranks::new().count_to(pips));
     if write_bytes(line.as_str().as_bytes(), output).is_err() {
         return Err(Fault::Write);
     }

@@ -1,4 +1,4 @@
-use Rattle.std.proofs.Common.{ℕ, List, ◌++◌, Option, Some, Result, Ok, Err, IfOk, ap, ◌∙◌}
+use Rattle.std.proofs.Common.{ℕ, List, ◌++◌, Option, Result, Ok, Err, IfOk, ap, ◌∙◌}
 use Rattle.race_model.specs.BuiltFile.{IsBuilt}
 use Rattle.retrograde.specs.UsualVersion.{usual_version}
 use Rattle.bearoff_cli.specs.InputAnswers.{AreAnswered, AreAnsweredOver}
@@ -20,23 +20,22 @@ returns-clause-answers g c given read =
     let built = c.in_ok-build.ensures.built in
     let bytes = c.as_slice.ensures.value ∙ built.2
     ∙ ap (λ bytes. bytes ++ built.0) c.new-bytes.ensures.items in
-    over 8 built.0 given _ _ _ c.answer_lines.result built.1
-    (c.answer_lines.ensures.answers built.0 (c.new.ensures.tells ∙ ap Some bytes) given read)
+    over 8 built.0 given _ _ _ c.answer_bytes.result built.1
+    (rw bytes at (c.answer_bytes.ensures.answers given read))
 
 pub returns-clause-left : goal.returns-clause-left
 returns-clause-left g c given read =
     let built = c.in_ok-build.ensures.built in
     let bytes = c.as_slice.ensures.value ∙ built.2
     ∙ ap (λ bytes. bytes ++ built.0) c.new-bytes.ensures.items in
-    built_stopped built.0 given (g.I.Read.remaining c.answer_lines.new.input)
-    (g.O.Write.contents c.args.output.now) (g.O.Write.contents c.answer_lines.new.output)
-    c.answer_lines.result built.1
-    (c.answer_lines.ensures.left built.0 (c.new.ensures.tells ∙ ap Some bytes) given read)
+    built_stopped built.0 given (g.I.Read.remaining c.answer_bytes.new.input)
+    (g.O.Write.contents c.args.output.now) (g.O.Write.contents c.answer_bytes.new.output)
+    c.answer_bytes.result built.1
+    (rw bytes at (c.answer_bytes.ensures.left given read))
 
 pub returns-clause-status : goal.returns-clause-status
 returns-clause-status g c =
     let built = c.in_ok-build.ensures.built in
     let bytes = c.as_slice.ensures.value ∙ built.2
     ∙ ap (λ bytes. bytes ++ built.0) c.new-bytes.ensures.items in
-    c.answer_lines.ensures.right built.0 (c.new.ensures.tells ∙ ap Some bytes)
-    (right_of_local built.0 built.1.local)
+    c.answer_bytes.ensures.right (rw bytes (right_of_local built.0 built.1.local))

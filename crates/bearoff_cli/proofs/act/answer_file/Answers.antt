@@ -18,14 +18,14 @@ pub returns-clause-answers : goal.returns-clause-answers
 returns-clause-answers g c given left =
     let read = subst (λ bytes. IsReadFrom g.R.File.Read.remaining bytes)
     (sym c.as_slice.ensures.value) c.in_ok-file.ensures.read in
-    over_read g.R.File.Read.remaining c.as_slice.result.now given _ _ _ c.answer_lines.result read
-    (c.answer_lines.ensures.answers _ c.new.ensures.tells given left)
+    over_read g.R.File.Read.remaining c.as_slice.result.now given _ _ _ c.answer_bytes.result read
+    (c.answer_bytes.ensures.answers given left)
 
 pub returns-clause-left : goal.returns-clause-left
 returns-clause-left g c given left =
     let read = subst (λ bytes. IsReadFrom g.R.File.Read.remaining bytes)
     (sym c.as_slice.ensures.value) c.in_ok-file.ensures.read in
     read_stopped g.R.File.Read.remaining c.as_slice.result.now given
-    (g.I.Read.remaining c.answer_lines.new.input) (g.O.Write.contents c.args.output.now)
-    (g.O.Write.contents c.answer_lines.new.output) c.answer_lines.result read
-    (c.answer_lines.ensures.left _ c.new.ensures.tells given left)
+    (g.I.Read.remaining c.answer_bytes.new.input) (g.O.Write.contents c.args.output.now)
+    (g.O.Write.contents c.answer_bytes.new.output) c.answer_bytes.result read
+    (c.answer_bytes.ensures.left given left)

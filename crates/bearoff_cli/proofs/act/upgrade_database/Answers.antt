@@ -29,10 +29,10 @@ returns-clause-upgraded g c =
     is_full (version_of file) (λ e. c.if-version-eq-COMPACT_VERSION.false (version ∙ e)) in
     let bound = c.bound.ensures.bound ∙ (c.bound.ensures.right file
     (c.in_ok-upgrade_file.ensures.stays.0 ∙ told)).1 in
-    upgrade_read g.R.File.Read.remaining (writer_contents g.R.File.Write.contents) file _ _ c.write_count.result _ _ read right old
+    upgrade_read g.R.File.Read.remaining (writer_contents g.R.File.Write.contents) file _ _
+    c.write_count.result _ _ read right old
     (c.in_ok-upgrade_file.ensures.upgraded file told) bound
-    (c.positions.ensures ∙ ap count_to (sym c.bound.ensures.bound ∙ bound))
-    c.write_count.ensures.all
+    (ap count_to bound) c.write_count.ensures.all
 
 pub returns-clause-left : goal.returns-clause-left
 returns-clause-left g c =
@@ -57,7 +57,7 @@ returns-clause-left g c =
     (λ part. (
       full,
       line_part old new Upgraded file _ _ bound
-          (c.positions.ensures ∙ ap count_to (sym c.bound.ensures.bound ∙ bound)) part,
+          (ap count_to bound) part,
     ))
     c.write_count.ensures.part)
 

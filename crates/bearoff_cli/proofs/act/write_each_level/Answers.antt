@@ -15,63 +15,54 @@ loop-pips-preserved g c =
     let mid = g.O.Write.contents c.loop-pips.output in
     let new = g.O.Write.contents c.write_level.new.writer in
     let p = c.loop-pips.pips in
-    let line = level_text c.in-Ok.level in
+    let line = level_text c.in-Some.level in
     let written : Appends mid new (line ++ 10 ∷ []) = search rules in
-    let stays = c.in-Ok.ensures.stays in
-    record {
-      told = stays.told ∙ c.loop-pips.invariant.told;
-      bound = stays.bound ∙ c.loop-pips.invariant.bound;
-      levels = λ file told.
-          let level = c.in-Ok.ensures.level file (c.loop-pips.invariant.told ∙ told) in
-          let next : WritesLevels file (p + 1) old new =
-          rw add-one (next_level file p old mid new line (c.loop-pips.invariant.levels file told)
-          (c.law_level_text.ensures file p c.in-Ok.level level) written) in
-          next;
-    }
+    let level = c.in-Some.ensures.level in
+    let next : WritesLevels c.args.database.now (p + 1) old new =
+    rw add-one (next_level c.args.database.now p old mid new line c.loop-pips.invariant
+    (c.law_level_text.ensures c.args.database.now p c.in-Some.level level) written) in
+    next
 
 pub returns-clause-levels : goal.returns-clause-levels
-returns-clause-levels g c file told =
-    let right = c.bound-pips-end.ensures.right file told in
+returns-clause-levels g c =
+    let file = c.args.database.now in
     let all : c.loop-pips.pips ≡ suc (bound_of file) =
     omega (
       arith,
-      right.1,
       c.bound-pips-end.ensures.bound,
       c.loop-pips-test.false,
       c.loop-pips.auto.pips-end,
     ) in
     subst (λ n. WritesLevels file n (g.O.Write.contents c.args.output.now)
-    (g.O.Write.contents c.loop-pips.output)) all (c.loop-pips.invariant.levels file told)
+    (g.O.Write.contents c.loop-pips.output)) all (c.loop-pips.invariant)
 
 pub returns-in_default-clause-part : goal.returns-in_default-clause-part
-returns-in_default-clause-part g c file told =
+returns-in_default-clause-part g c =
     let p = c.loop-pips.pips in
-    let right = c.bound-pips-end.ensures.right file told in
+    let file = c.args.database.now in
     levels_part file p (g.O.Write.contents c.args.output.now)
     (g.O.Write.contents c.loop-pips.output) (omega (
       arith,
-      right.1,
       c.bound-pips-end.ensures.bound,
       c.loop-pips-test.true,
       c.loop-pips.auto.pips-end,
-    )) (c.loop-pips.invariant.levels file told)
+    )) (c.loop-pips.invariant)
 
 pub returns-then-is_err-clause-part : goal.returns-then-is_err-clause-part
-returns-then-is_err-clause-part g c file told =
+returns-then-is_err-clause-part g c =
     let mid = g.O.Write.contents c.loop-pips.output in
     let new = g.O.Write.contents c.write_level.new.writer in
     let p = c.loop-pips.pips in
-    let line = level_text c.in-Ok.level in
-    let right = c.bound-pips-end.ensures.right file told in
-    let level = c.in-Ok.ensures.level file (c.loop-pips.invariant.told ∙ told) in
+    let line = level_text c.in-Some.level in
+    let file = c.args.database.now in
+    let level = c.in-Some.ensures.level in
     let part : AppendsPart mid new (line ++ 10 ∷ []) =
     at_err c.write_level.result c.write_level.ensures.part
     (sym c.is_err.ensures.value ∙ c.if-is_err.true) in
     levels_and_part file p (g.O.Write.contents c.args.output.now) mid new line (omega (
       arith,
-      right.1,
       c.bound-pips-end.ensures.bound,
       c.loop-pips-test.true,
       c.loop-pips.auto.pips-end,
-    )) (c.loop-pips.invariant.levels file told) (c.law_level_text.ensures file p c.in-Ok.level level)
+    )) (c.loop-pips.invariant) (c.law_level_text.ensures file p c.in-Some.level level)
     part
