@@ -20,13 +20,14 @@
 //! rates differ from run to run.
 #![tactic(auto)]
 
-use certificate::{Checked, check};
-use db_reader::{Paged, SliceSource, Table, Whole};
-use epc_query::run;
+use certificate::check;
+use database::Database;
+use db_reader::{Paged, SliceSource, Table};
+use epc_query::{Answers, run_lines};
 use home_board::OLD_BOUND;
 use legal_plays::{Roll, results};
 use lines::{Counter, Kind, Order, lines_of};
-use ranking::Ranks;
+use ranking::{RankTable, Ranks};
 use retrograde::build;
 use std::alloc::Global;
 use std::io::Write;
@@ -148,12 +149,33 @@ fn report_database<R: Print + Clock>(rt: &R, alloc: Global, request: Request) ->
         bytes = other.bytes;
     }
     if !request.is_paged {
-        return report_table(rt, alloc, request, Whole::new(bytes.as_slice()));
+        return report_bytes(rt, alloc, request, bytes.as_slice());
     }
     let positions = Ranks::new().count_to(request.bound);
     match Paged::new(alloc, SliceSource::new(bytes.as_slice()), positions) {
         Ok(pages) => report_table(rt, alloc, request, pages),
         Err((_, fault)) => println!(rt; "{fault}"),
+    }
+}
+
+/// Checks bytes, and does what is asked for with the database in them.
+fn report_bytes<R: Print + Clock>(
+    rt: &R,
+    alloc: Global,
+    request: Request,
+    bytes: &[u8],
+) -> io::Result<()> {
+    let ranks = RankTable::new();
+    let start = Instant::now(rt)?;
+    match Database::open(bytes, &ranks) {
+        Ok(mut database) => {
+            let taken = start.elapsed(rt)?.as_micros();
+            match request.work {
+                Work::Answer(kind) => report_lines(rt, alloc, request, kind, &mut database),
+                _ => println!(rt; "positions {}\ncheck {taken} us", database.positions()),
+            }
+        }
+        Err(fault) => println!(rt; "{fault}"),
     }
 }
 
@@ -178,12 +200,12 @@ fn report_table<R: Print + Clock, T: Table + Drop>(
 }
 
 /// Answers lines five times, and says how many a second in the fastest run.
-fn report_lines<R: Print + Clock, T: Table>(
+fn report_lines<R: Print + Clock, A: Answers>(
     rt: &R,
     alloc: Global,
     request: Request,
     kind: Kind,
-    checked: &mut Checked<T>,
+    answers: &mut A,
 ) -> io::Result<()> {
     let lines = lines_of(alloc, kind, request.order, request.count, request.bound)?;
     let mut fastest = u128::MAX;
@@ -191,7 +213,7 @@ fn report_lines<R: Print + Clock, T: Table>(
         let mut reader = lines.as_slice();
         let mut counter = Counter { calls: 0, bytes: 0 };
         let start = Instant::now(rt)?;
-        let told = run(alloc, checked, &mut reader, &mut counter, u64::MAX);
+        let told = run_lines(alloc, answers, &mut reader, &mut counter, u64::MAX);
         let taken = start.elapsed(rt)?.as_micros();
         match told {
             Ok(_) => fastest = fastest.min(taken),

@@ -2,10 +2,11 @@
 use crate::difference::Difference;
 use crate::random::{Parts, Random, Takes, add_lines, damage};
 use certificate::{CheckFault, Checked, check};
+use database::Database;
 use db_reader::trial::FailAt;
 use db_reader::{Paged, SliceSource, Table, Whole};
-use epc_query::{RunFault, run};
-use ranking::Ranks;
+use epc_query::{RunFault, run, run_lines};
+use ranking::{RankTable, Ranks};
 use std::alloc::Global;
 
 /// Bytes in memory, of which up to three reads fail.
@@ -34,7 +35,9 @@ pub(crate) fn compare_files(
     }
     let pages = checked_by_pages(alloc, random, bytes.as_slice())?;
     match (check(Whole::new(bytes.as_slice())), pages) {
-        (Ok(whole), Ok(pages)) => compare_replies(alloc, random, ranks, whole, pages),
+        (Ok(whole), Ok(pages)) => {
+            compare_replies(alloc, random, ranks, bytes.as_slice(), whole, pages)
+        }
         (Err((_, fault)), Err(other)) => Difference::Verdicts.unless(fault == other),
         _ => Err(Difference::Verdicts),
     }
@@ -63,12 +66,13 @@ fn checked_by_pages<'a>(
     Err(Difference::Verdicts)
 }
 
-/// Compares the replies to some lines in memory with those by pages, where the lines come in
-/// parts, a writer takes them in parts, and reads of a record fail.
+/// Compares the replies to some lines in memory with those of an opened database, and with those by
+/// pages, where the lines come in parts, a writer takes them in parts, and reads of a record fail.
 fn compare_replies<T: Table + Drop, U: Table + Drop>(
     alloc: Global,
     random: &mut Random,
     ranks: &Ranks,
+    file: &[u8],
     whole: Checked<T>,
     pages: Checked<U>,
 ) -> Result<(), Difference> {
@@ -79,6 +83,7 @@ fn compare_replies<T: Table + Drop, U: Table + Drop>(
     let mut reader = input.as_slice();
     let told = run(alloc, &mut whole, &mut reader, &mut replies, 1 << 40);
     Difference::Replies.unless(told.is_ok())?;
+    compare_opened(alloc, file, input.as_slice(), replies.as_slice())?;
     let mut writer = Takes {
         written: Vec::new(alloc),
         random: Random::new(random.next()),
@@ -96,6 +101,23 @@ fn compare_replies<T: Table + Drop, U: Table + Drop>(
         }
     }
     Err(Difference::Replies)
+}
+
+/// Compares replies with those of the database that is opened in the bytes of a file.
+fn compare_opened(
+    alloc: Global,
+    file: &[u8],
+    input: &[u8],
+    replies: &[u8],
+) -> Result<(), Difference> {
+    let ranks = RankTable::new();
+    let Ok(mut database) = Database::open(file, &ranks) else {
+        return Err(Difference::Verdicts);
+    };
+    let mut written = Vec::new(alloc);
+    let mut reader = input;
+    let told = run_lines(alloc, &mut database, &mut reader, &mut written, 1 << 40);
+    Difference::Replies.unless(told.is_ok() && written.as_slice() == replies)
 }
 
 /// How many line feeds there are.
