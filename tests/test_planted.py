@@ -51,7 +51,7 @@ UPGRADE_START = "    let header = Header::new(COMPACT_VERSION, old.bound).unwrap
 RUN_START = "    let mut held = LineBuffer::new();"
 MOVES_START = "    let Ok(choices) = Vec::with_capacity(alloc, found.len()) else {"
 TAKE = "        let Ok(taken) = reader.read(&mut chunk) else {"
-ANSWERED = "    let count = answer_chunk(alloc, checked, held, bytes, text, writer)?;\n"
+ANSWERED = "    let count = answer_chunk(alloc, answers, held, bytes, text, writer)?;\n"
 NUMBERS = "    let Some(numbers) = numbers_in(&table.lend(rank, &room)) else {\n        return Err(UpgradeFault::"
 COMPACT = "        write_compact(table, ranks, &header, rank, writer)?;\n    }"
 TELL = "    tell(perform(rt, alloc, words, input, output), errors).status"
