@@ -1,3 +1,4 @@
+//! Why a table is refused: the faults of a record behind those of the header.
 use crate::record_check::RecordFault;
 use db_layout::HeaderFault;
 use thiserror::Error;

@@ -1,3 +1,4 @@
+//! The checker's verdict, and an accepted table with its answers.
 ghost use Rattle.std.specs.Prelude.{◌≡◌, ℕ, ◌<◌, ◌≤◌, ◌↔◌, Err, slice_index, IsTrue, IsOk, IfOk, IfErr, OnOk};
 ghost use Rattle.race_model.specs.Positions.{IsPosition, IsFinished, pips};
 ghost use Rattle.race_model.specs.Plays.{Legal};

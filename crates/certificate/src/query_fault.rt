@@ -1,3 +1,4 @@
+//! Why an accepted table has no answer to a question.
 use thiserror::Error;
 
 /// Why a query is refused, in the order of the tests. (This project's profile.)

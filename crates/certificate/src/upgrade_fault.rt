@@ -1,3 +1,4 @@
+//! Why a file of version 1 is not written again as one of version 2.
 ghost use Rattle.std.specs.Prelude.{◌≡◌};
 ghost use Rattle.certificate.specs.declared.upgrade_fault.UpgradeFault.TheVariants.{Read, Write};
 

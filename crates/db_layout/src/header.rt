@@ -1,3 +1,4 @@
+//! The header of a database file: its version and its pip bound, written and read.
 ghost use Rattle.std.specs.Prelude.{◌≡◌, ℕ, ◌+◌, ◌*◌, ◌^◌, ◌<◌, ◌≤◌, ◌↔◌, List, length};
 ghost use Rattle.std.specs.Prelude.{slice_index, IsTrue, IsSome, IfSome, IfOk, IfErr};
 ghost use Rattle.race_model.specs.Positions.{pips};

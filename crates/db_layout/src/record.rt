@@ -1,3 +1,4 @@
+//! The bytes of a record, and a view that reads its mean, its plays and its shares.
 ghost use Rattle.std.specs.Prelude.{◌≡◌, ℕ, ◌+◌, ◌-◌, ◌*◌, ◌^◌, ◌<◌, ◌≤◌, ◌↔◌, List, length, IsSome, IfSome};
 ghost use Rattle.race_model.specs.Dice.{roll_index};
 ghost use Rattle.race_model.specs.Versions.{version_by, first_share, record_length};

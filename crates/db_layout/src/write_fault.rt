@@ -1,3 +1,4 @@
+//! The refusal of a writer.
 use thiserror::Error;
 
 /// The refusal of a writer: a `write` failed, or took no byte. What

@@ -1,3 +1,4 @@
+//! An opened file, as a source of bytes.
 ghost use Rattle.std.specs.Prelude.{None};
 
 use crate::source::{Source, SourceFault};

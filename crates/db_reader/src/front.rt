@@ -1,3 +1,4 @@
+//! The header of a file, read from its first bytes and its length.
 ghost use Rattle.std.specs.Prelude.{◌≡◌, List, ℕ, length, take, IfErr};
 ghost use Rattle.db_layout.specs.declared.header.HeaderFault.{HeaderFault as Fault};
 ghost use Rattle.db_reader.specs.Reads.{IsHeaderOf};

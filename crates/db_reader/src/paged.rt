@@ -1,3 +1,4 @@
+//! A table over a source that is read record by record, with the latest kept in a cache.
 ghost use Rattle.std.specs.Prelude.{◌≡◌, ◌≢◌, ℕ, ◌<◌, ◌↔◌, List, Some, None, Contains, Err, IsOk, IsErr, IfOk, IfErr};
 ghost use Rattle.race_model.specs.Files.{record_at};
 ghost use Rattle.db_layout.specs.declared.header.Header.{Header as HeaderValue};

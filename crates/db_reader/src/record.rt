@@ -1,3 +1,4 @@
+//! Room for the bytes of one record.
 ghost use Rattle.std.specs.Prelude.{◌≡◌, ◌+◌, ◌≤◌, length, replicate, IsErr, OnOk};
 ghost use Rattle.race_model.specs.Versions.{version_by, record_length};
 ghost use Rattle.race_model.specs.Files.{bytes_at, told_record};

@@ -1,3 +1,4 @@
+//! Bytes in memory, as a source.
 ghost use Rattle.std.specs.Prelude.{◌≡◌, Some};
 
 use crate::source::{Source, SourceFault};

@@ -1,3 +1,4 @@
+//! Bytes that are read by their offset, wherever they are.
 ghost use Rattle.std.specs.Prelude.{◌≡◌, ℕ, ◌+◌, ◌≤◌, List, Option, length, take, drop, IsErr, IfOk, OnOk};
 ghost use Rattle.db_reader.specs.Telling.{WhereTold, RoseWhere};
 

@@ -1,3 +1,4 @@
+//! A table of records, wherever its bytes are.
 ghost use Rattle.std.specs.Prelude.{◌≡◌, ℕ, ◌<◌, List, Option, Err, IsErr, OnOk};
 ghost use Rattle.race_model.specs.Files.{record_at};
 ghost use Rattle.db_layout.specs.declared.header.Header.{Header as HeaderValue};

@@ -1,3 +1,4 @@
+//! A table over the bytes of a whole database in memory.
 ghost use Rattle.std.specs.Prelude.{◌≡◌, ℕ, ◌+◌, ◌*◌, ◌<◌, ◌≤◌, Some, None, List, length, take, IfOk, IfErr, OnOk};
 ghost use Rattle.db_layout.specs.declared.header.Header.{Header as HeaderValue};
 ghost use Rattle.race_model.specs.Files.{IsFile, bound_of};

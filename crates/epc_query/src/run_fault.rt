@@ -1,3 +1,4 @@
+//! Why a run over the lines of an input stops before its end.
 use thiserror::Error;
 
 /// Why the answers to the lines of an input stopped.

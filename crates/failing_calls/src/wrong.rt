@@ -1,3 +1,4 @@
+//! How a trial can go wrong.
 use certificate::{Checked, check};
 use db_reader::{Table, Whole};
 use std::alloc::AllocError;

@@ -1,3 +1,4 @@
+//! Fractions in lowest terms, by twos and threes alone.
 ghost use Rattle.std.specs.Prelude.{◌≡◌, ◌*◌, ◌^◌, ◌<◌, ◌≤◌, slice_index};
 ghost use Rattle.std.specs.Int.{IsGcd};
 ghost use Rattle.race_model.specs.LocalEquations.{whole};

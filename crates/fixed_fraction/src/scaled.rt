@@ -1,3 +1,4 @@
+//! A mean as a numerator over 36 ^ 22, and the mean of the means after a roll.
 ghost use Rattle.std.specs.Prelude.{◌≡◌, ℕ, ◌+◌, ◌*◌, ◌<◌, ◌≤◌, ◌↔◌, IsSome, IfSome, sum_by};
 ghost use Rattle.race_model.specs.LocalEquations.{whole};
 

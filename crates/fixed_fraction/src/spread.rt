@@ -1,3 +1,4 @@
+//! The shares of 0 to 22 rolls as numerators over 36 ^ 22, and those of a turn before.
 ghost use Rattle.std.specs.Prelude.{◌≡◌, ℕ, suc, ◌+◌, ◌*◌, ◌%◌, ◌<◌, ◌≤◌, ◌↔◌, List, ◌∷◌, length};
 ghost use Rattle.std.specs.Prelude.{replicate, slice_index, IsTrue, IsSome, IfSome, All, sum};
 ghost use Rattle.std.specs.Prelude.{sum_by};

@@ -1,3 +1,4 @@
+//! What a random trial can find to be wrong.
 use certificate::QueryFault;
 use std::alloc::AllocError;
 

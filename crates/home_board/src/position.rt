@@ -1,3 +1,4 @@
+//! A position: six points and at most 15 checkers.
 ghost use Rattle.std.specs.Prelude.{◌≡◌, ℕ, ◌+◌, ◌*◌, ◌<◌, ◌≤◌, ◌↔◌, List, replicate, IsTrue, IsOk, IfOk};
 ghost use Rattle.race_model.specs.Positions.{IsPosition, IsFinished, IsHighest, count, checkers, pips, finished};
 ghost use Rattle.std.proofs.Common.{rules};

@@ -1,3 +1,4 @@
+//! A position as text, six counts with commas, read and written.
 ghost use Rattle.std.specs.Prelude.{◌≡◌, ℕ, ◌<◌, ◌↔◌, List, map, min, IfOk, IfSome, IsNone};
 ghost use Rattle.race_model.specs.Positions.{checkers};
 ghost use Rattle.race_model.specs.PositionText.{count_value, IsPositionText};

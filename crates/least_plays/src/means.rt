@@ -1,3 +1,4 @@
+//! Means by rank, as the search for best plays asks for them.
 ghost use Rattle.std.specs.Prelude.{◌≡◌, ℕ, ◌<◌};
 
 /// The means of positions by rank: by which of them the best plays are found.

@@ -1,3 +1,4 @@
+//! The best ranks of the latest positions, from which those of the next are found.
 ghost use Rattle.std.specs.Prelude.{◌≡◌, ℕ, ◌+◌, ◌<◌, ◌≤◌, [], length};
 ghost use Rattle.std.specs.Prelude.{slice_index, slice_index_or};
 ghost use Rattle.race_model.specs.Positions.{IsPosition, IsFinished, pips};

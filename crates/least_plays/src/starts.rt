@@ -1,3 +1,4 @@
+//! The best ranks of a position with one die first, and its best plays out of those.
 ghost use Rattle.std.specs.Prelude.{◌≡◌, ℕ, ◌<◌, length, slice_index, slice_index_or};
 ghost use Rattle.race_model.specs.Dice.{roll_at};
 ghost use Rattle.race_model.specs.BestPlays.{IsBestPlay};

@@ -1,3 +1,4 @@
+//! All steps of a die, as ranks.
 ghost use Rattle.std.specs.Prelude.{◌≡◌};
 ghost use Rattle.least_plays.specs.Steps.{AreSteps};
 

@@ -1,3 +1,4 @@
+//! One die.
 ghost use Rattle.std.specs.Prelude.{◌≡◌, ◌<◌, ◌≤◌, ◌↔◌, IsSome, IfSome};
 ghost use Rattle.race_model.specs.Dice.{number};
 

@@ -1,3 +1,4 @@
+//! One checker's move.
 ghost use Rattle.std.specs.Prelude.{◌≡◌, ◌<◌, ◌≤◌};
 
 /// One checker's move from a point to a lower one, or off the board.

@@ -1,3 +1,4 @@
+//! A roll of two dice, and its index among the 21.
 ghost use Rattle.std.specs.Prelude.{◌≡◌, ◌<◌, ◌↔◌, IsSome, IfSome};
 ghost use Rattle.race_model.specs.Dice.{IsRoll, roll_at, roll_index, weight};
 ghost use Rattle.legal_plays.specs.Faces.{roll_of};

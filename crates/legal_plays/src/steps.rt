@@ -1,3 +1,4 @@
+//! One die and one checker: the step of a die from a point.
 ghost use Rattle.std.specs.Prelude.{◌≡◌, ℕ, ◌<◌, List, IfSome, IfNone};
 ghost use Rattle.race_model.specs.Positions.{count, fewer, more};
 ghost use Rattle.race_model.specs.Dice.{number};

@@ -1,3 +1,4 @@
+//! The counts by which positions are ranked, as one table that can be copied.
 ghost use Rattle.std.specs.Prelude.{◌≡◌, ℕ, ◌+◌, ◌-◌, ◌*◌, ◌<◌, ◌≤◌, ◌↔◌, List, IsSome, IfSome};
 ghost use Rattle.std.specs.Prelude.{slice_index, slice_index_or};
 ghost use Rattle.race_model.specs.Positions.{IsPosition};

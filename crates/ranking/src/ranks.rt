@@ -1,3 +1,4 @@
+//! Ranks of positions, by a table of counts that is made once.
 ghost use Rattle.std.specs.Prelude.{◌≡◌, ◌<◌, ◌↔◌, IsSome, IfSome};
 ghost use Rattle.race_model.specs.Positions.{IsPosition};
 ghost use Rattle.race_model.specs.Ranks.{rank, at_rank, first_of, count_to};

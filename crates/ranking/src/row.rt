@@ -1,3 +1,4 @@
+//! One number for each pip count.
 ghost use Rattle.std.specs.Prelude.{◌≡◌, ℕ, ◌+◌, ◌-◌, ◌<◌, ◌^◌, nat_lt, slice_index, if◌then◌else◌};
 
 /// How many pip counts there are: 0 to 90, for 15 checkers on point 6.

@@ -1,3 +1,4 @@
+//! Why a build is refused.
 ghost use Rattle.std.specs.Prelude.{◌≡◌};
 ghost use Rattle.retrograde.specs.declared.build_fault.BuildFault.TheVariants.{Write};
 

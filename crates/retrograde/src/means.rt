@@ -1,3 +1,4 @@
+//! The means of the first ranks, in memory that grows.
 ghost use Rattle.std.specs.Prelude.{◌≡◌, ℕ, ◌<◌, ◌≤◌, ◌↔◌, List, [], ◌∷◌, ◌++◌, length};
 ghost use Rattle.std.specs.Prelude.{slice_index, IsSome, IfSome, IsErr, OnOk, OnErr, IfErr};
 ghost use Rattle.retrograde.specs.declared.build_fault.BuildFault.TheVariants.{Memory};

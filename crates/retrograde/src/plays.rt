@@ -1,3 +1,4 @@
+//! The best play of a roll, by the means of fewer pips.
 ghost use Rattle.std.specs.Prelude.{◌≡◌, ℕ, ◌<◌, ◌≤◌, ◌⊎◌, ◌↔◌, List, length, slice_index, IsTrue, All, Any};
 ghost use Rattle.race_model.specs.Positions.{pips};
 ghost use Rattle.race_model.specs.Plays.{Legal};

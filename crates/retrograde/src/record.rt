@@ -1,3 +1,4 @@
+//! What is recorded for one position.
 use fixed_fraction::{Scaled, Spread};
 
 /// What is recorded for one position: its mean, the ranks that the rolls play to, and its shares.

@@ -1,3 +1,4 @@
+//! Laws of sizes: how large recorded numbers can be.
 ghost use Rattle.std.specs.Prelude.{ℕ, ◌*◌, ◌≤◌, List};
 ghost use Rattle.race_model.specs.Positions.{Board, IsPosition, pips};
 ghost use Rattle.race_model.specs.Ranks.{rank};

@@ -1,3 +1,4 @@
+//! Laws of dice: the 21 rolls and their indexes.
 ghost use Rattle.std.specs.Prelude.{◌≡◌, ℕ, ◌<◌, ◌⊎◌};
 ghost use Rattle.race_model.specs.Dice.{Throw, reversed, IsRoll, roll_at, roll_index};
 

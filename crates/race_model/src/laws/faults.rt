@@ -1,3 +1,4 @@
+//! Laws of faults: what a first fault means, and what the questions about a header mean.
 ghost use Rattle.std.specs.Prelude.{◌≡◌, ℕ, ◌⊎◌, List, length, take};
 ghost use Rattle.race_model.specs.Files.{IsBytes, IsFile};
 ghost use Rattle.race_model.specs.Headers.{HeaderTest, IsHeader, IsFirstHeaderFault};

@@ -1,3 +1,4 @@
+//! Laws of fractions: lowest terms and thousandths leave no choice.
 ghost use Rattle.std.specs.Prelude.{◌≡◌, ℕ, ◌<◌};
 ghost use Rattle.race_model.specs.Fractions.{IsFraction, IsThousandths};
 

@@ -1,3 +1,4 @@
+//! Laws of inputs: how bytes fall into lines.
 ghost use Rattle.std.specs.Prelude.{◌≡◌, ◌≢◌, ℕ, List, [], ◌∷◌, ◌++◌};
 ghost use Rattle.race_model.specs.InputLines.{pieces, rest_of, IsCut};
 

@@ -1,3 +1,4 @@
+//! Laws of plays: steps, throws, results, and the rule as rule books have it.
 ghost use Rattle.std.specs.Prelude.{◌≡◌, ℕ, ◌<◌, ◌≤◌, ◌↔◌, List, [], ◌∷◌, Contains};
 ghost use Rattle.race_model.specs.Positions.{Board, IsPosition, IsFinished, finished, pips};
 ghost use Rattle.race_model.specs.Dice.{Die, one, four, six, Throw, reversed, IsRoll, roll_at};

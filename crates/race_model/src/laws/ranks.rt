@@ -1,3 +1,4 @@
+//! Laws of ranks: the order of all positions, and how many there are.
 ghost use Rattle.std.specs.Prelude.{◌≡◌, ℕ, ◌+◌, ◌<◌, ◌≤◌, ◌↔◌};
 ghost use Rattle.race_model.specs.Positions.{Board, IsPosition, pips, finished};
 ghost use Rattle.race_model.specs.Ranks.{rank, at_rank, count_to, first_of, position_count};

@@ -1,3 +1,4 @@
+//! Laws of replies: each line has one, whatever right file answers it.
 ghost use Rattle.std.specs.Prelude.{◌≡◌, ℕ, ◌≤◌, ◌↔◌, List, length};
 ghost use Rattle.race_model.specs.RightFiles.{IsRight};
 ghost use Rattle.race_model.specs.SameNumbers.{HasSameNumbers};

@@ -1,3 +1,4 @@
+//! Laws of files, the headline's among them: locally right is right, and nothing else is.
 ghost use Rattle.std.specs.Prelude.{◌≡◌, ℕ, ◌+◌, ◌*◌, ◌<◌, ◌≤◌, List, sum_by};
 ghost use Rattle.std.specs.List.{range_with_len};
 ghost use Rattle.race_model.specs.Positions.{Board, IsPosition, IsFinished, pips};

@@ -1,3 +1,4 @@
+//! Laws of strategies: turns, horizons, and least totals.
 ghost use Rattle.std.specs.Prelude.{◌≡◌, ℕ, zero, suc, ◌+◌, ◌*◌, ◌^◌, ◌<◌, ◌≤◌, sum_by};
 ghost use Rattle.race_model.specs.Positions.{Board, IsPosition, pips, more, finished};
 ghost use Rattle.race_model.specs.Dice.{Throw, throws};

@@ -1,3 +1,4 @@
+//! Laws of upgrades: files of both versions that hold the same numbers.
 ghost use Rattle.std.specs.Prelude.{◌≡◌, ℕ, ◌↔◌, List};
 ghost use Rattle.race_model.specs.Files.{IsFile};
 ghost use Rattle.race_model.specs.RightFiles.{IsRight};
