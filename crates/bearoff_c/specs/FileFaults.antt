@@ -5,6 +5,7 @@ use Rattle.db_layout.specs.declared.header.HeaderFault.TheVariants.{BadRecordByt
 use Rattle.certificate.specs.declared.check_fault.CheckFault.{CheckFault}
 use Rattle.certificate.specs.declared.check_fault.CheckFault.TheVariants.{Header, Play, NotLeast, Mean, Spread, Read}
 
+-- the status that the library for C gives a fault of a file
 abbrev pub fault_status : CheckFault → ℕ
 fault_status (Header TooShort) = 16
 fault_status (Header BadMagic) = 17

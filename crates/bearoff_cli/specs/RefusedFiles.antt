@@ -16,6 +16,7 @@ abbrev pub KeepsAt : Option (List ℕ) → Option (List ℕ) → Refusal → Typ
 KeepsAt old new (Words error) = new ≡ old
 KeepsAt old new (Failed fault) = 1 < status_of fault → new ≡ old
 
+-- where the result is a refusal, the output is as `KeepsAt` says
 abbrev pub KeepsIfTold : {T : Type 0} →
     Result T Refusal → Option (List ℕ) → Option (List ℕ) → Type 0
 KeepsIfTold result old new = IfErr result (KeepsAt old new)

@@ -40,10 +40,11 @@ IsShareOf x share sums (suc k) =
     (IsFinished x → share (suc k) ≡ 0)
     × (¬ IsFinished x → 36 * share (suc k) ≡ slice_index sums.shares k)
 
--- what is recorded for a throw: the mean, and the share of exactly k rolls
+-- the mean of the position that a throw is recorded to lead to
 abbrev pub recorded_mean : List ℕ → Board → Throw → ℕ
 recorded_mean f x v = mean_at f (play f x v)
 
+-- .. its share of exactly k rolls
 abbrev pub recorded_share : List ℕ → Board → Throw → ℕ → ℕ
 recorded_share f x v k = spread_at f (play f x v) k
 

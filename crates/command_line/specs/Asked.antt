@@ -10,11 +10,12 @@ use Rattle.clap.specs.declared.error.kind.ErrorKind.TheVariants.{OutOfMemory}
 use Rattle.command_line.specs.declared.words.Request.{Request}
 use Rattle.command_line.specs.declared.words.Request.TheVariants as request
 
--- the text does not begin with a hyphen (45)
+-- whether the text does not begin with a hyphen (45)
 abbrev pub is_plain : Text → Bool
 is_plain [] = true
 is_plain (x ∷ xs) = not (x == 45)
 
+-- the text does not begin with a hyphen
 abbrev pub IsPlain : Text → Type 0
 IsPlain text = is_plain text ≡ true
 
@@ -22,22 +23,28 @@ IsPlain text = is_plain text ≡ true
 abbrev pub Gives : {X : Type 0} → Result X Error → (X → Type 0) → Type 0
 Gives result P = IfOk result P × IfErr result (λ e. kind_of e ≡ OutOfMemory)
 
+-- the request is to check the file of this path
 abbrev pub asks_check : Text → Request → Type 0
 asks_check path (request.Check given) = given.now ≡ path
 asks_check path _ = ⊥
 
+-- .. to audit it
 abbrev pub asks_audit : Text → Request → Type 0
 asks_audit path (request.Audit given) = given.now ≡ path
 asks_audit path _ = ⊥
 
+-- .. to upgrade the file of the first path to that of the second
 abbrev pub asks_upgrade : Text → Text → Request → Type 0
 asks_upgrade old new (request.Upgrade o n) = (o.now ≡ old) × (n.now ≡ new)
 asks_upgrade old new _ = ⊥
 
+-- .. to build up to n pips into the file of this path
 abbrev pub asks_build : ℕ → Text → Request → Type 0
 asks_build n path (request.Build pips given) = (pips ≡ n) × (given.now ≡ path)
 asks_build n path _ = ⊥
 
+-- .. to answer questions of the file of this path, with so many records kept in memory, if any
+-- number is given
 abbrev pub asks_query : Text → Option ℕ → Request → Type 0
 asks_query path records (request.Query given cache) = (given.now ≡ path) × (cache ≡ records)
 asks_query path records _ = ⊥
@@ -54,6 +61,7 @@ Follows name words text = (rest : List Text) × (words ≡ name ∷ rest) × Con
 abbrev pub names : List Text
 names = codes "build" ∷ codes "check" ∷ codes "query" ∷ codes "audit" ∷ codes "upgrade" ∷ []
 
+-- whether the first word is one of them
 abbrev pub begins_with_name : List Text → Bool
 begins_with_name [] = false
 begins_with_name (word ∷ rest) = list_any (bytes_eq word) names

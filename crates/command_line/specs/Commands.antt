@@ -8,6 +8,7 @@ use Rattle.clap.specs.declared.builder.value_parser.ValueParser.TheVariants as v
 abbrev pub word_rule : Text → Rule
 word_rule id = record (new_rule id) { required = true }
 
+-- a command of this name without words, which reads no name of a program before them
 abbrev pub bare_app : Text → App
 bare_app name = on_top (λ s. record s { no_binary_name = true }) (new_app name)
 
@@ -15,6 +16,7 @@ bare_app name = on_top (λ s. record s { no_binary_name = true }) (new_app name)
 abbrev pub file_app : Text → App
 file_app name = with_rule (bare_app name) (word_rule (codes "FILE"))
 
+-- .. of some name
 abbrev pub IsFileApp : App → Type 0
 IsFileApp a = (name : Text) × (a ≡ file_app name)
 
@@ -23,6 +25,7 @@ abbrev pub upgrade_app : App
 upgrade_app = with_rule (with_rule (bare_app (codes "upgrade")) (word_rule (codes "OLD")))
     (word_rule (codes "NEW"))
 
+-- `--pips N`, which is required: a number from 0 to 255
 abbrev pub pips_rule : Rule
 pips_rule = record (word_rule (codes "pips")) {
   long = Some (codes "pips");
@@ -34,6 +37,7 @@ pips_rule = record (word_rule (codes "pips")) {
 abbrev pub build_app : App
 build_app = with_rule (with_rule (bare_app (codes "build")) pips_rule) (word_rule (codes "FILE"))
 
+-- `--cache N`: a number from 1 to 65535
 abbrev pub cache_rule : Rule
 cache_rule = record (new_rule (codes "cache")) {
   long = Some (codes "cache");

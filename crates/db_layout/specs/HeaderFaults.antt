@@ -5,6 +5,7 @@ use Rattle.db_layout.specs.declared.header.HeaderFault.{HeaderFault}
 use Rattle.db_layout.specs.declared.header.HeaderFault.TheVariants.{TooShort, BadMagic, BadVersion, BadBound, BadCount}
 use Rattle.db_layout.specs.declared.header.HeaderFault.TheVariants.{BadRecordBytes, BadReserved, BadLength}
 
+-- the question about a header that this fault answers with no
 abbrev pub test_of : HeaderFault → HeaderTest
 test_of TooShort = long_enough
 test_of BadMagic = magic

@@ -81,13 +81,15 @@ play_of record_bytes roll = from_be_bytes w16 (bytes_at record_bytes (16 + 2 * r
 unfoldable pub share_of : List ℕ → ℕ → ℕ
 share_of record_bytes k = from_be_bytes w128 (bytes_at record_bytes (58 + 16 * k) 16)
 
--- what the record of a rank says
+-- the mean that the record of a rank says
 unfoldable pub mean_at : List ℕ → ℕ → ℕ
 mean_at f r = mean_of (record_at f r)
 
+-- .. the rank that a roll leads to
 unfoldable pub play_at : List ℕ → ℕ → ℕ → ℕ
 play_at f r roll = play_of (record_at f r) roll
 
+-- .. the share of exactly k rolls
 unfoldable pub spread_at : List ℕ → ℕ → ℕ → ℕ
 spread_at f r k = share_of (record_at f r) k
 

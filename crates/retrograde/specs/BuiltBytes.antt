@@ -10,10 +10,11 @@ use Rattle.retrograde.specs.AllRecords.{AllRecords, bytes_of_rank}
 use Rattle.retrograde.specs.declared.build_fault.BuildFault.{BuildFault}
 use Rattle.retrograde.specs.declared.build_fault.BuildFault.TheVariants.{OverBound, Memory, Write}
 
--- the built file of a version and a bound up to a rank, and the whole of it
+-- the built file of a version and a bound, up to a rank
 abbrev pub built_to : Version → AllRecords → ℕ → ℕ → List ℕ
 built_to version full bound n = file_of version bound (bytes_of_rank version full) n
 
+-- .. and the whole of it
 abbrev pub built_file : Version → AllRecords → ℕ → List ℕ
 built_file version full bound = built_to version full bound (count_to bound)
 
