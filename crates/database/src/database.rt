@@ -134,7 +134,7 @@ impl<'a> Database<'a> {
         self.ranks
     }
 
-    /// The bytes, and by what a place in them is found.
+    /// The bytes, with what places in them are found by.
     pub(crate) fn lent(&self) -> LentRecords<'a>
         ensures bytes { result.bytes.now ≡ self.now }
         ensures version { version_by result.version ≡ version_of self.now }
@@ -144,7 +144,6 @@ impl<'a> Database<'a> {
             bytes: self.bytes,
             version: self.version,
             bound: self.bound,
-            ranks: self.ranks,
         }
     }
 

@@ -1,15 +1,14 @@
-//! Bytes that somebody lends, and where the records in them stand. All that is known of them here
-//! is how many they are: each place is found by the version, the bound and the table that are kept
-//! beside them, so no place depends on what the bytes are.
+//! Bytes that somebody lends, and the records in them. All that is known of the bytes here is how
+//! many they are: each place is found by the version and the bound that are kept beside them, so
+//! no place depends on what the bytes are.
 ghost use Rattle.std.specs.Prelude.{◌≡◌, ◌+◌, ◌<◌, ◌≤◌, length};
 ghost use Rattle.race_model.specs.Ranks.{first_of, count_to};
 ghost use Rattle.race_model.specs.Versions.{version_by, record_length as length_of};
 ghost use Rattle.race_model.specs.Files.{bytes_at, record_place, told_record};
-ghost use Rattle.ranking.specs.Tables.{IsRankTable};
 ghost use Rattle.database.specs.Rooms.{HasRoom};
 
-use db_layout::{RecordView, VERSION, record_length};
-use ranking::RankTable;
+use db_layout::{RecordView, offset_of, record_length};
+use ranking::first_of;
 
 /// Bytes that somebody lends, at least as many as a file of a version and a bound has. No fact is
 /// kept of what they are, and no function asks for one.
@@ -24,10 +23,6 @@ pub struct LentRecords<'a> {
     /// The pip bound of the file that they were.
     pub bound: u8,
 
-    /// The numbers by which ranks are found.
-    pub ranks: &'a RankTable,
-
-    pub ghost ranked: { IsRankTable ranks.now },
     pub ghost sized: { HasRoom version bound (length bytes.now) },
 }
 
@@ -41,7 +36,7 @@ impl<'a> LentRecords<'a> {
             (bytes_at self.now.bytes.now (record_place (version_by self.now.version) rank)
             (length_of (version_by self.now.version) pips)) }
     {
-        self.at(pips, self.start_from(pips, rank))
+        self.at(pips, offset_of(self.version, pips, rank))
     }
 
     /// What stands for a record of a position of so many pips at a place within the bytes.
@@ -68,38 +63,10 @@ impl<'a> LentRecords<'a> {
         ensures bound { result ≤ self.now.bound }
     {
         for level in lowest..self.bound {
-            if rank < self.ranks.first_of(level + 1) {
+            if rank < first_of(level + 1) {
                 return level;
             }
         }
         self.bound
-    }
-
-    /// Where the records from a rank on begin, which is that of a position of so many pips, or the
-    /// next one.
-    pub fn start_from(&self, pips: u8, rank: u16) -> u64
-        requires low { pips ≤ 58 }
-        requires from { first_of pips ≤ rank }
-        requires beyond { rank ≤ first_of (pips + 1) }
-        ensures { result ≡ record_place (version_by self.now.version) rank }
-    {
-        if self.version == VERSION {
-            return 32 + 426 * u64::from(rank);
-        }
-        let earlier = u64::from(rank - self.ranks.first_of(pips));
-        self.start_of(pips) + earlier * u64::from(record_length(self.version, pips))
-    }
-
-    /// Where the records of the positions of a pip count begin.
-    fn start_of(&self, pips: u8) -> u64
-        requires { pips ≤ 58 }
-        ensures { result ≡ record_place (version_by self.now.version) (first_of pips) }
-    {
-        let mut start = 32;
-        for level in 0..pips {
-            let count = self.ranks.first_of(level + 1) - self.ranks.first_of(level);
-            start += u64::from(count) * u64::from(record_length(self.version, level));
-        }
-        start
     }
 }

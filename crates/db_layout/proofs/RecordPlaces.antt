@@ -1,15 +1,14 @@
 -- Where the records of one pip count stand: behind those of fewer pips, all of one length.
-use Rattle.std.proofs.Common.{◌≡◌, ℕ, ◌+◌, ◌-◌, ◌*◌, ◌<◌, ◌≤◌, List, length, slice_index, ap, subst}
-use Rattle.std.proofs.Common.{sym, ◌∙◌, arith, add-one}
+use Rattle.std.proofs.Common.{◌≡◌, ℕ, ◌+◌, ◌-◌, ◌*◌, ◌<◌, ◌≤◌, ◌⊎◌, inl, inr, ap, sym, ◌∙◌, arith, add-one}
+use Rattle.std.proofs.lemmas.Bool.{cases_lt}
 use Rattle.race_model.specs.Positions.{pips}
 use Rattle.race_model.specs.Ranks.{rank, at_rank, first_of, count_to}
 use Rattle.race_model.specs.Versions.{Version, record_length}
 use Rattle.race_model.specs.Files.{record_place}
-use Rattle.race_model.proofs.Ranks.RankOrder.{at_rank_position, first_of-zero, first_of-suc, first_of-rises}
+use Rattle.race_model.proofs.Ranks.RankOrder.{at_rank_position, first_of-suc, first_of-rises}
 use Rattle.race_model.proofs.Ranks.PositionTotals.{rank-at_rank, count_to-most}
-use Rattle.race_model.proofs.RightFiles.Places.{record_place-first, record_place-level, record_place-most}
+use Rattle.race_model.proofs.RightFiles.Places.{record_place-level}
 use Rattle.ranking.proofs.Counting.{pips-are}
-use Rattle.ranking.proofs.Cells.{IsFilled}
 
 -- one position more than those of fewer pips begins the next pip count
 pub first_of-next : (p : ℕ) → first_of (p + 1) ≡ count_to p
@@ -48,36 +47,13 @@ place_beyond version p =
     parts : (a b : ℕ) → a ≤ b → b ≡ a + (b - a)
     parts a b h = omega (arith, h)
 
--- a table of 60 numbers whose first is what f says
-pub filled_first : (f : ℕ → ℕ) (xs : List ℕ) → length xs ≡ 60 → slice_index xs 0 ≡ f 0 →
-    IsFilled f 60 1 xs
-filled_first f xs long first = record {
-  long = long;
-  below = λ m under. subst (λ k. slice_index xs k ≡ f k) (none m under) first;
-} where
-  none : (m : ℕ) → m < 1 → 0 ≡ m
-  none m h = omega (arith, h)
-
--- the first record of a file stands behind the header
-pub place_of_none : (version : Version) → 32 ≡ record_place version (first_of 0)
-place_of_none version =
-    sym (ap (record_place version) first_of-zero ∙ record_place-first version)
-
--- no record to 58 pips stands beyond 32 bits
-pub place-fits : (version : Version) (p : ℕ) → p ≤ 59 →
-    record_place version (first_of p) < 4294967296
-place-fits version p low =
-    omega (
-      arith,
-      record_place-most version (first_of p) (omega (
-        arith,
-        first_of-rises p 59 low,
-        first_of-next 58,
-      )),
-      first_of-rises p 59 low,
-      first_of-next 58,
-      count_to-most 58,
-    )
+-- a rank of at most 58 pips is one of no more
+pub pips-most : (p r : ℕ) → first_of p ≤ r → r < count_to 58 → p ≤ 58
+pips-most p r from under = by_cases (cases_lt p 59) where
+  by_cases : (p < 59) ⊎ (59 ≤ p) → p ≤ 58
+  by_cases (inl few) = omega (arith, few)
+  by_cases (inr many) =
+      absurd (omega (arith, from, under, first_of-next 58, first_of-rises 59 p many))
 
 -- a record among those of its pip count
 pub place_of_rank : (version : Version) (p rank offset earlier size : ℕ) → first_of p ≤ rank →

@@ -1,21 +1,13 @@
 -- The bytes of a record. Source: this project's profile.
 use Rattle.std.specs.Prelude.{◌≡◌, ℕ, ◌<◌, ◌≤◌, List, ◌++◌, length, take, drop, flat_map, slice_index}
 use Rattle.std.specs.Int.{w16, w128, to_be_bytes}
-use Rattle.race_model.specs.Ranks.{first_of}
 use Rattle.race_model.specs.Versions.{Version, version_by, version_number, first_share, share_count, record_length}
-use Rattle.race_model.specs.Files.{record_place, told_record, mean_of, play_of, share_of}
+use Rattle.race_model.specs.Files.{told_record, mean_of, play_of, share_of}
 use Rattle.race_model.specs.ToldShares.{told_share}
 
 -- a number that is one of a version
 abbrev pub IsVersion : ℕ → Type 0
 IsVersion n = n ≡ version_number (version_by n)
-
--- two tables by pip count: how many positions have fewer pips, and where their records begin
-pub record IsPlacesTable (version : Version) (starts offsets : List ℕ) : Type 0 where
-  pub long : length starts ≡ 60
-  pub summed : (m : ℕ) → m < 60 → slice_index starts m ≡ first_of m
-  pub placed : (m : ℕ) → m < 60 →
-      slice_index offsets m ≡ record_place version (first_of m)
 
 -- a rank in 2 bytes, high byte first
 unfoldable pub short_bytes : ℕ → List ℕ

@@ -10,11 +10,10 @@ ghost use Rattle.race_model.specs.Headers.{IsHeader, IsFirstHeaderFault};
 ghost use Rattle.db_layout.specs.HeaderFaults.{test_of};
 ghost use Rattle.db_layout.specs.Records.{IsVersion, IsHeld};
 
-use crate::places::{Places, most_rolls, record_length};
+use crate::places::{most_rolls, record_length};
 use crate::record::{HEADER_BYTES, read_short, read_word};
 use fixed_fraction::{Spread, WHOLE};
 use home_board::{MAX_BOUND, OLD_BOUND};
-use ranking::Ranks;
 use thiserror::Error;
 
 /// The first eight bytes of a database file (this project's profile).
@@ -103,7 +102,7 @@ impl Header {
         Header {
             version,
             bound,
-            count: Ranks::new().count_to(bound),
+            count: ranking::count_to(bound),
             record_bytes: if version == COMPACT_VERSION { 0 } else { 426 },
         }
     }
@@ -115,7 +114,7 @@ impl Header {
         ensures len { result.1
             ≡ record_length (version_by self.now.version) (pips (at_rank rank)) }
     {
-        let place = Places::of(*self).find(rank);
+        let place = self.find(rank);
         (place.offset, place.length)
     }
 
@@ -208,7 +207,7 @@ pub fn parse_header(front: &[u8], length: u64) -> Result<Header, HeaderFault>
     if &front[20..32] != [0; 12].as_slice() {
         return Err(HeaderFault::BadReserved);
     }
-    if length != Places::of(header).end() {
+    if length != header.end() {
         return Err(HeaderFault::BadLength);
     }
     Ok(header)

@@ -4,7 +4,7 @@
 #![tactic(auto)]
 
 pub use header::{COMPACT_VERSION, Header, HeaderFault, VERSION, parse_header};
-pub use places::{Place, Places, most_rolls, record_length};
+pub use places::{Place, most_rolls, offset_of, record_length};
 pub use record::{HEADER_BYTES, RECORD_BYTES, RecordView};
 pub use write_fault::WriteFault;
 pub use writing::{law_record, write_bytes, write_header, write_record};

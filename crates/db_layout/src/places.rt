@@ -1,20 +1,29 @@
-//! Where the records of a database file stand.
+//! Where the records of a database file stand, by numbers that are the same for each file of a
+//! version.
 ghost use Rattle.std.specs.Prelude.{◌≡◌, ℕ, ◌+◌, ◌<◌, ◌≤◌};
 ghost use Rattle.race_model.specs.Positions.{pips};
-ghost use Rattle.race_model.specs.Ranks.{at_rank, first_of, count_to};
+ghost use Rattle.race_model.specs.Ranks.{at_rank, first_of};
 ghost use Rattle.race_model.specs.Horizon.{most_rolls};
-ghost use Rattle.race_model.specs.Versions.{version_by, full, first_share, share_count, record_length};
+ghost use Rattle.race_model.specs.Versions.{version_by, full, compact, first_share, share_count, record_length};
 ghost use Rattle.race_model.specs.Files.{record_place};
-ghost use Rattle.db_layout.specs.declared.header.Header.{Header as HeaderValue};
-ghost use Rattle.db_layout.specs.Records.{IsPlacesTable};
 
 use crate::header::{COMPACT_VERSION, Header};
 use home_board::MAX_BOUND;
-use ranking::Ranks;
-use std::marker::Model;
+use ranking::pips_of;
 
 /// How many pip counts there are to the greatest bound, and one beyond.
 const PIP_COUNTS: usize = MAX_BOUND as usize + 2;
+
+/// Where the records of each pip count begin in a file of version 2; those of 59 pips would begin
+/// where a file of 58 pips ends.
+const STARTS: [u32; PIP_COUNTS] = [
+    32, 90, 164, 344, 614, 1144, 1886, 3228, 4936, 7696, 11284, 16674, 23450, 33310, 45380, 62120,
+    82580, 107690, 140212, 179602, 225658, 284518, 352534, 431450, 527858, 638306, 762092, 911092,
+    1076342, 1259842, 1473440, 1708052, 1961284, 2252026, 2562790, 2894986, 3265698, 3657866,
+    4067020, 4517610, 4983272, 5464320, 5980770, 6509100, 7042710, 7608420, 8174476, 8740186,
+    9325540, 9905102, 10471632, 11050728, 11611302, 12153732, 12694694, 13213198, 13703334,
+    14186314, 14638134, 15060844,
+];
 
 /// Where one record stands in a file.
 #[derive(Clone, Copy, Debug, PartialEq, Eq)]
@@ -29,55 +38,8 @@ pub struct Place {
     pub pips: u8,
 }
 
-/// A header with where its records stand, by two tables that are counted once: how many positions
-/// have fewer pips, and where the records of a pip count begin. A look-up is one search among 60
-/// pip counts.
-#[derive(Drop)]
-pub struct Places {
-    header: Header,
-    starts: [u16; PIP_COUNTS],
-    offsets: [u32; PIP_COUNTS],
-}
-
-// Clauses see the header.
-impl Model for Places {
-    ghost Value = { HeaderValue };
-
-    ghost view = { λ places. places.header };
-
-    ghost invariant = { λ places.
-        IsPlacesTable (version_by places.header.version) places.starts places.offsets };
-}
-
-impl Places {
-    /// Where the records of a file with this header stand.
-    pub fn of(header: Header) -> Self
-        ensures { result ≡ header }
-    {
-        let ranks = Ranks::new();
-        let mut starts = [0; PIP_COUNTS];
-        let mut offsets = [32; PIP_COUNTS];
-        for pips in 0..PIP_COUNTS - 1 {
-            let beyond = ranks.count_to(pips as u8);
-            let count = u32::from(beyond - starts[pips]);
-            starts[pips + 1] = beyond;
-            offsets[pips + 1] = offsets[pips] + count * record_length(header.version, pips as u8);
-        }
-        Places {
-            header,
-            starts,
-            offsets,
-        }
-    }
-
-    /// The header.
-    pub fn header(&self) -> Header
-        ensures { result ≡ self.now }
-    {
-        self.header
-    }
-
-    /// Where the record of a rank stands.
+impl Header {
+    /// Where the record of a rank stands: one search among the pip counts.
     pub fn find(&self, rank: u16) -> Place
         requires { rank < self.now.count }
         ensures offset { result.offset ≡ record_place (version_by self.now.version) rank }
@@ -88,14 +50,10 @@ impl Places {
         ensures inside { result.offset + result.length
             ≤ record_place (version_by self.now.version) self.now.count }
     {
-        let pips = self.pips_of(rank);
-        let length = record_length(self.header.version, pips);
-        let index = usize::from(pips);
-        let earlier = u64::from(rank - self.starts[index]);
-        let first = u64::from(self.offsets[index]);
+        let pips = pips_of(rank);
         Place {
-            offset: first + earlier * u64::from(length),
-            length,
+            offset: offset_of(self.version, pips, rank),
+            length: record_length(self.version, pips),
             pips,
         }
     }
@@ -111,23 +69,35 @@ impl Places {
         32 + 426 * u64::from(rank)
     }
 
-    // The pip count of the position of a rank.
-    fn pips_of(&self, rank: u16) -> u8
-        requires { rank < count_to 58 }
-        ensures from { first_of result ≤ rank }
-        ensures to { rank < first_of (result + 1) }
-        ensures range { result ≤ 58 }
-    {
-        let above = self.starts.partition_point(|start| *start <= rank);
-        above as u8 - 1
-    }
-
     /// How many bytes the file has.
     pub fn end(&self) -> u64
         ensures { result ≡ record_place (version_by self.now.version) self.now.count }
     {
-        u64::from(self.offsets[usize::from(self.header.bound) + 1])
+        offset_of(self.version, self.bound, self.count)
     }
+}
+
+/// Where the records from a rank on begin, which is that of a position of so many pips, or the
+/// next one.
+pub fn offset_of(version: u16, pips: u8, rank: u16) -> u64
+    requires low { pips ≤ 58 }
+    requires from { first_of pips ≤ rank }
+    requires beyond { rank ≤ first_of (pips + 1) }
+    ensures { result ≡ record_place (version_by version) rank }
+{
+    if version != COMPACT_VERSION {
+        return 32 + 426 * u64::from(rank);
+    }
+    let earlier = u64::from(rank - ranking::first_of(pips));
+    start_of(pips) + earlier * u64::from(record_length(version, pips))
+}
+
+/// Where the records of a pip count begin in a file of version 2.
+fn start_of(pips: u8) -> u64
+    requires { pips ≤ 59 }
+    ensures { result ≡ record_place compact (first_of pips) }
+{
+    u64::from(STARTS[usize::from(pips)])
 }
 
 /// How many bytes the record of a position of so many pips has.

@@ -10,7 +10,7 @@ use crate::front::header_of;
 use crate::record::Record;
 use crate::source::{Source, SourceFault};
 use crate::table::{ReadFault, Table, TableFault};
-use db_layout::{HEADER_BYTES, Header, Places, RecordView};
+use db_layout::{HEADER_BYTES, Header, RecordView};
 use lru::{DefaultHasher, LruCache};
 use std::alloc::{Allocator, Global};
 use std::num::NonZeroUsize;
@@ -35,10 +35,10 @@ pub enum PagedFault {
 #[derive(Drop)]
 pub struct Paged<S: Source, A: Allocator = Global> {
     source: S,
-    places: Option<Places>,
+    header: Option<Header>,
     records: LruCache<u16, Record, DefaultHasher, A>,
     ghost fits: { (file : List ℕ) (accepted : HeaderValue) → S.tells source ≡ Some file →
-        places ≡ Some accepted → HasHeader file accepted },
+        header ≡ Some accepted → HasHeader file accepted },
     ghost kept: { (file : List ℕ) (rank : ℕ) (bytes : List ℕ) → S.tells source ≡ Some file →
         Contains records.entries (rank, bytes) → bytes ≡ record_at file rank },
 }
@@ -64,7 +64,7 @@ impl<S: Source, A: Allocator + Clone> Paged<S, A> {
         match LruCache::new(alloc, count) {
             Ok(records) => Ok(Paged {
                 source,
-                places: None,
+                header: None,
                 records,
             }),
             Err(_) => Err((source, PagedFault::Memory)),
@@ -86,15 +86,15 @@ impl<S: Source, A: Allocator + Clone> Table for Paged<S, A> {
 
     ghost failures = { λ table. S.failures table.source };
 
-    ghost accepted = { λ table. table.places };
+    ghost accepted = { λ table. table.header };
 
     ghost ready = { λ table bytes rank.
         WhereTold (S.tells table.source) (λ file. bytes ≡ record_at file rank) };
 
     fn header(&mut self) -> Result<Header, TableFault> {
-        self.places = None;
+        self.header = None;
         let header = read_header(&mut self.source)?;
-        self.places = Some(Places::of(header));
+        self.header = Some(header);
         Ok(header)
     }
 
@@ -103,10 +103,10 @@ impl<S: Source, A: Allocator + Clone> Table for Paged<S, A> {
             room.copy_from(kept);
             return Ok(());
         }
-        let Some(places) = &self.places else {
+        let Some(header) = self.header else {
             unreachable!();
         };
-        let Ok(read) = read_record(&mut self.source, places, rank) else {
+        let Ok(read) = read_record(&mut self.source, header, rank) else {
             return Err(ReadFault);
         };
         room.copy_from(&read);
@@ -137,14 +137,14 @@ fn read_header<S: Source>(source: &mut S) -> Result<Header, TableFault>
 }
 
 /// The record of a rank, in one read of the bytes of a source that have this header.
-fn read_record<S: Source>(source: &mut S, places: &Places, rank: u16) -> Result<Record, SourceFault>
-    requires rank { rank < places.now.count }
-    requires file { WhereTold (S.tells source.old) (λ file. HasHeader file places.now) }
+fn read_record<S: Source>(source: &mut S, header: Header, rank: u16) -> Result<Record, SourceFault>
+    requires rank { rank < header.count }
+    requires file { WhereTold (S.tells source.old) (λ file. HasHeader file header) }
     ensures told { WhereTold (S.tells source.old)
         (λ file. IfOk result (λ read. read ≡ record_at file rank)) }
     ensures stays { SourceStays ⟦<S as Source>⟧ source.old source.new (IsErr result) }
 {
     let mut read = Record::new();
-    read.read_from(source, places.header().version, places.find(rank))?;
+    read.read_from(source, header.version, header.find(rank))?;
     Ok(read)
 }

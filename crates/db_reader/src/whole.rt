@@ -9,15 +9,15 @@ ghost use Rattle.db_reader.specs.Reads.{HasHeader, HasRecord};
 use crate::front::header_of;
 use crate::record::Record;
 use crate::table::{ReadFault, Table, TableFault};
-use db_layout::{COMPACT_VERSION, HEADER_BYTES, Header, Places, RECORD_BYTES, RecordView};
+use db_layout::{COMPACT_VERSION, HEADER_BYTES, Header, RECORD_BYTES, RecordView};
 
 /// The table over the bytes of a whole database, in memory that it borrows. It tells these bytes,
 /// lends each record from them and copies none, and never fails.
 #[derive(Drop)]
 pub struct Whole<'a> {
     bytes: &'a [u8],
-    places: Option<Places>,
-    ghost fits: { (accepted : HeaderValue) → places ≡ Some accepted →
+    header: Option<Header>,
+    ghost fits: { (accepted : HeaderValue) → header ≡ Some accepted →
         HasHeader bytes.now accepted },
 }
 
@@ -29,7 +29,7 @@ impl<'a> Whole<'a> {
     {
         Whole {
             bytes,
-            places: None,
+            header: None,
         }
     }
 }
@@ -39,16 +39,16 @@ impl<'a> Table for Whole<'a> {
 
     ghost failures = { λ table. 0 };
 
-    ghost accepted = { λ table. table.places };
+    ghost accepted = { λ table. table.header };
 
-    ghost ready = { λ table bytes rank. HasRecord table.places rank };
+    ghost ready = { λ table bytes rank. HasRecord table.header rank };
 
     fn header(&mut self) -> Result<Header, TableFault> {
-        self.places = None;
+        self.header = None;
         let front = &self.bytes[..self.bytes.len().min(HEADER_BYTES)];
         match header_of(front, self.bytes.len() as u64) {
             Ok(header) => {
-                self.places = Some(Places::of(header));
+                self.header = Some(header);
                 Ok(header)
             }
             Err(fault) => Err(fault),
@@ -60,18 +60,17 @@ impl<'a> Table for Whole<'a> {
     }
 
     fn lend<'b>(&'b self, rank: u16, _room: &'b Record) -> RecordView<'b> {
-        let Some(places) = &self.places else {
+        let Some(header) = self.header else {
             unreachable!();
         };
-        let version = places.header().version;
-        if version != COMPACT_VERSION {
-            let first = places.find_full(rank) as usize;
+        if header.version != COMPACT_VERSION {
+            let first = header.find_full(rank) as usize;
             let bytes = &self.bytes[first..first + RECORD_BYTES];
-            return RecordView::of_version(bytes, version, 0).unwrap();
+            return RecordView::of_version(bytes, header.version, 0).unwrap();
         }
-        let place = places.find(rank);
+        let place = header.find(rank);
         let first = place.offset as usize;
         let bytes = &self.bytes[first..first + place.length as usize];
-        RecordView::of_version(bytes, places.header().version, place.pips).unwrap()
+        RecordView::of_version(bytes, header.version, place.pips).unwrap()
     }
 }

@@ -3,3 +3,4 @@ pub mod TableCounts
 pub mod Filling
 pub mod Reading
 pub mod Counting
+pub mod KnownCounts

@@ -60,18 +60,6 @@ used-step p k m h l = used-is (6 - p) p (suc k) m (omega arith) ∙ by_room (cas
       (counts.used-more (6 - p) p k m l room
       ∙ sym (ways-is (suc (6 - p)) p k (m - p) (omega arith)))
 
--- the positions of at most m pips are those of fewer and those of m
-pub first_of-step : (m : ℕ) → first_of (m + 1) ≡ first_of m + ways 1 15 m
-first_of-step m =
-    let e : m + 1 ≡ suc m = add-one m in
-    omega
-    (arith, ap first_of e, order.first_of-suc m, order.count_to-step m, ways-is 6 1 15 m refl)
-
--- no more positions have fewer pips than there are
-pub first_of-most : (m : ℕ) → first_of m ≤ 54264
-first_of-most zero = omega (arith, order.first_of-zero)
-first_of-most (suc m) = omega (arith, order.first_of-suc m, totals.count_to-most m)
-
 -- pip counts above 90 count as 90, or 91 where fewer are counted
 pub first_of-capped : (b : ℕ) → first_of (min b 91) ≡ first_of b
 first_of-capped b = by_cases (cases_lt b 91) where

@@ -6,9 +6,11 @@
 //! speaks of the table; `RankTable` is the table alone, for a struct of C.
 #![tactic(auto)]
 
+pub use firsts::{FIRSTS, count_to, first_of, pips_of};
 pub use rank_table::RankTable;
 pub use ranks::Ranks;
 
+pub mod firsts;
 mod point_table;
 pub mod rank_table;
 pub mod ranks;

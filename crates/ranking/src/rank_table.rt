@@ -6,12 +6,9 @@ ghost use Rattle.race_model.specs.Ranks.{rank, at_rank, first_of, count_to};
 ghost use Rattle.ranking.specs.Lists.{ways, used};
 ghost use Rattle.ranking.specs.Tables.{IsRankTable, IsRow};
 
+use crate::firsts::{self, FIRSTS};
 use crate::point_table::PointTable;
-use crate::row::{PIP_COUNTS, Row};
 use home_board::Position;
-
-/// The greatest pip count of a position: 15 checkers on point 6.
-const MOST_PIPS: u8 = 90;
 
 /// How many positions there are.
 const POSITIONS: u16 = 54264;
@@ -47,25 +44,23 @@ impl RankTable {
         }
         RankTable {
             points,
-            starts: starts_of(&ways.rows[15]),
+            starts: FIRSTS,
         }
     }
 
     /// How many positions have fewer than so many pips: the rank of
     /// the first position of so many pips, and 54,264 above 90 pips.
     pub fn first_of(&self, pips: u8) -> u16
-        requires { IsRankTable self.now }
         ensures { result ≡ first_of pips }
     {
-        self.starts[usize::from(pips.min(MOST_PIPS + 1))]
+        firsts::first_of(pips)
     }
 
     /// How many positions have at most so many pips; 54,264 from 90 pips on.
     pub fn count_to(&self, pips: u8) -> u16
-        requires { IsRankTable self.now }
         ensures { result ≡ count_to pips }
     {
-        self.starts[usize::from(pips.min(MOST_PIPS)) + 1]
+        firsts::count_to(pips)
     }
 
     /// The rank of a position: how many positions are before it.
@@ -98,7 +93,7 @@ impl RankTable {
         if index >= POSITIONS {
             return None;
         }
-        let pips = self.pips_of(index);
+        let pips = firsts::pips_of(index);
         let mut later = self.starts[usize::from(pips) + 1] - 1 - index;
         let mut checkers_left = 15;
         let mut pips_left = pips;
@@ -111,18 +106,6 @@ impl RankTable {
             later -= self.used(point, checkers_left, pips_left);
         }
         Position::new(counts).ok()
-    }
-
-    // The pip count of the position of a rank.
-    fn pips_of(&self, index: u16) -> u8
-        requires table { IsRankTable self.now }
-        requires low { index < 54264 }
-        ensures from { first_of result ≤ index }
-        ensures to { index < first_of (result + 1) }
-        ensures range { result ≤ 90 }
-    {
-        let above = self.starts.partition_point(|start| *start <= index);
-        above as u8 - 1
     }
 
     // How many checkers stand on a point, where so many positions come later: the
@@ -160,16 +143,4 @@ impl RankTable {
         let row = &table.rows[usize::from(checkers)];
         row.cells[usize::from(pips)]
     }
-}
-
-/// How many positions have fewer pips, for each pip count from 0 to 91.
-fn starts_of(row: &Row) -> [u16; 92]
-    requires { IsRow (ways 1 15) row.now }
-    ensures { (m : ℕ) → m < 92 → slice_index result m ≡ first_of m }
-{
-    let mut starts = [0; 92];
-    for pips in 0..PIP_COUNTS {
-        starts[pips + 1] = starts[pips] + row.cells[pips];
-    }
-    starts
 }

@@ -1,5 +1,5 @@
 //! Headers, places and the shares that a file leaves out.
-use db_layout::{Header, HeaderFault, Places, RecordView, parse_header};
+use db_layout::{Header, HeaderFault, RecordView, parse_header};
 use fixed_fraction::{Spread, WHOLE};
 use std::process::Abort;
 
@@ -178,7 +178,7 @@ const COMPACT_LENGTHS: [u64; 59] = [
 /// The length of a file.
 fn length_of(version: u16, bound: u8) -> Option<u64> {
     let header = Header::new(version, bound)?;
-    Some(Places::of(header).end())
+    Some(header.end())
 }
 
 /// The lengths of the files of a version, from bound 0 on.

@@ -1,7 +1,8 @@
 -- How many positions there are, in all and to a pip count, by sums that are cheap to compute.
 use Rattle.std.proofs.Common.{◌≡◌, ℕ, zero, suc, ◌+◌, ◌-◌, ◌*◌, ◌<◌, ◌≤◌, ◌⊎◌, ⊎_elim, Bool, true}
-use Rattle.std.proofs.Common.{false, cond, not, ◌&&◌, List, refl, sym, ◌∙◌, ap, subst, inl, inr}
-use Rattle.std.proofs.Common.{arith}
+use Rattle.std.proofs.Common.{false, cond, not, ◌&&◌, List, [], ◌∷◌, map, refl, sym, ◌∙◌, ap, subst, inl, inr}
+use Rattle.std.proofs.Common.{arith, add-one}
+use Rattle.std.specs.List.{range_with_len}
 use Rattle.std.specs.Prelude.{nat_lt, nat_le, ◌==◌}
 use Rattle.std.proofs.lemmas.Bool.{le-leb, leb-true, ltb-true, ltb-false, and_parts, cases_lt}
 use Rattle.race_model.specs.Positions.{Board, IsPosition, pips, finished}
@@ -260,6 +261,21 @@ first_of-next m (suc n) =
       count_to-step m,
       ways-ways_sum 6 1 15 m (omega arith),
     )
+
+-- how many positions have fewer than m pips, m + 1, and so on, n numbers in all, by sums alone
+abbrev pub first_sums : ℕ → ℕ → ℕ → List ℕ
+first_sums m first zero = []
+first_sums m first (suc n) = first ∷ first_sums (suc m) (first + ways_sum 6 1 15 m) n
+
+-- .. and these are the counts of fewer pips
+pub map-first_of : (m n : ℕ) → map first_of (range_with_len m n) ≡ first_sums m (first_of m) n
+map-first_of m zero = refl
+map-first_of m (suc n) =
+    rw (add-one m)
+    (ap (λ xs. first_of m ∷ xs)
+    (map-first_of (suc m) n
+    ∙ ap (λ first. first_sums (suc m) first n)
+    (omega (arith, first_of-suc m, count_to-step m, ways-ways_sum 6 1 15 m (omega arith)))))
 
 -- the positions of 45 to 51 pips, and of 52 to 58
 first_of-52 : first_of 52 ≡ first_of 45 + 11069

@@ -20,7 +20,7 @@ at-requires-clause-inside c =
     ) in
     omega (
       arith,
-      c.start_from.ensures,
+      c.offset_of.ensures,
       ap (record_length version) (pips_between c.args.pips r c.requires.from c.requires.under),
       record_place-rises version r (count_to bound - suc r),
       ap (record_place version) (parts r (count_to bound) under),

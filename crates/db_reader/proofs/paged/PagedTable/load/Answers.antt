@@ -21,7 +21,7 @@ returns-in-Some-clause-ready g c = λ file told.
 
 pub read_record-requires-clause-file : goal.read_record-requires-clause-file
 read_record-requires-clause-file g c =
-    λ file told. c.args.self.now.fits file c.in-Some-places.places told c.in-Some-places.is
+    λ file told. c.args.self.now.fits file c.in-Some-header.header told c.in-Some-header.is
 
 pub invariant_of-self-in_default-read_record : goal.invariant_of-self-in_default-read_record
 invariant_of-self-in_default-read_record g c = record {

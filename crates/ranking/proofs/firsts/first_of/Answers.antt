@@ -1,10 +1,11 @@
 use Rattle.std.proofs.Common.{ap, ◌∙◌, arith}
 use Rattle.race_model.specs.Ranks.{first_of}
 use Rattle.ranking.proofs.TableCounts.{first_of-capped}
-use Rattle.ranking.proofs.rank_table.RankTable.first_of.Goals as goal
+use Rattle.ranking.proofs.KnownCounts.{at_first}
+use Rattle.ranking.proofs.firsts.first_of.Goals as goal
 
 pub returns : goal.returns
 returns c =
-    c.requires.summed c.from.result (omega arith)
+    at_first c.from.result (omega arith)
     ∙ ap first_of (c.from.ensures ∙ c.min.ensures)
     ∙ first_of-capped c.args.pips
