@@ -12,7 +12,7 @@ ghost use Rattle.database.specs.Opened.{IsOpened};
 
 use crate::lent_records::LentRecords;
 use certificate::{CheckFault, check, spread_in};
-use db_layout::RecordView;
+use db_layout::{RecordView, offset_of};
 use db_reader::Whole;
 use fixed_fraction::{Scaled, Spread};
 use home_board::Position;
@@ -154,7 +154,10 @@ impl<'a> Database<'a> {
         ensures record { result ≡ record_at self.now (rank_of position.now) }
         ensures position { IsPosition position.now }
     {
-        self.lent().record(position.pips(), rank)
+        let _bound = self.bound();
+        let lent = self.lent();
+        let pips = position.pips();
+        lent.at(pips, offset_of(lent.version, pips, rank))
     }
 
     /// The record of a position of at most the bound.

@@ -4,10 +4,10 @@
 ghost use Rattle.std.specs.Prelude.{◌≡◌, ◌+◌, ◌<◌, ◌≤◌, length};
 ghost use Rattle.race_model.specs.Ranks.{first_of, count_to};
 ghost use Rattle.race_model.specs.Versions.{version_by, record_length as length_of};
-ghost use Rattle.race_model.specs.Files.{bytes_at, record_place, told_record};
+ghost use Rattle.race_model.specs.Files.{bytes_at, told_record};
 ghost use Rattle.database.specs.Rooms.{HasRoom};
 
-use db_layout::{RecordView, offset_of, record_length};
+use db_layout::{RecordView, record_length};
 use ranking::first_of;
 
 /// Bytes that somebody lends, at least as many as a file of a version and a bound has. No fact is
@@ -27,18 +27,6 @@ pub struct LentRecords<'a> {
 }
 
 impl<'a> LentRecords<'a> {
-    /// What stands for the record of a rank, which is that of a position of so many pips.
-    pub fn record(&self, pips: u8, rank: u16) -> RecordView<'a>
-        requires within { pips ≤ self.now.bound }
-        requires from { first_of pips ≤ rank }
-        requires under { rank < first_of (pips + 1) }
-        ensures { result ≡ told_record (version_by self.now.version) pips
-            (bytes_at self.now.bytes.now (record_place (version_by self.now.version) rank)
-            (length_of (version_by self.now.version) pips)) }
-    {
-        self.at(pips, offset_of(self.version, pips, rank))
-    }
-
     /// What stands for a record of a position of so many pips at a place within the bytes.
     pub fn at(&self, pips: u8, offset: u64) -> RecordView<'a>
         requires low { pips ≤ 58 }

@@ -1,22 +1,16 @@
-use Rattle.std.proofs.Common.{◌≡◌, ℕ, suc, ◌+◌, ◌-◌, ◌<◌, ◌≤◌, List, length, refl, sym, ap, subst, ◌∙◌, w16, w64, arith}
+use Rattle.std.proofs.Common.{◌≡◌, ℕ, suc, ◌+◌, ◌<◌, ◌≤◌, sym, ap, subst, ◌∙◌, w16, w64, arith}
 use Rattle.std.proofs.Math.Facts.{Fits-of_lt}
 use Rattle.race_model.specs.Positions.{pips}
 use Rattle.race_model.specs.Ranks.{at_rank, count_to}
-use Rattle.race_model.specs.Versions.{Version, version_by, record_length}
-use Rattle.race_model.specs.Files.{version_of, bound_of, bytes_at, record_place, told_record, record_at}
+use Rattle.race_model.specs.Versions.{version_by, record_length}
+use Rattle.race_model.specs.Files.{version_of, bound_of, record_place}
 use Rattle.race_model.proofs.Ranks.RankOrder.{count_to-rises}
 use Rattle.race_model.proofs.Ranks.PositionTotals.{count_to-most}
-use Rattle.race_model.proofs.RightFiles.Places.{record_place-next, record_place-most, record_place-rises}
+use Rattle.race_model.proofs.RightFiles.Places.{record_place-next, record_place-most}
 use Rattle.db_layout.proofs.RecordPlaces.{pips_between}
+use Rattle.database.proofs.LentBytes.{found, inside}
 use Rattle.database.proofs.rising_records.RisingRecords.next_record.Goals as goal
 use Rattle.database.proofs.rising_records.RisingRecords.next_record.Goals.{After-level_of-pips}
-
--- what stands at the place of a rank, by the version that the file states, is its record
-found : (f bytes : List ℕ) (version : Version) (p r offset : ℕ) → bytes ≡ f
-    → version ≡ version_of f → p ≡ pips (at_rank r) → offset ≡ record_place version r
-    → told_record version p (bytes_at bytes offset (record_length version p)) ≡ record_at f r
-found f bytes version p r offset bytes_are version_is pips_are offset_is =
-    rw (offset_is, bytes_are, version_is, pips_are) refl
 
 -- the pip count that was found is that of the position of the rank
 pips_are : (c : After-level_of-pips) →
@@ -50,25 +44,21 @@ next c =
       ap (record_length version) (pips_are c),
     )
 
+-- where the record stands, by the version that is kept
+placed : (c : After-level_of-pips) →
+    c.args.self.now.offset
+    ≡ record_place (version_by c.lent-lent.result.version) c.args.self.now.rank
+placed c =
+    c.args.self.now.placed
+    ∙ ap (λ v. record_place v c.args.self.now.rank) (sym c.lent-lent.ensures.version)
+
 pub at-view-requires-clause-inside : goal.at-view-requires-clause-inside
 at-view-requires-clause-inside c =
-    let f = c.args.self.now.database.now in
-    let version = version_of f in
-    let r = c.args.self.now.rank in
-    omega (
-      arith,
-      c.args.self.now.placed,
-      ap (λ v. record_length v c.level_of-pips.result) c.lent-lent.ensures.version,
-      ap (record_length version)
-          (pips_are (goal.at.at-view-requires-clause-inside c).After-level_of-pips),
-      record_place-rises version r (count_to (bound_of f) - suc r),
-      ap (record_place version) (parts r (count_to (bound_of f)) c.requires),
-      c.bound-bound.ensures.right.file.whole,
-      ap length c.lent-lent.ensures.bytes,
-    )
-  where
-    parts : (r n : ℕ) → r < n → suc r + (n - suc r) ≡ n
-    parts r n h = omega (arith, h)
+    let at = (goal.at.at-view-requires-clause-inside c).After-level_of-pips in
+    inside c.args.self.now.database.now c.lent-lent.result.bytes.now c.bound-bound.ensures.right
+    c.lent-lent.ensures.bytes (version_by c.lent-lent.result.version) c.lent-lent.ensures.version
+    c.level_of-pips.result c.args.self.now.rank c.args.self.now.offset (sym (pips_are at))
+    (placed at) c.requires
 
 pub overflow_add-self : goal.overflow_add-self
 overflow_add-self c =
@@ -110,10 +100,9 @@ invariant_of-self c =
 
 pub returns-clause-record : goal.returns-clause-record
 returns-clause-record c =
-    let f = c.args.self.now.database.now in
-    let same = c.lent-lent.ensures.version in
+    let at = (goal.at.returns-clause-record c).After-level_of-pips in
     c.at-view.ensures
-    ∙ found f c.lent-lent.result.bytes.now (version_by c.lent-lent.result.version)
-    c.level_of-pips.result c.args.self.now.rank c.args.self.now.offset c.lent-lent.ensures.bytes
-    same (sym (pips_are (goal.at.returns-clause-record c).After-level_of-pips))
-    (c.args.self.now.placed ∙ ap (λ v. record_place v c.args.self.now.rank) (sym same))
+    ∙ found c.args.self.now.database.now c.lent-lent.result.bytes.now c.bound-bound.ensures.right
+    c.lent-lent.ensures.bytes (version_by c.lent-lent.result.version) c.lent-lent.ensures.version
+    c.level_of-pips.result c.args.self.now.rank c.args.self.now.offset (sym (pips_are at))
+    (placed at)
