@@ -1,6 +1,6 @@
 //! The positions of one pip count.
 ghost use Rattle.std.specs.Prelude.{◌≡◌, ℕ, ◌*◌, ◌<◌, ◌≤◌, List, Err, IfOk, IfErr, OnOk, OnErr};
-ghost use Rattle.race_model.specs.Ranks.{count_to};
+ghost use Rattle.race_model.specs.Ranks.{first_of, count_to};
 ghost use Rattle.race_model.specs.LocalEquations.{whole};
 ghost use Rattle.db_reader.specs.Telling.{WhereTold};
 ghost use Rattle.certificate.specs.Databases.{Stays};
@@ -12,7 +12,7 @@ use certificate::{Checked, QueryFault};
 use db_reader::Table;
 use fixed_fraction::{MOST, Scaled, mean};
 use race_model::laws;
-use ranking::Ranks;
+use ranking::{count_to, first_of};
 
 /// How many positions have a pip count, and the least and the greatest of their means. Refused as
 /// `OverBound` where the pip count is over the bound, and as `Read` where a record could not be
@@ -23,53 +23,71 @@ pub fn audit_level<T: Table>(checked: &mut Checked<T>, pips: u8) -> Result<Level
     ensures level { WhereTold checked.old.told (λ file. IfOk result (HasLevel file pips)) }
     ensures stays { Stays checked.old checked.new (result ≡ Err QueryFault.Read) }
 {
-    laws::law_rank();
-    laws::law_at_rank();
     laws::law_counts();
     if pips > checked.bound() {
         return Err(QueryFault::OverBound);
     }
-    let ranks = Ranks::new();
-    let (first, end) = (ranks.first_of(pips), ranks.count_to(pips));
-    let means = means_of(checked, &ranks, first, end)?;
-    Ok(Level {
-        pips,
-        positions: end - first,
-        least: mean(Scaled::new(means.least).unwrap()),
-        greatest: mean(Scaled::new(means.greatest).unwrap()),
-    })
+    let means = means_of(checked, first_of(pips), count_to(pips))?;
+    Ok(level_of(pips, means))
 }
 
 /// The least and the greatest of some means, as numerators over 36 ^ 22.
 #[derive(Clone, Copy, Debug, PartialEq, Eq)]
-struct Means {
-    least: u128,
-    greatest: u128,
+pub struct LevelMeans {
+    /// The least, and 22 rolls where there is none.
+    pub least: u128,
+
+    /// The greatest, and 0 where there is none.
+    pub greatest: u128,
+}
+
+impl LevelMeans {
+    /// Those of no position.
+    pub const NONE: LevelMeans = LevelMeans {
+        least: MOST,
+        greatest: 0,
+    };
+}
+
+/// The positions of a pip count of at most 58, by the least and the greatest of their means.
+pub fn level_of(pips: u8, means: LevelMeans) -> Level
+    requires low { pips ≤ 58 }
+    requires least { means.least ≤ 22 * whole }
+    requires greatest { means.greatest ≤ 22 * whole }
+    ensures { (file : List ℕ) →
+        AreMeansOf file (first_of pips) (count_to pips) means.least means.greatest →
+        HasLevel file pips result }
+{
+    laws::law_rank();
+    laws::law_at_rank();
+    laws::law_counts();
+    Level {
+        pips,
+        positions: count_to(pips) - first_of(pips),
+        least: mean(Scaled::new(means.least).unwrap()),
+        greatest: mean(Scaled::new(means.greatest).unwrap()),
+    }
 }
 
 /// The least and the greatest mean of the ranks from one on and before another.
 fn means_of<T: Table>(
     checked: &mut Checked<T>,
-    ranks: &Ranks,
     first: u16,
     end: u16,
-) -> Result<Means, QueryFault>
+) -> Result<LevelMeans, QueryFault>
     requires { end ≤ count_to (checked.old.bound) }
     ensures fault { OnErr result (result ≡ Err QueryFault.Read) }
-    ensures bounded { IfOk result (λ means. (means.least ≤ 22 * whole)
-        × (means.greatest ≤ 22 * whole)) }
+    ensures least { IfOk result (λ means. means.least ≤ 22 * whole) }
+    ensures greatest { IfOk result (λ means. means.greatest ≤ 22 * whole) }
     ensures means { WhereTold checked.old.told
         (λ file. IfOk result (λ means. AreMeansOf file first end means.least means.greatest)) }
     ensures stays { Stays checked.old checked.new (result ≡ Err QueryFault.Read) }
 {
     laws::law_rank();
     laws::law_counts();
-    let mut means = Means {
-        least: MOST,
-        greatest: 0,
-    };
+    let mut means = LevelMeans::NONE;
     for rank in first..end {
-        let position = ranks.unrank(rank).unwrap();
+        let position = checked.ranks().unrank(rank).unwrap();
         let mean = recorded_mean(checked, &position)?.numerator();
         means.least = means.least.min(mean);
         means.greatest = means.greatest.max(mean);

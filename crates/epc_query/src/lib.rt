@@ -26,7 +26,7 @@ mod writing;
 
 pub use answer::{Stop, answer_line};
 pub use answers::Answers;
-pub use levels::audit_level;
+pub use levels::{LevelMeans, audit_level, level_of};
 pub use losses::loss;
 pub use move_list::{Cost, MOST_RESULTS, include_cost, moves, price};
 pub use query::{LineFault, Query, read_mean, read_query};

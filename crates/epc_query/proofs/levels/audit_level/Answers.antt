@@ -1,41 +1,11 @@
-use Rattle.std.proofs.Common.{◌<◌, ◌-◌, refl, subst, arith}
-use Rattle.std.proofs.Math.Path.{ap₂}
-use Rattle.race_model.specs.Fractions.{IsMean}
 use Rattle.race_model.specs.Ranks.{first_of, count_to}
 use Rattle.epc_query.specs.LevelMeans.{AreMeansOf}
-use Rattle.epc_query.proofs.PipCounts.{some_rank, level_means}
 use Rattle.epc_query.proofs.levels.audit_level.Goals as goal
-
-pub overflow_sub-result : goal.overflow_sub-result
-overflow_sub-result g c =
-    let some : first_of c.args.pips < count_to c.args.pips =
-    some_rank c.law_rank.ensures.found c.law_rank.ensures.within
-    c.law_at_rank.ensures.position c.law_at_rank.ensures.under c.law_counts.ensures.none
-    c.law_counts.ensures.next
-    c.args.pips (omega (arith, c.if-pips-bound.false, c.bound.ensures.range)) in
-    omega (arith, c.first_of-first.ensures, c.count_to-end.ensures)
 
 pub returns-clause-level : goal.returns-clause-level
 returns-clause-level g c = λ file t.
-    let p = c.args.pips in
     let means = (c.in_ok-means.ensures {u = tt}).means file t in
-    let here : AreMeansOf file (first_of p)
-    (count_to p) c.in_ok-means.means.least c.in_ok-means.means.greatest =
-    rw (← c.first_of-first.ensures, ← c.count_to-end.ensures) means in
-    record {
-      pips = refl;
-      positions = ap₂ (λ a b. a - b) c.count_to-end.ensures c.first_of-first.ensures;
-      least = c.in_ok-means.means.least;
-      greatest = c.in_ok-means.means.greatest;
-      means =
-          level_means c.law_rank.ensures.found c.law_rank.ensures.within
-          c.law_at_rank.ensures.position c.law_at_rank.ensures.under
-          c.law_counts.ensures.none c.law_counts.ensures.next
-          file p _ _ (omega (arith, c.if-pips-bound.false, c.bound.ensures.range)) here;
-      least_is = let same = rw c.unwrap.ensures at c.new.ensures.value in
-          subst (λ n. IsMean n c.mean.result.numerator c.mean.result.denominator) same
-          c.mean.ensures.value;
-      greatest_is = let same = rw c.unwrap-2.ensures at c.new-2.ensures.value in
-          subst (λ n. IsMean n c.mean-2.result.numerator c.mean-2.result.denominator) same
-          c.mean-2.ensures.value;
-    }
+    let here : AreMeansOf file (first_of c.args.pips) (count_to c.args.pips)
+    c.in_ok-means.means.least c.in_ok-means.means.greatest =
+    rw (← c.first_of.ensures, ← c.count_to.ensures) means in
+    c.level_of.ensures file here
