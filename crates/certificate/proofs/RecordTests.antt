@@ -14,13 +14,15 @@ use Rattle.race_model.proofs.Ranks.PositionTotals.{rank-at_rank, count_to-most}
 use Rattle.race_model.proofs.Strategies.Horizons.{ends_in_22}
 use Rattle.race_model.proofs.RightFiles.Bounded.{mean_at_most}
 use Rattle.fixed_fraction.specs.Totals.{Totals}
-use Rattle.certificate.specs.RecordNumbers.{IsMeanOf, IsShareOf, AreSumsOf}
+use Rattle.certificate.specs.RecordNumbers.{IsMeanOf, IsShareOf, AreSumsOf, HasNumbers}
 use Rattle.certificate.proofs.Accepted.{mean-of_lent, share-of_lent}
 use Rattle.certificate.proofs.NumberTests.{mean-holds, mean-tested, share-holds, share-tested}
 use Rattle.certificate.specs.PlayFaults.{FirstOfPlays}
-use Rattle.certificate.specs.RecordFaults.{IsFirstInRecord, IsFirstFaultAt, of_record}
+use Rattle.certificate.specs.RecordFaults.{IsFirstInRecord, IsFirstFaultAt, IsNumberFault, of_record}
 use Rattle.certificate.specs.declared.plays.PlayFault.{PlayFault}
-use Rattle.certificate.specs.declared.plays.PlayFault.TheVariants.{NotLegal, NotLeast, Read}
+use Rattle.certificate.specs.declared.plays.PlayFault.TheVariants.{NotLegal, NotLeast as NotLeastPlay, Read as ReadPlay}
+use Rattle.certificate.specs.declared.record_check.RecordFault.{RecordFault}
+use Rattle.certificate.specs.declared.record_check.RecordFault.TheVariants.{Play, NotLeast, Mean, Spread, Read}
 
 -- the position of a rank under the count
 module _ (bound r : ℕ) (lt : r < count_to bound) where
@@ -61,7 +63,7 @@ module _ (f : List ℕ) (r : ℕ) (lt : r < count_to (bound_of f)) where
       earlier (mean_test q) same before asks = absurd (omega (arith, first.is_roll))
       earlier (spread_test q k) same before asks = absurd (omega (arith, first.is_roll))
 
-  pub first-least : (roll : ℕ) → FirstOfPlays f (at_rank r) roll NotLeast
+  pub first-least : (roll : ℕ) → FirstOfPlays f (at_rank r) roll NotLeastPlay
       → IsFirstInRecord f r (least_test r roll)
   first-least roll first =
       record {
@@ -91,8 +93,8 @@ module _ (f : List ℕ) (r : ℕ) (lt : r < count_to (bound_of f)) where
   pub first-refused : (roll : ℕ) (fault : PlayFault) → FirstOfPlays f (at_rank r) roll fault
       → IsFirstFaultAt f r (of_record roll fault)
   first-refused roll NotLegal first = first-play roll first
-  first-refused roll NotLeast first = first-least roll first
-  first-refused roll Read first = tt
+  first-refused roll NotLeastPlay first = first-least roll first
+  first-refused roll ReadPlay first = tt
 
   -- where all plays hold ..
   module _ (held : (i : ℕ) → i < 21
@@ -176,14 +178,14 @@ module _ (f bytes : List ℕ) (r : ℕ) (sums : Totals) (lt : r < count_to (boun
       (mean-of_lent f bytes (at_rank r) r lent ranked)
 
   -- a mean that isn't that of the sums is the first fault
-  pub wrong-mean : ¬ IsMeanOf (at_rank r) (mean_of bytes) sums → IsFirstInRecord f r (mean_test r)
+  wrong-mean : ¬ IsMeanOf (at_rank r) (mean_of bytes) sums → IsFirstInRecord f r (mean_test r)
   wrong-mean fails = first-mean f r lt known.held (λ has. fails
       (mean-tested f bytes (at_rank r) sums known.are
       (mean-of_lent f bytes (at_rank r) r lent ranked)
       (mean-bounded f r lt known.held small lower) has))
 
   -- and so is a share
-  pub wrong-share : (k : ℕ) → k ≤ 22 → IsMeanOf (at_rank r) (mean_of bytes) sums
+  wrong-share : (k : ℕ) → k ≤ 22 → IsMeanOf (at_rank r) (mean_of bytes) sums
       → ((j : ℕ) → j < k → IsShareOf (at_rank r) (share_of bytes) sums j)
       → ¬ IsShareOf (at_rank r) (share_of bytes) sums k → IsFirstInRecord f r (spread_test r k)
   wrong-share k few mean earlier fails =
@@ -193,11 +195,18 @@ module _ (f bytes : List ℕ) (r : ℕ) (sums : Totals) (lt : r < count_to (boun
       (earlier j less))
       (λ has. fails (share-tested f bytes (at_rank r) sums known.are read k few has))
 
+  -- so the first of the numbers that is wrong is the first fault
+  pub first-wrong : (fault : RecordFault) → IsNumberFault (at_rank r) bytes sums fault
+      → IsFirstFaultAt f r fault
+  first-wrong (Play roll) never = absurd never
+  first-wrong (NotLeast roll) never = absurd never
+  first-wrong Mean fails = wrong-mean fails
+  first-wrong (Spread k) first = wrong-share k first.few first.mean first.earlier first.wrong
+  first-wrong Read never = absurd never
+
   -- where all are those of the sums, the equations hold
-  pub right-numbers : IsMeanOf (at_rank r) (mean_of bytes) sums
-      → ((k : ℕ) → k ≤ 22 → IsShareOf (at_rank r) (share_of bytes) sums k) →
-      IsLocalAt f (at_rank r)
-  right-numbers mean shares = local-at f r lt known.held (holds-mean mean) (λ k few.
+  pub right-numbers : HasNumbers (at_rank r) bytes sums → IsLocalAt f (at_rank r)
+  right-numbers has = local-at f r lt known.held (holds-mean has.mean) (λ k few.
       share-holds f bytes (at_rank r) sums known.are
       (share-of_lent f bytes (at_rank r) r lent ranked) k few
-      (shares k few))
+      (has.shares k few))

@@ -1,7 +1,11 @@
 -- What a fault of a record means.
 use Rattle.std.specs.Prelude.{◌≡◌, ℕ, ◌<◌, List}
+use Rattle.race_model.specs.Positions.{Board}
+use Rattle.race_model.specs.Files.{mean_of}
 use Rattle.race_model.specs.FirstFault.{Test, play_test, least_test, mean_test, spread_test}
 use Rattle.race_model.specs.FirstFault.{rank_of, place_of, Holds, Asks}
+use Rattle.fixed_fraction.specs.Totals.{Totals}
+use Rattle.certificate.specs.RecordNumbers.{IsMeanOf, IsFirstWrong}
 use Rattle.certificate.specs.declared.plays.PlayFault.{PlayFault}
 use Rattle.certificate.specs.declared.plays.PlayFault.TheVariants.{NotLegal, NotLeast as NotLeastPlay, Read as ReadPlay}
 use Rattle.certificate.specs.declared.record_check.RecordFault.{RecordFault}
@@ -27,3 +31,11 @@ abbrev pub of_record : ℕ → PlayFault → RecordFault
 of_record roll NotLegal = Play roll
 of_record roll NotLeastPlay = NotLeast roll
 of_record roll ReadPlay = Read
+
+-- the fault is the first of the numbers in the bytes of a record, by these sums
+abbrev pub IsNumberFault : Board → List ℕ → Totals → RecordFault → Type 0
+IsNumberFault x bytes sums (Play roll) = ⊥
+IsNumberFault x bytes sums (NotLeast roll) = ⊥
+IsNumberFault x bytes sums Mean = ¬ IsMeanOf x (mean_of bytes) sums
+IsNumberFault x bytes sums (Spread k) = IsFirstWrong x bytes sums k
+IsNumberFault x bytes sums Read = ⊥

@@ -4,7 +4,7 @@ use Rattle.std.specs.Prelude.{◌≡◌, ℕ, zero, suc, ◌+◌, ◌*◌, ◌^�
 use Rattle.std.specs.List.{range_with_len}
 use Rattle.race_model.specs.Positions.{Board, IsFinished}
 use Rattle.race_model.specs.Dice.{Throw}
-use Rattle.race_model.specs.Files.{play_of, share_of, mean_at, spread_at, play}
+use Rattle.race_model.specs.Files.{mean_of, play_of, share_of, mean_at, spread_at, play}
 use Rattle.race_model.specs.LocalEquations.{whole, weighted}
 use Rattle.fixed_fraction.specs.Totals.{Totals}
 
@@ -39,6 +39,18 @@ IsShareOf x share sums zero =
 IsShareOf x share sums (suc k) =
     (IsFinished x → share (suc k) ≡ 0)
     × (¬ IsFinished x → 36 * share (suc k) ≡ slice_index sums.shares k)
+
+-- the mean and each share in the bytes of a record are those of these sums
+pub record HasNumbers (x : Board) (bytes : List ℕ) (sums : Totals) : Type 0 where
+  pub mean : IsMeanOf x (mean_of bytes) sums
+  pub shares : (k : ℕ) → k ≤ 22 → IsShareOf x (share_of bytes) sums k
+
+-- the mean is, and of the shares that of exactly k rolls is the first that isn't
+pub record IsFirstWrong (x : Board) (bytes : List ℕ) (sums : Totals) (k : ℕ) : Type 0 where
+  pub few : k ≤ 22
+  pub mean : IsMeanOf x (mean_of bytes) sums
+  pub earlier : (j : ℕ) → j < k → IsShareOf x (share_of bytes) sums j
+  pub wrong : ¬ IsShareOf x (share_of bytes) sums k
 
 -- the mean of the position that a throw is recorded to lead to
 abbrev pub recorded_mean : List ℕ → Board → Throw → ℕ

@@ -19,7 +19,7 @@ ghost use Rattle.certificate.specs.LowerRecords.{IsLower};
 ghost use Rattle.certificate.specs.RecordNumbers.{shares_of, AreSumsOf};
 ghost use Rattle.certificate.specs.RecordFaults.{IsFirstFaultAt, of_record};
 
-use crate::equations::{has_mean, wrong_share};
+use crate::equations::check_numbers;
 use crate::kept::LowerRecords;
 use crate::numbers::{mean_in, plays_in};
 use crate::plays::{PlayFault, check_recorded};
@@ -212,14 +212,7 @@ pub fn check_record<T: Table, const ROOM: usize, const ROWS: usize>(
         Err(refused) => return Err(refused.of_record()),
     };
     let view = table.lend(rank, own);
-    if !has_mean(&position, &view, &sums) {
-        return Err(RecordFault::Mean);
-    }
-    match wrong_share(&position, &view, &sums) {
-        Some(k) => Err(RecordFault::Spread { k }),
-        None => {
-            lower.accept(rank, view.mean());
-            Ok(())
-        }
-    }
+    check_numbers(&position, &view, &sums)?;
+    lower.accept(rank, view.mean());
+    Ok(())
 }

@@ -14,6 +14,7 @@ use Rattle.race_model.proofs.RightFiles.Right.{bound_of-most}
 use Rattle.certificate.specs.PlayFaults.{FirstOfPlays}
 use Rattle.certificate.specs.declared.plays.PlayFault.{PlayFault}
 use Rattle.certificate.specs.declared.plays.PlayFault.TheVariants.{NotLegal, NotLeast, Read}
+use Rattle.certificate.specs.declared.record_check.RecordFault.{RecordFault}
 use Rattle.certificate.specs.declared.record_check.RecordFault.TheVariants.{Read as ReadRecord}
 use Rattle.db_layout.proofs.Bounds.{bound-most}
 use Rattle.least_plays.specs.Known.{HasRows, Knows}
@@ -22,14 +23,15 @@ use Rattle.db_reader.specs.Reads.{HasRecord}
 use Rattle.db_reader.proofs.Failures.{rose_then, rose_as, table_as, table_more, err-same}
 use Rattle.std.proofs.lemmas.Bool.{false≢true}
 use Rattle.certificate.specs.KeptMeans.{kept_mean}
-use Rattle.certificate.specs.RecordNumbers.{IsMeanOf, IsShareOf}
-use Rattle.certificate.specs.RecordFaults.{IsFirstFaultAt, of_record}
+use Rattle.fixed_fraction.specs.Totals.{Totals}
+use Rattle.certificate.specs.RecordNumbers.{HasNumbers}
+use Rattle.certificate.specs.RecordFaults.{IsFirstFaultAt, IsNumberFault, of_record}
 use Rattle.certificate.proofs.Accepted.{play-of_lent}
 use Rattle.certificate.proofs.RecordBytes.{mean-of_record, get_or-plays_of}
 use Rattle.certificate.proofs.KeptMeans.{accepted-mean_more}
-use Rattle.certificate.proofs.RecordTests.{IsSummed, first-refused, wrong-mean, wrong-share, right-numbers}
+use Rattle.certificate.proofs.RecordTests.{IsSummed, first-refused, first-wrong, right-numbers}
 use Rattle.certificate.proofs.record_check.check_record.Given.{Over}
-use Rattle.certificate.proofs.record_check.check_record.Goals.{After-has_mean, After-unwrap-position}
+use Rattle.certificate.proofs.record_check.check_record.Goals.{After-lend-view, After-unwrap-position}
 use Rattle.certificate.proofs.record_check.check_record.Goals as goal
 
 -- the position of the rank, of whose record the tests are
@@ -137,7 +139,7 @@ returns-in-Err-sum_plays-clause-stays g c =
     }
 
 -- what is known when the numbers of the record are tested, where the bytes are told
-module _ (g : Over) (c : After-has_mean g) (file : List ℕ)
+module _ (g : Over) (c : After-lend-view g) (file : List ℕ)
     (told : g.T.Table.tells c.args.table.now ≡ Some file) where
   -- the rank has a record
   below_count : c.args.rank < count_to (bound_of file)
@@ -164,15 +166,8 @@ module _ (g : Over) (c : After-has_mean g) (file : List ℕ)
       record { held = fine.right file now; are = fine.totals file now } in
       subst (λ (x : Board). IsSummed file x c.in-Ok.sums) position-is here
 
-  -- its mean is that of the sums where it is accepted
-  mean-accepted : c.has_mean.result ≡ true →
-      IsMeanOf (at_rank c.args.rank) (mean_of c.lend-view.result) c.in-Ok.sums
-  mean-accepted accepted =
-      subst (λ (x : Board). IsMeanOf x (mean_of c.lend-view.result) c.in-Ok.sums) position-is
-      (c.has_mean.ensures.0 accepted)
-
 -- no read failed where the numbers of the record are tested
-unread : (g : Over) (c : After-has_mean g) →
+unread : (g : Over) (c : After-lend-view g) →
     TableStays g.T.Table c.args.table.now c.sum_plays.new.table ⊥
 unread g c =
     let loaded = c.in_default.ensures {u = tt} in
@@ -183,62 +178,46 @@ unread g c =
     } in
     table_more first (c.in-Ok.ensures {u = tt}).stays (λ no. no)
 
-pub returns-then-not-has_mean-clause-stays : goal.returns-then-not-has_mean-clause-stays
-returns-then-not-has_mean-clause-stays g c =
-    let at = (goal.at.returns-then-not-has_mean-clause-stays g c).After-has_mean in
+-- a fault of the numbers is no failed read
+number-read : (x : Board) (bytes : List ℕ) (sums : Totals) (fault : RecordFault) →
+    IsNumberFault x bytes sums fault → fault ≡ ReadRecord → ⊥
+number-read x bytes sums fault wrong e = subst (IsNumberFault x bytes sums) e wrong
+
+pub returns-in_err-check_numbers-clause-stays : goal.returns-in_err-check_numbers-clause-stays
+returns-in_err-check_numbers-clause-stays g c =
+    let at = (goal.at.returns-in_err-check_numbers-clause-stays g c).After-lend-view in
+    let fault = c.in_err-check_numbers.field-0.0 in
+    let same : c.from_residual.result ≡ Err fault = search rules in
+    table_as (unread g at)
+    (λ e. number-read c.unwrap-position.result c.lend-view.result c.in-Ok.sums fault
+    (c.in_err-check_numbers.ensures {u = tt}).fault (err-same (sym same ∙ e)))
+    (λ no. absurd no)
+
+pub returns-in_err-check_numbers-clause-first : goal.returns-in_err-check_numbers-clause-first
+returns-in_err-check_numbers-clause-first g c file told =
+    let at = (goal.at.returns-in_err-check_numbers-clause-first g c).After-lend-view in
+    let fault = c.in_err-check_numbers.field-0.0 in
+    let same : c.from_residual.result ≡ Err fault = search rules in
+    rw same
+    (first-wrong file c.lend-view.result c.args.rank c.in-Ok.sums (below_count g at file told)
+    (bound_of-most file (c.requires.file file told).file) (c.requires.lower file told)
+    (lent g at file told) (summed g at file told) fault
+    (subst (λ (x : Board). IsNumberFault x c.lend-view.result c.in-Ok.sums fault)
+    (position-is g at file told) (c.in_err-check_numbers.ensures {u = tt}).fault))
+
+pub returns-clause-stays : goal.returns-clause-stays
+returns-clause-stays g c =
+    let at = (goal.at.returns-clause-stays g c).After-lend-view in
     table_as (unread g at) (λ e. cc) (λ no. absurd no)
 
-pub returns-in-Some-clause-stays : goal.returns-in-Some-clause-stays
-returns-in-Some-clause-stays g c =
-    let at = (goal.at.returns-in-Some-clause-stays g c).After-has_mean in
-    table_as (unread g at) (λ e. cc) (λ no. absurd no)
-
-pub returns-in-None-clause-stays : goal.returns-in-None-clause-stays
-returns-in-None-clause-stays g c =
-    let at = (goal.at.returns-in-None-clause-stays g c).After-has_mean in
-    table_as (unread g at) (λ e. cc) (λ no. absurd no)
-
-pub returns-then-not-has_mean-clause-first : goal.returns-then-not-has_mean-clause-first
-returns-then-not-has_mean-clause-first g c file told =
-    let at = (goal.at.returns-then-not-has_mean-clause-first g c).After-has_mean in
-    let bytes = c.lend-view.result in
-    let refused : c.has_mean.result ≡ false = search (rules, tests) in
-    let fails : ¬ IsMeanOf c.unwrap-position.result (mean_of bytes) c.in-Ok.sums =
-    λ is. false≢true (sym refused ∙ c.has_mean.ensures.1 is) in
-    wrong-mean file bytes c.args.rank c.in-Ok.sums (below_count g at file told)
+pub returns-clause-local : goal.returns-clause-local
+returns-clause-local g c file told =
+    let at = (goal.at.returns-clause-local g c).After-lend-view in
+    right-numbers file c.lend-view.result c.args.rank c.in-Ok.sums (below_count g at file told)
     (bound_of-most file (c.requires.file file told).file) (c.requires.lower file told)
-    (lent g at file told)
-    (summed g at file told)
-    (subst (λ (x : Board). ¬ IsMeanOf x (mean_of bytes) c.in-Ok.sums) (position-is g at file told)
-    fails)
-
-pub returns-in-Some-clause-first : goal.returns-in-Some-clause-first
-returns-in-Some-clause-first g c file told =
-    let at = (goal.at.returns-in-Some-clause-first g c).After-has_mean in
-    let bytes = c.lend-view.result in
-    let accepted : c.has_mean.result ≡ true = search (rules, tests) in
-    let wrong = c.in-Some.ensures {u = tt} in
-    let same = position-is g at file told in
-    wrong-share file bytes c.args.rank c.in-Ok.sums (below_count g at file told)
-    (bound_of-most file (c.requires.file file told).file) (c.requires.lower file told)
-    (lent g at file told)
-    (summed g at file told) c.in-Some.k wrong.few (mean-accepted g at file told accepted)
-    (subst (λ (x : Board). (j : ℕ) → j < c.in-Some.k →
-    IsShareOf x (share_of bytes) c.in-Ok.sums j) same wrong.earlier)
-    (subst (λ (x : Board). ¬ IsShareOf x (share_of bytes) c.in-Ok.sums c.in-Some.k) same
-    wrong.wrong)
-
-pub returns-in-None-clause-local : goal.returns-in-None-clause-local
-returns-in-None-clause-local g c file told =
-    let at = (goal.at.returns-in-None-clause-local g c).After-has_mean in
-    let bytes = c.lend-view.result in
-    let accepted : c.has_mean.result ≡ true = search (rules, tests) in
-    right-numbers file bytes c.args.rank c.in-Ok.sums (below_count g at file told)
-    (bound_of-most file (c.requires.file file told).file) (c.requires.lower file told)
-    (lent g at file told)
-    (summed g at file told) (mean-accepted g at file told accepted)
-    (subst (λ (x : Board). (k : ℕ) → k ≤ 22 → IsShareOf x (share_of bytes) c.in-Ok.sums k)
-    (position-is g at file told) (c.in-None.ensures {u = tt}).right)
+    (lent g at file told) (summed g at file told)
+    (subst (λ (x : Board). HasNumbers x c.lend-view.result c.in-Ok.sums)
+    (position-is g at file told) (c.in_ok-check_numbers.ensures {u = tt}).right)
 
 pub sum_plays-requires-clause-results : goal.sum_plays-requires-clause-results
 sum_plays-requires-clause-results g c i lt =
@@ -261,8 +240,8 @@ sum_plays-requires-clause-best g c file told i lt =
     c.requires.kept.means_are file now (rank z) (omega (arith, ranked)) (omega arith))
     (c.best_plays-best.ensures.best i lt)
 
-pub returns-in-None-clause-kept : goal.returns-in-None-clause-kept
-returns-in-None-clause-kept g c = record {
+pub returns-clause-kept : goal.returns-clause-kept
+returns-clause-kept g c = record {
   known = c.accept.ensures.known;
   means_are = λ file told.
       let now = (c.in_default.ensures {u = tt}).stays ∙ told in
