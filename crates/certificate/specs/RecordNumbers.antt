@@ -3,10 +3,10 @@
 use Rattle.std.specs.Prelude.{◌≡◌, ℕ, zero, suc, ◌+◌, ◌*◌, ◌^◌, ◌<◌, ◌≤◌, List, length, map, slice_index}
 use Rattle.std.specs.List.{range_with_len}
 use Rattle.race_model.specs.Positions.{Board, IsFinished}
-use Rattle.race_model.specs.Dice.{Throw}
+use Rattle.race_model.specs.Dice.{Throw, weight}
 use Rattle.race_model.specs.Files.{mean_of, play_of, share_of, mean_at, spread_at, play}
 use Rattle.race_model.specs.LocalEquations.{whole, weighted}
-use Rattle.fixed_fraction.specs.Totals.{Totals}
+use Rattle.fixed_fraction.specs.Totals.{Totals, IsAdded}
 
 -- the plays of the rolls 0 to 20 in the bytes of a record
 unfoldable pub plays_of : List ℕ → List ℕ
@@ -65,3 +65,10 @@ pub record AreSumsOf (f : List ℕ) (x : Board) (sums : Totals) : Type 0 where
   pub means : sums.mean ≡ weighted (recorded_mean f x)
   pub each : (k : ℕ) → k < 23 →
       slice_index sums.shares k ≡ weighted (λ v. recorded_share f x v k)
+
+-- what is recorded for a throw was added with its weight: the mean, and the share of each of 0 to
+-- 22 rolls
+pub record IsAddedPlay (f : List ℕ) (x : Board) (v : Throw) (before after : Totals) : Type 0 where
+  pub shares : List ℕ
+  pub are : (k : ℕ) → k < 23 → slice_index shares k ≡ recorded_share f x v k
+  pub added : IsAdded before (weight v) (recorded_mean f x v) shares after

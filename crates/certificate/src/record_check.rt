@@ -13,10 +13,11 @@ ghost use Rattle.fixed_fraction.specs.Totals.{IsAdded};
 ghost use Rattle.db_reader.specs.Telling.{WhereTold};
 ghost use Rattle.db_reader.specs.TableStays.{TableStays};
 ghost use Rattle.db_reader.specs.Reads.{HasHeader, HasRecord};
-ghost use Rattle.certificate.specs.PlayFaults.{FirstOfPlays};
+ghost use Rattle.certificate.specs.PlayFaults.{Applies, FirstOfPlays};
 ghost use Rattle.certificate.specs.KeptMeans.{HasRoom};
 ghost use Rattle.certificate.specs.LowerRecords.{IsLower};
-ghost use Rattle.certificate.specs.RecordNumbers.{shares_of, AreSumsOf};
+ghost use Rattle.certificate.specs.RecordNumbers.{shares_of, AreSumsOf, IsAddedPlay};
+ghost use Rattle.race_model.specs.Horizon.{most_rolls};
 ghost use Rattle.certificate.specs.RecordFaults.{IsFirstFaultAt, of_record};
 
 use crate::equations::check_numbers;
@@ -95,13 +96,81 @@ fn add_numbers(
     Ok(())
 }
 
-/// At how many rolls, up to some number, a play can have its first share: a roll takes four
-/// checkers off at most.
-fn first_share(position: &Position, rolls: u8) -> u8
-    ensures order { result ≤ rolls }
-    ensures none { (k : ℕ) → k < result → 4 * k + 4 < checkers position.now }
+/// A position of at most 58 pips whose record is tested, and the numbers of rolls at which a play
+/// from it can have a share: from one on, since a roll takes at most four checkers off, and before
+/// another, the most that the position itself can need.
+#[derive(Drop)]
+struct Subject<'a> {
+    position: &'a Position,
+    first: u8,
+    end: u8,
+    ghost is: { IsPosition position.now },
+    ghost short: { pips position.now ≤ 58 },
+    ghost end_is: { end ≡ most_rolls (pips position.now) },
+    ghost order: { first ≤ end },
+    ghost none: { (k : ℕ) → k < first → 4 * k + 4 < checkers position.now },
+}
+
+impl<'a> Subject<'a> {
+    /// The position, with these numbers.
+    fn of(position: &'a Position) -> Self
+        requires { pips position.now ≤ 58 }
+        ensures { result.position.now ≡ position.now }
+    {
+        let end = most_rolls(position.pips());
+        Subject {
+            position,
+            first: (position.checkers().saturating_sub(1) / 4).min(end),
+            end,
+        }
+    }
+}
+
+/// Tests what is recorded for a roll, as `check_recorded` does, and adds its numbers with the
+/// weight of the roll; none for the finished position, which has no lower records.
+#[inline(always)]
+fn add_play<T: Table>(
+    table: &mut T,
+    ranks: &Ranks,
+    subject: &Subject<'_>,
+    roll: Roll,
+    recorded: u16,
+    best: u16,
+    sums: &mut RecordSums,
+    room: &mut Record,
+) -> Result<(), PlayFault>
+    requires recorded { WhereTold (T.tells table.old)
+        (λ file. recorded ≡ play file subject.now.position.now roll) }
+    requires records { (y : Board) → Legal subject.now.position.now roll y →
+        HasRecord (T.accepted table.old) (rank_of y) }
+    requires lower { WhereTold (T.tells table.old) (λ file. (z : Board) → IsPosition z →
+        rank_of z < rank_of subject.now.position.now → IsLocalAt file z) }
+    requires result_best { (y : Board) × (Legal subject.now.position.now roll y)
+        × (rank_of y ≡ best) }
+    requires best { WhereTold (T.tells table.old)
+        (λ file. IsBestPlay (mean_at file) subject.now.position.now roll best) }
+    requires light { sums.old.weight + weight roll ≤ 36 }
+    ensures light { OnOk result (sums.new.weight ≤ sums.old.weight + weight roll) }
+    ensures others { (bytes : List ℕ) (other : ℕ) →
+        T.ready table.old bytes other → T.ready table.new bytes other }
+    ensures right { WhereTold (T.tells table.old) (λ file. OnOk result
+        (IsPlayed file subject.now.position.now roll × IsBest file subject.now.position.now roll)) }
+    ensures added { WhereTold (T.tells table.old) (λ file. OnOk result
+        (¬ IsFinished subject.now.position.now →
+        IsAddedPlay file subject.now.position.now roll sums.old sums.new)) }
+    ensures fault { WhereTold (T.tells table.old)
+        (λ file. IfErr result (Applies file subject.now.position.now roll)) }
+    ensures stays { TableStays ⟦<T as Table>⟧ table.old table.new (result ≡ Err PlayFault.Read) }
 {
-    (position.checkers().saturating_sub(1) / 4).min(rolls)
+    check_recorded(table, ranks, subject.position, roll, recorded, best, room)?;
+    if subject.position.is_finished() {
+        return Ok(());
+    }
+    let view = table.lend(recorded, room);
+    match add_numbers(sums, roll, &view, subject.first, subject.end) {
+        Ok(()) => Ok(()),
+        Err(ReadFault) => Err(PlayFault::Read),
+    }
 }
 
 /// The sums of what is recorded for the 21 rolls, where each is the rank of a result with the
@@ -111,20 +180,18 @@ fn sum_plays<T: Table>(
     table: &mut T,
     ranks: &Ranks,
     position: &Position,
-    rank: u16,
     best: &[u16; 21],
     recorded: &[u16; 21],
     room: &mut Record,
 ) -> Result<RecordSums, RefusedPlay>
-    requires position { IsPosition position.now }
     requires short { pips position.now ≤ 58 }
-    requires rank { rank ≡ rank_of position.now }
     requires recorded { WhereTold (T.tells table.old) (λ file. (i : ℕ) → i < 21 →
         slice_index recorded.now i ≡ play file position.now (roll_at i)) }
     requires records { (y : Board) → IsPosition y → pips y ≤ pips position.now →
         HasRecord (T.accepted table.old) (rank_of y) }
     requires lower { WhereTold (T.tells table.old)
-        (λ file. (z : Board) → IsPosition z → rank_of z < rank → IsLocalAt file z) }
+        (λ file. (z : Board) → IsPosition z → rank_of z < rank_of position.now →
+        IsLocalAt file z) }
     requires results { (i : ℕ) → i < 21 →
         (y : Board) × (Legal position.now (roll_at i) y) × (rank_of y ≡ slice_index best.now i) }
     requires best { WhereTold (T.tells table.old) (λ file. (i : ℕ) → i < 21 →
@@ -141,26 +208,15 @@ fn sum_plays<T: Table>(
         (IsErrAnd result (λ refused. refused.fault ≡ PlayFault.Read)) }
 {
     law_sums();
-    // no play has a share from there on
-    let rolls = most_rolls(position.pips());
-    let first = first_share(position, rolls);
+    let subject = Subject::of(position);
     let mut sums = RecordSums::new();
     for index in 0..21 {
         let roll = Roll::from_index(index).unwrap();
         let place = usize::from(index);
-        let recorded = recorded[place];
-        let best = best[place];
-        if let Err(fault) = check_recorded(table, ranks, position, roll, recorded, best, room) {
+        let (recorded, best) = (recorded[place], best[place]);
+        if let Err(fault) = add_play(table, ranks, &subject, roll, recorded, best, &mut sums, room)
+        {
             return Err(RefusedPlay { roll: index, fault });
-        }
-        if position.is_finished() {
-            continue;
-        }
-        if let Err(_) = add_numbers(&mut sums, roll, &table.lend(recorded, room), first, rolls) {
-            return Err(RefusedPlay {
-                roll: index,
-                fault: PlayFault::Read,
-            });
         }
     }
     Ok(sums)
@@ -207,7 +263,7 @@ pub fn check_record<T: Table, const ROOM: usize, const ROWS: usize>(
     let position = ranks.unrank(rank).unwrap();
     let best = lower.best_plays(ranks, &position);
     let recorded = plays_in(&table.lend(rank, own));
-    let sums = match sum_plays(table, ranks, &position, rank, &best, &recorded, room) {
+    let sums = match sum_plays(table, ranks, &position, &best, &recorded, room) {
         Ok(sums) => sums,
         Err(refused) => return Err(refused.of_record()),
     };

@@ -4,6 +4,7 @@ use Rattle.std.proofs.Common.{subst, ◌∙◌, arith, rules, tests}
 use Rattle.race_model.specs.Positions.{Board, IsPosition, pips}
 use Rattle.race_model.specs.Ranks.{rank, count_to, at_rank}
 use Rattle.race_model.specs.Dice.{roll_at}
+use Rattle.race_model.specs.LocalEquations.{IsLocalAt}
 use Rattle.race_model.specs.Files.{bound_of, record_at, mean_of, mean_at, play_of, share_of}
 use Rattle.race_model.proofs.Dice.Throws.{roll_of_index}
 use Rattle.race_model.proofs.Plays.Results.{legal_position}
@@ -95,8 +96,10 @@ sum_plays-requires-clause-records g c y is fewer =
     (omega (arith, c.args.header.counted, under))
 
 pub sum_plays-requires-clause-lower : goal.sum_plays-requires-clause-lower
-sum_plays-requires-clause-lower g c file told = c.requires.lower file
-    (sym (c.in_default.ensures {u = tt}).stays ∙ told)
+sum_plays-requires-clause-lower g c file told =
+    let here = (goal.at.sum_plays-requires-clause-lower g c).After-unwrap-position in
+    subst (λ r. (z : Board) → IsPosition z → rank z < r → IsLocalAt file z) (sym (ranked g here))
+    (c.requires.lower file (sym (c.in_default.ensures {u = tt}).stays ∙ told))
 
 -- the fault of a play is a failed read exactly where it is one as a fault of the record
 play-read : (roll : ℕ) (fault : PlayFault) → (of_record roll fault ≡ ReadRecord) ↔ (fault ≡ Read)
