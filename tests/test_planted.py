@@ -26,7 +26,7 @@ TESTS = ["rt", "try", "--test", "--steps", "1", "--seconds", "200"]
 PROGRAM = ["rt", "try", "--steps", "1", "--seconds", "200"]
 
 BUILDING = "crates/retrograde/src/building.rt"
-LENT = "crates/retrograde/src/lent_records.rt"
+LENT = "crates/retrograde/src/room_records.rt"
 UPGRADING = "crates/certificate/src/upgrading.rt"
 MEANS = "crates/retrograde/src/means.rt"
 WRITING = "crates/db_layout/src/writing.rt"
@@ -264,7 +264,8 @@ PLANTED = [
         ACT,
         TELL,
         "    match perform(rt, alloc, words, input, output) {\n        Ok(()) => 0,\n"
-        "        Err(Refusal::Words(_)) => 2,\n        Err(Refusal::Failed(fault)) => fault.status(),\n    }",
+        "        Err(ProgramFault::Words(_)) => 2,\n"
+        "        Err(ProgramFault::Failed(fault)) => fault.status(),\n    }",
         "bearoff_cli check NOTHING",
     ),
     (

@@ -26,8 +26,8 @@ use Rattle.command_line.specs.declared.words.Request.TheVariants.{Default, Build
 use Rattle.bearoff_cli.specs.Faults.{IsFaultIn, IsOwnFault, IsFaultOf, IsRefused}
 use Rattle.bearoff_cli.specs.StoppedRuns.{IsRefusalOf, Leaves}
 use Rattle.bearoff_cli.specs.Tellings.{IsToldBy}
-use Rattle.bearoff_cli.specs.declared.act.Refusal.{Refusal}
-use Rattle.bearoff_cli.specs.declared.act.Refusal.TheVariants.{Words, Failed}
+use Rattle.bearoff_cli.specs.declared.act.ProgramFault.{ProgramFault}
+use Rattle.bearoff_cli.specs.declared.act.ProgramFault.TheVariants.{Words, Failed}
 use Rattle.bearoff_cli.proofs.Requests.{IsSame, of_same}
 
 -- the first fault that a check found
@@ -143,7 +143,7 @@ same_fault remaining request given input left old new fault =
 
 -- .. where that fault is the refusal
 pub same_refusal : {A F : Type 0} (remaining : F → Option (List ℕ)) (request given : Request)
-    (input left old new : Option (List ℕ)) (ended : Result A Fault) (r : Result A Refusal)
+    (input left old new : Option (List ℕ)) (ended : Result A Fault) (r : Result A ProgramFault)
     → IsSame request given → IfErr ended (λ fault. IsFaultOf remaining given fault)
     → IfErr ended (λ fault. Leaves remaining given input left old new fault)
     → IfOk ended (λ done. r ≡ Ok done) → IfErr ended (λ fault. r ≡ Err (Failed fault))
@@ -154,7 +154,7 @@ same_refusal remaining request given input left old new (Err e) r same fault lea
     rw failed (same_fault remaining request given input left old new e same (fault, leaves))
 
 -- what was done where no refusal came is done
-pub done_if : {A P Q : Type 0} (ended : Result A Fault) (r : Result A Refusal) → OnOk ended P
+pub done_if : {A P Q : Type 0} (ended : Result A Fault) (r : Result A ProgramFault) → OnOk ended P
     → (P → Q) → IfErr ended (λ fault. r ≡ Err (Failed fault)) → OnOk r Q
 done_if (Ok x) (Ok y) p f failed = f p
 done_if (Ok x) (Err e) p f failed = tt
@@ -162,7 +162,7 @@ done_if (Err e) r p f failed = rw failed tt
 
 -- the end of a request that was refused, as it was told
 pub told_end : {A F : Type 0} (remaining : F → Option (List ℕ)) (request : Request)
-    (input left old new : Option (List ℕ)) (r : Result A Refusal) (status : ℕ)
+    (input left old new : Option (List ℕ)) (r : Result A ProgramFault) (status : ℕ)
     (Line : List ℕ → Type 0) (Same : Type 0) → OnOk r ((status ≡ 0) × Same)
     → IfErr r (λ refusal. IsToldBy refusal status Line)
     → IfErr r (λ refusal. IsRefusalOf remaining request input left old new refusal)

@@ -2,8 +2,8 @@
 use Rattle.std.specs.Prelude.{◌≡◌, ℕ, ◌<◌, List, Option, Result, IfErr}
 use Rattle.exit_status.specs.Statuses.{status_of}
 use Rattle.exit_status.specs.declared.fault.Fault.{Fault}
-use Rattle.bearoff_cli.specs.declared.act.Refusal.{Refusal}
-use Rattle.bearoff_cli.specs.declared.act.Refusal.TheVariants.{Words, Failed}
+use Rattle.bearoff_cli.specs.declared.act.ProgramFault.{ProgramFault}
+use Rattle.bearoff_cli.specs.declared.act.ProgramFault.TheVariants.{Words, Failed}
 
 -- the output is as it was where the program ends with the status of a bound that is too large, or
 -- of a refused database
@@ -12,11 +12,11 @@ abbrev pub KeepsIfRefused : {T : Type 0} →
 KeepsIfRefused result old new = IfErr result (λ fault. 1 < status_of fault → new ≡ old)
 
 -- .. and where the words are wrong
-abbrev pub KeepsAt : Option (List ℕ) → Option (List ℕ) → Refusal → Type 0
+abbrev pub KeepsAt : Option (List ℕ) → Option (List ℕ) → ProgramFault → Type 0
 KeepsAt old new (Words error) = new ≡ old
 KeepsAt old new (Failed fault) = 1 < status_of fault → new ≡ old
 
 -- where the result is a refusal, the output is as `KeepsAt` says
 abbrev pub KeepsIfTold : {T : Type 0} →
-    Result T Refusal → Option (List ℕ) → Option (List ℕ) → Type 0
+    Result T ProgramFault → Option (List ℕ) → Option (List ℕ) → Type 0
 KeepsIfTold result old new = IfErr result (KeepsAt old new)

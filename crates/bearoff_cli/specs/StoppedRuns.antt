@@ -18,8 +18,8 @@ use Rattle.exit_status.specs.declared.fault.Fault.{Fault}
 use Rattle.bearoff_cli.specs.Faults.{IsFaultOf}
 use Rattle.bearoff_cli.specs.FileAnswers.{AreLevelLines, IsReadFrom, count_line}
 use Rattle.bearoff_cli.specs.declared.act.Done.TheVariants.{Built, Checked, Upgraded}
-use Rattle.bearoff_cli.specs.declared.act.Refusal.{Refusal}
-use Rattle.bearoff_cli.specs.declared.act.Refusal.TheVariants.{Words, Failed}
+use Rattle.bearoff_cli.specs.declared.act.ProgramFault.{ProgramFault}
+use Rattle.bearoff_cli.specs.declared.act.ProgramFault.TheVariants.{Words, Failed}
 
 -- the replies to the lines of an input, over a right database, stopped so: what was written is what
 -- `run` says of the fault's cause
@@ -74,7 +74,7 @@ Leaves remaining (Upgrade before after) input left old new fault =
 
 -- a request was refused so, and its words are not wrong
 abbrev pub IsRefusalOf : {F : Type 0} → (F → Option (List ℕ)) → Request → Option (List ℕ)
-    → Option (List ℕ) → Option (List ℕ) → Option (List ℕ) → Refusal → Type 0
+    → Option (List ℕ) → Option (List ℕ) → Option (List ℕ) → ProgramFault → Type 0
 IsRefusalOf remaining request input left old new (Words error) = ⊥
 IsRefusalOf remaining request input left old new (Failed fault) =
     IsFaultOf remaining request fault × Leaves remaining request input left old new fault

@@ -2,10 +2,10 @@
 use Rattle.std.specs.Prelude.{◌≡◌, ℕ, List}
 use Rattle.exit_status.specs.Lines.{error_line}
 use Rattle.exit_status.specs.Statuses.{status_of}
-use Rattle.bearoff_cli.specs.declared.act.Refusal.{Refusal}
-use Rattle.bearoff_cli.specs.declared.act.Refusal.TheVariants.{Words, Failed}
+use Rattle.bearoff_cli.specs.declared.act.ProgramFault.{ProgramFault}
+use Rattle.bearoff_cli.specs.declared.act.ProgramFault.TheVariants.{Words, Failed}
 
 -- a refusal has this status, and of its line this holds; the text for wrong words is left to `clap`
-abbrev pub IsToldBy : Refusal → ℕ → (List ℕ → Type 0) → Type 0
+abbrev pub IsToldBy : ProgramFault → ℕ → (List ℕ → Type 0) → Type 0
 IsToldBy (Words error) status Holds = status ≡ 2
 IsToldBy (Failed fault) status Holds = (status ≡ status_of fault) × Holds (error_line fault)

@@ -29,7 +29,7 @@ ghost use Rattle.bearoff_cli.specs.Requests.{Asks, IsDone};
 ghost use Rattle.bearoff_cli.specs.StoppedRuns.{AreStopped, IsNothingOr, IsRefusalOf, Leaves};
 ghost use Rattle.bearoff_cli.specs.StoppedRuns.{SaysRightPart, SaysUpgradedPart, WritesLevelPart};
 ghost use Rattle.bearoff_cli.specs.declared.act.Done.TheVariants.{Built};
-ghost use Rattle.bearoff_cli.specs.declared.act.Refusal.TheVariants.{Failed};
+ghost use Rattle.bearoff_cli.specs.declared.act.ProgramFault.TheVariants.{Failed};
 
 use crate::files::{
     affordable, build_file, flush, probe_stack, read_file, stack_room, upgrade_file,
@@ -106,7 +106,7 @@ struct Told {
 
 /// Tells the end of the program: nothing where it did what was asked for, and else why it didn't,
 /// by a line or, of wrong words, by the text of `clap`.
-fn tell<E: Write>(ended: Result<(), Refusal>, errors: &mut E) -> Told
+fn tell<E: Write>(ended: Result<(), ProgramFault>, errors: &mut E) -> Told
     ensures silent { OnOk ended
         ((result.status ≡ 0) × (E.contents errors.new ≡ E.contents errors.old)) }
     ensures told { IfErr ended (λ refusal. IsToldBy refusal result.status
@@ -119,14 +119,14 @@ fn tell<E: Write>(ended: Result<(), Refusal>, errors: &mut E) -> Told
             status: 0,
             line: Ok(()),
         },
-        Err(Refusal::Words(error)) => {
+        Err(ProgramFault::Words(error)) => {
             let written = write!(errors, "{error}");
             Told {
                 status: 2,
                 line: written.map_err(|_| WriteFault),
             }
         }
-        Err(Refusal::Failed(fault)) => Told {
+        Err(ProgramFault::Failed(fault)) => Told {
             status: fault.status(),
             line: write_fault(&fault, errors),
         },
@@ -135,7 +135,7 @@ fn tell<E: Write>(ended: Result<(), Refusal>, errors: &mut E) -> Told
 
 /// Why the program ends with another status than 0.
 #[derive(Drop)]
-enum Refusal {
+enum ProgramFault {
     /// The words are wrong.
     Words(Error),
 
@@ -150,7 +150,7 @@ fn perform<R: Files, S: AsStr, I: Read, O: Write>(
     words: &[S],
     input: &mut I,
     output: &mut O,
-) -> Result<(), Refusal>
+) -> Result<(), ProgramFault>
     ensures refused { KeepsIfTold result (O.contents output.old) (O.contents output.new) }
     ensures fault { (request : Request) → Asks (map S.text words.entry.now) request
         → IfErr result (λ refusal. IsRefusalOf R.File.remaining request
@@ -164,21 +164,21 @@ fn perform<R: Files, S: AsStr, I: Read, O: Write>(
     match read_words(alloc, words) {
         Ok(request) => refused(fulfil(rt, alloc, request, input, output)),
         Err(error) if error.kind() == ErrorKind::OutOfMemory => {
-            Err(Refusal::Failed(Fault::Memory))
+            Err(ProgramFault::Failed(Fault::Memory))
         }
-        Err(error) if error.use_stderr() => Err(Refusal::Words(error)),
+        Err(error) if error.use_stderr() => Err(ProgramFault::Words(error)),
         Err(error) => refused(write_help(&error, output)),
     }
 }
 
 /// A fault as a refusal.
-fn refused(ended: Result<(), Fault>) -> Result<(), Refusal>
+fn refused(ended: Result<(), Fault>) -> Result<(), ProgramFault>
     ensures done { IfOk ended (λ done. result ≡ Ok done) }
     ensures fault { IfErr ended (λ fault. result ≡ Err (Failed fault)) }
 {
     match ended {
         Ok(()) => Ok(()),
-        Err(fault) => Err(Refusal::Failed(fault)),
+        Err(fault) => Err(ProgramFault::Failed(fault)),
     }
 }
 

@@ -51,11 +51,11 @@ pub fn check_records<T: Table>(table: &mut T, ranks: &Ranks) -> Result<Header, C
     };
     let count = usize::from(header.count);
     if count <= ROOM_TO_8 {
-        check_under::<T, ROOM_TO_8, ROWS_TO_8>(table, ranks, header)
+        check_with_room::<T, ROOM_TO_8, ROWS_TO_8>(table, ranks, header)
     } else if count <= ROOM_TO_44 {
-        check_under::<T, ROOM_TO_44, ROWS_TO_58>(table, ranks, header)
+        check_with_room::<T, ROOM_TO_44, ROWS_TO_58>(table, ranks, header)
     } else {
-        check_under::<T, ROOM_TO_58, ROWS_TO_58>(table, ranks, header)
+        check_with_room::<T, ROOM_TO_58, ROWS_TO_58>(table, ranks, header)
     }
 }
 
@@ -64,7 +64,7 @@ pub fn check_records<T: Table>(table: &mut T, ranks: &Ranks) -> Result<Header, C
 // so that its room is on the stack while it checks, and not while the header is read or its
 // caller goes on
 #[inline(never)]
-fn check_under<T: Table, const ROOM: usize, const ROWS: usize>(
+fn check_with_room<T: Table, const ROOM: usize, const ROWS: usize>(
     table: &mut T,
     ranks: &Ranks,
     header: Header,

@@ -9,7 +9,7 @@ ghost use Rattle.least_plays.specs.Known.{HasRows, Knows};
 ghost use Rattle.certificate.specs.KeptMeans.{kept_place, kept_mean, HasRoom};
 
 use home_board::Position;
-use least_plays::{LeastPlays, Means};
+use least_plays::{LeastPlays, RankedMeans};
 use ranking::Ranks;
 use std::marker::Model;
 
@@ -62,7 +62,7 @@ fn kept_place(rank: u16, room: usize) -> usize
 }
 
 /// They are what the best plays go by.
-impl<const ROOM: usize> Means for AcceptedMeans<ROOM> {
+impl<const ROOM: usize> RankedMeans for AcceptedMeans<ROOM> {
     ghost mean = { λ accepted. kept_mean ROOM accepted };
 
     ghost count = { λ accepted. ROOM + ROOM };

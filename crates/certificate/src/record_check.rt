@@ -214,8 +214,9 @@ fn sum_plays<T: Table>(
         let roll = Roll::from_index(index).unwrap();
         let place = usize::from(index);
         let (recorded, best) = (recorded[place], best[place]);
-        if let Err(fault) = add_play(table, ranks, &subject, roll, recorded, best, &mut sums, room)
-        {
+        if let Err(fault) = add_play(
+            table, ranks, &subject, roll, recorded, best, &mut sums, room,
+        ) {
             return Err(RefusedPlay { roll: index, fault });
         }
     }

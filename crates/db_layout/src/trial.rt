@@ -7,7 +7,7 @@ use std::io::Write;
 
 /// What a writer does at a call of `write` that it refuses.
 #[derive(Clone, Copy)]
-pub enum Refusal {
+pub enum WriteRefusal {
     /// It fails.
     Fails,
 
@@ -36,13 +36,13 @@ pub struct RefuseAt {
     pub flush_fails: bool,
 
     takes: usize,
-    refusal: Refusal,
+    refusal: WriteRefusal,
 }
 
 impl RefuseAt {
     /// A writer that takes at most so many bytes a call, and refuses its call of `write` of this
     /// number, counted from 1, and none where that is 0.
-    pub fn new(alloc: Global, takes: usize, refused: u64, refusal: Refusal) -> Self
+    pub fn new(alloc: Global, takes: usize, refused: u64, refusal: WriteRefusal) -> Self
         ensures { ⟦<RefuseAt as Write>⟧.contents result ≡ Some [] }
     {
         RefuseAt {
@@ -60,7 +60,7 @@ impl RefuseAt {
     pub fn never(alloc: Global, takes: usize) -> Self
         ensures { ⟦<RefuseAt as Write>⟧.contents result ≡ Some [] }
     {
-        RefuseAt::new(alloc, takes, 0, Refusal::Fails)
+        RefuseAt::new(alloc, takes, 0, WriteRefusal::Fails)
     }
 }
 
@@ -71,8 +71,8 @@ impl Write for RefuseAt {
         self.calls = self.calls.saturating_add(1);
         if self.calls == self.refused {
             return match self.refusal {
-                Refusal::Fails => Err(io::Error::from(io::ErrorKind::Other)),
-                Refusal::TakesNothing => Ok(0),
+                WriteRefusal::Fails => Err(io::Error::from(io::ErrorKind::Other)),
+                WriteRefusal::TakesNothing => Ok(0),
             };
         }
         let taken = &buf[..buf.len().min(self.takes)];

@@ -2,7 +2,7 @@
 use crate::inputs::{INPUT, REPLIES};
 use crate::wrong::{Wrong, database};
 use certificate::Checked;
-use db_layout::trial::{Refusal, RefuseAt};
+use db_layout::trial::{RefuseAt, WriteRefusal};
 use db_layout::{Header, write_header, write_record};
 use db_reader::{Table, Whole};
 use epc_query::{Choice, Reply, answer_line, audit_level, run, write_level, write_reply};
@@ -57,9 +57,9 @@ pub(crate) fn fail_writes(
         return Err(Wrong::At(0));
     }
     for call in 1..10_000 {
-        let failing = RefuseAt::new(alloc, takes, call, Refusal::Fails);
+        let failing = RefuseAt::new(alloc, takes, call, WriteRefusal::Fails);
         let has_ended = refuse(alloc, &mut checked, text, failing, whole.written.as_slice())?;
-        let idle = RefuseAt::new(alloc, takes, call, Refusal::TakesNothing);
+        let idle = RefuseAt::new(alloc, takes, call, WriteRefusal::TakesNothing);
         if refuse(alloc, &mut checked, text, idle, whole.written.as_slice())? != has_ended {
             return Err(Wrong::At(call));
         }

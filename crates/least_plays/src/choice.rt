@@ -2,10 +2,10 @@
 ghost use Rattle.std.specs.Prelude.{◌≡◌, ℕ, ◌<◌, length, slice_index};
 ghost use Rattle.least_plays.specs.Choices.{IsBetterOf};
 
-use crate::Means;
+use crate::RankedMeans;
 
 /// Of two ranks the one of smaller mean and, of equal means, the lower one.
-pub fn better<M: Means>(one: u16, other: u16, means: &M) -> u16
+pub fn better<M: RankedMeans>(one: u16, other: u16, means: &M) -> u16
     requires one { one < M.count means.now }
     requires other { other < M.count means.now }
     ensures { IsBetterOf (M.mean means.now) one other result }
@@ -27,7 +27,7 @@ pub fn better<M: Means>(one: u16, other: u16, means: &M) -> u16
 
 /// The better of each two of nine ranks and nine others.
 #[inline(always)]
-pub fn better_of_each<M: Means>(ones: &[u16; 9], others: &[u16; 9], means: &M) -> [u16; 9]
+pub fn better_of_each<M: RankedMeans>(ones: &[u16; 9], others: &[u16; 9], means: &M) -> [u16; 9]
     requires ones { (j : ℕ) → j < 9 → slice_index ones.now j < M.count means.now }
     requires others { (j : ℕ) → j < 9 → slice_index others.now j < M.count means.now }
     ensures better { (j : ℕ) → j < 9 →

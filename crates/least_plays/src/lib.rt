@@ -6,7 +6,7 @@
 //! that `advance` answers the best play of each roll. No contract says how the numbers are kept.
 #![tactic(auto)]
 
-pub use means::Means;
+pub use means::RankedMeans;
 pub use room::{LeastPlays, ROWS_TO_8, ROWS_TO_58};
 
 mod choice;

@@ -2,7 +2,7 @@
 ghost use Rattle.std.specs.Prelude.{◌≡◌, ℕ, ◌<◌};
 
 /// The means of positions by rank: by which of them the best plays are found.
-pub trait Means {
+pub trait RankedMeans {
     // the mean of each rank
     ghost mean: { Self → ℕ → ℕ };
 

@@ -10,7 +10,7 @@ ghost use Rattle.least_plays.specs.Known.{HasRows, kept_in, Knows, IsNext, IsSta
 ghost use Rattle.least_plays.specs.Steps.{AreSteps};
 ghost use Rattle.least_plays.specs.declared.starts.Start.{Start as StartValue};
 
-use crate::Means;
+use crate::RankedMeans;
 use crate::choice::better_of_each;
 use crate::starts::{Start, Starts};
 use crate::steps::Steps;
@@ -61,7 +61,12 @@ impl<const ROWS: usize> LeastPlays<ROWS> {
     /// one, it has at most 58 pips, and the means of all lower ranks are there. There are
     /// `ROWS_TO_58` rows, or one for each rank so far. The position of the rank after it is the
     /// next then. (The tie rule is this project's profile.)
-    pub fn advance<M: Means>(&mut self, ranks: &Ranks, position: &Position, means: &M) -> [u16; 21]
+    pub fn advance<M: RankedMeans>(
+        &mut self,
+        ranks: &Ranks,
+        position: &Position,
+        means: &M,
+    ) -> [u16; 21]
         requires low { pips position.now ≤ 58 }
         requires rows { HasRows ROWS (rank_of position.now) }
         requires held { rank_of position.now ≤ M.count means.now }
@@ -82,7 +87,7 @@ impl<const ROWS: usize> LeastPlays<ROWS> {
     }
 
     /// The best ranks with each die first.
-    fn starts<M: Means>(&self, ranks: &Ranks, position: &Position, means: &M) -> Starts
+    fn starts<M: RankedMeans>(&self, ranks: &Ranks, position: &Position, means: &M) -> Starts
         requires next { IsNext (M.mean means.now) (M.count means.now) self.now position.now }
         requires rows { (0 < ROWS) × (ROWS ≤ 11452) }
         ensures position { result.position ≡ position.now }
@@ -101,7 +106,7 @@ impl<const ROWS: usize> LeastPlays<ROWS> {
     }
 
     /// The best ranks with the die of these steps first.
-    fn start<M: Means>(&self, steps: &Steps, means: &M) -> Start
+    fn start<M: RankedMeans>(&self, steps: &Steps, means: &M) -> Start
         requires next { IsNext (M.mean means.now) (M.count means.now) self.now steps.now.position }
         requires rows { (0 < ROWS) × (ROWS ≤ 11452) }
         requires steps { AreSteps steps.now.position steps.now.die steps.now.ranks.items }
@@ -118,7 +123,7 @@ impl<const ROWS: usize> LeastPlays<ROWS> {
     }
 
     /// The best of what is kept of some ranks for what may follow a die.
-    fn best_of<M: Means>(&self, ranks: &[u16], die: Die, means: &M) -> [u16; 9]
+    fn best_of<M: RankedMeans>(&self, ranks: &[u16], die: Die, means: &M) -> [u16; 9]
         requires some { 0 < length ranks.now }
         requires rows { (0 < ROWS) × (ROWS ≤ 11452) }
         requires held { (i j : ℕ) → i < length ranks.now → j < 9 →

@@ -5,7 +5,7 @@ ghost use Rattle.race_model.specs.BestPlays.{IsBestPlay};
 ghost use Rattle.legal_plays.specs.Faces.{roll_of};
 ghost use Rattle.least_plays.specs.Known.{AreStarts};
 
-use crate::Means;
+use crate::RankedMeans;
 use crate::choice::better;
 use home_board::Position;
 use legal_plays::{Die, Roll};
@@ -35,7 +35,7 @@ pub struct Starts {
 
 impl Starts {
     /// The best play of a roll.
-    fn best_play<M: Means>(&self, roll: Roll, means: &M) -> u16
+    fn best_play<M: RankedMeans>(&self, roll: Roll, means: &M) -> u16
         requires { AreStarts (M.mean means.now) (M.count means.now) self.now }
         ensures { IsBestPlay (M.mean means.now) self.now.position roll result }
     {
@@ -50,7 +50,7 @@ impl Starts {
 
     /// The best plays of the 21 rolls.
     #[inline(always)]
-    pub fn best_plays<M: Means>(&self, means: &M) -> [u16; 21]
+    pub fn best_plays<M: RankedMeans>(&self, means: &M) -> [u16; 21]
         requires { AreStarts (M.mean means.now) (M.count means.now) self.now }
         ensures best { (i : ℕ) → i < 21 →
             IsBestPlay (M.mean means.now) self.now.position (roll_at i) (slice_index result i) }

@@ -16,9 +16,9 @@ ghost use Rattle.retrograde.specs.declared.build_fault.BuildFault.TheVariants.{M
 
 use crate::build_fault::BuildFault;
 use crate::keeper::{Keeper, add_record, forget_before, spread_of};
-use crate::lent_records::{LentRecords, POSITIONS, POSITIONS_OF_A_LEVEL};
 use crate::pulling::next_record;
 use crate::records::Records;
+use crate::room_records::{POSITIONS, POSITIONS_OF_A_LEVEL, RoomRecords};
 use db_layout::{COMPACT_VERSION, Header, VERSION, WriteFault, write_header, write_record};
 use fixed_fraction::{Scaled, Spread};
 use home_board::OLD_BOUND;
@@ -46,7 +46,7 @@ pub fn build<W: Write>(alloc: Global, bound: u8, writer: &mut W) -> Result<(), B
     let Some(header) = Header::new(usual_version(bound), bound) else {
         return Err(BuildFault::OverBound);
     };
-    build_version(alloc, header, writer)
+    build_in_memory(alloc, header, writer)
 }
 
 /// Writes the database of a pip bound of at most 58 as a file of version 2, whose records leave
@@ -58,7 +58,7 @@ pub fn build_compact<W: Write>(alloc: Global, bound: u8, writer: &mut W) -> Resu
     let Some(header) = Header::new(COMPACT_VERSION, bound) else {
         return Err(BuildFault::OverBound);
     };
-    build_version(alloc, header, writer)
+    build_in_memory(alloc, header, writer)
 }
 
 /// The version of the file that `build` writes for a bound: 1 to 44 pips, and 2 beyond.
@@ -77,12 +77,16 @@ fn usual_version(bound: u8) -> u16
 /// or where a `write` failed or took no byte.
 // so that its room is on the stack while it builds, and not while its caller goes on
 #[inline(never)]
-fn build_version<W: Write>(alloc: Global, header: Header, writer: &mut W) -> Result<(), BuildFault>
+fn build_in_memory<W: Write>(
+    alloc: Global,
+    header: Header,
+    writer: &mut W,
+) -> Result<(), BuildFault>
     ensures built { Builds (version_by header.version) header.bound (W.contents writer.old)
         (W.contents writer.new) result }
 {
     let mut records = Records::new(alloc);
-    build_with(&mut records, header, writer)
+    build_records(&mut records, header, writer)
 }
 
 /// Writes the database of a pip bound, as `build` does, and takes no memory but the stack, of
@@ -94,13 +98,13 @@ pub fn build_in_place<W: Write>(bound: u8, writer: &mut W) -> Result<(), BuildFa
         (W.contents writer.new) result }
 {
     match Header::new(usual_version(bound), bound) {
-        Some(header) => build_lent(header, writer),
+        Some(header) => build_on_stack(header, writer),
         None => Err(BuildFault::OverBound),
     }
 }
 
 /// Writes the database of the version and the bound of a header, with rooms on the stack.
-fn build_lent<W: Write>(header: Header, writer: &mut W) -> Result<(), BuildFault>
+fn build_on_stack<W: Write>(header: Header, writer: &mut W) -> Result<(), BuildFault>
     ensures built { Builds (version_by header.version) header.bound (W.contents writer.old)
         (W.contents writer.new) result }
 {
@@ -124,19 +128,19 @@ pub fn build_in_rooms<W: Write>(
     ensures built { Builds (version_by header.version) header.bound (W.contents writer.old)
         (W.contents writer.new) result }
 {
-    let mut records = LentRecords {
+    let mut records = RoomRecords {
         means,
         spreads,
         plays,
         made: 0,
         unwritten: 0,
     };
-    build_with(&mut records, header, writer)
+    build_records(&mut records, header, writer)
 }
 
 /// Writes the database of the version and the bound of a header, with records that hold none
 /// yet. Refused only for want of memory, or where a `write` failed or took no byte.
-fn build_with<K: Keeper, W: Write>(
+fn build_records<K: Keeper, W: Write>(
     records: &mut K,
     header: Header,
     writer: &mut W,
@@ -148,16 +152,16 @@ fn build_with<K: Keeper, W: Write>(
         (W.contents writer.new) result }
 {
     if usize::from(header.count) <= ROWS_TO_8 {
-        build_under::<K, W, ROWS_TO_8>(records, header, writer)
+        build_with_rows::<K, W, ROWS_TO_8>(records, header, writer)
     } else {
-        build_under::<K, W, ROWS_TO_58>(records, header, writer)
+        build_with_rows::<K, W, ROWS_TO_58>(records, header, writer)
     }
 }
 
 /// The same, with so many rows for the best plays.
 // so that no more rows are on the stack than are needed
 #[inline(never)]
-fn build_under<K: Keeper, W: Write, const ROWS: usize>(
+fn build_with_rows<K: Keeper, W: Write, const ROWS: usize>(
     records: &mut K,
     header: Header,
     writer: &mut W,

@@ -6,7 +6,7 @@ ghost use Rattle.retrograde.specs.KeptRecords.{AreKept, IsRecordOfRank};
 ghost use Rattle.retrograde.specs.declared.build_fault.BuildFault.TheVariants.{Memory};
 
 use crate::build_fault::BuildFault;
-use crate::record::Record;
+use crate::made_record::MadeRecord;
 use fixed_fraction::{Scaled, Spread};
 
 /// What a build keeps of the records that it has made, by rank: all means, the shares of the last
@@ -56,7 +56,7 @@ pub(crate) trait Keeper {
             length (means self.new) ≤ first + length (spreads self.new) };
 
     /// Adds the record of the next rank. Refused only for want of memory.
-    fn push(&mut self, made: Record) -> Result<(), BuildFault>
+    fn push(&mut self, made: MadeRecord) -> Result<(), BuildFault>
         requires room { length (means self.old) < 54264 }
         ensures means { OnOk result (means self.new ≡ means self.old ++ made.mean ∷ []) }
         ensures spreads { OnOk result (spreads self.new ≡ spreads self.old ++ made.spread ∷ []) }
@@ -92,7 +92,7 @@ pub(crate) fn forget_before<K: Keeper>(records: &mut K, first: u16)
 }
 
 /// Adds the record of the next rank. Refused only for want of memory.
-pub(crate) fn add_record<K: Keeper>(records: &mut K, made: Record) -> Result<(), BuildFault>
+pub(crate) fn add_record<K: Keeper>(records: &mut K, made: MadeRecord) -> Result<(), BuildFault>
     ghost full: { AllRecords }
     requires room { length (K.means records.old) < 54264 }
     requires kept { AreKept full (K.means records.old) (K.spreads records.old)
@@ -118,7 +118,7 @@ pub(crate) struct MeansOf<'a, K> {
     pub records: &'a K,
 }
 
-impl<'a, K: Keeper> least_plays::Means for MeansOf<'a, K> {
+impl<'a, K: Keeper> least_plays::RankedMeans for MeansOf<'a, K> {
     ghost mean = { λ means. slice_index (K.means means.records.now) };
 
     ghost count = { λ means. length (K.means means.records.now) };

@@ -70,7 +70,7 @@ impl Means {
 }
 
 /// The means that were added: they are what the best plays go by.
-impl least_plays::Means for Means {
+impl least_plays::RankedMeans for Means {
     ghost mean = { λ means. slice_index means };
 
     ghost count = { λ means. length means };

@@ -12,7 +12,7 @@ ghost use Rattle.retrograde.specs.BuiltRecords.{sum_of_means, sum_of_shares};
 ghost use Rattle.retrograde.specs.KeptRecords.{AreKept, IsRecordOfRank};
 
 use crate::keeper::{Keeper, MeansOf, spread_of};
-use crate::record::Record;
+use crate::made_record::MadeRecord;
 use db_layout::most_rolls;
 use fixed_fraction::{Scaled, Spread, Sums};
 use home_board::Position;
@@ -26,7 +26,7 @@ pub(crate) fn next_record<K: Keeper, const ROWS: usize>(
     position: &Position,
     records: &K,
     least: &mut LeastPlays<ROWS>,
-) -> Record
+) -> MadeRecord
     ghost full: { AllRecords }
     requires position { IsPosition position.now }
     requires low { pips position.now ≤ 58 }
@@ -49,7 +49,7 @@ pub(crate) fn next_record<K: Keeper, const ROWS: usize>(
     let mean = sums.mean().unwrap();
     let spread = sums.spread().unwrap();
     let _start = spread.at(0);
-    Record {
+    MadeRecord {
         mean,
         plays,
         spread,
@@ -57,7 +57,7 @@ pub(crate) fn next_record<K: Keeper, const ROWS: usize>(
 }
 
 /// The record of the finished position: no roll, no play, and the whole share at 0 rolls.
-fn finished_record() -> Record
+fn finished_record() -> MadeRecord
     ensures mean { result.mean ≡ 0 }
     ensures plays { (i : ℕ) → slice_index result.plays i ≡ 0 }
     ensures plays_len { length result.plays ≡ 21 }
@@ -65,7 +65,7 @@ fn finished_record() -> Record
     ensures shares { (k : ℕ) → slice_index result.spread (suc k) ≡ 0 }
     ensures shares_len { length result.spread ≡ 23 }
 {
-    Record {
+    MadeRecord {
         mean: Scaled::ZERO,
         plays: [0; 21],
         spread: Spread::finished(),

@@ -4,8 +4,8 @@ ghost use Rattle.retrograde.specs.declared.build_fault.BuildFault.TheVariants.{M
 
 use crate::build_fault::BuildFault;
 use crate::keeper::Keeper;
+use crate::made_record::MadeRecord;
 use crate::means::Means;
-use crate::record::Record;
 use fixed_fraction::{Scaled, Spread};
 use std::alloc::Global;
 use std::collections::VecDeque;
@@ -65,7 +65,7 @@ impl Keeper for Records {
         }
     }
 
-    fn push(&mut self, made: Record) -> Result<(), BuildFault> {
+    fn push(&mut self, made: MadeRecord) -> Result<(), BuildFault> {
         self.means.push(made.mean)?;
         if self.plays.push(made.plays).is_err() {
             return Err(BuildFault::Memory);

@@ -1,7 +1,7 @@
 //! Least plays, over a table of means.
 ghost use Rattle.std.specs.Prelude.{slice_index};
 
-use least_plays::{LeastPlays, Means, ROWS_TO_58};
+use least_plays::{LeastPlays, ROWS_TO_58, RankedMeans};
 use ranking::Ranks;
 use std::test::Fail;
 
@@ -11,7 +11,7 @@ struct Table {
     means: [u16; 64],
 }
 
-impl Means for Table {
+impl RankedMeans for Table {
     ghost mean = { λ table. slice_index table.means };
 
     ghost count = { λ table. 64 };

@@ -6,9 +6,9 @@ use Rattle.race_model.proofs.Ranks.PositionTotals.{count_to-58, twenty_five_leve
 use Rattle.db_layout.proofs.Bounds.{bound-most}
 use Rattle.certificate.proofs.checker.check_records.Goals as goal
 
-pub check_under-requires-else-count-le-ROOM_TO_44-clause-room :
-    goal.check_under-requires-else-count-le-ROOM_TO_44-clause-room
-check_under-requires-else-count-le-ROOM_TO_44-clause-room g c =
+pub check_with_room-requires-else-count-le-ROOM_TO_44-clause-room :
+    goal.check_with_room-requires-else-count-le-ROOM_TO_44-clause-room
+check_with_room-requires-else-count-le-ROOM_TO_44-clause-room g c =
     let header = c.in-Ok.header in
     omega (
       arith,
@@ -17,9 +17,9 @@ check_under-requires-else-count-le-ROOM_TO_44-clause-room g c =
       count_to-58,
     )
 
-pub check_under-requires-else-count-le-ROOM_TO_44-clause-near :
-    goal.check_under-requires-else-count-le-ROOM_TO_44-clause-near
-check_under-requires-else-count-le-ROOM_TO_44-clause-near g c r lt z at near =
+pub check_with_room-requires-else-count-le-ROOM_TO_44-clause-near :
+    goal.check_with_room-requires-else-count-le-ROOM_TO_44-clause-near
+check_with_room-requires-else-count-le-ROOM_TO_44-clause-near g c r lt z at near =
     let header = c.in-Ok.header in
     let all : r < count_to 58 =
     omega (arith, header.counted, count_to-rises header.bound 58 (bound-most header)) in

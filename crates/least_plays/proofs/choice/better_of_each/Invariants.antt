@@ -8,6 +8,6 @@ abbrev pub invariant-loop-place : goal.invariant-loop-place
 invariant-loop-place g l = record {
   len : length l.best ≡ 9;
   better : (j : ℕ) → j < l.place →
-      IsBetterOf (g.M.Means.mean l.means) (slice_index l.ones j) (slice_index l.others j)
+      IsBetterOf (g.M.RankedMeans.mean l.means) (slice_index l.ones j) (slice_index l.others j)
       (slice_index l.best j);
 }

@@ -35,7 +35,7 @@ pub returns-then-is_finished-clause-known : goal.returns-then-is_finished-clause
 returns-then-is_finished-clause-known g c =
     let x = c.args.position.now in
     let none : IsFinished x = c.is_finished.ensures.value.0 c.if-is_finished.true in
-    knows_more (g.M.Means.mean c.args.means.now) c.args.self.now x
+    knows_more (g.M.RankedMeans.mean c.args.means.now) c.args.self.now x
     (c.from-place.result % g.row.ROWS)
     (record { after = replicate 6 (replicate 3 0) }) c.is_finished.ensures.position c.requires.low
     (omega arith) c.requires.rows
@@ -43,22 +43,22 @@ returns-then-is_finished-clause-known g c =
     (mod-lt c.from-place.result (has_some g.row.ROWS (rank c.args.position.now) c.requires.rows))
     c.requires.known
     (λ d n few.
-    subst (IsBestAfter (g.M.Means.mean c.args.means.now) x (d ∷ replicate n d))
+    subst (IsBestAfter (g.M.RankedMeans.mean c.args.means.now) x (d ∷ replicate n d))
     (sym (finished_row d n))
-    (run-at_end (g.M.Means.mean c.args.means.now) (d ∷ replicate n d) x
+    (run-at_end (g.M.RankedMeans.mean c.args.means.now) (d ∷ replicate n d) x
     c.is_finished.ensures.position none))
 
 pub returns-then-is_finished-clause-best : goal.returns-then-is_finished-clause-best
 returns-then-is_finished-clause-best g c = λ i lt.
     let x = c.args.position.now in
     let none : IsFinished x = c.is_finished.ensures.value.0 c.if-is_finished.true in
-    subst (IsBestPlay (g.M.Means.mean c.args.means.now) x (roll_at i)) (sym (get_or-zeros 21 i))
-    (play-at_end (g.M.Means.mean c.args.means.now) x (roll_at i) c.is_finished.ensures.position
+    subst (IsBestPlay (g.M.RankedMeans.mean c.args.means.now) x (roll_at i)) (sym (get_or-zeros 21 i))
+    (play-at_end (g.M.RankedMeans.mean c.args.means.now) x (roll_at i) c.is_finished.ensures.position
     none)
 
 pub returns-clause-known : goal.returns-clause-known
 returns-clause-known g c =
-    let mean = g.M.Means.mean c.args.means.now in
+    let mean = g.M.RankedMeans.mean c.args.means.now in
     let x = c.args.position.now in
     let starts = c.starts-starts.result in
     knows_more mean c.args.self.now x (c.from-place.result % g.row.ROWS) c.row_of.result
@@ -78,6 +78,6 @@ returns-clause-known g c =
 pub returns-clause-best : goal.returns-clause-best
 returns-clause-best g c = λ i lt.
     subst
-    (λ x. IsBestPlay (g.M.Means.mean c.args.means.now) x (roll_at i)
+    (λ x. IsBestPlay (g.M.RankedMeans.mean c.args.means.now) x (roll_at i)
     (slice_index c.best_plays.result i))
     c.starts-starts.ensures.position (c.best_plays.ensures.best i lt)

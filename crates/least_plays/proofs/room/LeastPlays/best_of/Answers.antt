@@ -11,7 +11,7 @@ loop-place-init g c = record {
   len = ap length c.kept-best.ensures;
   some = omega arith;
   best = λ j lt.
-      least_of_one (g.M.Means.mean c.args.means.now)
+      least_of_one (g.M.RankedMeans.mean c.args.means.now)
       (λ i. slice_index (kept_in c.args.self.now.rows (slice_index c.args.ranks.now i) c.args.die)
       j)
       (slice_index c.kept-best.result j) (ap (λ xs. slice_index xs j) c.kept-best.ensures);
@@ -30,7 +30,7 @@ better_of_each-best-requires-clause-others g c = λ j lt.
 
 pub loop-place-preserved : goal.loop-place-preserved
 loop-place-preserved g c =
-    let mean = g.M.Means.mean c.args.means.now in
+    let mean = g.M.RankedMeans.mean c.args.means.now in
     record {
       len = c.better_of_each-best.ensures.len;
       some = omega arith;
@@ -52,7 +52,7 @@ returns-clause-best g c = λ j lt.
     let all : c.loop-place.place ≡ length c.args.ranks.now =
     omega (arith, c.loop-place.auto.place-end, c.loop-place.invariant.some, c.requires.some, c.loop-place-test.false) in
     subst
-    (λ n. IsLeastOf (g.M.Means.mean c.args.means.now)
+    (λ n. IsLeastOf (g.M.RankedMeans.mean c.args.means.now)
     (λ i. slice_index (kept_in c.args.self.now.rows (slice_index c.args.ranks.now i) c.args.die) j)
     n (slice_index c.loop-place.best j))
     all (c.loop-place.invariant.best j lt)

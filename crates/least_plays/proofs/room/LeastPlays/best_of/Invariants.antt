@@ -10,7 +10,7 @@ invariant-loop-place g l = record {
   len : length l.best ≡ 9;
   some : 0 < l.place;
   best : (j : ℕ) → j < 9 →
-      IsLeastOf (g.M.Means.mean l.means)
+      IsLeastOf (g.M.RankedMeans.mean l.means)
       (λ i. slice_index (kept_in l.self.rows (slice_index l.ranks i) l.die) j) l.place
       (slice_index l.best j);
 }

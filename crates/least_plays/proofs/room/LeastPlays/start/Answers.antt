@@ -16,7 +16,7 @@ best_of-best-requires g c =
         (
           c.requires.rows,
           λ i j lt few.
-              kept_held_each (g.M.Means.mean c.args.means.now) (g.M.Means.count c.args.means.now)
+              kept_held_each (g.M.RankedMeans.mean c.args.means.now) (g.M.RankedMeans.count c.args.means.now)
               c.args.self.now steps.position c.requires.next steps.die c.as_slice.result.now i j
               (subst (AreSteps steps.position steps.die) (sym c.as_slice.ensures.value)
               c.requires.steps)
@@ -29,7 +29,7 @@ pub returns : goal.returns
 unfolding six_of
 returns g c =
     let steps = c.args.steps.now in
-    start_of_least (g.M.Means.mean c.args.means.now) (g.M.Means.count c.args.means.now)
+    start_of_least (g.M.RankedMeans.mean c.args.means.now) (g.M.RankedMeans.count c.args.means.now)
     c.args.self.now steps.position c.requires.next steps.die c.as_slice.result.now
     c.best_of-best.result (c.from-own.result - 1)
     (omega (arith, c.from-own.ensures, c.number.ensures.value))

@@ -23,7 +23,7 @@ start-requires g c = (
 
 pub loop-index-preserved : goal.loop-index-preserved
 loop-index-preserved g c =
-    let mean = g.M.Means.mean c.args.means.now in
+    let mean = g.M.RankedMeans.mean c.args.means.now in
     let start = c.start.result in
     let die = c.unwrap-die.result in
     let shown : number die ≡ c.loop-index.index + 1 =

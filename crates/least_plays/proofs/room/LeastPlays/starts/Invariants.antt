@@ -10,5 +10,5 @@ abbrev pub invariant-loop-index : goal.invariant-loop-index
 invariant-loop-index g l = record {
   len : length l.dice ≡ 6;
   each : (other : Start) (j : ℕ) → j < l.index → (d : Die) → number d ≡ j + 1 →
-      IsStart (g.M.Means.mean l.means) l.position d (slice_index_or l.dice j other);
+      IsStart (g.M.RankedMeans.mean l.means) l.position d (slice_index_or l.dice j other);
 }

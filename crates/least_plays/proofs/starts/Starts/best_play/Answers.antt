@@ -14,7 +14,7 @@ unfolding none
 returns-then-high-low g c =
     let high = ap number c.high.ensures.value in
     let low = ap number c.low.ensures.value in
-    double_best (g.M.Means.mean c.args.means.now) (g.M.Means.count c.args.means.now)
+    double_best (g.M.RankedMeans.mean c.args.means.now) (g.M.RankedMeans.count c.args.means.now)
     c.args.self.now c.requires none c.args.roll (c.from-high.result - 1) (c.from-low.result - 1)
     (omega (arith, c.from-high.ensures, c.number.ensures.value))
     (omega (arith, c.from-low.ensures, c.number-2.ensures.value)) c.if-high-low.true
@@ -24,7 +24,7 @@ unfolding none
 better-requires-clause-one g c =
     let high = ap number c.high.ensures.value in
     let low = ap number c.low.ensures.value in
-    play_held (g.M.Means.mean c.args.means.now) (g.M.Means.count c.args.means.now)
+    play_held (g.M.RankedMeans.mean c.args.means.now) (g.M.RankedMeans.count c.args.means.now)
     c.args.self.now c.requires none c.args.roll.first c.args.roll.second
     (c.from-high.result - 1) (c.from-low.result - 1)
     (omega (arith, c.from-high.ensures, c.number.ensures.value))
@@ -35,7 +35,7 @@ unfolding none
 better-requires-clause-other g c =
     let high = ap number c.high.ensures.value in
     let low = ap number c.low.ensures.value in
-    play_held (g.M.Means.mean c.args.means.now) (g.M.Means.count c.args.means.now)
+    play_held (g.M.RankedMeans.mean c.args.means.now) (g.M.RankedMeans.count c.args.means.now)
     c.args.self.now c.requires none c.args.roll.second c.args.roll.first
     (c.from-low.result - 1) (c.from-high.result - 1)
     (omega (arith, c.from-low.ensures, c.number-2.ensures.value))
@@ -46,7 +46,7 @@ unfolding none
 returns g c =
     let high = ap number c.high.ensures.value in
     let low = ap number c.low.ensures.value in
-    apart_best (g.M.Means.mean c.args.means.now) (g.M.Means.count c.args.means.now)
+    apart_best (g.M.RankedMeans.mean c.args.means.now) (g.M.RankedMeans.count c.args.means.now)
     c.args.self.now c.requires none c.args.roll (c.from-high.result - 1) (c.from-low.result - 1)
     c.better.result
     (omega (arith, c.from-high.ensures, c.number.ensures.value))

@@ -7,7 +7,7 @@ use Rattle.least_plays.proofs.starts.Starts.best_plays.Goals as goal
 
 pub loop-index-preserved : goal.loop-index-preserved
 loop-index-preserved g c =
-    let mean = g.M.Means.mean c.args.means.now in
+    let mean = g.M.RankedMeans.mean c.args.means.now in
     let x = c.args.self.now.position in
     let r = c.best_play.result in
     let roll = rw c.unwrap-roll.ensures at c.from_index.ensures.value in

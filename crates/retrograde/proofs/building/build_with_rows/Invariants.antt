@@ -7,7 +7,7 @@ use Rattle.retrograde.specs.AllRecords.{mean_of_rank}
 use Rattle.retrograde.specs.KeptRecords.{AreKept}
 use Rattle.retrograde.specs.BuiltBytes.{built_to}
 use Rattle.retrograde.proofs.Existence.{all-records}
-use Rattle.retrograde.proofs.building.build_under.Given as goal
+use Rattle.retrograde.proofs.building.build_with_rows.Given as goal
 
 abbrev pub ghost-add_level : goal.ghost-add_level
 ghost-add_level g a = all-records

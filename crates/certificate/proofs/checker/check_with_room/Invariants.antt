@@ -6,7 +6,7 @@ use Rattle.race_model.specs.LocalEquations.{IsLocalAt}
 use Rattle.db_reader.specs.Telling.{WhereTold}
 use Rattle.db_reader.specs.TableStays.{TableStays}
 use Rattle.certificate.specs.LowerRecords.{IsLower}
-use Rattle.certificate.proofs.checker.check_under.Given as goal
+use Rattle.certificate.proofs.checker.check_with_room.Given as goal
 
 -- the records of lower rank are accepted, and no read failed
 abbrev pub invariant-loop-rank : goal.invariant-loop-rank

@@ -6,7 +6,7 @@ use Rattle.certificate.specs.KeptMeans.{kept_mean}
 use Rattle.certificate.specs.LowerRecords.{IsLower}
 use Rattle.db_reader.proofs.Failures.{err-same, table_first, table_then, table_as, table_more}
 use Rattle.certificate.proofs.FileTests.{fault-of_file, fault-read, accepted-more, accepted-all}
-use Rattle.certificate.proofs.checker.check_under.Goals as goal
+use Rattle.certificate.proofs.checker.check_with_room.Goals as goal
 
 pub check_record-requires : goal.check_record-requires
 check_record-requires g c =

@@ -4,7 +4,7 @@ ghost use Rattle.retrograde.specs.declared.build_fault.BuildFault.TheVariants.{M
 
 use crate::build_fault::BuildFault;
 use crate::keeper::Keeper;
-use crate::record::Record;
+use crate::made_record::MadeRecord;
 use fixed_fraction::{Scaled, Spread};
 
 /// How many positions have at most 58 pips.
@@ -16,7 +16,7 @@ pub(crate) const POSITIONS_OF_A_LEVEL: usize = 1636;
 /// What a build keeps of the records that it has made, in rooms that are lent and don't grow: for
 /// each position a mean and its shares, and for each position of one pip count its plays.
 #[derive(Drop)]
-pub(crate) struct LentRecords<'a> {
+pub(crate) struct RoomRecords<'a> {
     pub means: &'a mut [Scaled],
     pub spreads: &'a mut [Spread],
     pub plays: &'a mut [[u16; 21]],
@@ -28,7 +28,7 @@ pub(crate) struct LentRecords<'a> {
     pub ghost plays_fit: { unwritten ≤ length plays.now },
 }
 
-impl<'a> Keeper for LentRecords<'a> {
+impl<'a> Keeper for RoomRecords<'a> {
     ghost means = { λ records. take records.made records.means.now };
 
     ghost spreads = { λ records. take records.made records.spreads.now };
@@ -58,7 +58,7 @@ impl<'a> Keeper for LentRecords<'a> {
         self.unwritten = 0;
     }
 
-    fn push(&mut self, made: Record) -> Result<(), BuildFault> {
+    fn push(&mut self, made: MadeRecord) -> Result<(), BuildFault> {
         if self.made >= POSITIONS
             || self.made >= self.means.len()
             || self.made >= self.spreads.len()

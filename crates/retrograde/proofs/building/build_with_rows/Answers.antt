@@ -14,7 +14,7 @@ use Rattle.db_layout.proofs.Prefixes.{header-first}
 use Rattle.retrograde.proofs.Kept.{kept-none}
 use Rattle.retrograde.proofs.Prefixes.{refused_build, nothing-written, header-written, ranks-written, level-part}
 use Rattle.retrograde.proofs.Prefixes.{level-written, all-written}
-use Rattle.retrograde.proofs.building.build_under.Goals as goal
+use Rattle.retrograde.proofs.building.build_with_rows.Goals as goal
 
 -- a level begins where the one below ends
 first_of-one : (p : ℕ) → first_of (p + 1) ≡ count_to p
