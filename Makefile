@@ -20,7 +20,7 @@ TESTED := $(OUT)/tested/ready
 
 WORK_PAGE := $(OUT)/work.html
 
-.PHONY: help needs prove library page work-page js tested install uninstall release
+.PHONY: help needs prove library page work-page js tested install uninstall release reference
 .PHONY: test test-python test-node
 .DELETE_ON_ERROR:
 
@@ -31,6 +31,7 @@ help:
 	@echo 'make page               $(PAGE)'
 	@echo 'make work-page          $(WORK_PAGE), the same with source maps, for work on it'
 	@echo 'make js                 $(PACKAGE)'
+	@echo 'make reference          docs/ref, of the comments and contracts of the sources'
 	@echo 'make install            into PREFIX ($(PREFIX)), below DESTDIR where that is set'
 	@echo 'make uninstall          takes that away'
 	@echo 'make release DIR=DIR    the files of a release, in a new folder'
@@ -64,6 +65,9 @@ $(MODULES) &: $(SOURCES) packaging/modules
 js: $(PACKAGE)
 $(PACKAGE): $(MODULES) $(wildcard js/*.js js/*.d.ts js/*.json) js/README.md VERSION packaging/js
 	packaging/js $(OUT)/modules $(OUT)/js
+
+reference:
+	tools/reference
 
 install:
 	DESTDIR='$(DESTDIR)' packaging/install '$(PREFIX)'

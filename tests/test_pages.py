@@ -1,22 +1,24 @@
 """Compares the pages of docs/ with the sources, and fails where one says what the sources don't
 have:
 
-- docs/definitions.md names each public definition of the specs of each crate once, in the section
-  of that crate, and each law once, and no name that isn't there;
-- each link of a page leads to a file, and each file of tests/, packaging/, tools/ and bench/ that
-  a page, a comment or a script names is there;
+- the pages of docs/ref are what tools/reference makes of the sources as they are, and no others;
+  definitions.md there names each public definition once, in the section of its crate, with a
+  comment; lemmas.md each law and each lemma module, with the modules that it cites; clauses.md
+  each public function that has a contract; edits.md each edit; and what has no comment is refused;
+- each link of a page leads to a file, and to a heading where it names one; each file of tests/,
+  packaging/, tools/, bench/ and docs/ that a page, a comment or a script names is there; each page
+  is named in README.md;
 - a clause that stands after a link to a function, as
   [`check`](../crates/certificate/src/checked.rt) `exactly`, is a clause of that function's
   contract in that file;
 - an edit that stands after its crates, as `retrograde`: `writes_the_header_alone`, is in
   must-fail/ of each;
-- docs/laws.md names the lemma modules of each law, and of each lemma module those that it rests
-  on, as the `use` lines have them, and each lemma module of the other crates once, with what the
-  module's first lines say;
+- each name in the pages by hand, as `IsRight` or `Checked::mean`, stands somewhere in the sources;
+- docs/definitions.md names the files and the number of lines that `IsRight` rests on;
 - docs/crates.md draws each crate in the layer that crates.txt gives it, and its two ways go
   through crates that are there;
-- README.md has at most 1,200 words, and no sentence of more than eight words stands twice in it
-  and the pages;
+- README.md has at most 950 words, no sentence of more than eight words stands twice in it and the
+  pages by hand, and no figure on two of them;
 - docs/tour.md quotes the sources: each block of code of theirs stands word for word in the file
   that the last link to a source above the block leads to;
 - the version in VERSION is that of the program, the header, the manual page, the packages for
@@ -31,7 +33,9 @@ import functools
 import hashlib
 import os
 import re
+import shutil
 import subprocess
+import sys
 import tempfile
 
 import pytest
@@ -84,38 +88,31 @@ def laws():
     found = {}
     for crate in crates():
         for path in files(f"crates/{crate}/src", ".rt"):
-            for name in re.findall(r"pub fn (law_\w+)", read(path)):
+            for name in re.findall(r"\bfn (law_\w+)", read(path)):
                 found[name] = path
     return found
 
 
-def named_definitions(page):
-    """The names in the first column of the tables, by the crate that the section's heading names
-    last, and those of the laws."""
-    crate, section, named, told = None, "", {}, []
-    for line in read(page).split("\n"):
-        if line.startswith("#"):
-            section = line
-            for word in re.findall(r"`([a-z_]+)`", line):
-                if word in crates():
-                    crate = word
-        elif line.startswith("|") and "---" not in line:
-            for name in re.findall(r"`([^`]+)`", line.split("|")[1]):
-                if section.startswith("## The laws"):
-                    told.append(name)
-                elif not section.startswith("## Sanity") and not name.endswith(".antt"):
-                    named.setdefault(crate, []).append(name)
-    return named, told
+def section(page, crate):
+    """The lines of a made page about a crate."""
+    found = re.search(rf"(?ms)^## `{crate}`\n(.*?)(?=^## |\Z)", read(page))
+    return found.group(1).split("\n") if found else []
+
+
+def rows_of(page, crate):
+    """The rows of the tables about a crate: the name in the first column, and the others."""
+    for line in section(page, crate):
+        if line.startswith("| ") and re.search(r"[`\[]", line.split(" | ")[0]):
+            first, *others = re.split(r" \| ?", line.strip()[2:].removesuffix("|"))
+            yield re.sub(r"^\[?`?|`?(?:\]\(.*\))?$", "", first), first, others
 
 
 def compare_definitions(page, crate):
-    here, names = definitions_of(crate), named_definitions(page)[0].get(crate, [])
-    for name in sorted(set(here) - set(names)):
-        wrong.append(f"{page}: `{name}` of {here[name]} is missing")
-    for name in sorted(set(names) - set(here)):
-        wrong.append(f"{page}: `{name}` is no public definition of {crate}")
-    for name in sorted({name for name in names if names.count(name) > 1}):
-        wrong.append(f"{page}: `{name}` of {crate} is named {names.count(name)} times")
+    here, rows = definitions_of(crate), list(rows_of(page, crate))
+    compare_names(page, f"definition of {crate}", [name for name, *_ in rows], here)
+    for name, _, (comment, *_) in rows:
+        if not re.search(r"\w", comment):
+            wrong.append(f"{page}: {name} of {crate} has no comment")
 
 
 def compare_names(page, kind, told, there):
@@ -124,7 +121,7 @@ def compare_names(page, kind, told, there):
     for name in sorted(set(told) - set(there)):
         wrong.append(f"{page}: there is no {kind} `{name}`")
     for name in sorted({name for name in told if told.count(name) > 1}):
-        wrong.append(f"{page}: the {kind} `{name}` is named {told.count(name)} times")
+        wrong.append(f"{page}: the {kind} `{name}` stands there {told.count(name)} times")
 
 
 def contract(text, function):
@@ -143,6 +140,13 @@ def contract(text, function):
     return found
 
 
+def headings(page):
+    """What a link can name of a page: its headings, as they are read of it on the web."""
+    titles = re.findall(r"(?m)^#+ (.*)$", re.sub(r"(?ms)^```.*?^```$", "", read(page)))
+    plain = [re.sub(r"\[([^\]]*)\]\([^)]*\)", r"\1", title) for title in titles]
+    return {re.sub(r"[^\w -]", "", title).replace(" ", "-").lower() for title in plain}
+
+
 def compare_links(page):
     """Each link leads to a file; the words in backticks after a link to a function are its
     clauses."""
@@ -151,10 +155,13 @@ def compare_links(page):
         for label, target, rest in zip(parts[1::3], parts[2::3], parts[3::3]):
             if re.match(r"https?:", target):
                 continue
-            path = os.path.normpath(os.path.join(os.path.dirname(page), target.split("#")[0]))
+            file, _, place = target.partition("#")
+            path = os.path.normpath(os.path.join(os.path.dirname(page), file)) if file else page
             if not (ROOT / path).exists():
                 wrong.append(f"{page}: {target} is not there")
                 continue
+            if place and path.endswith(".md") and place not in headings(path):
+                wrong.append(f"{page}: {path} has no heading {place}")
             name = re.fullmatch(r"`(?:\w+::)*(\w+)`", label)
             if not path.endswith(".rt") or not name:
                 continue
@@ -202,54 +209,87 @@ def compare_quotes(page):
         wrong.append(f"{page}: it quotes no source")
 
 
-def modules_used(path):
-    return set(
-        re.findall(r"^use Rattle\.race_model\.proofs\.([A-Z]\w*\.[A-Z]\w*)\b", read(path), re.M)
-    )
+def cited(path, crate):
+    """The lemma modules that a file of proofs cites, by their crate."""
+    used = re.findall(r"(?m)^use Rattle\.(\w+)\.proofs\.(\w+)(?:\.(\w+))?", read(path))
+    found = set()
+    for other, folder, name in used:
+        if other in crates() and folder[0].isupper():
+            whole = f"{folder}.{name}" if name and name[0].isupper() else folder
+            found.add(whole if other == crate else f"{other}.{whole}")
+    return found
 
 
-def compare_laws(page):
-    """The rows of the page: a law or a lemma module in the first column, what it rests on in the
-    last."""
-    proofs = "crates/race_model/proofs"
-    there = {}
-    for path in files(proofs, ".antt"):
+def compare_lemmas(page, crate):
+    """The rows about a crate: a law or a lemma module in the first column, the words of its first
+    lines in the second, and what it cites in the last."""
+    there, begins = {}, {}
+    for path in files(f"crates/{crate}/proofs", ".antt"):
         law = re.search(r"/(law_\w+)/Answers\.antt$", path)
-        module = re.match(rf"{proofs}/([A-Z]\w*)/([A-Z]\w*)\.antt$", path)
-        if law or module:
-            there[law.group(1) if law else ".".join(module.groups())] = modules_used(path)
-    told = []
-    for line in read(page).split("\n"):
-        if line.startswith("| ["):
-            columns = line.strip("| ").split(" | ")
-            name = re.findall(r"`([^`]+)`", columns[0])[0]
-            told.append(name)
-            rests = set(re.findall(r"`([A-Z]\w*\.[A-Z]\w*)`", columns[-1]))
-            for module in sorted(there.get(name, rests) ^ rests):
-                verb = "rests on" if module in there[name] else "doesn't rest on"
-                wrong.append(f"{page}: {name} {verb} {module}")
-    compare_names(page, "law or lemma module", told, there)
+        name = re.match(rf"crates/{crate}/proofs/([A-Z]\w*(?:/[A-Z]\w*)?)\.antt$", path)
+        lines = re.match(r"(?:-- .*\n)*", read(path)).group(0)
+        if law or (name and lines and not re.search(r"(?m)^pub mod ", read(path))):
+            place = law.group(1) if law else name.group(1).replace("/", ".")
+            there[place] = cited(path, crate)
+            begins[place] = re.sub(r"\s*(?:^|\n)-- ", " ", lines).strip()
+    rows = list(rows_of(page, crate))
+    compare_names(page, f"law or module of {crate}", [name for name, *_ in rows], there)
+    for name, _, (about, rests) in rows:
+        if about != begins.get(name, about):
+            wrong.append(f"{page}: {name} of {crate} says of itself: {begins[name]}")
+        for other in sorted(there.get(name, set()) ^ set(re.findall(r"`([^`]+)`", rests))):
+            wrong.append(f"{page}: {name} of {crate} and {other}: only one of the two has it")
 
 
-def compare_modules(page):
-    """The rows of the lemma modules above race_model: the crate, the module, and the lines that
-    its file begins with."""
-    there, told = {}, {}
-    for crate in crates():
-        for path in files(f"crates/{crate}/proofs", ".antt"):
-            name = re.match(rf"crates/{crate}/proofs/([A-Z]\w*)\.antt$", path)
-            if name and name.group(1) != "Lib" and crate != "race_model":
-                lines = re.match(r"(?:-- .*\n)+", read(path))
-                there[crate, name.group(1)] = re.sub(
-                    r"\s*(?:^|\n)-- ", " ", lines.group(0) if lines else ""
-                ).strip()
-    for crate, module, about in table(page, "Crate", "Module", "What it is about"):
-        name = crate.strip("`"), re.findall(r"`(\w+)`", module)[0]
-        if told.setdefault(name, about) != about or there.get(name, about) != about:
-            wrong.append(f"{page}: {'.'.join(name)} says of itself: {there.get(name)}")
-    compare_names(
-        page, "lemma module", [".".join(name) for name in told], [".".join(name) for name in there]
-    )
+def public_functions(crate):
+    """The public functions of a crate that have a contract, and those of its public traits."""
+    found = []
+    for path in files(f"crates/{crate}/src", ".rt"):
+        text, heads = read(path), r"(?m)^( *)pub (?:const )?(?:extern \"C\" )?fn (\w+)"
+        for head in re.finditer(heads, text):
+            rest = text[head.start():]
+            body = re.search(rf"(?m)^{head.group(1)}(\{{|\S.*\{{\}}?$)", rest)
+            if re.search(r"(?m)^ *(ensures|requires)\b", rest[: body.start()]):
+                found.append((path, head.group(2)))
+        for trait in re.findall(r"(?ms)^pub trait .*?^\}", text):
+            found += [(path, name) for name in re.findall(r"(?m)^    fn (\w+)", trait)]
+    return found
+
+
+def compare_clauses(page, crate):
+    """Each function has its heading, with a link to its file, and below it each of its clauses."""
+    lines = "\n".join(section(page, crate))
+    told = re.findall(r"(?m)^### \[`(?:\w+::)?(\w+)`\]\(\.\./\.\./([^)]*)\)$", lines)
+    blocks = re.findall(r"(?ms)^```rt\n(.*?)^```$", lines)
+    there = public_functions(crate)
+    for name, path in sorted({(name, path) for path, name in there} ^ set(told)):
+        wrong.append(f"{page}: {name} of {path}: only one of the two has it")
+    if len(told) != len(there) or len(blocks) != len(told):
+        wrong.append(f"{page}: {crate} has {len(there)} functions, and not {len(told)}")
+    shown = re.sub(r"\s+", " ", " ".join(blocks))
+    for path, name in there:
+        clauses = [re.findall(r"(?:ensures|requires)\*? ?\w* \{.*", text)
+                   for text in contract(read(path), name)]
+        if not any(all(each.strip() in shown for each in some) for some in clauses):
+            wrong.append(f"{page}: a clause of {name} of {path} is missing")
+
+
+def compare_reference(made):
+    """The pages of docs/ref are those that are made of the sources, word for word."""
+    here = {os.path.basename(path) for path in files("docs/ref", "")}
+    for name in sorted(here | set(os.listdir(made))):
+        kept = ROOT / "docs/ref" / name
+        lines = kept.read_text(encoding="utf-8").split("\n") if kept.exists() else []
+        fresh = made / name
+        wanted = fresh.read_text(encoding="utf-8").split("\n") if fresh.exists() else []
+        if lines != wanted:
+            at = next((at for at, pair in enumerate(zip(lines, wanted)) if len({*pair}) > 1),
+                      min(len(lines), len(wanted)))
+            wrong.append(
+                f"docs/ref/{name}, line {at + 1}: the sources say otherwise, and"
+                f" `make reference` makes the page anew\n  there: {lines[at:at + 1]}\n"
+                f"  made:  {wanted[at:at + 1]}"
+            )
 
 
 def compare_layers(page):
@@ -304,6 +344,85 @@ def compare_sentences(pages):
     words = len(read("README.md").split())
     if words > 1200:
         wrong.append(f"README.md: it has {words} words")
+
+
+# facts of the subject and of the files, which any page may name
+FACTS = {
+    "26,314", "46,062", "54,264",  # positions of at most 44, 58 and 90 pips
+    "65,535",  # the most that 16 bits hold
+    "2004",  # a year
+}
+UNITS = "ms|ns|s|seconds?|minutes?|hours?|KB|MB|GB|MiB|bytes|%"
+
+
+def figures(page):
+    """The numbers of a page of four digits or more, and those with a unit, outside code."""
+    text = re.sub(r"(?ms)^```.*?^```$|^    .*?$", "", read(page))
+    text = re.sub(r"\]\([^)]*\)|`[^`]*`", " ", text)
+    found = rf"(?<![\w.,/^-])(\d[\d,]*(?:\.\d+)?)(?: ?({UNITS})(?!\w))?"
+    for value, unit in re.findall(found, text):
+        value = value.rstrip(",")
+        if unit or len(re.sub(r"\D", "", value.split(".")[0])) > 3:
+            yield f"{value} {unit.removesuffix('s') if len(unit) > 2 else unit}".strip()
+
+
+def compare_figures(pages):
+    """What a figure says stands on one page, to which the others link."""
+    told = {}
+    for page in pages:
+        for figure in figures(page):
+            told.setdefault(figure, set()).add(page)
+    for figure, places in sorted(told.items()):
+        if len(places) > 1 and figure not in FACTS:
+            wrong.append(f"{', '.join(sorted(places))}: {figure} stands on each of them")
+
+
+@functools.cache
+def source_words():
+    """Every name that the sources have: of crates, packages, tests, and what makes and measures."""
+    folders = ("crates", "c", "python", "js", "web", "tests", "packaging", "tools", "bench",
+               "completions", ".ci")
+    paths = [path for folder in folders for path in files(folder, "")
+             if not re.search(r"__pycache__|node_modules|\.(png|wasm)$", path)]
+    found = set()
+    for path in [*paths, "Makefile", "bearoff", "crates.txt", "CHANGELOG.md", "VERSION"]:
+        text = (ROOT / path).read_text(encoding="utf-8", errors="ignore")
+        found |= set(re.findall(r"\w+", path)) | set(re.findall(r"\w+", text))
+    return found
+
+
+def compare_cited(page):
+    """Each name in the words of a page stands somewhere in the sources."""
+    text = re.sub(r"(?ms)^```.*?^```$", "", read(page))
+    for name in sorted(set(re.findall(r"`([A-Za-z_][\w:]*)`", text)) - OTHERS):
+        # what the prover trusts of its own library tests/test_trusted.py compares
+        is_trusted = re.match(r"(?:libc|os::c)::", name)
+        if not is_trusted and not set(re.findall(r"\w+", name)) <= source_words():
+            wrong.append(f"{page}: nothing in the sources is named {name}")
+
+
+def compare_headline(page):
+    """The files that the definition of a right file rests on, and how many lines they have besides
+    comments and imports."""
+    folder, todo, found = "crates/race_model/specs", ["RightFiles"], {}
+    while todo:
+        name = todo.pop()
+        if name not in found:
+            text = found[name] = read(f"{folder}/{name}.antt")
+            todo += re.findall(r"(?m)^use Rattle\.race_model\.specs\.(\w+)", text)
+    part = re.search(r"(?ms)^## What the headline rests on\n(.*?)^## ", read(page))
+    if not part:
+        wrong.append(f"{page}: it has no part 'What the headline rests on'")
+        return
+    told = re.findall(r"(?m)^\d+\. \[(\w+)\.antt\]", part.group(1))
+    compare_names(page, "file below IsRight", told, found)
+    lines = [line for text in found.values() for line in text.split("\n")
+             if line.strip() and not line.startswith(("--", "use "))]
+    stated = re.search(r"(\w+) files, (\d+) lines", part.group(1))
+    counted = (["no", *"one two three four five six seven eight nine ten eleven".split()]
+               [len(found)], str(len(lines)))
+    if not stated or stated.groups() != counted:
+        wrong.append(f"{page}: {' files, '.join(counted)} lines are what IsRight rests on")
 
 
 def table(page, *head):
@@ -571,7 +690,7 @@ def compare_completions(program):
 def compare_named_files(path):
     """Each file of a folder of ours that is named is there."""
     names = re.findall(
-        r"(?<![\w./-])(?:\.\./)?((?:tests|packaging|tools|bench)/[\w./-]*\w)", read(path)
+        r"(?<![\w./-])(?:\.\./)?((?:tests|packaging|tools|bench|docs)/[\w./-]*\w)", read(path)
     )
     for name in sorted(set(names)):
         if not (ROOT / name).exists():
@@ -579,6 +698,10 @@ def compare_named_files(path):
 
 
 PAGES = ["README.md", *files("docs", ".md")]
+BY_HAND = [page for page in PAGES if not page.startswith("docs/ref/")]
+MADE = [page for page in PAGES if page not in BY_HAND]
+# a program and an error of the system, and how lemmas are named
+OTHERS = {"paste", "EINTR", "X_of_Y"}
 NAMING = [
     *PAGES,
     "bearoff",
@@ -595,31 +718,83 @@ NAMING = [
 ]
 
 
+@pytest.fixture(scope="module")
+def made(tmp_path_factory):
+    """The pages that are made of the sources as they are."""
+    folder = tmp_path_factory.mktemp("reference")
+    done = subprocess.run(
+        [sys.executable, "-I", ROOT / "tools/reference", folder], capture_output=True, text=True
+    )
+    if done.returncode:
+        pytest.fail(done.stderr, pytrace=False)
+    return folder
+
+
+def test_reference(made):
+    none_wrong(compare_reference, made)
+
+
+@pytest.mark.parametrize(
+    "place, text, said",
+    [
+        ("specs/Sums.antt", "-- Sums.\n\npub sum : List ℕ → ℕ\n", "sum has no comment"),
+        ("specs/Sums.antt", "-- Sums.\n\n-- lost\n\npub sum : List ℕ → ℕ\n", "sum has no"),
+        ("specs/Sums.antt", "use A\n\n-- a sum\npub sum : List ℕ → ℕ\n", "does not begin"),
+        ("proofs/Sums.antt", "use A\n\nsum-nil : A\n", "does not begin with a comment"),
+    ],
+)
+def test_no_comment_is_refused(tmp_path, place, text, said):
+    (tmp_path / "tools").mkdir()
+    shutil.copy(ROOT / "tools/reference", tmp_path / "tools")
+    (tmp_path / "crates.txt").write_text("one:\n", encoding="utf-8")
+    (tmp_path / "crates/one" / place).parent.mkdir(parents=True)
+    (tmp_path / "crates/one" / place).write_text(text, encoding="utf-8")
+    words = [sys.executable, "-I", tmp_path / "tools/reference"]
+    done = subprocess.run(words, capture_output=True, text=True)
+    assert (done.returncode, (tmp_path / "docs").exists()) == (1, False)
+    assert said in done.stderr and done.stderr.count("\n") == 1, done.stderr
+
+
 @pytest.mark.parametrize("crate", crates())
 def test_definitions(crate):
-    none_wrong(compare_definitions, "docs/definitions.md", crate)
+    none_wrong(compare_definitions, "docs/ref/definitions.md", crate)
 
 
-def test_laws_are_defined():
-    named, told = named_definitions("docs/definitions.md")
-    assert set(filter(None, named)) <= set(crates()), "docs/definitions.md names other crates"
-    none_wrong(compare_names, "docs/definitions.md", "law", told, laws())
+@pytest.mark.parametrize("crate", crates())
+def test_lemmas(crate):
+    none_wrong(compare_lemmas, "docs/ref/lemmas.md", crate)
 
 
-def test_laws():
-    none_wrong(compare_laws, "docs/laws.md")
+@pytest.mark.parametrize("crate", crates())
+def test_clauses(crate):
+    none_wrong(compare_clauses, "docs/ref/clauses.md", crate)
 
 
-def test_lemma_modules():
-    none_wrong(compare_modules, "docs/laws.md")
+def test_laws_have_rows():
+    text = read("docs/ref/lemmas.md")
+    told = re.findall(r"(?m)^\| \[`(law_\w+)`\]", text)
+    none_wrong(compare_names, "docs/ref/lemmas.md", "law", told, laws())
+
+
+def test_edits_have_rows():
+    there = [os.path.relpath(path, ROOT) for crate in crates()
+             for path in (ROOT / "crates" / crate).glob("must-fail/*.edit")]
+    told = re.findall(r"(?m)^\| \[[^\]]*\]\(\.\./\.\./([^)]*)\)", read("docs/ref/edits.md"))
+    none_wrong(compare_names, "docs/ref/edits.md", "edit", told, there)
+
+
+@pytest.mark.parametrize("page", BY_HAND)
+def test_cited(page):
+    none_wrong(compare_cited, page)
 
 
 def test_layers():
     none_wrong(compare_layers, "docs/crates.md")
 
 
-def test_edits():
-    none_wrong(compare_edits, "docs/promises.md")
+@pytest.mark.parametrize("page", BY_HAND)
+def test_edits(page):
+    none_wrong(compare_edits, page)
 
 
 def test_quotes():
@@ -637,7 +812,7 @@ def test_named_files(path):
 
 
 def test_sentences():
-    none_wrong(compare_sentences, PAGES)
+    none_wrong(compare_sentences, BY_HAND)
 
 
 def test_version():
