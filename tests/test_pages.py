@@ -74,13 +74,13 @@ def crates():
 
 
 def definitions_of(crate):
-    """The public names of a crate's specs, each with the file that it stands in."""
+    """The public names of a crate's specs, each with the comment that stands above it."""
     found = {}
+    heads = r"(?m)^((?:-- .*\n)*)(?:abbrev |unfoldable )?pub (?:record |data )?([^\s:({]+)"
     for path in files(f"crates/{crate}/specs", ".antt"):
-        for line in read(path).split("\n"):
-            name = re.match(r"(?:abbrev |unfoldable )?pub (?:record |data )?([^\s:({]+)", line)
-            if name and name.group(1) != "mod":
-                found.setdefault(name.group(1), path)
+        for comment, name in re.findall(heads, read(path)):
+            if name != "mod":
+                found.setdefault(name, re.sub(r"\s*(?:^|\n)-- ", " ", comment).strip())
     return found
 
 
@@ -103,16 +103,17 @@ def rows_of(page, crate):
     """The rows of the tables about a crate: the name in the first column, and the others."""
     for line in section(page, crate):
         if line.startswith("| ") and re.search(r"[`\[]", line.split(" | ")[0]):
-            first, *others = re.split(r" \| ?", line.strip()[2:].removesuffix("|"))
-            yield re.sub(r"^\[?`?|`?(?:\]\(.*\))?$", "", first), first, others
+            first, *others = re.split(r" \| ?", line[2:].removesuffix(" |"))
+            yield re.sub(r"^\[?`?|`?(?:\]\(.*\))?$", "", first), others
 
 
 def compare_definitions(page, crate):
     here, rows = definitions_of(crate), list(rows_of(page, crate))
     compare_names(page, f"definition of {crate}", [name for name, *_ in rows], here)
-    for name, _, (comment, *_) in rows:
-        if not re.search(r"\w", comment):
-            wrong.append(f"{page}: {name} of {crate} has no comment")
+    for name, (comment, *_) in rows:
+        above = re.sub(r"^\.\. ", "… ", here.get(name, comment)).replace("|", "\\|")
+        if comment != above or not comment:
+            wrong.append(f"{page}: above {name} of {crate} stands: {above}")
 
 
 def compare_names(page, kind, told, there):
@@ -234,7 +235,7 @@ def compare_lemmas(page, crate):
             begins[place] = re.sub(r"\s*(?:^|\n)-- ", " ", lines).strip()
     rows = list(rows_of(page, crate))
     compare_names(page, f"law or module of {crate}", [name for name, *_ in rows], there)
-    for name, _, (about, rests) in rows:
+    for name, (about, rests) in rows:
         if about != begins.get(name, about):
             wrong.append(f"{page}: {name} of {crate} says of itself: {begins[name]}")
         for other in sorted(there.get(name, set()) ^ set(re.findall(r"`([^`]+)`", rests))):
@@ -342,15 +343,14 @@ def compare_sentences(pages):
         if len(places) > 1:
             wrong.append(f"{', '.join(places)}: '{sentence}' stands there {len(places)} times")
     words = len(read("README.md").split())
-    if words > 1200:
+    if words > 950:
         wrong.append(f"README.md: it has {words} words")
 
 
 # facts of the subject and of the files, which any page may name
 FACTS = {
-    "26,314", "46,062", "54,264",  # positions of at most 44, 58 and 90 pips
-    "65,535",  # the most that 16 bits hold
-    "2004",  # a year
+    "26314", "46062", "54264",  # positions of at most 44, 58 and 90 pips
+    "1 MB",  # the stack of the program
 }
 UNITS = "ms|ns|s|seconds?|minutes?|hours?|KB|MB|GB|MiB|bytes|%"
 
@@ -361,8 +361,8 @@ def figures(page):
     text = re.sub(r"\]\([^)]*\)|`[^`]*`", " ", text)
     found = rf"(?<![\w.,/^-])(\d[\d,]*(?:\.\d+)?)(?: ?({UNITS})(?!\w))?"
     for value, unit in re.findall(found, text):
-        value = value.rstrip(",")
-        if unit or len(re.sub(r"\D", "", value.split(".")[0])) > 3:
+        value = value.replace(",", "")
+        if unit or len(value.split(".")[0]) > 3:
             yield f"{value} {unit.removesuffix('s') if len(unit) > 2 else unit}".strip()
 
 
@@ -379,7 +379,7 @@ def compare_figures(pages):
 
 @functools.cache
 def source_words():
-    """Every name that the sources have: of crates, packages, tests, and what makes and measures."""
+    """Every name that the sources have, and those of tests, and of what makes and measures."""
     folders = ("crates", "c", "python", "js", "web", "tests", "packaging", "tools", "bench",
                "completions", ".ci")
     paths = [path for folder in folders for path in files(folder, "")
@@ -783,9 +783,22 @@ def test_edits_have_rows():
     none_wrong(compare_names, "docs/ref/edits.md", "edit", told, there)
 
 
+def test_headline():
+    none_wrong(compare_headline, "docs/definitions.md")
+
+
+def test_each_page_is_named():
+    linked = re.findall(r"\]\((docs/[^)#]*\.md)\)", read("README.md"))
+    assert set(PAGES) - {"README.md"} <= set(linked), "README.md names not each page"
+
+
 @pytest.mark.parametrize("page", BY_HAND)
 def test_cited(page):
     none_wrong(compare_cited, page)
+
+
+def test_figures():
+    none_wrong(compare_figures, BY_HAND)
 
 
 def test_layers():
