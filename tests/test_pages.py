@@ -26,7 +26,10 @@ have:
   pkg-config have the mark where it is filled in;
 - the completions for bash, zsh and fish have the commands of the built program, and of each its
   options;
-- docs/file-format.md has the sizes, digests, offsets and bytes of files that the program writes.
+- docs/file-format.md has the sizes, digests, offsets and bytes of files that the program writes,
+  docs/using.md its commands and the replies that it gives, and docs/embedding.md the functions of
+  the header for C;
+- what a page by hand makes by `make`, or measures by `bench/run`, is there to be made or measured.
 """
 
 import functools
@@ -350,7 +353,6 @@ def compare_sentences(pages):
 # facts of the subject and of the files, which any page may name
 FACTS = {
     "26314", "46062", "54264",  # positions of at most 44, 58 and 90 pips
-    "1 MB",  # the stack of the program
 }
 UNITS = "ms|ns|s|seconds?|minutes?|hours?|KB|MB|GB|MiB|bytes|%"
 
@@ -399,6 +401,58 @@ def compare_cited(page):
         is_trusted = re.match(r"(?:libc|os::c)::", name)
         if not is_trusted and not set(re.findall(r"\w+", name)) <= source_words():
             wrong.append(f"{page}: nothing in the sources is named {name}")
+
+
+def compare_commands(page):
+    """What make makes is a target of the Makefile, and what is measured a part of bench/run."""
+    targets = set(re.findall(r"(?m)^([a-z-]+):", read("Makefile")))
+    sections = set(re.findall(r"(?m)^    ([a-z]+)\) measure_", read("bench/run")))
+    text = read(page)
+    for name in sorted(set(re.findall(r"(?:`|^    |&& )make ([a-z-]+)", text, re.M)) - targets):
+        wrong.append(f"{page}: make makes no {name}")
+    for name in sorted(set(re.findall(r"(?:`|^    )bench/run ([a-z]+)", text, re.M)) - sections):
+        wrong.append(f"{page}: bench/run measures no {name}")
+
+
+def compare_replies(page, program, database):
+    """What the page says that a line is answered with is what the program answers over a
+    database."""
+    text = read(page)
+    pairs = [[cell.strip("`") for cell in row] for row in table(page, "Line", "Reply")]
+    pairs += re.findall(r"`((?:mean|dist|play|loss|moves|rank) [^`]*)` gives `([^`]*)`", text)
+    waste = table(page, "Position", "Pips", "Line", "Effective pip count", "Wastage")
+    asked = [line for line, _ in pairs] + [row[2].strip("`") for row in waste]
+    done = subprocess.run([program, "query", database], input="\n".join(asked) + "\n", text=True,
+                          capture_output=True, check=True)
+    replies = done.stdout.splitlines()
+    if len(replies) != len(asked) or not len(pairs) > 6 or not waste:
+        wrong.append(f"{page}: {len(asked)} lines have {len(replies)} replies")
+    for (line, told), reply in zip(pairs, replies):
+        if told != reply:
+            wrong.append(f"{page}: {line} is answered with {reply}, and not {told}")
+    for (about, pips, line, epc, wastage), reply in zip(waste, replies[len(pairs):]):
+        counts = map(int, line.strip("`").split()[1].split(","))
+        summed = sum(point * count for point, count in enumerate(counts, 1))
+        thousandths = int(reply.split()[-1].replace(".", ""))
+        wanted = [str(summed), reply.split()[-1], f"{(thousandths - 1000 * summed) / 1000:.3f}"]
+        if [pips, epc, wastage] != wanted:
+            wrong.append(f"{page}: {about}: {', '.join(wanted)} is what the program says")
+
+
+def compare_functions(page):
+    """The functions of the header for C are those that the page lists."""
+    there = set(re.findall(r"(?m)^(?:uint32_t|bool) (bearoff_\w+)\(", read("c/bearoff.h")))
+    part = re.search(r"(?ms)^## What C can ask\n(.*?)^## ", read(page))
+    told = re.findall(r"`(bearoff_\w+)`", part.group(1)) if part else []
+    for name in sorted(there ^ set(told)):
+        wrong.append(f"{page}: {name} stands in the list or in bearoff.h alone")
+
+
+def compare_rows(page, program):
+    """Each command of the program has a row."""
+    rows = " ".join(row[0] for row in table(page, "Command", "What it does", "What it prints"))
+    told = re.findall(r"`bearoff (\w+)", rows)
+    compare_names(page, "command", sorted(set(told)), set(helped(program)[0]) - {"help"})
 
 
 def compare_headline(page):
@@ -699,7 +753,6 @@ def compare_named_files(path):
 
 PAGES = ["README.md", *files("docs", ".md")]
 BY_HAND = [page for page in PAGES if not page.startswith("docs/ref/")]
-MADE = [page for page in PAGES if page not in BY_HAND]
 # a program and an error of the system, and how lemmas are named
 OTHERS = {"paste", "EINTR", "X_of_Y"}
 NAMING = [
@@ -797,6 +850,11 @@ def test_cited(page):
     none_wrong(compare_cited, page)
 
 
+@pytest.mark.parametrize("page", BY_HAND)
+def test_commands(page):
+    none_wrong(compare_commands, page)
+
+
 def test_figures():
     none_wrong(compare_figures, BY_HAND)
 
@@ -841,6 +899,18 @@ def test_version_of_the_program(program):
 
 def test_file_format(program):
     none_wrong(compare_file_format, "docs/file-format.md", program)
+
+
+def test_functions():
+    none_wrong(compare_functions, "docs/embedding.md")
+
+
+def test_rows(program):
+    none_wrong(compare_rows, "docs/using.md", program)
+
+
+def test_replies(program, built):
+    none_wrong(compare_replies, "docs/using.md", program, built(44))
 
 
 def test_completions(program):
