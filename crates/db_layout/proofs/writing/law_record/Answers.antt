@@ -1,3 +1,4 @@
+-- The mean, each play and each share has room in its bytes, and is read where it was written.
 use Rattle.race_model.proofs.Strategies.Horizons.{most_rolls-most}
 use Rattle.db_layout.proofs.Bytes.{record_reads, shares_fit, mean_fits}
 use Rattle.db_layout.proofs.writing.law_record.Goals as goal

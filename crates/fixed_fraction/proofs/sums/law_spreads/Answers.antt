@@ -1,3 +1,4 @@
+-- By the loop over the spreads, each of which adds up to the whole.
 use Rattle.std.proofs.Common.{◌≡◌, ◌⊎◌, ⊎_elim, ℕ, ◌+◌, ◌<◌, List, [], map, get_or, length, sum}
 use Rattle.std.proofs.Common.{Bor, ap, ◌∙◌, arith}
 use Rattle.fixed_fraction.proofs.RollSums.{lent-at}

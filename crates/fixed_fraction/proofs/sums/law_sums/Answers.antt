@@ -1,3 +1,4 @@
+-- One roll after the other is added, in the order of their indices.
 use Rattle.std.proofs.Common.{arith}
 use Rattle.race_model.specs.Dice.{weight}
 use Rattle.fixed_fraction.proofs.RollSums.{roll-more, weights-within, totals-next, totals-weight}
