@@ -9,7 +9,7 @@ ghost use Rattle.race_model.specs.Files.{record_place};
 
 use crate::header::{COMPACT_VERSION, Header};
 use home_board::MAX_BOUND;
-use ranking::pips_of;
+use ranking::{first_of, pips_of};
 
 /// How many pip counts there are to the greatest bound, and one beyond.
 const PIP_COUNTS: usize = MAX_BOUND as usize + 2;
@@ -88,7 +88,7 @@ pub fn offset_of(version: u16, pips: u8, rank: u16) -> u64
     if version != COMPACT_VERSION {
         return 32 + 426 * u64::from(rank);
     }
-    let earlier = u64::from(rank - ranking::first_of(pips));
+    let earlier = u64::from(rank - first_of(pips));
     start_of(pips) + earlier * u64::from(record_length(version, pips))
 }
 

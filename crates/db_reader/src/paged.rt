@@ -103,10 +103,10 @@ impl<S: Source, A: Allocator + Clone> Table for Paged<S, A> {
             room.copy_from(kept);
             return Ok(());
         }
-        let Some(header) = self.header else {
+        let Some(header) = &self.header else {
             unreachable!();
         };
-        let Ok(read) = read_record(&mut self.source, header, rank) else {
+        let Ok(read) = read_record(&mut self.source, *header, rank) else {
             return Err(ReadFault);
         };
         room.copy_from(&read);

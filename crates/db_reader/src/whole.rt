@@ -60,7 +60,7 @@ impl<'a> Table for Whole<'a> {
     }
 
     fn lend<'b>(&'b self, rank: u16, _room: &'b Record) -> RecordView<'b> {
-        let Some(header) = self.header else {
+        let Some(header) = &self.header else {
             unreachable!();
         };
         if header.version != COMPACT_VERSION {

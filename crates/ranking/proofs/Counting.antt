@@ -1,13 +1,11 @@
 -- How the counts of a position are found again from the number of positions that come later.
 use Rattle.std.proofs.Common.{◌≡◌, ◌≢◌, ℕ, zero, suc, ◌+◌, ◌-◌, ◌*◌, ◌<◌, ◌≤◌, List, ◌∷◌, length}
 use Rattle.std.proofs.Common.{slice_index, slice_set, drop, replicate, get_or-set_same}
-use Rattle.std.proofs.Common.{get_or-set_other, if◌then◌else◌, nat_le, true, false, refl, sym, ◌∙◌}
-use Rattle.std.proofs.Common.{ap, subst, add-one, inl, inr, below_more, arith, le_antisymm}
-use Rattle.std.proofs.Common.{le_trans, le_of_eq}
+use Rattle.std.proofs.Common.{get_or-set_other, if◌then◌else◌, refl, sym, ◌∙◌}
+use Rattle.std.proofs.Common.{ap, subst, add-one, inl, inr, below_more, arith}
 use Rattle.std.specs.Prelude.{◌⊎◌, sum}
-use Rattle.std.proofs.lemmas.Bool.{lt-ltb, leb-true, leb-false, cases_lt, cases_order}
-use Rattle.std.specs.List.Sorted.{IsPartitionPoint, IsNonDecreasingBy}
-use Rattle.std.proofs.lemmas.List.{drop_more, length-drop, get_or_default, length-set}
+use Rattle.std.proofs.lemmas.Bool.{lt-ltb, cases_lt, cases_order}
+use Rattle.std.proofs.lemmas.List.{drop_more, length-drop, length-set}
 use Rattle.std.proofs.lemmas.Grind.{same_number_lists}
 use Rattle.race_model.specs.Positions.{Board, IsPosition, pips_from, pips, count}
 use Rattle.race_model.specs.Ranks.{rank, at_rank, first_of, count_to}
@@ -121,84 +119,6 @@ count_found x (suc i) k m s t c q low high r left w enough =
     (omega (arith, length-drop (suc i) x, q.six))
     (omega (arith, few, sum-cons (slice_index x i) (drop (suc i) x))) weighs (omega arith) w
     enough
-
--- the pip count of a rank, from where n counts of fewer pips pass it
-pub record IsPipsOf (n index above : ℕ) : Type 0 where
-  pub some : 1 ≤ above
-  pub from : first_of (above - 1) ≤ index
-  pub to : index < first_of (above - 1 + 1)
-  pub range : above < n
-
--- the pip count of a rank is that before which the counts of fewer pips pass it
-pub pips_found : (starts : List ℕ) (n index above : ℕ) → 1 ≤ n → length starts ≡ n →
-    index < first_of (n - 1) → above ≤ length starts →
-    ((m : ℕ) → m < n → slice_index starts m ≡ first_of m) →
-    IsPartitionPoint (λ y. nat_le y index ≡ true) (λ y. nat_le y index ≡ false) starts above →
-    IsPipsOf n index above
-pips_found starts n index above any long low most sums point =
-    record {
-      some = some;
-      from = from;
-      to = subst (λ m. index < first_of m) (sym again) to;
-      range = inside;
-    } where
-      some : 1 ≤ above
-      some = by_cases (cases_lt 0 above) where
-        by_cases : (0 < above) ⊎ (above ≤ 0) → 1 ≤ above
-        by_cases (inl h) = h
-        by_cases (inr h) =
-            absurd (omega (
-              arith,
-              leb-false (slice_index starts 0) index (point.1 0 0 h (omega (arith, long, any))),
-              sums 0 (omega (arith, any)),
-              order.first_of-zero,
-            ))
-
-      from : first_of (above - 1) ≤ index
-      from =
-          omega (
-            arith,
-            leb-true (slice_index starts (above - 1)) index
-                (point.0 (above - 1) 0 (omega arith) (omega (arith, some))),
-            sums (above - 1) (omega (arith, some, most, long)),
-          )
-
-      inside : above < n
-      inside = by_cases (cases_lt above n) where
-        by_cases : (above < n) ⊎ (n ≤ above) → above < n
-        by_cases (inl h) = h
-        by_cases (inr h) =
-            absurd (omega (
-              arith,
-              low,
-              from,
-              ap (λ m. first_of (m - 1)) (le_antisymm (le_trans most (le_of_eq long)) h),
-            ))
-
-      to : index < first_of above
-      to =
-          omega (
-            arith,
-            leb-false (slice_index starts above) index
-                (point.1 above 0 (omega arith) (omega (arith, inside, long))),
-            sums above inside,
-          )
-
-      again : above - 1 + 1 ≡ above
-      again = omega (arith, some)
-
--- the counts of fewer pips rise
-pub starts_rise : (starts : List ℕ) (n : ℕ) → length starts ≡ n →
-    ((m : ℕ) → m < n → slice_index starts m ≡ first_of m) → IsNonDecreasingBy (λ x. x) starts
-starts_rise starts n long sums i j d low high =
-    omega (
-      arith,
-      sums i (omega (arith, long)),
-      sums j (omega (arith, long)),
-      order.first_of-rises i j low,
-      get_or_default starts i d 0 (omega arith),
-      get_or_default starts j d 0 high,
-    )
 
 -- the pip count of a position lies where its rank does
 pub pips-are : (x : Board) (m : ℕ) → IsPosition x → first_of m ≤ rank x →

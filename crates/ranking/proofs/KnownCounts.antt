@@ -1,14 +1,14 @@
 -- The constants that say how many positions have fewer pips are these counts.
-use Rattle.std.proofs.Common.{◌≡◌, ℕ, ◌+◌, ◌-◌, ◌<◌, ◌≤◌, ◌⊎◌, map, take, drop, slice_index, refl, sym}
-use Rattle.std.proofs.Common.{ap, ◌∙◌, subst, inl, inr, arith}
+use Rattle.std.proofs.Common.{◌≡◌, ℕ, zero, suc, ◌+◌, ◌-◌, ◌*◌, ◌/◌, ◌<◌, ◌≤◌, ◌⊎◌, Bool, true, ◌&&◌, List, [], ◌∷◌}
+use Rattle.std.proofs.Common.{nat_le, length, map, take, drop, slice_index, refl, sym, ap, ◌∙◌, subst, inl, inr, arith}
 use Rattle.std.specs.List.{range_with_len}
-use Rattle.std.proofs.lemmas.Bool.{cases_lt}
+use Rattle.std.proofs.lemmas.Bool.{cases_lt, leb-true, and_parts}
 use Rattle.std.proofs.lemmas.List.{get_or-take, get_or-drop}
 use Rattle.std.proofs.lemmas.List.FromFn.{get_or-map-range_with_len}
 use Rattle.race_model.specs.Ranks.{first_of}
 use Rattle.race_model.proofs.Ranks.RankOrder.{first_of-zero}
 use Rattle.race_model.proofs.Ranks.PositionTotals.{first_sums, map-first_of}
-use Rattle.ranking.specs.declared.firsts.TheConstants.{FIRSTS}
+use Rattle.ranking.specs.declared.firsts.TheConstants.{FIRSTS, LEVELS}
 
 -- n of them from the one at s on are the counts, where they are their sums
 some_firsts : (s n first : ℕ) → first_of s ≡ first →
@@ -70,3 +70,39 @@ at_first m low = by_part (cases_lt m 46) (cases_lt m 60) (cases_lt m 71) (cases_
   by_part (inr a) (inr from) (inl below) d = below_71 m (omega (arith, from)) below
   by_part (inr a) (inr b) (inr from) (inl below) = below_82 m (omega (arith, from)) below
   by_part (inr a) (inr b) (inr c) (inr from) = below_92 m (omega (arith, from)) low
+
+-- pip counts whose first positions have at most the ranks b, b + 256, and so on
+abbrev are_before : ℕ → List ℕ → Bool
+are_before b [] = true
+are_before b (p ∷ ps) =
+    (nat_le p 90 && nat_le (slice_index FIRSTS p) b) && are_before (256 + b) ps
+
+-- .. each of them
+each_before : (b : ℕ) (ps : List ℕ) → are_before b ps ≡ true → (i : ℕ) → i < length ps →
+    (slice_index ps i ≤ 90) × (slice_index FIRSTS (slice_index ps i) ≤ b + 256 * i)
+each_before b [] all i low = absurd (omega (arith, low))
+each_before b (p ∷ ps) all zero low =
+    let parts =
+    and_parts (nat_le p 90 && nat_le (slice_index FIRSTS p) b) (are_before (256 + b) ps) all in
+    let here = and_parts (nat_le p 90) (nat_le (slice_index FIRSTS p) b) parts.0 in
+    (leb-true p 90 here.0, omega (arith, leb-true (slice_index FIRSTS p) b here.1))
+each_before b (p ∷ ps) all (suc i) low =
+    let parts =
+    and_parts (nat_le p 90 && nat_le (slice_index FIRSTS p) b) (are_before (256 + b) ps) all in
+    let later = each_before (256 + b) ps parts.1 i (omega (arith, low)) in
+    (later.0, omega (arith, later.1))
+
+-- the constants that say the pip count of each 256th rank are at most that
+pub level_before : (r : ℕ) → r < 54264 →
+    (slice_index LEVELS (r / 256) ≤ 90) × (first_of (slice_index LEVELS (r / 256)) ≤ r)
+level_before r low =
+    let at = each_before 0 LEVELS table (r / 256) (omega (arith, low, long)) in (
+      at.0,
+      omega (arith, at.1, at_first (slice_index LEVELS (r / 256)) (omega (arith, at.0))),
+    )
+  where
+    table : are_before 0 LEVELS ≡ true
+    table = refl
+
+    long : length LEVELS ≡ 212
+    long = refl

@@ -1,6 +1,6 @@
 -- The recurrences of the table, from those of the counts of lists.
-use Rattle.std.proofs.Common.{◌≡◌, ℕ, zero, suc, ◌+◌, ◌-◌, ◌<◌, ◌≤◌, cond, ◌&&◌, if◌then◌else◌}
-use Rattle.std.proofs.Common.{nat_lt, min, refl, sym, ◌∙◌, ap, inl, inr, add-one, arith}
+use Rattle.std.proofs.Common.{◌≡◌, ℕ, suc, ◌+◌, ◌-◌, ◌<◌, ◌≤◌, cond, ◌&&◌, if◌then◌else◌}
+use Rattle.std.proofs.Common.{nat_lt, min, refl, sym, ◌∙◌, ap, inl, inr, arith}
 use Rattle.std.specs.Prelude.{◌⊎◌, ◌==◌}
 use Rattle.std.proofs.lemmas.Bool.{lt-ltb, le-ltb, cases_lt}
 use Rattle.race_model.specs.Positions.{pips_from}

@@ -13,6 +13,19 @@ pub const FIRSTS: [u16; 92] = [
     54262, 54263, 54264,
 ];
 
+/// The pip count of the position of each 256th rank, from rank 0 on.
+const LEVELS: [u8; 212] = [
+    0, 13, 16, 17, 19, 20, 21, 21, 22, 23, 23, 24, 25, 25, 26, 26, 26, 27, 27, 28, 28, 28, 29, 29,
+    29, 30, 30, 30, 30, 31, 31, 31, 31, 32, 32, 32, 32, 33, 33, 33, 33, 34, 34, 34, 34, 35, 35, 35,
+    35, 35, 36, 36, 36, 36, 36, 37, 37, 37, 37, 37, 37, 38, 38, 38, 38, 38, 39, 39, 39, 39, 39, 39,
+    40, 40, 40, 40, 40, 40, 41, 41, 41, 41, 41, 41, 42, 42, 42, 42, 42, 42, 42, 43, 43, 43, 43, 43,
+    43, 44, 44, 44, 44, 44, 44, 45, 45, 45, 45, 45, 45, 45, 46, 46, 46, 46, 46, 46, 47, 47, 47, 47,
+    47, 47, 48, 48, 48, 48, 48, 48, 48, 49, 49, 49, 49, 49, 49, 50, 50, 50, 50, 50, 50, 51, 51, 51,
+    51, 51, 51, 52, 52, 52, 52, 52, 53, 53, 53, 53, 53, 54, 54, 54, 54, 54, 54, 55, 55, 55, 55, 56,
+    56, 56, 56, 56, 57, 57, 57, 57, 58, 58, 58, 58, 59, 59, 59, 59, 60, 60, 60, 60, 61, 61, 61, 62,
+    62, 62, 63, 63, 64, 64, 64, 65, 65, 66, 67, 67, 68, 69, 69, 70, 71, 73, 74, 77,
+];
+
 /// How many positions have fewer than so many pips: the rank of the first position of so many
 /// pips, and 54,264 above 90 pips.
 pub fn first_of(pips: u8) -> u16
@@ -35,6 +48,9 @@ pub fn pips_of(rank: u16) -> u8
     ensures to { rank < first_of (result + 1) }
     ensures range { result ≤ 90 }
 {
-    let above = FIRSTS.partition_point(|first| *first <= rank);
-    above as u8 - 1
+    let mut pips = LEVELS[usize::from(rank / 256)];
+    while FIRSTS[usize::from(pips) + 1] <= rank {
+        pips += 1;
+    }
+    pips
 }

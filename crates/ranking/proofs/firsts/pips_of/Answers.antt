@@ -1,32 +1,56 @@
-use Rattle.std.proofs.Common.{nat_le, refl, rules, arith}
-use Rattle.std.specs.List.Sorted.{IsNonDecreasingBy}
-use Rattle.std.proofs.lemmas.List.Sorted.{IsPartitionPoint-from_clause, IsPartitionedBy-leb}
+use Rattle.std.proofs.Common.{◌≡◌, ◌+◌, ◌<◌, ◌≤◌, ◌⊎◌, inl, inr, slice_index, sym, ap, subst, ◌∙◌, arith}
+use Rattle.std.proofs.lemmas.Bool.{cases_lt}
+use Rattle.race_model.specs.Ranks.{first_of}
 use Rattle.race_model.proofs.Ranks.PositionTotals.{first_of-all}
-use Rattle.ranking.proofs.Counting.{IsPipsOf, pips_found, starts_rise}
-use Rattle.ranking.proofs.KnownCounts.{at_first}
-use Rattle.ranking.specs.declared.firsts.TheConstants.{FIRSTS}
+use Rattle.ranking.specs.declared.firsts.TheConstants.{FIRSTS, LEVELS}
+use Rattle.ranking.proofs.KnownCounts.{at_first, level_before}
 use Rattle.ranking.proofs.firsts.pips_of.Goals as goal
+use Rattle.ranking.proofs.firsts.pips_of.Goals.{After-from-in-loop-pips}
 
--- where the counts of fewer pips pass the rank
-pips : (c : goal.After-partition_point-above) →
-    IsPipsOf 92 c.args.rank c.partition_point-above.result
-pips c =
-    let rising : IsNonDecreasingBy (λ x. x) FIRSTS = starts_rise FIRSTS 92 refl at_first in
-    pips_found FIRSTS 92 c.args.rank c.partition_point-above.result (omega arith)
-    refl (omega (arith, c.requires, first_of-all 91 (omega arith)))
-    c.partition_point-above.ensures.bound at_first
-    (IsPartitionPoint-from_clause (λ y. nat_le y c.args.rank) FIRSTS _
-    c.partition_point-above.ensures.partitioned
-    (IsPartitionedBy-leb (λ x. x) FIRSTS c.args.rank rising) (λ a r q k. search rules))
+pub loop-pips-init : goal.loop-pips-init
+loop-pips-init c =
+    let at = level_before c.args.rank c.requires in
+    record {
+      low = subst (λ i. slice_index LEVELS i ≤ 90) (sym c.from.ensures) at.0;
+      from = subst (λ i. first_of (slice_index LEVELS i) ≤ c.args.rank) (sym c.from.ensures) at.1;
+    }
 
-pub overflow_sub-result : goal.overflow_sub-result
-overflow_sub-result c = (pips c).some
+-- how many positions have no more pips
+next_first : (c : After-from-in-loop-pips) →
+    slice_index FIRSTS (c.from-in-loop-pips.result + 1) ≡ first_of (c.loop-pips.pips + 1)
+next_first c =
+    at_first (c.from-in-loop-pips.result + 1)
+    (omega (arith, c.from-in-loop-pips.ensures, c.loop-pips.invariant.low))
+    ∙ ap (λ p. first_of (p + 1)) c.from-in-loop-pips.ensures
 
-pub returns-clause-from : goal.returns-clause-from
-returns-clause-from c = (pips c).from
+pub loop-pips-preserved : goal.loop-pips-preserved
+loop-pips-preserved c = record {
+  low = by_cases (cases_lt c.loop-pips.pips 90);
+  from = from;
+}
+  where
+    from : first_of (c.loop-pips.pips + 1) ≤ c.args.rank
+    from =
+        omega (
+          arith,
+          c.loop-pips-test.true,
+          next_first (goal.at.loop-pips-preserved c).After-from-in-loop-pips,
+        )
+
+    by_cases : (c.loop-pips.pips < 90) ⊎ (90 ≤ c.loop-pips.pips) → c.loop-pips.pips + 1 ≤ 90
+    by_cases (inl fewer) = omega (arith, fewer)
+    by_cases (inr most) =
+        absurd (omega (
+          arith,
+          from,
+          c.requires,
+          first_of-all (c.loop-pips.pips + 1) (omega (arith, most)),
+        ))
 
 pub returns-clause-to : goal.returns-clause-to
-returns-clause-to c = (pips c).to
-
-pub returns-clause-range : goal.returns-clause-range
-returns-clause-range c = omega (arith, (pips c).range)
+returns-clause-to c =
+    omega (
+      arith,
+      c.loop-pips-test.false,
+      next_first (goal.at.returns-clause-to c).After-from-in-loop-pips,
+    )

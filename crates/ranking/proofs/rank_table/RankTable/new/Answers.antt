@@ -1,4 +1,4 @@
-use Rattle.std.proofs.Common.{subst, arith}
+use Rattle.std.proofs.Common.{arith}
 use Rattle.ranking.proofs.KnownCounts.{at_first}
 use Rattle.ranking.proofs.rank_table.RankTable.new.Goals as goal
 
