@@ -12,8 +12,8 @@ use db_layout::RecordView;
 use fixed_fraction::WHOLE;
 use home_board::Position;
 
-/// Tests the numbers of a record by the sums of what is recorded for its rolls: the mean first, and
-/// then the shares by their number of rolls.
+/// Tests the numbers of a record by the sums of what is recorded for its rolls: the mean, and then
+/// the shares by their number of rolls.
 #[inline(always)]
 pub fn check_numbers(
     position: &Position,

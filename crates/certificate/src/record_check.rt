@@ -154,7 +154,8 @@ fn add_play<T: Table>(
     ensures others { (bytes : List ℕ) (other : ℕ) →
         T.ready table.old bytes other → T.ready table.new bytes other }
     ensures right { WhereTold (T.tells table.old) (λ file. OnOk result
-        (IsPlayed file subject.now.position.now roll × IsBest file subject.now.position.now roll)) }
+        (IsPlayed file subject.now.position.now roll
+        × IsBest file subject.now.position.now roll)) }
     ensures added { WhereTold (T.tells table.old) (λ file. OnOk result
         (¬ IsFinished subject.now.position.now →
         IsAddedPlay file subject.now.position.now roll sums.old sums.new)) }

@@ -12,7 +12,8 @@ module _ (f bytes : List ℕ) (right : IsRight f) (bytes_are : bytes ≡ f) (ver
     (version_is : version ≡ version_of f) (p r offset : ℕ) (pips_are : p ≡ pips (at_rank r))
     (offset_is : offset ≡ record_place version r) where
   -- what stands at the place of the rank is its record
-  pub found : told_record version p (bytes_at bytes offset (record_length version p)) ≡ record_at f r
+  pub found :
+      told_record version p (bytes_at bytes offset (record_length version p)) ≡ record_at f r
   found = rw (offset_is, bytes_are, version_is, pips_are) refl
 
   -- .. which ends within the bytes
