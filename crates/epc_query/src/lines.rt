@@ -1,6 +1,6 @@
 //! The lines of an input, answered as soon as they are whole.
 ghost use Rattle.std.specs.Prelude.{◌≡◌, ℕ, ◌+◌, ◌^◌, ◌<◌, ◌≤◌, List, [], ◌∷◌, ◌++◌, length};
-ghost use Rattle.std.specs.Prelude.{Option, Some, Err, MatchOption, MatchResult, IfOk};
+ghost use Rattle.std.specs.Prelude.{Option, Some, Err, MatchOption, MatchResult, IfOk, OnErr};
 ghost use Rattle.std.specs.Io.KnownBytes.{Keeps};
 ghost use Rattle.race_model.specs.InputLines.{HasNoFeed, whole_lines, lines_of};
 ghost use Rattle.db_reader.specs.Telling.{WhereTold};
@@ -60,7 +60,7 @@ fn answer_piece<A: Answers, W: Write>(
 }
 
 /// Takes the next bytes of the input: a line feed ends a line, which is answered, and what stands
-/// after the last one is kept. It gives how many lines were answered.
+/// after the last one is kept. The replies are flushed. It gives how many lines were answered.
 pub(crate) fn answer_chunk<A: Answers, W: Write>(
     alloc: Global,
     answers: &mut A,
@@ -89,6 +89,7 @@ pub(crate) fn answer_chunk<A: Answers, W: Write>(
         count += 1;
     }
     held.extend(&chunk[start..]);
+    flush(writer)?;
     Ok(count)
 }
 
@@ -117,4 +118,15 @@ pub(crate) fn answer_last<A: Answers, W: Write>(
     }
     answers.write_answer(alloc, line, text, writer)?;
     Ok(1)
+}
+
+/// Flushes the writer.
+pub(crate) fn flush<W: Write>(writer: &mut W) -> Result<(), RunFault>
+    ensures kept { Keeps (W.contents writer.old) (W.contents writer.new) }
+    ensures fault { OnErr result (result ≡ Err RunFault.Write) }
+{
+    match writer.flush() {
+        Ok(()) => Ok(()),
+        Err(_) => Err(RunFault::Write),
+    }
 }

@@ -10,7 +10,7 @@ ghost use Rattle.epc_query.specs.UsedReads.{HasUsed};
 
 use crate::answers::Answers;
 use crate::line_buffer::LineBuffer;
-use crate::lines::{answer_chunk, answer_last};
+use crate::lines::{answer_chunk, answer_last, flush};
 use crate::run_fault::RunFault;
 use crate::text::Text;
 use certificate::Checked;
@@ -90,7 +90,7 @@ pub fn run_lines<A: Answers, R: Read, W: Write>(
             count += answer_end(alloc, answers, &held, &mut text, writer)?;
             return Ok(count);
         }
-        count += answer_read(
+        count += answer_chunk(
             alloc,
             answers,
             &mut held,
@@ -100,30 +100,6 @@ pub fn run_lines<A: Answers, R: Read, W: Write>(
         )?;
     }
     Err(RunFault::Turns)
-}
-
-/// Takes what one read gave, and flushes the replies.
-fn answer_read<A: Answers, W: Write>(
-    alloc: Global,
-    answers: &mut A,
-    held: &mut LineBuffer,
-    bytes: &[u8],
-    text: &mut Text,
-    writer: &mut W,
-) -> Result<u64, RunFault>
-    requires { length bytes.now < 2 ^ 32 }
-    ensures answered { WhereTold (A.seen answers.old).told
-        (λ file. (done : List ℕ) (start : Option (List ℕ))
-        → IsAnswered file done start (W.contents writer.old) held.old → MatchResult result
-        (λ n. IsAnswered file (done ++ bytes.now) start (W.contents writer.new) held.new
-        × (length (whole_lines (done ++ bytes.now)) ≡ length (whole_lines done) + n))
-        (IsStoppedAt file (whole_lines (done ++ bytes.now)) start (W.contents writer.new))) }
-    ensures few { IfOk result (λ n. n ≤ length bytes.now) }
-    ensures stays { Stays (A.seen answers.old) (A.seen answers.new) (result ≡ Err RunFault.Table) }
-{
-    let count = answer_chunk(alloc, answers, held, bytes, text, writer)?;
-    flush(writer)?;
-    Ok(count)
 }
 
 /// Answers what stands after the last line feed, and flushes the reply.
@@ -146,15 +122,4 @@ fn answer_end<A: Answers, W: Write>(
     let count = answer_last(alloc, answers, held, text, writer)?;
     flush(writer)?;
     Ok(count)
-}
-
-/// Flushes the writer.
-fn flush<W: Write>(writer: &mut W) -> Result<(), RunFault>
-    ensures kept { Keeps (W.contents writer.old) (W.contents writer.new) }
-    ensures fault { OnErr result (result ≡ Err RunFault.Write) }
-{
-    match writer.flush() {
-        Ok(()) => Ok(()),
-        Err(_) => Err(RunFault::Write),
-    }
 }

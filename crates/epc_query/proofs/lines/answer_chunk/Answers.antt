@@ -1,9 +1,13 @@
-use Rattle.std.proofs.Common.{◌≡◌, ◌+◌, [], ◌∷◌, ◌++◌, length, take, drop, Err, ap, ◌∙◌, arith, rules}
+use Rattle.std.proofs.Common.{◌≡◌, ℕ, ◌+◌, List, [], ◌∷◌, ◌++◌, Option, Some, length, take, drop, Err, ap, ◌∙◌, arith, rules}
 use Rattle.std.proofs.lemmas.List.{length-drop}
 use Rattle.race_model.specs.InputLines.{whole_lines}
 use Rattle.certificate.proofs.Databases.{stays_more}
 use Rattle.epc_query.proofs.Runs.{all_left, piece_joined, piece_rest, chunk_parts, stopped_before}
-use Rattle.epc_query.proofs.Runs.{rest_more, bytes_kept}
+use Rattle.epc_query.specs.Runs.{IsAnswered}
+use Rattle.epc_query.specs.declared.run_fault.RunFault.TheVariants.{Write}
+use Rattle.epc_query.proofs.Runs.{rest_more, bytes_kept, flushed_answers, failed_flush}
+use Rattle.epc_query.proofs.lines.answer_chunk.Given.{Over}
+use Rattle.epc_query.proofs.lines.answer_chunk.Goals.{After-extend}
 use Rattle.epc_query.proofs.lines.answer_chunk.Goals as goal
 
 pub returns-in_err-answer_piece-clause-answered : goal.returns-in_err-answer_piece-clause-answered
@@ -45,8 +49,16 @@ loop-length-preserved g c =
       stays = stays_more c.loop-length.invariant.stays told.stays (λ e. cc);
     }
 
-pub returns-clause-answered : goal.returns-clause-answered
-returns-clause-answered g c = λ file t done start is.
+-- all lines of the chunk are answered, and what stands after the last one is kept
+taken : (g : Over) (c : After-extend g) (file : List ℕ) →
+    (g.A.Answers.seen c.args.answers.now).told ≡ Some file →
+    (done : List ℕ) (start : Option (List ℕ)) →
+    IsAnswered file done start (g.W.Write.contents c.args.writer.now) c.args.held.now →
+    IsAnswered file (done ++ c.args.chunk.now) start (g.W.Write.contents c.loop-length.writer)
+    c.extend.new.self
+    × (length (whole_lines (done ++ c.args.chunk.now))
+    ≡ length (whole_lines done) + c.loop-length.count)
+taken g c file t done start is =
     let chunk = c.args.chunk.now in
     let i = c.loop-length.start in
     let before = c.loop-length.invariant.taken file t done start is in
@@ -58,4 +70,23 @@ returns-clause-answered g c = λ file t done start is.
     let all = chunk_parts done chunk i in (
       rw (← all) kept.0,
       omega (arith, ap (λ input. length (whole_lines input)) all, kept.1, before.1),
+    )
+
+pub returns-in_err-flush-clause-answered : goal.returns-in_err-flush-clause-answered
+returns-in_err-flush-clause-answered g c = λ file t done start is.
+    let at = (goal.at.returns-in_err-flush-clause-answered g c).After-extend in
+    let has = taken g at file t done start is in
+    let same : c.from_residual-in_err-flush.result ≡ Err c.in_err-flush.field-0.0 = search rules in
+    let told = (c.in_err-flush.ensures {u = tt}).fault in
+    let fault : c.in_err-flush.field-0.0 ≡ Write = cc in
+    rw (same, fault)
+    (failed_flush file (whole_lines (done ++ c.args.chunk.now)) start _ _ has.0.replies
+    c.flush.ensures.kept)
+
+pub returns-clause-answered : goal.returns-clause-answered
+returns-clause-answered g c = λ file t done start is.
+    let at = (goal.at.returns-clause-answered g c).After-extend in
+    let has = taken g at file t done start is in (
+      flushed_answers file (done ++ c.args.chunk.now) start _ _ _ has.0 c.flush.ensures.kept,
+      has.1,
     )
