@@ -39,23 +39,24 @@ extern "C" {
 /* The version of this header and of what came with it; bearoff_library_version is the library's. */
 #define BEAROFF_VERSION "1.0.0"
 
-/* The statuses, in the order of the tests. */
+/* The statuses, in the order of the tests. What is said of each is its text in bearoff_status_text. */
 enum {
-    BEAROFF_OK = 0,
+    BEAROFF_OK = 0,         /* success */
     BEAROFF_NOT_OPEN = 1,   /* the database was never opened, or its bytes were refused */
     BEAROFF_BAD_ROLL = 2,   /* a die is not 1 to 6 */
     BEAROFF_TOO_MANY = 3,   /* a position has more than 15 checkers */
-    BEAROFF_OVER_BOUND = 4, /* the position has more pips than the bound */
+    BEAROFF_OVER_BOUND = 4, /* the position has more pips than the bound, or the bound is over 58 */
     BEAROFF_FINISHED = 5,   /* a play is asked for and no checker is left */
-    BEAROFF_NOT_LEGAL = 6,  /* the roll doesn't lead to the position whose loss is asked */
+    BEAROFF_NOT_LEGAL = 6,  /* the roll doesn't lead to that position */
     BEAROFF_CHANGED = 7,    /* the bytes were changed since they were checked */
     BEAROFF_SHORT = 8,      /* the room that was lent is too small */
     BEAROFF_NOT_OLD = 9,    /* the file that is to be upgraded is of version 2 already */
     BEAROFF_NO_RANK = 10,   /* the database has no position of that rank, or fewer than asked from there on */
+    BEAROFF_BAD_TEXT = 11,  /* the text is not six counts with commas between them */
 
-    /* bearoff_open alone: the first fault of the bytes */
+    /* bearoff_open and bearoff_upgrade alone: the first fault of the bytes */
     BEAROFF_TOO_SHORT = 16,        /* fewer than 32 bytes */
-    BEAROFF_BAD_MAGIC = 17,        /* they don't begin with EPCTABLE */
+    BEAROFF_BAD_MAGIC = 17,        /* the bytes don't begin with EPCTABLE */
     BEAROFF_BAD_VERSION = 18,      /* the version is not 1 or 2 */
     BEAROFF_BAD_BOUND = 19,        /* the pip bound is over the greatest of its version, 44 or 58 */
     BEAROFF_BAD_COUNT = 20,        /* the count isn't that of the bound */
@@ -166,17 +167,29 @@ typedef struct bearoff_database {
 /* The most bytes that the line of a fault has. */
 #define BEAROFF_LINE 32
 
-/* The most positions that a roll can lead to. */
-#define BEAROFF_RESULTS 1296
+/* The most bytes that the text of a status has. */
+#define BEAROFF_STATUS_TEXT 80
 
-/* The most bytes that the reply to a line has. */
-#define BEAROFF_REPLY 123125
+/* Room for every position that a roll can lead to: no roll leads to more. */
+#define BEAROFF_RESULTS 127
+
+/* Room for the reply to any line: no reply has more bytes. */
+#define BEAROFF_REPLY 12070
 
 /*
  * The version of the library that is linked or loaded, 1.2.3 as 1, 2 and 3. It is BEAROFF_VERSION
  * where the header is of the same release. BEAROFF_OK.
  */
 uint32_t bearoff_library_version(uint16_t *major, uint16_t *minor, uint16_t *patch);
+
+/*
+ * What a status says, in the words that stand beside it above, as in `a die is not 1 to 6`; of 28 it
+ * says that the bytes were changed while they were read, and of a number that no call returns
+ * `unknown status`. The words stand in `text` without a zero at their end, and `*needed` is how many
+ * bytes they have, at most BEAROFF_STATUS_TEXT. BEAROFF_OK, and BEAROFF_SHORT where `room` is less
+ * than `*needed`: then nothing is written into `text`.
+ */
+uint32_t bearoff_status_text(uint32_t status, uint8_t *text, size_t room, size_t *needed);
 
 /*
  * Checks `length` bytes and opens a database over them. 0.2 s for 44 pips; needs 1.5 MB of stack.
@@ -364,6 +377,15 @@ uint32_t bearoff_upgrade(const uint8_t *bytes, size_t length, uint8_t *work, siz
  */
 uint32_t bearoff_build(uint8_t bound, uint8_t *work, size_t work_length, uint8_t *room,
                        size_t room_length, size_t *filled);
+
+/*
+ * The position that a text of `length` bytes states, as in `0,0,0,2,0,1`: six counts with commas
+ * between them, that of the ace point first, each of one to three digits, the first of several not
+ * 0, and nothing else, no blank or line ending either. It asks no database. BEAROFF_OK;
+ * BEAROFF_BAD_TEXT where the bytes are no such text; BEAROFF_TOO_MANY where they are one, and the
+ * counts add up to more than 15.
+ */
+uint32_t bearoff_parse_position(const uint8_t *text, size_t length, bearoff_position *position);
 
 /* The pips, 0 to 90, and the checkers of a position, and how many of 15 are borne off. */
 typedef struct bearoff_stand {

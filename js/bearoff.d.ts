@@ -260,7 +260,7 @@ export class Bearoff {
     loss(position: Position, roll: Roll, to: Position): Exact;
 
     /**
-     * Every position that a roll can lead to from a position of the database, once, at most 1,296, the best first, and of
+     * Every position that a roll can lead to from a position of the database, once, at most 127, the best first, and of
      * those that cost as much that of the lower rank. Refused as `play` is.
      */
     moves(position: Position, roll: Roll): Choice[];

@@ -12,7 +12,7 @@ const MEAN_BYTES = 16;
 const EPC_BYTES = 40;
 const DISTRIBUTION_BYTES = 368;
 const RESULT_BYTES = 40;
-const MOST_RESULTS = 1296;
+const MOST_RESULTS = 127;
 
 const WHOLE = 36n ** 22n;
 const MOST_ROLLS = 22;

@@ -3,11 +3,14 @@ of 44 and of 58, give what the program's own lines give, and so do the lines tha
 answers itself, good and bad; each refusal gives its status and leaves the rest of the caller's
 memory alone (under valgrind, and with AddressSanitizer in the caller), bytes that are changed
 after they were opened lead no call outside them, rooms of exactly the size of a file are enough
-and smaller ones aren't, threads with a database each answer the same, and both libraries export
-what the header declares and nothing else. The package for Python passes its own tests, is accepted
+and smaller ones aren't, so are the rooms that the header names for any list of results and any
+reply, each status has its text, texts are read as positions and refused as the grammar has it,
+threads with a database each answer the same, and both libraries export what the header declares
+and nothing else. The package for Python passes its own tests, is accepted
 by mypy and is installed by pip without a trace in the checkout; the examples of docs/embedding.md
 and docs/analysts.md do what the pages say."""
 
+import ctypes
 import os
 import re
 import shutil
@@ -36,6 +39,7 @@ CALLER_WORDS = {
     "refusals_asan": ("cc", ["-std=c11", *SANITIZED], "refusals.c", STATIC),
     "reads_outside": ("cc", ["-std=c11"], "reads_outside.c", STATIC),
     "rooms": ("cc", ["-std=c11"], "rooms.c", [*STATIC, "-lpthread"]),
+    "largest": ("cc", ["-std=c11"], "largest.c", STATIC),
 }
 LINE_CALLERS = ["lines_c", "lines_cpp", "lines_shared"]
 
@@ -168,6 +172,31 @@ def test_rooms(caller):
     expect(run(caller("rooms"), timeout=600), 0)
 
 
+def test_largest(caller, built):
+    """The longest list of results, and the longest reply, of all positions up to 58 pips."""
+    expect(run(caller("largest"), built(58), timeout=600), 0, "108 results, 5828 bytes")
+
+
+def test_status_texts(library):
+    """What the library says of each status is what the header says beside it."""
+    header = (ROOT / "c/bearoff.h").read_text(encoding="utf-8")
+    said = {
+        int(number): text
+        for number, text in re.findall(r"(?m)^    BEAROFF_[A-Z_]+ = (\d+), +/\* (.*) \*/$", header)
+    }
+    assert [*said] == [*range(12), *range(16, 28)]
+    room = int(re.search(r"(?m)^#define BEAROFF_STATUS_TEXT (\d+)$", header)[1])
+    call = ctypes.CDLL(str(library / "libbearoff.so")).bearoff_status_text
+    call.argtypes = [ctypes.c_uint32, ctypes.c_char_p, ctypes.c_size_t, ctypes.c_void_p]
+    call.restype = ctypes.c_uint32
+    said[28] = "the bytes were changed while they were read"
+    for status in (*range(300), 2**31, 2**32 - 1):
+        text, needed = ctypes.create_string_buffer(room), ctypes.c_size_t()
+        assert call(status, text, room, ctypes.byref(needed)) == 0
+        told = text.raw[: needed.value].decode("ascii")
+        assert told == said.get(status, "unknown status"), status
+
+
 def test_example_in_c(library, room, built):
     Path("example.c").write_text(code_blocks("docs/embedding.md", "c")[0], encoding="utf-8")
     shutil.copy(built(44), "race.db")
@@ -289,11 +318,13 @@ def test_example_in_python(python, example):
 class TestExampleOfAFile:
     """The example that reads a file of positions."""
 
-    TEXT = b"0,0,0,0,0,1\r\n2,2,2,2,2,2\n0,0,0,0,0,16\nsix"
+    TEXT = b"0,0,0,0,0,1\r\n2,2,2,2,2,2\n0,0,0,0,0,16\n0,0,0,0,0,01\n0,0,0,0,6,5\nsix"
     TOLD = """0,0,0,0,0,1: 1.2500 rolls, 10.208 pips
 2,2,2,2,2,2: 6.3603 rolls, 51.943 pips
-line 3: 0,0,0,0,0,16 is refused with status 3
-line 4: six is no position"""
+line 3: 0,0,0,0,0,16: a position has more than 15 checkers
+line 4: 0,0,0,0,0,01: the text is not six counts with commas between them
+line 5: 0,0,0,0,6,5: the position has more pips than the bound, or the bound is over 58
+line 6: six: the text is not six counts with commas between them"""
 
     @pytest.fixture(params=["cc", "c++"])
     def positions(self, request, library, room, built):

@@ -16,8 +16,8 @@ __version__ = "1.0.0"
 
 # how many bytes there are, and how much stack, as the header has it
 LINE = 32
-RESULTS = 1296
-REPLY = 123125
+RESULTS = 127
+REPLY = 12070
 FILE = 15060844
 OPEN_STACK = 1572864
 BUILD_STACK = 20971520

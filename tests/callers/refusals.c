@@ -207,6 +207,76 @@ static uint32_t answer_with(const bearoff_database *database, const char *line, 
     return status;
 }
 
+/* the text of a status, with each room up to the most */
+static void say(uint32_t status, const char *wanted) {
+    size_t count = strlen(wanted);
+    for (size_t room = 0; room <= BEAROFF_STATUS_TEXT; room++) {
+        uint8_t *buffer = guarded(room);
+        size_t *needed = (size_t *)guarded(sizeof *needed);
+        uint32_t told = bearoff_status_text(status, buffer, room, needed);
+        expect(told == (count <= room ? BEAROFF_OK : BEAROFF_SHORT) && *needed == count, wanted, (long)room);
+        if (count <= room) {
+            expect(!memcmp(buffer, wanted, count) && is_marked(buffer + count, room - count), wanted, -1);
+        } else {
+            expect(is_marked(buffer, room), wanted, -2);
+        }
+        expect(guards_stand(buffer, room) && guards_stand(needed, sizeof *needed), wanted, -3);
+        let_go(buffer);
+        let_go(needed);
+    }
+}
+
+/* what a text is as a position, told character by character: the status, and the counts where that is BEAROFF_OK */
+static uint32_t read_counts(const char *text, size_t length, bearoff_position *position) {
+    unsigned counts[6] = {0, 0, 0, 0, 0, 0}, sum = 0;
+    size_t point = 0, digits = 0;
+    for (size_t i = 0; i < length; i++) {
+        if (text[i] == ',') {
+            if (!digits || ++point > 5) return BEAROFF_BAD_TEXT;
+            digits = 0;
+        } else {
+            const char *digit = (const char *)memchr("0123456789", text[i], 10);
+            if (!digit || ++digits > 3 || (digits > 1 && !counts[point])) return BEAROFF_BAD_TEXT;
+            counts[point] = 10 * counts[point] + (unsigned)(text[i] - '0');
+        }
+    }
+    if (!digits || point != 5) return BEAROFF_BAD_TEXT;
+    for (int i = 0; i < 6; i++) sum += counts[i];
+    if (sum > 15) return BEAROFF_TOO_MANY;
+    for (int i = 0; i < 6; i++) position->points[i] = (uint8_t)counts[i];
+    return BEAROFF_OK;
+}
+
+/* reads a text, which lies in a block of exactly its length; the status */
+static uint32_t read_text(const char *text, size_t length) {
+    uint8_t *bytes = (uint8_t *)malloc(length ? length : 1);
+    bearoff_position *position = (bearoff_position *)guarded(sizeof *position), wanted;
+    if (!bytes) exit(1);
+    memcpy(bytes, text, length);
+    uint32_t status = bearoff_parse_position(bytes, length, position);
+    expect(status == read_counts(text, length, &wanted), text, (long)length);
+    expect(status ? untouched(position, sizeof *position) : !memcmp(position, &wanted, sizeof wanted), text, -1);
+    expect(guards_stand(position, sizeof *position) && !memcmp(bytes, text, length), text, -2);
+    let_go(position);
+    free(bytes);
+    return status;
+}
+
+/* a text that has this status, and its front of each length; then with each byte at each place */
+static void state(const char *text, size_t length, uint32_t wanted) {
+    char changed[64];
+    expect(read_text(text, length) == wanted, text, wanted);
+    for (size_t front = 0; front < length; front++) read_text(text, front);
+    memcpy(changed, text, length);
+    for (size_t place = 0; place < length; place++) {
+        for (int byte = 0; byte < 256; byte++) {
+            changed[place] = (char)byte;
+            read_text(changed, length);
+        }
+        changed[place] = text[place];
+    }
+}
+
 typedef struct damage {
     size_t place;
     uint8_t change;
@@ -225,6 +295,83 @@ int main(int count, char **words) {
         {32 + 426 + 15, 1, BEAROFF_BAD_MEAN, "mean rank 1"},
         {32 + 426 + 17, 1, BEAROFF_BAD_PLAY, "play rank 1 roll 0"},
         {32 + 426 + 58 + 15, 1, BEAROFF_BAD_SPREAD, "spread rank 1 k 0"},
+    };
+    static const struct {
+        uint32_t status;
+        const char *text;
+    } said[] = {
+        {BEAROFF_OK, "success"},
+        {BEAROFF_NOT_OPEN, "the database was never opened, or its bytes were refused"},
+        {BEAROFF_BAD_ROLL, "a die is not 1 to 6"},
+        {BEAROFF_TOO_MANY, "a position has more than 15 checkers"},
+        {BEAROFF_OVER_BOUND, "the position has more pips than the bound, or the bound is over 58"},
+        {BEAROFF_FINISHED, "a play is asked for and no checker is left"},
+        {BEAROFF_NOT_LEGAL, "the roll doesn't lead to that position"},
+        {BEAROFF_CHANGED, "the bytes were changed since they were checked"},
+        {BEAROFF_SHORT, "the room that was lent is too small"},
+        {BEAROFF_NOT_OLD, "the file that is to be upgraded is of version 2 already"},
+        {BEAROFF_NO_RANK, "the database has no position of that rank, or fewer than asked from there on"},
+        {BEAROFF_BAD_TEXT, "the text is not six counts with commas between them"},
+        {BEAROFF_TOO_SHORT, "fewer than 32 bytes"},
+        {BEAROFF_BAD_MAGIC, "the bytes don't begin with EPCTABLE"},
+        {BEAROFF_BAD_VERSION, "the version is not 1 or 2"},
+        {BEAROFF_BAD_BOUND, "the pip bound is over the greatest of its version, 44 or 58"},
+        {BEAROFF_BAD_COUNT, "the count isn't that of the bound"},
+        {BEAROFF_BAD_RECORD_BYTES, "the field for record bytes is not 426, or 0 in version 2"},
+        {BEAROFF_BAD_RESERVED, "a reserved byte is not zero"},
+        {BEAROFF_BAD_LENGTH, "more or fewer bytes than the header says"},
+        {BEAROFF_BAD_PLAY, "a recorded play is not legal"},
+        {BEAROFF_NOT_LEAST, "a recorded play doesn't reach the least mean"},
+        {BEAROFF_BAD_MEAN, "a recorded mean is not that of the recorded plays"},
+        {BEAROFF_BAD_SPREAD, "a recorded share is not that of the recorded plays"},
+        {28, "the bytes were changed while they were read"},
+    };
+    static const uint32_t unknown[] = {12, 13, 14, 15, 29, 30, 31, 32, 255, 256, 257, 260, 267, 284, 512, 65536, 65538,
+                                       1u << 31, (1u << 31) + 16, ~(uint32_t)0};
+    static const struct {
+        uint32_t status;
+        const char *text;
+    } texts[] = {
+        {BEAROFF_OK, "0,0,0,0,0,0"},
+        {BEAROFF_OK, "0,0,0,2,0,1"},
+        {BEAROFF_OK, "15,0,0,0,0,0"},
+        {BEAROFF_OK, "0,0,0,0,0,15"},
+        {BEAROFF_OK, "1,2,3,4,5,0"},
+        {BEAROFF_TOO_MANY, "16,0,0,0,0,0"},
+        {BEAROFF_TOO_MANY, "0,0,0,0,0,16"},
+        {BEAROFF_TOO_MANY, "1,2,3,4,5,1"},
+        {BEAROFF_TOO_MANY, "255,0,0,0,0,0"},
+        {BEAROFF_TOO_MANY, "256,0,0,0,0,0"}, /* 0 in a byte */
+        {BEAROFF_TOO_MANY, "0,0,0,0,0,271"}, /* 15 in a byte */
+        {BEAROFF_TOO_MANY, "128,128,0,0,0,0"}, /* 256 in all */
+        {BEAROFF_TOO_MANY, "999,999,999,999,999,999"},
+        {BEAROFF_BAD_TEXT, ""},
+        {BEAROFF_BAD_TEXT, ","},
+        {BEAROFF_BAD_TEXT, ",,,,,"},
+        {BEAROFF_BAD_TEXT, "six"},
+        {BEAROFF_BAD_TEXT, "0,0,0,0,0"},
+        {BEAROFF_BAD_TEXT, "0,0,0,0,0,"},
+        {BEAROFF_BAD_TEXT, ",0,0,0,0,0"},
+        {BEAROFF_BAD_TEXT, "0,0,,0,0,0"},
+        {BEAROFF_BAD_TEXT, "0,0,0,0,0,0,"},
+        {BEAROFF_BAD_TEXT, "0,0,0,0,0,0,0"},
+        {BEAROFF_BAD_TEXT, "00,0,0,0,0,0"},
+        {BEAROFF_BAD_TEXT, "0,0,0,0,0,01"},
+        {BEAROFF_BAD_TEXT, "0,0,0,0,0,015"},
+        {BEAROFF_BAD_TEXT, "1000,0,0,0,0,0"},
+        {BEAROFF_BAD_TEXT, "65536,0,0,0,0,0"},
+        {BEAROFF_BAD_TEXT, "0,0,0,0,0,4294967296"},
+        {BEAROFF_BAD_TEXT, " 0,0,0,0,0,1"},
+        {BEAROFF_BAD_TEXT, "0,0,0,0,0,1 "},
+        {BEAROFF_BAD_TEXT, "0, 0,0,0,0,1"},
+        {BEAROFF_BAD_TEXT, "0,0,0,0,0,1\r"},
+        {BEAROFF_BAD_TEXT, "0,0,0,0,0,1\n"},
+        {BEAROFF_BAD_TEXT, "+0,0,0,0,0,1"},
+        {BEAROFF_BAD_TEXT, "0,0,0,0,0,-1"},
+        {BEAROFF_BAD_TEXT, "0,0,0,0,0,0x1"},
+        {BEAROFF_BAD_TEXT, "0;0;0;0;0;1"},
+        {BEAROFF_BAD_TEXT, "0,0,0,0,0,\xd9\xa1"}, /* a digit of Arabic */
+        {BEAROFF_BAD_TEXT, "\xef\xbb\xbf" "0,0,0,0,0,1"}, /* behind a byte order mark */
     };
     bearoff_position none = {{0, 0, 0, 0, 0, 0}}, six = {{0, 0, 0, 0, 0, 1}}, five = {{0, 0, 0, 0, 1, 0}};
     bearoff_position many = {{1, 15, 0, 0, 0, 0}}, most = {{255, 255, 255, 255, 255, 255}}, nine = {{0, 0, 1, 0, 0, 1}};
@@ -312,6 +459,16 @@ int main(int count, char **words) {
     stand(none, BEAROFF_OK, "no checker");
     stand(many, BEAROFF_TOO_MANY, "16 checkers");
     stand(most, BEAROFF_TOO_MANY, "1530 checkers");
+
+    /* what each status says, and each of some numbers that are none */
+    for (size_t i = 0; i < sizeof said / sizeof *said; i++) say(said[i].status, said[i].text);
+    for (size_t i = 0; i < sizeof unknown / sizeof *unknown; i++) say(unknown[i], "unknown status");
+
+    /* texts of positions, and one with a zero behind it */
+    for (size_t i = 0; i < sizeof texts / sizeof *texts; i++) {
+        state(texts[i].text, strlen(texts[i].text), texts[i].status);
+    }
+    state("0,0,0,0,0,1", 12, BEAROFF_BAD_TEXT);
 
     /* a denominator is at most 6 * 36^22, and a fraction at most 180 */
     number limit = 6, greatest = ~(number)0;

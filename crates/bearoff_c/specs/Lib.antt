@@ -1,5 +1,6 @@
 pub mod Wides
 pub mod Refusals
+pub mod StatusTexts
 pub mod Buffers
 pub mod FileFaults
 pub mod PlayLists

@@ -5,7 +5,7 @@ use Rattle.race_model.specs.Positions.{Board, checkers, pips}
 use Rattle.race_model.specs.Ranks.{count_to}
 use Rattle.bearoff_c.specs.declared.statuses.Refusal.{Refusal}
 use Rattle.bearoff_c.specs.declared.statuses.Refusal.TheVariants.{NotOpen, BadRoll, TooMany, OverBound, Finished}
-use Rattle.bearoff_c.specs.declared.statuses.Refusal.TheVariants.{NotLegal, Changed, NoRank}
+use Rattle.bearoff_c.specs.declared.statuses.Refusal.TheVariants.{NotLegal, Changed, NoRank, BadText}
 
 -- the status: 0 where nothing was refused
 abbrev pub status_of : Option Refusal → ℕ
@@ -18,6 +18,7 @@ status_of (Some Finished) = 5
 status_of (Some NotLegal) = 6
 status_of (Some Changed) = 7
 status_of (Some NoRank) = 10
+status_of (Some BadText) = 11
 
 -- why a call gave no answer, if it gave none
 abbrev pub refusal_in : {T : Type 0} → Result T Refusal → Option Refusal

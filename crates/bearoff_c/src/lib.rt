@@ -18,4 +18,5 @@ mod opening;
 mod plays;
 mod positions;
 mod results;
+mod status_texts;
 mod statuses;

@@ -1,6 +1,7 @@
-//! Positions as C has them, and their ranks.
-ghost use Rattle.std.specs.Prelude.{◌≡◌, ◌+◌, ◌<◌, ◌≤◌, IsTrue, IfOk, OnOk};
+//! Positions as C has them, their texts and their ranks.
+ghost use Rattle.std.specs.Prelude.{◌≡◌, ℕ, ◌+◌, ◌<◌, ◌≤◌, ◌↔◌, List, IsTrue, IfOk, OnOk};
 ghost use Rattle.race_model.specs.Positions.{IsPosition, pips as pips_of, checkers as checkers_of};
+ghost use Rattle.race_model.specs.PositionText.{IsPositionText};
 ghost use Rattle.race_model.specs.Ranks.{rank as rank_of, at_rank, count_to};
 ghost use Rattle.race_model.specs.Files.{bound_of};
 ghost use Rattle.bearoff_c.specs.Refusals.{many_refusal, position_refusal, rank_refusal, refusal_in, status_of};
@@ -8,7 +9,7 @@ ghost use Rattle.bearoff_c.specs.Refusals.{many_refusal, position_refusal, rank_
 use crate::kept::Database;
 use crate::statuses::{OK, Refusal};
 use database::Database as Opened;
-use home_board::Position;
+use home_board::{Position, PositionFault, parse_position};
 
 /// How many checkers stand on the points 1 to 6 of the home board, as the caller says. Each is 0
 /// to 255; they are a position where they add up to at most 15.
@@ -131,6 +132,31 @@ pub extern "C" fn bearoff_standing(position: &Counts, standing: &mut Standing) -
         off: ALL_CHECKERS - checkers,
     };
     OK
+}
+
+/// The position that a text states: six counts of one to three digits with commas between them, that
+/// of point 1 first, the first of several digits not 0, and nothing before or behind them. Refused
+/// as `BadText` where the bytes are no such text, and as `TooMany` where they are and the counts add
+/// up to more than 15; then `position` stays as it was.
+#[unsafe(no_mangle)]
+pub extern "C" fn bearoff_parse_position(text: &[u8], position: &mut Counts) -> u32
+    ensures bad_text { (result ≡ 11)
+        ↔ ((counts : List ℕ) → ¬ IsPositionText text.now counts) }
+    ensures too_many { (result ≡ 3) ↔ ((counts : List ℕ)
+        × (IsPositionText text.now counts × (15 < checkers_of counts))) }
+    ensures status { ¬ (result ≡ 11) → ¬ (result ≡ 3) → result ≡ 0 }
+    ensures read { result ≡ 0 → IsPositionText text.now position.new.points }
+    ensures position { result ≡ 0 → IsPosition position.new.points }
+    ensures left { ¬ (result ≡ 0) → position.new ≡ position.old }
+{
+    match parse_position(text) {
+        Ok(found) => {
+            *position = Counts::of(&found);
+            OK
+        }
+        Err(PositionFault::BadText) => Refusal::BadText.status(),
+        Err(PositionFault::TooMany) => Refusal::TooMany.status(),
+    }
 }
 
 /// The rank of a position: how many positions are before it, which are those of fewer pips, and of

@@ -38,10 +38,13 @@ pub enum Refusal {
 
     /// The database has no position of the rank, or fewer than asked from there on.
     NoRank,
+
+    /// The text isn't six counts with commas between them.
+    BadText,
 }
 
 impl Refusal {
-    /// The status of the refusal, 1 to 7 or 10.
+    /// The status of the refusal: 1 to 7, 10 or 11.
     pub fn status(self) -> u32
         ensures value { result ≡ status_of (Some self) }
         ensures positive { 0 < result }
@@ -55,6 +58,7 @@ impl Refusal {
             Refusal::NotLegal => 6,
             Refusal::Changed => 7,
             Refusal::NoRank => 10,
+            Refusal::BadText => 11,
         }
     }
 }

@@ -1,0 +1,58 @@
+//! What each status says, for a caller's own messages.
+ghost use Rattle.std.specs.Prelude.{◌≡◌, ◌<◌, ◌≤◌, ◌↔◌, length};
+ghost use Rattle.bearoff_c.specs.Buffers.{HasText};
+ghost use Rattle.bearoff_c.specs.StatusTexts.{status_text};
+
+use crate::lines::put_text;
+use crate::statuses::{OK, SHORT};
+
+/// What a status says. Of a number that no call answers with, that it is unknown.
+fn text_of(status: u32) -> &'static str
+    ensures text { result.now ≡ status_text status }
+    ensures most { length result.now ≤ 80 }
+{
+    match status {
+        0 => "success",
+        1 => "the database was never opened, or its bytes were refused",
+        2 => "a die is not 1 to 6",
+        3 => "a position has more than 15 checkers",
+        4 => "the position has more pips than the bound, or the bound is over 58",
+        5 => "a play is asked for and no checker is left",
+        6 => "the roll doesn't lead to that position",
+        7 => "the bytes were changed since they were checked",
+        8 => "the room that was lent is too small",
+        9 => "the file that is to be upgraded is of version 2 already",
+        10 => "the database has no position of that rank, or fewer than asked from there on",
+        11 => "the text is not six counts with commas between them",
+        16 => "fewer than 32 bytes",
+        17 => "the bytes don't begin with EPCTABLE",
+        18 => "the version is not 1 or 2",
+        19 => "the pip bound is over the greatest of its version, 44 or 58",
+        20 => "the count isn't that of the bound",
+        21 => "the field for record bytes is not 426, or 0 in version 2",
+        22 => "a reserved byte is not zero",
+        23 => "more or fewer bytes than the header says",
+        24 => "a recorded play is not legal",
+        25 => "a recorded play doesn't reach the least mean",
+        26 => "a recorded mean is not that of the recorded plays",
+        27 => "a recorded share is not that of the recorded plays",
+        28 => "the bytes were changed while they were read",
+        _ => "unknown status",
+    }
+}
+
+/// The text of a status, any number: `text` has it in front, without a zero at its end, and the
+/// rest of it stays as it was; `needed` is how many bytes it has, at most 80. The status is 0, and
+/// 8 exactly where the text has no room; then `needed` is told and `text` stays as it was.
+#[unsafe(no_mangle)]
+pub extern "C" fn bearoff_status_text(status: u32, text: &mut [u8], needed: &mut usize) -> u32
+    ensures short { (result ≡ 8) ↔ (length text.old < needed.new) }
+    ensures status { ¬ (result ≡ 8) → result ≡ 0 }
+    ensures text { HasText (status_text status) text.old text.new needed.new }
+    ensures most { needed.new ≤ 80 }
+{
+    match put_text(text_of(status).as_bytes(), text, needed) {
+        true => OK,
+        false => SHORT,
+    }
+}
