@@ -108,6 +108,17 @@ function walked(position, moves) {
     return counts.join();
 }
 
+// Of each bound the position from which a double one leads to more results than any other roll of any position does.
+const LONGEST = { 44: ["4,2,2,2,2,2", 100], 58: ["3,3,2,2,2,3", 108] };
+
+function compareLongest(database, bound) {
+    const [at, count] = LONGEST[bound];
+    const moves = database.moves(number(at), [1, 1]);
+    equal(`the results of ${at}`, moves.length, count);
+    equal(`the results of ${at}, each once`, new Set(moves.map(({ to }) => to.join())).size, count);
+    equal(`the results of ${at}, by the line`, database.answer(`moves ${at} 11`), written(database, `moves ${at} 11`));
+}
+
 // Whole tables, beside the calls for one position, which were compared with the program's lines.
 function compareTables(database, bound, asked) {
     const count = database.positionCount;
@@ -153,6 +164,7 @@ for (const bound of process.argv.length > 5 ? process.argv.slice(5).map(Number) 
     const asked = compareLines(database, bound);
     for (const text of bound === 8 ? asked : [...asked].slice(0, 100)) comparePosition(database, text, number(text));
     compareTables(database, bound, asked);
+    if (bound in LONGEST) compareLongest(database, bound);
     if (bound <= 44) {
         const upgraded = database.upgrade();
         equal(`the upgrade of ${bound} pips`, Buffer.compare(Buffer.from(upgraded), bytesOf(`${FILES[bound]}_new`)), 0);

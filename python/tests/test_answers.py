@@ -3,9 +3,10 @@
 import random
 import unittest
 from fractions import Fraction
-from typing import Any, Iterator, List, Sequence, Tuple
+from typing import Any, Callable, Iterator, List, Sequence, Tuple
+from unittest import mock
 
-from bearoff import WEIGHTS, WHOLE, Choice, Database, Move, Position, Refused
+from bearoff import WEIGHTS, WHOLE, Choice, Database, Move, Position, Refused, _library
 
 from .given import FOLDER, ROLLS, Counts, database, positions, replies, text
 
@@ -134,6 +135,26 @@ class Answers(unittest.TestCase):
         self.assertEqual(database(8).answer("mean 0,0,0,0,0,1"), "mean 5/4 epc 245/24 10.208")
         for line in ("", "mean 0,0,0,0,0,1\n", "mean 0,0,0,0,0,1\r", "mean 0,0,0,0,0,1\0", "\ud800", "mean ?"):
             self.assertEqual(database(8).answer(line), "error bad-line", line)
+
+    def test_rooms(self) -> None:
+        """The longest list of results of 58 pips, and the longest reply: with the rooms that the header names, with one
+        less, with exactly enough, and with one less than that."""
+        here, at, line = database(58), (3, 3, 2, 2, 2, 3), "moves 2,2,2,3,3,3 11"
+        calls: List[Tuple[str, int, Callable[[], Any]]] = [
+            ("RESULTS", 108, lambda: here.moves(at, (1, 1))),
+            ("REPLY", 5828, lambda: here.answer(line)),
+        ]
+        for name, enough, ask in calls:
+            told = ask()
+            self.assertEqual(len(told), enough)
+            for room in (getattr(_library, name) - 1, enough):
+                with mock.patch.object(_library, name, room):
+                    self.assertEqual(ask(), told)
+            with mock.patch.object(_library, name, enough - 1), self.assertRaises(Refused) as refused:
+                ask()
+            self.assertEqual(refused.exception.status, 8)
+        self.assertEqual([here.answer(line)], replies(58, [line]))
+        self.assertEqual(len({choice.to for choice in here.moves(at, (1, 1))}), 108)
 
     def test_upgrades(self) -> None:
         old = database(8)
