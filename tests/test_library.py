@@ -172,6 +172,21 @@ def test_rooms(caller):
     expect(run(caller("rooms"), timeout=600), 0)
 
 
+@pytest.mark.parametrize("name, source", [
+    ("LINE", "opening.rt"), ("STATUS_TEXT", "status_texts.rt"), ("RESULTS", "results.rt"),
+    ("REPLY", "lines.rt")])
+def test_sizes(name, source):
+    """The rooms that the header names are as large as the contracts say is enough, and no larger;
+    the package for JavaScript has them too."""
+    header = (ROOT / "c/bearoff.h").read_text(encoding="utf-8")
+    contracts = (ROOT / "crates/bearoff_c/src" / source).read_text(encoding="utf-8")
+    told = re.search(rf"(?m)^#define BEAROFF_{name} (\d+)$", header)[1]
+    assert {told} == {*re.findall(r"(?m)^    ensures most \{ .*≤ (\d+) \}$", contracts)}
+    if name == "RESULTS":
+        script = (ROOT / "js/database.js").read_text(encoding="utf-8")
+        assert f"\nconst MOST_RESULTS = {told};\n" in script
+
+
 def test_largest(caller, built):
     """The longest list of results, and the longest reply, of all positions up to 58 pips."""
     expect(run(caller("largest"), built(58), timeout=600), 0, "108 results, 5828 bytes")

@@ -264,7 +264,7 @@ static uint32_t read_text(const char *text, size_t length) {
 
 /* a text that has this status, and its front of each length; then with each byte at each place */
 static void state(const char *text, size_t length, uint32_t wanted) {
-    char changed[64];
+    char changed[64] = {0};
     expect(read_text(text, length) == wanted, text, wanted);
     for (size_t front = 0; front < length; front++) read_text(text, front);
     memcpy(changed, text, length);
