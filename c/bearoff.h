@@ -51,7 +51,7 @@ enum {
     BEAROFF_CHANGED = 7,    /* the bytes were changed since they were checked */
     BEAROFF_SHORT = 8,      /* the room that was lent is too small */
     BEAROFF_NOT_OLD = 9,    /* the file that is to be upgraded is of version 2 already */
-    BEAROFF_NO_RANK = 10,   /* the database has no position of that rank, or fewer than asked from there on */
+    BEAROFF_NO_RANK = 10,   /* the database has no position of that rank, or fewer than asked */
     BEAROFF_BAD_TEXT = 11,  /* the text is not six counts with commas between them */
 
     /* bearoff_open and bearoff_upgrade alone: the first fault of the bytes */
@@ -167,7 +167,7 @@ typedef struct bearoff_database {
 /* The most bytes that the line of a fault has. */
 #define BEAROFF_LINE 32
 
-/* The most bytes that the text of a status has. */
+/* Room for the text of any status: none has more bytes. */
 #define BEAROFF_STATUS_TEXT 80
 
 /* Room for every position that a roll can lead to: no roll leads to more. */

@@ -310,7 +310,7 @@ int main(int count, char **words) {
         {BEAROFF_CHANGED, "the bytes were changed since they were checked"},
         {BEAROFF_SHORT, "the room that was lent is too small"},
         {BEAROFF_NOT_OLD, "the file that is to be upgraded is of version 2 already"},
-        {BEAROFF_NO_RANK, "the database has no position of that rank, or fewer than asked from there on"},
+        {BEAROFF_NO_RANK, "the database has no position of that rank, or fewer than asked"},
         {BEAROFF_BAD_TEXT, "the text is not six counts with commas between them"},
         {BEAROFF_TOO_SHORT, "fewer than 32 bytes"},
         {BEAROFF_BAD_MAGIC, "the bytes don't begin with EPCTABLE"},

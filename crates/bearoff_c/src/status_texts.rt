@@ -22,7 +22,7 @@ fn text_of(status: u32) -> &'static str
         7 => "the bytes were changed since they were checked",
         8 => "the room that was lent is too small",
         9 => "the file that is to be upgraded is of version 2 already",
-        10 => "the database has no position of that rank, or fewer than asked from there on",
+        10 => "the database has no position of that rank, or fewer than asked",
         11 => "the text is not six counts with commas between them",
         16 => "fewer than 32 bytes",
         17 => "the bytes don't begin with EPCTABLE",
