@@ -11,6 +11,8 @@ pub mod LocalEquations
 pub mod FirstFault
 pub mod Strategies
 pub mod RightFiles
+pub mod Books
+pub mod FileBooks
 pub mod BestPlays
 pub mod BuiltFile
 pub mod Losses
