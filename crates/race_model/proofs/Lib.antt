@@ -7,6 +7,7 @@ pub mod Positions
 pub mod Plays
 pub mod Ranks
 pub mod Strategies
+pub mod Books
 pub mod RightFiles
 pub mod FirstFaults
 pub mod Replies

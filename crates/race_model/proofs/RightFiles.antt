@@ -1,6 +1,4 @@
 -- Right files and the local equations.
-pub mod FromLocal
-pub mod FromRight
 pub mod Right
 pub mod RightFacts
 pub mod Bounded

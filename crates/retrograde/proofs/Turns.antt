@@ -15,11 +15,11 @@ use Rattle.race_model.specs.Strategies.{Strategy, stop, turn, Fits, total, count
 use Rattle.race_model.proofs.Dice.Throws.{roll_or_reversed, index_of_roll, roll_index-reversed, legal_reversed}
 use Rattle.race_model.proofs.Numbers.Sums.{sum_by-equal}
 use Rattle.race_model.proofs.Dice.RollSums.{sum_by-throws}
-use Rattle.race_model.proofs.Strategies.Histories.{fits_within, count_over-beyond}
+use Rattle.race_model.proofs.Strategies.Histories.{fits_within, count_over-turn_none, count_over-beyond}
 use Rattle.race_model.proofs.Strategies.Horizons.{ends_in_22, ends_in_most, within_22}
 use Rattle.race_model.proofs.Strategies.Spreads.{counts_add_up, counts_weigh}
-use Rattle.race_model.proofs.Strategies.Totals.{total-turn, count_of-turn, count_of-turn_none}
-use Rattle.race_model.proofs.Strategies.Totals.{total-stop, count_of-stop, count_of-stop_more}
+use Rattle.race_model.proofs.Strategies.Totals.{total_over-turn_times_36, count_over-turn_times_36}
+use Rattle.race_model.proofs.Strategies.Totals.{total_over-stop, count_over-stop, count_over-stop_more}
 use Rattle.retrograde.specs.BuiltRecords.{IsReached, shares_of, sum_of_means, sum_of_shares}
 
 -- what is legal for each roll is legal for each throw
@@ -97,9 +97,9 @@ module _ (x : Board) (at : IsPosition x) (low : pips x ≤ 58) (unfinished : ¬ 
   fits = (unfinished, λ v. (goes v, (reached v).fits))
 
   total-is : 36 * total (turn to next) ≡ 36 * whole + sum_of_means means plays
-  unfolding to next
+  unfolding to next total whole
   total-is =
-      let ours = total-turn to next within in
+      let ours = total_over-turn_times_36 21 to next within in
       let branches =
       sum_by-equal (λ v. total (next v))
       (λ v. slice_index means (slice_index plays (roll_index v))) throws
@@ -108,9 +108,9 @@ module _ (x : Board) (at : IsPosition x) (low : pips x ≤ 58) (unfinished : ¬ 
 
   count-is : (k : ℕ) → k ≤ 22 →
       36 * count_of (turn to next) (suc k) ≡ sum_of_shares spreads plays k
-  unfolding to next
+  unfolding to next count_of
   count-is k le =
-      let ours = count_of-turn to next k within in
+      let ours = count_over-turn_times_36 21 to next k within in
       let branches =
       sum_by-equal (λ v. count_of (next v) k)
       (λ v. slice_index (shares_of spreads (slice_index plays (roll_index v))) k) throws
@@ -155,6 +155,7 @@ module _ (x : Board) (at : IsPosition x) (low : pips x ≤ 58) (unfinished : ¬ 
       36 * mean ≡ 36 * whole + sum_of_means means plays → slice_index shares 0 ≡ 0 →
       ((k : ℕ) → k < 22 → 36 * slice_index shares (suc k) ≡ sum_of_shares spreads plays k) →
       IsReached x mean shares
+  unfolding count_of
   pulled-reached mean shares mean_is start moved = record {
     strategy = turn to next;
     fits = fits;
@@ -162,20 +163,21 @@ module _ (x : Board) (at : IsPosition x) (low : pips x ≤ 58) (unfinished : ¬ 
     counts = counts;
   } where
     counts : (k : ℕ) → k ≤ 22 → count_of (turn to next) k ≡ slice_index shares k
-    counts zero le = count_of-turn_none to next ∙ sym start
+    counts zero le = count_over-turn_none 21 to next ∙ sym start
     counts (suc k) le = omega (arith, moved k le, count-is k (le_of_lt le))
 
 -- the strategy that stops has the mean and the shares of the finished position
 pub stop-reached : (x : Board) (mean : ℕ) (shares : List ℕ) → IsFinished x → mean ≡ 0 →
     slice_index shares 0 ≡ whole → ((k : ℕ) → slice_index shares (suc k) ≡ 0) →
     IsReached x mean shares
+unfolding total count_of whole
 stop-reached x mean shares none mean_is start more = record {
   strategy = stop;
   fits = none;
-  total_is = total-stop ∙ sym mean_is;
+  total_is = total_over-stop 22 ∙ sym mean_is;
   counts = counts;
 }
   where
     counts : (k : ℕ) → k ≤ 22 → count_of stop k ≡ slice_index shares k
-    counts zero le = count_of-stop ∙ sym start
-    counts (suc k) le = count_of-stop_more k ∙ sym (more k)
+    counts zero le = count_over-stop 22 ∙ sym start
+    counts (suc k) le = count_over-stop_more 22 k ∙ sym (more k)

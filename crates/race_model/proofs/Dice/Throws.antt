@@ -7,7 +7,7 @@ use Rattle.race_model.specs.Dice.{IsRoll, all_rolls, roll_at, roll_index}
 use Rattle.race_model.specs.Plays.{Legal, in_order, in_reverse, double, Run}
 use Rattle.race_model.specs.Files.{play_at, mean, mean_at}
 use Rattle.race_model.specs.Ranks.{rank, at_rank}
-use Rattle.race_model.specs.LocalEquations.{IsPlayed, IsBest, recorded}
+use Rattle.race_model.specs.LocalEquations.{IsPlayed, IsBest}
 
 -- a throw leads where its reverse leads
 pub legal_reversed : (x : Board) (v : Throw) (y : Board) → Legal x v y → Legal x (reversed v) y
@@ -100,37 +100,36 @@ index_of_dice six six h = (lit< tt, refl)
 pub index_of_roll : (v : Throw) → IsRoll v → (roll_index v < 21) × (roll_at (roll_index v) ≡ v)
 index_of_roll v h = index_of_dice v.first v.second h
 
--- what holds for a roll's recorded play holds for the throw
--- that shows the roll the other way round
-pub played_reversed : (f : List ℕ) (x : Board) (v : Throw) → IsPlayed f x (reversed v) →
-    IsPlayed f x v
-played_reversed f x v p = record {
-  ranked =
-      subst (λ i. rank (at_rank (play_at f (rank x) i)) ≡ play_at f (rank x) i)
-      (roll_index-reversed v) p.ranked;
-  legal =
-      legal_reversed x (reversed v) (recorded f x v)
-      (subst (λ i. Legal x (reversed v) (at_rank (play_at f (rank x) i)))
-      (roll_index-reversed v) p.legal);
-}
-
--- a play of a roll that is least is least for the throw that shows the roll the other way round
-pub best_reversed : (f : List ℕ) (x : Board) (v : Throw) → IsBest f x (reversed v) → IsBest f x v
-best_reversed f x v b z legal =
-    subst (λ i. mean_at f (play_at f (rank x) i) ≤ mean f z) (roll_index-reversed v)
-    (b z (legal_reversed x v z legal))
+-- what holds by the index of each roll holds of the 36 throws, if it holds of a throw where it
+-- holds of its reverse
+pub by_rolls : (P : ℕ → Throw → Type 0) →
+    ((i : ℕ) (v : Throw) → P i (reversed v) → P i v) →
+    ((v : Throw) → IsRoll v → P (roll_index v) v) → (v : Throw) → P (roll_index v) v
+by_rolls P turned h v = ⊎_elim (λ r. h v r)
+    (λ r.
+    subst (λ i. P i v) (roll_index-reversed v)
+    (turned (roll_index (reversed v)) v (h (reversed v) r)))
+    (roll_or_reversed v)
 
 -- plays recorded for the 21 rolls are recorded for the 36 throws
 pub played_by_rolls : (f : List ℕ) (x : Board) → ((v : Throw) → IsRoll v → IsPlayed f x v) →
     (v : Throw) → IsPlayed f x v
-played_by_rolls f x h v =
-    ⊎_elim (λ r. h v r) (λ r. played_reversed f x v (h (reversed v) r)) (roll_or_reversed v)
+played_by_rolls f x h v = record {
+  ranked =
+      by_rolls (λ i u. rank (at_rank (play_at f (rank x) i)) ≡ play_at f (rank x) i)
+      (λ i u e. e) (λ u r. (h u r).ranked) v;
+  legal =
+      by_rolls (λ i u. Legal x u (at_rank (play_at f (rank x) i)))
+      (λ i u. legal_reversed x (reversed u) (at_rank (play_at f (rank x) i)))
+      (λ u r. (h u r).legal) v;
+}
 
 -- plays that are least for the 21 rolls are least for the 36 throws
 pub best_by_rolls : (f : List ℕ) (x : Board) → ((v : Throw) → IsRoll v → IsBest f x v) →
     (v : Throw) → IsBest f x v
-best_by_rolls f x h v =
-    ⊎_elim (λ r. h v r) (λ r. best_reversed f x v (h (reversed v) r)) (roll_or_reversed v)
+best_by_rolls f x =
+    by_rolls (λ i u. (z : Board) → Legal x u z → mean_at f (play_at f (rank x) i) ≤ mean f z)
+    (λ i u b z legal. b z (legal_reversed x u z legal))
 
 -- what holds for the roll of each index holds for each roll
 pub by_index : (P : Throw → Type 0) → ((i : ℕ) → i < 21 → P (roll_at i)) → (v : Throw) → IsRoll v →

@@ -4,14 +4,13 @@ use Rattle.std.proofs.Common.{⊎_elim, ℕ, zero, suc, ◌*◌, ◌<◌, ◌≤
 use Rattle.race_model.specs.Positions.{Board, IsPosition, IsFinished}
 use Rattle.race_model.specs.Dice.{Throw, throws}
 use Rattle.race_model.specs.Ranks.{rank}
-use Rattle.race_model.specs.Files.{mean, mean_at, play, spread, spread_at}
+use Rattle.race_model.specs.Files.{mean, mean_at, play, play_at, spread, spread_at}
 use Rattle.race_model.specs.LocalEquations.{recorded, whole, IsPlayed, HasLeastMean, IsLocalAt}
 use Rattle.race_model.specs.Strategies.{EndsIn}
 use Rattle.race_model.proofs.Dice.Throws.{played_by_rolls}
 use Rattle.race_model.proofs.Numbers.Sums.{sum_by-at_most, sum_by-constant}
-use Rattle.race_model.proofs.Dice.RollSums.{length-throws}
+use Rattle.race_model.proofs.Dice.RollSums.{length-throws, sum_by-throws}
 use Rattle.race_model.proofs.Plays.Results.{legal_position, legal_fewer_pips, finished_or_not}
-use Rattle.race_model.proofs.RightFiles.FromLocal.{means_by_rolls, shares_by_rolls}
 use Rattle.race_model.proofs.Ranks.RankOrder.{rank-fewer}
 
 -- the recorded position of a throw has a lower rank
@@ -61,7 +60,8 @@ mean_at_most f (suc n) x ends at local = ⊎_elim
         let same = ap (mean_at f) (played v).ranked in
         let small = each v (λ z is le. local z is (omega arith)) in
         omega arith) in
-        omega (arith, here.mean_is.before unfinished, branches, means_by_rolls f x)
+        let rolls = sum_by-throws (λ i. mean_at f (play_at f (rank x) i)) in
+        omega (arith, here.mean_is.before unfinished, branches, rolls)
 
 -- a share is at most the whole
 pub share_at_most : (f : List ℕ) (k : ℕ) (x : Board) → k ≤ 22 → IsPosition x →
@@ -95,4 +95,5 @@ share_at_most f (suc k) x few at local = ⊎_elim
         let same = ap (λ r. spread_at f r k) (played v).ranked in
         let small = each v (λ z is le. local z is (omega arith)) in
         omega arith) in
-        omega (arith, (here.shares (suc k) few).1 unfinished, branches, shares_by_rolls f x k)
+        let rolls = sum_by-throws (λ i. spread_at f (play_at f (rank x) i) k) in
+        omega (arith, (here.shares (suc k) few).1 unfinished, branches, rolls)

@@ -1,21 +1,21 @@
 -- Two built files of one bound agree on every number: the means are the least, of the
--- plays to them the lowest rank is recorded, and the shares follow from the plays.
-use Rattle.std.proofs.Common.{◌≡◌, ⊎_elim, ℕ, zero, suc, ◌≤◌, List, ap, sym, subst, ◌∙◌, arith}
-use Rattle.std.proofs.Common.{le_trans, le_antisymm, le_of_eq, le_of_lt}
-use Rattle.race_model.specs.Positions.{Board, IsPosition, IsFinished, pips}
-use Rattle.race_model.specs.Dice.{Throw, throws, reversed, IsRoll}
+-- plays to them the lowest rank is recorded, and the shares are those of the plays.
+use Rattle.std.proofs.Common.{◌≡◌, ⊎_elim, ℕ, ◌≤◌, List, ap, sym, subst, ◌∙◌, arith}
+use Rattle.std.proofs.Common.{le_trans, le_antisymm, le_of_eq}
+use Rattle.race_model.specs.Positions.{Board, IsPosition, pips}
+use Rattle.race_model.specs.Dice.{Throw, reversed, IsRoll}
 use Rattle.race_model.specs.Plays.{Legal}
-use Rattle.race_model.specs.Ranks.{rank, at_rank}
+use Rattle.race_model.specs.Ranks.{rank}
 use Rattle.race_model.specs.Versions.{Version}
-use Rattle.race_model.specs.Files.{bound_of, mean, mean_at, play, play_at, spread, spread_at}
+use Rattle.race_model.specs.Files.{bound_of, mean, mean_at, play, play_at, spread}
 use Rattle.race_model.specs.LocalEquations.{recorded, IsPlayed}
-use Rattle.race_model.specs.RightFiles.{IsRight}
+use Rattle.race_model.specs.Strategies.{count_of}
+use Rattle.race_model.specs.RightFiles.{IsRight, IsRightAt}
 use Rattle.race_model.specs.BuiltFile.{IsBuilt}
 use Rattle.race_model.specs.SameNumbers.{HasSameNumbers}
 use Rattle.race_model.proofs.Dice.Throws.{roll_or_reversed, roll_index-reversed, played_by_rolls}
-use Rattle.race_model.proofs.Numbers.Sums.{sum_by-equal}
-use Rattle.race_model.proofs.Plays.Results.{legal_position, legal_pips, finished_or_not}
-use Rattle.race_model.proofs.RightFiles.FromLocal.{shares_by_rolls}
+use Rattle.race_model.proofs.Plays.Results.{legal_position, legal_pips}
+use Rattle.race_model.proofs.RightFiles.Recorded.{same_follow}
 use Rattle.race_model.proofs.RightFiles.Right.{right_of_local}
 use Rattle.race_model.proofs.RightFiles.RightFacts.{means_agree, recorded_least}
 
@@ -101,53 +101,19 @@ built_plays one other bound f g built_f built_g x v at low =
 pub built_shares : (one other : Version) (bound : ℕ) (f g : List ℕ) → IsBuilt one bound f →
     IsBuilt other bound g → (k : ℕ) (x : Board) → k ≤ 22 → IsPosition x → pips x ≤ bound →
     spread f x k ≡ spread g x k
-built_shares one other bound f g built_f built_g zero x le at low = ⊎_elim
-    (λ none.
-    ((built_f.local.at_each x at (built_low one bound f built_f x low)).shares 0 le).0 none
-    ∙ sym (((built_g.local.at_each x at (built_low other bound g built_g x low)).shares 0
-    le).0 none))
-    (λ unfinished.
-    ((built_f.local.at_each x at (built_low one bound f built_f x low)).shares 0 le).1
-    unfinished
-    ∙ sym (((built_g.local.at_each x at (built_low other bound g built_g x low)).shares 0
-    le).1 unfinished))
-    (finished_or_not x)
-built_shares one other bound f g built_f built_g (suc k) x le at low = ⊎_elim
-    (λ none.
-    ((built_f.local.at_each x at (built_low one bound f built_f x low)).shares (suc k) le).0
-    none
-    ∙ sym (((built_g.local.at_each x at (built_low other bound g built_g x low)).shares
-    (suc k) le).0 none))
-    (λ unfinished.
-    before unfinished
-    (λ y. built_shares one other bound f g built_f built_g k y (le_of_lt le)))
-    (finished_or_not x)
+built_shares one other bound f g built_f built_g k x le at low =
+    here_f.spread_is k le
+    ∙ ap (λ s. count_of s k)
+    (same_follow f g bound (λ y is under v. built_played one bound f built_f y v is under)
+    (built_plays one other bound f g built_f built_g) 22 x at low)
+    ∙ sym (here_g.spread_is k le)
   where
-    before : ¬ IsFinished x →
-        ((y : Board) → IsPosition y → pips y ≤ bound → spread f y k ≡ spread g y k) →
-        spread f x (suc k) ≡ spread g x (suc k)
-    before unfinished rest =
-        let ours =
-        ((built_f.local.at_each x at (built_low one bound f built_f x low)).shares (suc k)
-        le).1 unfinished in
-        let theirs =
-        ((built_g.local.at_each x at (built_low other bound g built_g x low)).shares (suc k)
-        le).1 unfinished in
-        let sums =
-        sum_by-equal (λ v. spread_at f (play f x v) k) (λ v. spread_at g (play g x v) k) throws
-        branch in
-        omega (arith, ours, theirs, sums, shares_by_rolls f x k, shares_by_rolls g x k)
-      where
-        branch : (v : Throw) → spread_at f (play f x v) k ≡ spread_at g (play g x v) k
-        branch v =
-            let mine = built_played one bound f built_f x v at low in
-            let yours = built_played other bound g built_g x v at low in
-            ap (λ r. spread_at f r k) (sym mine.ranked)
-            ∙ rest (recorded f x v) (legal_position x v (recorded f x v) at mine.legal)
-            (le_trans (legal_pips x v (recorded f x v) mine.legal) low)
-            ∙ ap (λ r. spread g (at_rank r) k)
-            (built_plays one other bound f g built_f built_g x v at low)
-            ∙ ap (λ r. spread_at g r k) yours.ranked
+    here_f : IsRightAt f x
+    here_f = (built_right one bound f built_f).at_each x at (built_low one bound f built_f x low)
+
+    here_g : IsRightAt g x
+    here_g =
+        (built_right other bound g built_g).at_each x at (built_low other bound g built_g x low)
 
 -- two built files of one bound hold the same numbers
 pub built_same : (one other : Version) (bound : ℕ) (f g : List ℕ) → IsBuilt one bound f →

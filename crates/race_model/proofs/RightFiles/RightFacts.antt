@@ -1,7 +1,7 @@
 -- What follows of a right file: its means are those of every other, its shares add up and none is
 -- lost where those beyond the horizon are left out, and a loss is nothing just where a least
 -- strategy begins so.
-use Rattle.std.proofs.Common.{◌≡◌, ⊎_elim, ℕ, ◌+◌, ◌-◌, ◌<◌, ◌≤◌, List, sum_by, Bool, true, false}
+use Rattle.std.proofs.Common.{◌≡◌, ℕ, ◌+◌, ◌-◌, ◌*◌, ◌<◌, ◌≤◌, List, sum_by, Bool, true, false}
 use Rattle.std.proofs.Common.{cond, refl, ap, sym, subst, ◌∙◌, arith, le_trans, le_antisymm}
 use Rattle.std.proofs.Common.{le_of_eq}
 use Rattle.std.specs.List.{range_with_len}
@@ -12,19 +12,19 @@ use Rattle.race_model.specs.Files.{bound_of, mean, mean_at, play, spread}
 use Rattle.race_model.specs.LocalEquations.{whole, recorded, IsPlayed}
 use Rattle.race_model.specs.Strategies.{Strategy, stop, turn, Fits, total, count_of, IsLeast, IsWithin, EndsIn}
 use Rattle.race_model.specs.RightFiles.{follow, IsRight, IsRightAt}
+use Rattle.race_model.specs.FileBooks.{book_of}
 use Rattle.race_model.specs.Horizon.{most_rolls}
 use Rattle.race_model.specs.Losses.{IsLoss, loss, BeginsWith}
 use Rattle.race_model.proofs.Numbers.Sums.{sum_by-at_most, sum_by-equal_within}
-use Rattle.race_model.proofs.Plays.Results.{legal_position, legal_pips, legal_finished, finished_or_not}
+use Rattle.race_model.proofs.Plays.Results.{legal_position, legal_pips}
 use Rattle.race_model.proofs.Strategies.Histories.{fits_within}
 use Rattle.race_model.proofs.Strategies.Horizons.{within_22, count_of-beyond}
 use Rattle.race_model.proofs.Strategies.Spreads.{counts_add_up}
-use Rattle.race_model.proofs.Strategies.Totals.{total-turn}
-use Rattle.race_model.proofs.RightFiles.FromRight.{plan, plan_fits, plan_total, mean_before}
-use Rattle.race_model.proofs.RightFiles.FromRight.{best_before, one_changed, otherwise_at}
-use Rattle.race_model.proofs.RightFiles.FromRight.{otherwise_legal, otherwise_at-here}
+use Rattle.race_model.proofs.Strategies.Totals.{total_over-turn_times_36}
+use Rattle.race_model.proofs.Books.FromRight.{plan, plan_fits, plan_total, mean_before, best_at}
+use Rattle.race_model.proofs.Books.FromRight.{one_changed, otherwise_at, otherwise_legal, otherwise_at-here}
 use Rattle.race_model.proofs.Dice.Faces.{is_throw, same_throw}
-use Rattle.race_model.proofs.RightFiles.Right.{bound_of-most, short}
+use Rattle.race_model.proofs.RightFiles.Right.{bound_of-most, short, book_right}
 
 -- two least totals of one position are equal
 pub least_agree : (x : Board) (t u : ℕ) → IsLeast x t → IsLeast x u → t ≡ u
@@ -71,23 +71,7 @@ module _ (f : List ℕ) (right : IsRight f) (x : Board)
 
   -- what is recorded for a throw is the least of its results
   pub recorded_least : (v : Throw) (y : Board) → Legal x v y → mean_at f (play f x v) ≤ mean f y
-  recorded_least v y leads =
-      subst (λ m. m ≤ mean f y) (ap (mean_at f) ((right.at_each x at low).played v).ranked)
-      (⊎_elim finished before (finished_or_not x))
-    where
-      here : Legal x v (recorded f x v)
-      here = ((right.at_each x at low).played v).legal
-
-      finished : IsFinished x → mean f (recorded f x v) ≤ mean f y
-      finished none =
-          le_of_eq (ap (mean f)
-          (legal_finished x v (recorded f x v) none here
-          ∙ sym (legal_finished x v y none leads)))
-
-      before : ¬ IsFinished x → mean f (recorded f x v) ≤ mean f y
-      before unfinished =
-          best_before f right.at_each (short f right.file) x at low unfinished
-          (short f right.file x at low unfinished) v y leads
+  recorded_least = best_at (book_of f) (book_right f right) (short f right.file) x at low
 
   -- the loss by the file is the loss
   pub loss_is_loss : (v : Throw) (y : Board) → Legal x v y → IsLoss x v y (loss f x v y)
@@ -120,13 +104,19 @@ module _ (f : List ℕ) (right : IsRight f) (x : Board)
     ends : (v : Throw) (y : Board) → Legal x v y → EndsIn 21 y
     ends = short f right.file x at low unfinished
 
+    -- a roll, and the means of what is recorded
+    before : 36 * mean f x ≡ 36 * whole + sum_by (λ u. mean f (recorded f x u)) throws
+    unfolding whole
+    before =
+        mean_before (book_of f) (book_right f right) (short f right.file) x at low unfinished
+
     -- where a result has no loss, the plan to play there and else as recorded is a least strategy
     pub begins : (v : Throw) (y : Board) → Legal x v y → loss f x v y ≡ 0 →
         (s : Strategy) × Fits s x × IsLeast x (total s) × BeginsWith s v y
-    unfolding plan
+    unfolding plan total whole
     begins v y leads none = (
-      plan f right.at_each (short f right.file) x at low unfinished ends to legal,
-      plan_fits f right.at_each (short f right.file) x at low unfinished ends to legal,
+      plan (book_of f) to,
+      plan_fits (book_of f) (book_right f right) (short f right.file) x at low unfinished to legal,
       subst (IsLeast x) (sym totals) (right.at_each x at low).least,
       otherwise_at-here v y (recorded f x),
     )
@@ -136,26 +126,23 @@ module _ (f : List ℕ) (right : IsRight f) (x : Board)
 
         legal : (u : Throw) → Legal x u (to u)
         legal =
-            otherwise_legal f right.at_each (short f right.file) x at low unfinished
-            ends v y leads
+            otherwise_legal (book_of f) (book_right f right) (short f right.file) x at low
+            unfinished v y leads
 
-        totals : total (plan f right.at_each (short f right.file) x at low unfinished
-            ends to legal) ≡ mean f x
+        totals : total (plan (book_of f) to) ≡ mean f x
         totals =
             let ours =
-            plan_total f right.at_each (short f right.file) x at low unfinished
-            ends to legal in
-            let theirs =
-            mean_before f right.at_each (short f right.file) x at low unfinished
-            ends in
+            plan_total (book_of f) (book_right f right) (short f right.file) x at low unfinished
+            to legal in
             let swapped = one_changed v (mean f) y (recorded f x) in
             let best = recorded_least v y leads in
             let here = ap (mean_at f) ((right.at_each x at low).played v).ranked in
-            omega (arith, ours, theirs, swapped, best, here, none)
+            omega (arith, ours, before, swapped, best, here, none)
 
     -- where a least strategy begins so, the result has no loss
     pub no_loss : (v : Throw) (y : Board) (s : Strategy) → Fits s x → IsLeast x (total s) →
         BeginsWith s v y → loss f x v y ≡ 0
+    unfolding total whole
     no_loss v y stop fits least begun = absurd begun
     no_loss v y (turn to next) fits least begun = at_most (mean f y) (mean_at f (play f x v)) under
       where
@@ -175,18 +162,16 @@ module _ (f : List ℕ) (right : IsRight f) (x : Board)
                 mean f (cond b y (recorded f x u)) ≤ mean f (to u)
             at_test true e = le_of_eq (ap (mean f) (sym begun ∙ ap to (same_throw v u e)))
             at_test false e =
-                best_before f right.at_each (short f right.file) x at low unfinished
-                ends u (to u) (leads u)
+                subst (λ m. m ≤ mean f (to u))
+                (sym (ap (mean_at f) ((right.at_each x at low).played u).ranked))
+                (recorded_least u (to u) (leads u))
 
         under : mean f y ≤ mean_at f (play f x v)
         under =
-            let ours = total-turn to next within in
+            let ours = total_over-turn_times_36 21 to next within in
             let equal =
             least_agree x (total (turn to next)) (mean f x) least
             (right.at_each x at low).least in
-            let theirs =
-            mean_before f right.at_each (short f right.file) x at low unfinished
-            ends in
             let swapped = one_changed v (mean f) y (recorded f x) in
             let low_sum =
             sum_by-at_most (λ u. mean f (otherwise_at v y (recorded f x) u))
@@ -194,7 +179,7 @@ module _ (f : List ℕ) (right : IsRight f) (x : Board)
             let high_sum =
             sum_by-at_most (λ u. mean f (to u)) (λ u. total (next u)) throws branch in
             let here = ap (mean_at f) ((right.at_each x at low).played v).ranked in
-            omega (arith, ours, equal, theirs, swapped, low_sum, high_sum, here)
+            omega (arith, ours, equal, before, swapped, low_sum, high_sum, here)
 
         at_most : (a b : ℕ) → a ≤ b → a - b ≡ 0
         at_most a b le = omega arith

@@ -1,18 +1,17 @@
 -- A record of either version tells all shares of a position that is recorded right.
-use Rattle.std.proofs.Common.{◌≡◌, ⊎_elim, ℕ, zero, suc, ◌≤◌, Bool, true, false, cond, leb, List}
+use Rattle.std.proofs.Common.{◌≡◌, ℕ, zero, suc, ◌≤◌, Bool, true, false, cond, eqb, leb, List}
 use Rattle.std.proofs.Common.{refl, ap, sym, ◌∙◌, arith, eq-eqb, ne_eqb, leb-false}
 use Rattle.race_model.specs.Positions.{Board, IsPosition, IsFinished, checkers, pips}
 use Rattle.race_model.specs.Versions.{Version, full, compact}
 use Rattle.race_model.specs.Files.{spread}
 use Rattle.race_model.specs.LocalEquations.{whole}
-use Rattle.race_model.specs.Strategies.{count_of}
+use Rattle.race_model.specs.Strategies.{Strategy, stop, turn, Fits, count_of}
 use Rattle.race_model.specs.RightFiles.{follow, IsRightAt}
 use Rattle.race_model.specs.Horizon.{most_rolls}
 use Rattle.race_model.specs.ToldShares.{told_share}
-use Rattle.race_model.proofs.Plays.Results.{finished_or_not}
 use Rattle.race_model.proofs.Strategies.Horizons.{sum-at_most_pips, count_of-beyond}
-use Rattle.race_model.proofs.Strategies.Totals.{count_of-stop, count_of-turn_none}
-use Rattle.race_model.proofs.RightFiles.FromLocal.{follow-finished, follow-unfinished}
+use Rattle.race_model.proofs.Strategies.Histories.{count_over-turn_none}
+use Rattle.race_model.proofs.Strategies.Totals.{count_over-stop}
 use Rattle.race_model.proofs.Positions.Points.{no_pips}
 
 -- an unfinished position has pips
@@ -22,18 +21,22 @@ some_pips x unfinished none = unfinished (empty (checkers x) (pips x) (sum-at_mo
     empty : (c p : ℕ) → c ≤ p → p ≡ 0 → c ≡ 0
     empty c p le e = omega arith
 
+-- no roll is needed where there are no pips, and nowhere else
+count_of-none : (x : Board) (s : Strategy) → Fits s x →
+    count_of s 0 ≡ cond (eqb (pips x) 0) whole 0
+unfolding count_of whole
+count_of-none x stop none =
+    count_over-stop 22 ∙ sym (ap (λ b. cond b whole 0) (eq-eqb (pips x) 0 (no_pips x none)))
+count_of-none x (turn to next) fits =
+    count_over-turn_none 21 to next
+    ∙ sym (ap (λ b. cond b whole 0) (ne_eqb (pips x) 0 (some_pips x fits.0)))
+
 -- each share is told
 pub told : (version : Version) (f : List ℕ) (x : Board) (k : ℕ) → IsPosition x →
     IsRightAt f x → k ≤ 22 → spread f x k ≡ told_share version (pips x) (spread f x) k
 told full f x k at right le = refl
-told compact f x zero at right le = right.spread_is 0 le ∙ ⊎_elim
-    (λ none.
-    ap (λ s. count_of s 0) (follow-finished f 22 x none) ∙ count_of-stop
-    ∙ sym (ap (λ b. cond b whole 0) (eq-eqb (pips x) 0 (no_pips x none))))
-    (λ unfinished.
-    ap (λ s. count_of s 0) (follow-unfinished f 21 x unfinished) ∙ count_of-turn_none _ _
-    ∙ sym (ap (λ b. cond b whole 0) (ne_eqb (pips x) 0 (some_pips x unfinished))))
-    (finished_or_not x)
+told compact f x zero at right le =
+    right.spread_is 0 le ∙ count_of-none x (follow f 22 x) right.fits
 told compact f x (suc k) at right le = by (leb (suc k) (most_rolls (pips x))) refl
   where
     by : (b : Bool) → leb (suc k) (most_rolls (pips x)) ≡ b →

@@ -13,6 +13,7 @@ use Rattle.race_model.proofs.Plays.Steps.{Change, moved, borne_off, changed}
 use Rattle.race_model.proofs.Dice.Faces.{number_positive, numbers_apart}
 use Rattle.race_model.proofs.Strategies.Histories.{fits_within, count_over-beyond}
 use Rattle.race_model.proofs.Plays.Results.{finished_or_not}
+use Rattle.race_model.proofs.Ranks.RankOrder.{pips-range}
 
 -- each checker counts at least 1
 pub sum-at_most_pips : (p : ℕ) (x : List ℕ) → sum x ≤ pips_from (suc p) x
@@ -166,6 +167,10 @@ ends_by_weight (suc n) x short =
 pub ends_in_22 : (x : Board) → IsPosition x → pips x ≤ 58 → EndsIn 22 x
 ends_in_22 x at low = ends_by_weight 22 x (inl (omega (arith, at.few)))
 
+-- any position is over within 33 rolls
+pub ends_in_33 : (x : Board) → IsPosition x → EndsIn 33 x
+ends_in_33 x at = ends_by_weight 33 x (inl (omega (arith, at.few, pips-range x at)))
+
 -- a position is over within the most rolls of its pip count
 pub ends_in_most : (x : Board) → IsPosition x → EndsIn (most_rolls (pips x)) x
 ends_in_most x at = by (pips x) (checkers x) refl refl (sum-at_most_pips 0 x) at.few
@@ -195,3 +200,8 @@ count_of-beyond x s k at fits beyond =
 pub most_rolls-most : (p : ℕ) → p ≤ 58 → most_rolls p ≤ 22
 most_rolls-most zero low = omega arith
 most_rolls-most (suc p) low = omega arith
+
+-- and on the whole board at most 33
+pub most_rolls-board : (p : ℕ) → p ≤ 90 → most_rolls p ≤ 33
+most_rolls-board zero low = omega arith
+most_rolls-board (suc p) low = omega arith

@@ -11,7 +11,7 @@ use Rattle.race_model.proofs.Numbers.Sums.{sum_by-at_most}
 use Rattle.race_model.proofs.Plays.Results.{finished_or_not, legal_somewhere}
 use Rattle.race_model.proofs.Strategies.Histories.{fits_within, within_up}
 use Rattle.race_model.proofs.Strategies.Horizons.{ends_in_22}
-use Rattle.race_model.proofs.Strategies.Totals.{total-turn, total-stop}
+use Rattle.race_model.proofs.Strategies.Totals.{total_over-turn_times_36, total_over-stop}
 use Rattle.race_model.proofs.Plays.Enumerated.{IsIn, results_listed, listed_results}
 use Rattle.race_model.proofs.RightFiles.RightFacts.{least_agree}
 
@@ -83,7 +83,9 @@ best_result x v each =
 
 -- the finished position has the total 0
 least_at_end : (x : Board) → IsFinished x → HasLeast x
-least_at_end x none = (0, record { reached = (stop, none, total-stop); least = λ s fits. zero-le })
+unfolding total
+least_at_end x none =
+    (0, record { reached = (stop, none, total_over-stop 22); least = λ s fits. zero-le })
 
 -- an unfinished position, from which each throw leads to positions that have a least total
 module _ (n : ℕ) (few : n ≤ 21) (x : Board) (unfinished : ¬ IsFinished x)
@@ -99,7 +101,7 @@ module _ (n : ℕ) (few : n ≤ 21) (x : Board) (unfinished : ¬ IsFinished x)
   next v = (best v).least.1.reached.0
 
   least_before : HasLeast x
-  unfolding best to next
+  unfolding best to next total
   least_before =
       (total (turn to next), record { reached = (turn to next, fits, refl); least = no_less })
     where
@@ -127,8 +129,8 @@ module _ (n : ℕ) (few : n ≤ 21) (x : Board) (unfinished : ¬ IsFinished x)
       no_less : (s : Strategy) → Fits s x → total (turn to next) ≤ total s
       no_less stop none = absurd (unfinished none)
       no_less (turn p s) other =
-          let ours = total-turn to next (within to next fits) in
-          let theirs = total-turn p s (within p s other) in
+          let ours = total_over-turn_times_36 21 to next (within to next fits) in
+          let theirs = total_over-turn_times_36 21 p s (within p s other) in
           let sums =
           sum_by-at_most (λ v. total (next v)) (λ v. total (s v)) throws (branch p s other) in
           omega (arith, ours, theirs, sums)

@@ -14,7 +14,7 @@ use Rattle.race_model.proofs.Plays.Steps.{Change, moved, borne_off, changed}
 use Rattle.race_model.proofs.Numbers.Sums.{sum_by-at_most}
 use Rattle.race_model.proofs.Dice.Faces.{numbers_apart}
 use Rattle.race_model.proofs.Plays.Needs.{under}
-use Rattle.race_model.proofs.Strategies.Totals.{total-turn}
+use Rattle.race_model.proofs.Strategies.Totals.{total_over-turn_times_36}
 use Rattle.race_model.proofs.Plays.SinglePlays.{sum_of_dice, single, unfinished, sample_fits}
 use Rattle.race_model.proofs.Strategies.SampleCounts.{sample_mean}
 use Rattle.race_model.proofs.Positions.Points.{no_pips}
@@ -85,9 +85,10 @@ nine_throws n = omega arith
 
 -- no strategy has a smaller total than the sample
 no_less : (s : Strategy) → Fits s (single 6) → total from_six_point ≤ total s
+unfolding total whole
 no_less stop none = absurd (unfinished 6 (omega arith) (omega arith) none)
 no_less (turn to next) fits =
-    let rolls = total-turn to next within in
+    let rolls = total_over-turn_times_36 21 to next within in
     let needed =
     sum_by-at_most (λ v. cond (leb 6 (worth v)) 0 whole) (λ v. total (next v)) throws branch in
     omega (arith, rolls, needed, nine_throws whole, sample_mean)

@@ -1,0 +1,4 @@
+-- Books: what a database says, apart from its bytes.
+pub mod FromLocal
+pub mod FromRight
+pub mod Files
