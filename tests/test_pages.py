@@ -134,7 +134,7 @@ def contract(text, function):
     lines = text.split("\n")
     for place, line in enumerate(lines):
         head = re.match(
-            r"( *)(?:pub )?(?:const )?(?:extern \"C\" )?fn " + re.escape(function) + r"\b", line
+            r"( *)(?:pub(?:\(crate\))? )?(?:const )?(?:extern \"C\" )?fn " + re.escape(function) + r"\b", line
         )
         if head:
             end = place
