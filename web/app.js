@@ -10,7 +10,7 @@ import { asText, readDrill, readLessons } from "./trainer.js";
 import {
     addCheckers, askNext, beginDrill, captionOf, choosePlay, chooseRoll, endTraining, giveEstimate, giveLesson, goToStep, keep,
     openAnswer, orderOf, playOn, pressed, remove, resetGuesses, setCaption, setEstimate, setGuess, setPoints, stopAt,
-    typeCounts, visit,
+    typePosition, visit,
 } from "./state.js";
 import { draw } from "./tree.js";
 import { view } from "./view.js";
@@ -57,7 +57,11 @@ export function actionsOf(session, document, window) {
             change(() => next);
             return true;
         },
-        type: (text) => change(typeCounts, text),
+        type(text) {
+            change(typePosition, text);
+            // an ID of the position that was there already gives way to its counts
+            if (!session.state.typed) document.getElementById("counts").value = session.state.points.join();
+        },
         roll(roll, button) {
             change(chooseRoll, roll);
             if (roll && button) button.scrollIntoView({ block: "nearest" });
@@ -210,6 +214,7 @@ export function start(document, window, parts) {
         at("keep").addEventListener("click", act.keep);
         at("guess").addEventListener("change", ({ target }) => act.guess(target.checked));
         at("counts").addEventListener("change", ({ target }) => act.type(target.value));
+        at("counts").addEventListener("input", ({ target, inputType }) => { if (inputType === "insertFromPaste") act.type(target.value); });
         at("rolls").addEventListener("keydown", ({ key }) => { if (key === "Escape") act.close(); });
         at("wider").addEventListener("click", () => build(58));
         at("print").addEventListener("click", () => window.print());

@@ -1,4 +1,6 @@
-// What the address keeps: the positions, their captions, and how the page stands. Captions are text.
+// What the address keeps: the positions, their captions, and how the page stands; and what a reader types as a position.
+// Captions are text.
+import { NoRaceError, read } from "../js/notation.js";
 import { MOST_CHECKERS, readPoints, sumOf } from "./points.js";
 import { ESTIMATED, readDrill, readLessons } from "./trainer.js";
 
@@ -20,6 +22,21 @@ export function readCounts(typed) {
     return sumOf(points) > MOST_CHECKERS
         ? { fault: `There are ${MOST_CHECKERS} checkers, and here are ${sumOf(points)}.` }
         : { points };
+}
+
+// What a reader types or pastes: six counts, an XGID, or an ID of GNU Backgammon. The checkers of the player on roll, and
+// the roll where the text has one; or, in words, why there are none.
+export function readTyped(typed) {
+    const counts = readCounts(typed);
+    if (counts.points) return { points: counts.points, roll: null };
+    try {
+        const { mine, dice } = read(typed);
+        return { points: mine, roll: dice };
+    } catch (error) {
+        if (!(error instanceof NoRaceError)) throw error;
+        const isId = /[a-z]{3}|:|^\s*[a-z\d+/]{10}/i.test(typed); // and not counts with a letter among them
+        return isId ? { fault: `This is no bearoff race: ${error.message}` } : counts;
+    }
 }
 
 const text = (word) => (word || "").replace(/\s+/g, " ").trim().slice(0, LONGEST_CAPTION);

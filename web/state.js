@@ -1,6 +1,6 @@
 // What the page knows, and what changes it. A state is a plain object that stays as it is: each change makes a new one.
 // An answer stands under its position and is read for that one alone; so nothing of a former position can be shown.
-import { MOST_KEPT, readCounts } from "./link.js";
+import { MOST_KEPT, readTyped } from "./link.js";
 import { MOST_CHECKERS, sumOf } from "./points.js";
 import { inPips, sumOfFractions } from "./fractions.js";
 import { sameRoll } from "./rolls.js";
@@ -22,7 +22,7 @@ export function begin(link, lessons = []) {
         place: 0, // which of them is asked
         estimates: [], // the position, what was estimated of it, and how far that was off
         shown: null, // the text of the play that was chosen, or null for the best
-        typed: null, // counts that were typed and refused, with the reason
+        typed: null, // a position that was typed and refused, with the reason
         digits: null, // the digits that were typed on a point, and when
         stops: { rolls: null, plays: null }, // where Tab stops within the rolls and within the plays
         guesses: [], // the position, the roll, the play that was guessed and the best one
@@ -275,11 +275,12 @@ export function pressed(state, point, key, now) {
     return { ...setCount(state, point, Number(text)), digits: { point, text, at: now } };
 }
 
-// Six counts that were typed. Refused ones stay in their field, with the reason, and the board stays.
-export function typeCounts(state, text) {
-    const { points, fault } = readCounts(text);
+// A position that was typed, with its roll where it has one. What is refused stays in the field, with the reason, and the
+// board stays.
+export function typePosition(state, text) {
+    const { points, roll, fault } = readTyped(text);
     if (fault) return { ...state, typed: { text, fault } };
-    return setPoints(state, points);
+    return { ...setPoints(state, points), roll };
 }
 
 // A roll, or none.

@@ -243,6 +243,41 @@ async function driveKeyboard(browser) {
     equal("nothing went wrong", page.troubles(), []);
 }
 
+// An XGID and an ID of GNU Backgammon in the field, with their roll; and one that is no bearoff race, in words.
+async function drivePasted(browser) {
+    const page = await browser.open(`${address}#at=1,0,0,0,0,0`);
+    await page.until(`${READY} && ${KNOWN}`);
+    const give = async (text) => {
+        await page.click("#counts");
+        await page.value('document.getElementById("counts").select()');
+        await page.value(`document.execCommand("insertText", false, ${JSON.stringify(text)})`);
+        await page.key("Enter");
+    };
+    const told = JSON.parse(readFileSync(new URL("../callers/notation_texts.json", import.meta.url), "utf8"));
+    const dice = told.read.filter(([text, points, , roll]) => roll && pipsOf(points.join()) > 0 && pipsOf(points.join()) <= 44 && /^(XGID|Position|GNU|[A-Za-z0-9+/]{14}:)/.test(text));
+    for (const [text, points, , roll] of [...dice.slice(0, 3), ...dice.slice(-3)]) {
+        await give(text);
+        await compare(page, text, points.join());
+        await page.until('document.querySelector(".plays")');
+        equal(`the roll of ${text}`, await page.value('document.querySelector(".rolls [aria-pressed=true]").dataset.key'), `roll ${roll.join("")}`);
+        equal(`its plays`, await page.value('[...document.querySelectorAll("#plays .cost")].map((cost) => cost.title.split(" ")[0])'),
+            ask(`moves ${points.join()} ${roll.join("")}`).split(" ").slice(1).map((word) => word.split(":")[1]));
+    }
+    const at = await page.value('document.getElementById("counts").value');
+    for (const code of ["outside", "contact", "bar", "other-side", "too-many", "malformed"]) {
+        const [text, , line] = told.refused.find(([given, is]) => is === code && given.startsWith("XGID="))
+            || told.refused.find(([given, is]) => is === code && /[A-Za-z]{3}/.test(given));
+        await give(text);
+        await page.until('!document.getElementById("why").hidden');
+        equal(`${code}, in words`, await page.value('document.getElementById("why").textContent'), `This is no bearoff race: ${line}`);
+        equal(`${code}: the board stays`, (await page.value(SHOWN)).values, at);
+        await page.value('document.getElementById("counts").select()');
+        await give(at);
+        await page.until('document.getElementById("why").hidden');
+    }
+    equal("nothing went wrong", page.troubles(), []);
+}
+
 async function driveGuess(page) {
     await page.click("#guess");
     await page.click('[data-key="roll 21"]');
@@ -780,7 +815,7 @@ const OWN = {
 
 // Those in which each browser is.
 const ALL = {
-    board: driveBoard, keyboard: driveKeyboard, sum: driveSum, lesson: driveLesson, history: driveHistory, copy: driveCopy, saved: driveSaved,
+    board: driveBoard, pasted: drivePasted, keyboard: driveKeyboard, sum: driveSum, lesson: driveLesson, history: driveHistory, copy: driveCopy, saved: driveSaved,
 };
 
 function drive(browser) {

@@ -1,8 +1,9 @@
 // The page's state, what changes it and what draws it, without a browser: that no number is ever beside a board which it
 // isn't of, what is asked of the worker and when, and what each click, key and address does.
+import { readFileSync } from "node:fs";
 import { start } from "../../web/app.js";
 import { sumOfFractions } from "../../web/fractions.js";
-import { readCounts, readLink, writeLink } from "../../web/link.js";
+import { readCounts, readLink, readTyped, writeLink } from "../../web/link.js";
 import { ROLLS } from "../../web/rolls.js";
 import { moved } from "../../web/panels.js";
 import { asSvg } from "../../web/picture.js";
@@ -396,6 +397,59 @@ async function typed() {
     tell(used.at("counts"), "change", { target: { value: "1" } });
     used.click("Add 1");
     equal("a click ends the fault", [used.at("why").hidden, used.at("counts").value], [true, "8,4,2,0,0,0"]);
+}
+
+// What players have: the texts that the packages read and refuse, each by its line.
+const TEXTS = JSON.parse(readFileSync(new URL("../callers/notation_texts.json", import.meta.url), "utf8"));
+
+async function pasted() {
+    part = "positions as players have them";
+    for (const [text, points, , roll] of TEXTS.read) equal(`read ${text}`, readTyped(text), { points, roll });
+    let ids = 0;
+    for (const [text, , line] of TEXTS.refused) {
+        if (readCounts(text).points) continue; // the field takes more spellings of counts
+        const { fault } = readTyped(text);
+        if (/[a-z]{3}|:/i.test(text)) {
+            equal(`refused ${text}`, fault, `This is no bearoff race: ${line}`);
+            ids += 1;
+        } else if (!fault || fault === "undefined") wrong(`${text} isn't refused in words`);
+    }
+    equal("IDs that are refused", ids > 40, true);
+    const used = await Used.open("#at=1,2,3,0,0,4");
+    const field = used.at("counts");
+    const give = (text, name = "change", more = {}) => {
+        field.focus();
+        field.value = text;
+        tell(field, name, more);
+    };
+    equal("it is said that it takes them", [used.text("how").includes("XGID"), field.getAttribute("aria-describedby")], [true, "why how"]);
+    const xgid = "XGID=-ABC--D------------a-b--c-:0:0:-1:12:0:0:0:0:10";
+    give(xgid);
+    used.check("the other player is on roll");
+    equal("the side on roll", [used.board, used.session.state.roll, field.value, used.at("why").hidden], [[3, 0, 0, 2, 0, 1], [2, 1], "3,0,0,2,0,1", true]);
+    await used.worker.answerAll();
+    used.check("answered");
+    equal("its roll is chosen", [used.find("roll 21").getAttribute("aria-pressed"), used.plays().length > 0], ["true", true]);
+    used.window.pass(1000);
+    equal("its link", used.window.location.hash, "#at=3,0,0,2,0,1&roll=21");
+    give(xgid);
+    equal("the same once more", [used.board, used.session.state.roll, field.value], [[3, 0, 0, 2, 0, 1], [2, 1], "3,0,0,2,0,1"]);
+    give("xwQAgHY8AAAAAA");
+    await used.worker.answerAll();
+    equal("without dice", [used.board, used.session.state.roll, used.plays()], [[1, 2, 3, 0, 0, 4], null, []]);
+    const [text, , line] = TEXTS.refused.find(([, code]) => code === "contact");
+    for (const [name, more] of [["change", {}], ["input", { inputType: "insertFromPaste" }]]) {
+        give(text, name, more);
+        equal(`refused at ${name}`, [used.text("why"), used.at("why").hidden, used.at("why").getAttribute("role"), field.value, field.getAttribute("aria-invalid")],
+            [`This is no bearoff race: ${line}`, false, "alert", text, "true"]);
+        equal("the board stays", [used.board, used.session.state.roll], [[1, 2, 3, 0, 0, 4], null]);
+        give("1,2,3,0,0,4");
+        equal("then it is well", used.at("why").hidden, true);
+    }
+    give("XGID=-ABC", "input", { inputType: "insertText" });
+    equal("what is still typed isn't judged", [used.at("why").hidden, field.value], [true, "XGID=-ABC"]);
+    give(xgid, "input", { inputType: "insertFromPaste" });
+    equal("what is pasted is taken at once", [used.board, used.session.state.roll, field.value], [[3, 0, 0, 2, 0, 1], [2, 1], "3,0,0,2,0,1"]);
 }
 
 async function plays() {
@@ -848,6 +902,6 @@ async function pictures() {
 for (const [name, body] of [
     ["what is drawn and what a lesson's text says", trained], ["drills", drills], ["lessons", lessons],
     ["pictures", pictures], ["the wrong moments", moments], ["clicks", clicks], ["keys", keys],
-    ["typed counts", typed], ["plays", plays], ["guesses", guesses], ["keeping", keeping],
+    ["typed counts", typed], ["positions as players have them", pasted], ["plays", plays], ["guesses", guesses], ["keeping", keeping],
     ["addresses", addresses], ["browsers that can't", older],
 ]) test(name, body);
