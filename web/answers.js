@@ -25,15 +25,17 @@ export function chancesOf(database, points) {
     });
 }
 
-// Every position that a roll can lead to, with the play and what it loses, the best first.
+// Every position that a roll can lead to, with what it loses, the best first.
+export const choicesOf = (database, points, roll) => database.moves(points, roll).map((choice) => ({
+    to: choice.to, lost: choice.loss, loss: BigInt(database.thousandths(choice.loss)), isBest: choice.loss.numerator === 0n,
+}));
+
+// The same with the play that leads there.
 export function playsOf(database, points, roll) {
     const recorded = database.play(points, roll).to.join();
-    return database.moves(points, roll).map((choice) => {
-        const moves = database.playTo(points, roll, choice.to).moves.map(({ from, to }) => [from, to]);
-        const loss = BigInt(database.thousandths(choice.loss));
-        const isBest = choice.loss.numerator === 0n;
-        const isRecorded = choice.to.join() === recorded;
-        return { to: choice.to, moves, text: notation(moves), loss, lossText: decimal(loss), exact: exactText(choice.loss), isBest, isRecorded };
+    return choicesOf(database, points, roll).map(({ to, lost, loss, isBest }) => {
+        const moves = database.playTo(points, roll, to).moves.map((move) => [move.from, move.to]);
+        return { to, moves, text: notation(moves), loss, lossText: decimal(loss), exact: exactText(lost), isBest, isRecorded: to.join() === recorded };
     });
 }
 

@@ -1,26 +1,30 @@
 // The page: draws what the state says, and hands on what is clicked, typed, dropped, and where Back and Forward lead.
 import { abilities } from "../js/abilities.js";
 import { Client } from "./client.js";
+import { Dragging } from "./dragging.js";
 import { Past } from "./history.js";
 import { readLink, writeLink } from "./link.js";
 import { asPng, asSvg } from "./picture.js";
 import { Bar } from "./progress.js";
 import { Session } from "./session.js";
-import { asText, readDrill, readLessons } from "./trainer.js";
+import { readPicks, writePicks } from "./kept.js";
+import { asText, readLessons } from "./trainer.js";
 import {
-    addCheckers, askNext, beginDrill, captionOf, choosePlay, chooseRoll, endTraining, giveEstimate, giveLesson, goToStep, keep,
-    openAnswer, orderOf, playOn, pressed, remove, resetGuesses, setCaption, setEstimate, setGuess, setPoints, stopAt,
-    typePosition, visit,
+    addCheckers, askNext, captionOf, chooseDrill, choosePlay, chooseRoll, endTraining, giveEstimate, giveLesson, goToStep,
+    isTraining, keep, makingOf, openAnswer, orderOf, picksOf, playOn, pressed, remove, resetGuesses, setCaption, setEstimate,
+    setGuess, setPoints, stopAt, touch, typePosition, undo, visit, withPicks,
 } from "./state.js";
 import { draw } from "./tree.js";
 import { view } from "./view.js";
 
 const LONG = 1500; // milliseconds that a button says what it did
 const SAVING = 60000; // milliseconds that a picture is there for the browser to save
+const MOST_SEED = 999999999;
 
 // Puts what is shown into the page.
 export function put(document, shown) {
     const at = (name) => document.getElementById(name);
+    const had = document.activeElement;
     // what isn't known yet keeps the room that it had, so that nothing jumps
     const room = at("chances").offsetHeight;
     at("chances").style.minHeight = shown.isKnown || room === 0 ? "" : `${room}px`;
@@ -38,6 +42,10 @@ export function put(document, shown) {
     at("guess").checked = shown.guess;
     at("rolls").classList.toggle("opened", shown.isOpen);
     document.body.classList.toggle("compact", shown.isCompact);
+    document.body.classList.toggle("training", shown.isTraining);
+    document.body.classList.toggle("rolled", shown.hasRoll);
+    // a focus whose element went goes on where one trains
+    if (had && had !== document.body && !document.body.contains(had) && shown.isTraining) at("coach").focus({ preventScroll: true });
 }
 
 // What the parts of the page do with a session.
@@ -47,6 +55,19 @@ export function actionsOf(session, document, window) {
         const element = document.querySelector(`[data-key="${key}"]`);
         if (element) element.focus();
     };
+    // the first of some keys that is there, or else a part of the page
+    const focusOn = (keys, name) => {
+        const found = keys.map((key) => document.querySelector(`[data-key="${key}"]`)).find(Boolean);
+        (found || document.getElementById(name)).focus({ preventScroll: true });
+    };
+    const onBoard = () => document.querySelector('#board [tabindex="0"].to-play');
+    // where a checker that is dragged is taken, and then where it is dropped
+    const pick = (place, isFirst) => {
+        if (isFirst) change((state) => touch({ ...state, picked: null }, place));
+        else change((state) => touch(state, makingOf(state)?.ways.get(state.picked)?.has(place) ? place : null));
+        return session.state.picked !== null;
+    };
+    const dragging = new Dragging(document, pick);
     const isWithin = (name) => document.getElementById(name).contains(document.activeElement);
     return {
         add: (point, count) => change(addCheckers, point, count),
@@ -66,8 +87,21 @@ export function actionsOf(session, document, window) {
             change(chooseRoll, roll);
             if (roll && button) button.scrollIntoView({ block: "nearest" });
         },
-        play: (text) => change(choosePlay, text),
+        // a play that is asked where one trains leads on to what comes next
+        play(text) {
+            const isAsked = makingOf(session.state) !== null;
+            change(choosePlay, text);
+            if (isAsked) focusOn(["next question", "next step", "answer"], "steering");
+        },
+        touch: (place) => change(touch, place),
+        undo() {
+            change(undo);
+            focusOn(["undo"], "coach");
+            if (!document.querySelector('[data-key="undo"]')) onBoard()?.focus({ preventScroll: true });
+        },
+        grab: (event) => dragging.grab(event),
         close() {
+            if (isTraining(session.state)) return;
             const { roll } = session.state;
             change(chooseRoll, null);
             if (roll) focus(`roll ${roll.join("")}`);
@@ -79,23 +113,38 @@ export function actionsOf(session, document, window) {
             if (wasWithin && roll) focus(`roll ${roll.join("")}`);
         },
         guess: (isOn) => change(setGuess, isOn),
-        answer: () => change(openAnswer),
-        step: (step) => change(goToStep, step),
-        question: (place) => change(askNext, place),
-        lookAt(name) {
-            document.getElementById(name).scrollIntoView({ block: "start" });
-            document.getElementById(name).focus({ preventScroll: true });
+        answer() {
+            change(openAnswer);
+            focusOn(["next step"], "coach");
+        },
+        step(step) {
+            change(goToStep, step);
+            const board = onBoard();
+            if (board) board.focus({ preventScroll: true });
+            else if (!isWithin("steering")) focusOn([], "coach");
+        },
+        question(place) {
+            change(askNext, place);
+            const asked = onBoard() || document.querySelector('[data-key="estimate"]');
+            if (asked) asked.focus({ preventScroll: true });
+            else focusOn([], "coach");
         },
         estimate: (kind) => change(setEstimate, kind),
-        guessNumber: (text = document.querySelector('[data-key="estimate"]').value) => change(giveEstimate, text),
-        end: () => change(endTraining),
+        guessNumber(text = document.querySelector('[data-key="estimate"]').value) {
+            change(giveEstimate, text);
+            if (session.state.estimateFault) focusOn(["estimate"], "numbers");
+            else focusOn(["next question"], "numbers");
+        },
+        end() {
+            change(endTraining);
+            document.getElementById("train").scrollIntoView({ block: "start" });
+            document.getElementById("train").focus({ preventScroll: true });
+        },
         give: (text) => change(giveLesson, text),
         drill() {
-            const [theme, ask, seed] = ["theme", "asked", "seed"].map((key) =>
+            const [theme, ask, level, seed] = ["theme", "asked", "level", "seed"].map((key) =>
                 document.querySelector(`[data-key="${key}"]`).value);
-            const drill = readDrill({ theme, ask, seed: seed.trim() })
-                || readDrill({ theme, ask: "effective", seed: seed.trim() });
-            if (drill) change(beginDrill, drill);
+            change(chooseDrill, { theme, ask, level, seed }, 1 + Math.floor(Math.random() * MOST_SEED));
         },
         reset() {
             const { roll } = session.state;
@@ -175,13 +224,27 @@ export function start(document, window, parts) {
     const bar = new Bar(document, window);
     const past = new Past(window);
     let act = null;
+    let trained = ""; // the question or the step that is on
+
+    // What is asked anew comes into sight, and what begins is where Tab and a reader go on.
+    const show = (state) => {
+        const shown = view(state, act);
+        put(document, shown);
+        if (shown.trained && shown.trained !== trained) {
+            document.body.scrollIntoView({ block: "start" });
+            if (!trained) at("coach").focus({ preventScroll: true });
+        }
+        trained = shown.trained;
+    };
 
     const session = new Session(readLink(window.location.hash), (state, isStep) => {
-        put(document, view(state, act));
+        show(state);
         if (state.database) document.body.dataset.ready = String(state.database.bound);
         if (state.loads === 0) bar.show(null);
-        past.remember(writeLink(state), isStep);
+        past.remember(writeLink(state), isStep && !state.isCompact);
+        writePicks(window, picksOf(state));
     }, readLessons(parts.lessons || "").lessons);
+    session.state = withPicks(session.state, readPicks(window));
     act = actionsOf(session, document, window);
 
     const load = (text, question, lent) => {
@@ -262,6 +325,6 @@ export function start(document, window, parts) {
     } catch (error) {
         session.end(`Nothing can be computed here: ${error.message}.`);
     }
-    put(document, view(session.state, act));
+    show(session.state);
     return session;
 }

@@ -74,7 +74,7 @@ function standing(points, point) {
 function column(points, point, free, act) {
     const count = points[point - 1];
     return h("g", {
-        class: "point", tabindex: 0, role: "spinbutton", "data-key": `point ${point}`, "data-point": point,
+        class: "point", tabindex: 0, role: "spinbutton", "data-key": `point ${point}`, "data-point": point, "data-count": count,
         "aria-label": `Point ${point}`, "aria-valuenow": count, "aria-valuemin": 0, "aria-valuemax": count + free,
         "aria-valuetext": count === 1 ? "1 checker" : `${count} checkers`,
         click: (event) => act.add(point, event.shiftKey ? -1 : 1),
@@ -122,15 +122,92 @@ export function board(points, moves, act) {
             }, "Clear"))));
 }
 
+// The stops of a board on which a play is made, in their order: the points, and the place of those that are off.
+const STOPS = [...POINTS, 0];
+
+// What marks a place there: a ring around the checker that can move, or was picked, and one where it can go.
+function mark(points, place, isSource, isTarget) {
+    const count = place > 0 ? points[place - 1] : 0;
+    if (isTarget) {
+        return place === 0 ? h("rect", { class: "spot", x: 611, y: 11, width: 78, height: FLOOR - 14, rx: 6 })
+            : h("circle", { class: "spot", cx: middle(place), cy: height(count, count + 1), r: RADIUS - 4 });
+    }
+    return isSource && h("circle", { class: "mark", cx: middle(place), cy: height(count - 1, count), r: RADIUS - 7 });
+}
+
+// The board of a play that is made on it: `ways` says where each checker can go, `picked` which point's is to move, and
+// `stop` where Tab stops; `play` is the play once it is whole, and then Enter plays it. `act.touch` is called with the point
+// that was chosen, or 0 for off, `act.undo` takes back, and `act.grab` begins to drag.
+export function played({ points, ways, play }, picked, stop, act) {
+    const free = MOST_CHECKERS - sumOf(points);
+    const to = ways.get(picked);
+    const keys = STOPS.map((place) => (place === 0 ? "off" : `point ${place}`));
+    const at = keys.includes(stop) ? stop : `point ${[...ways.keys()][0] || 6}`;
+    const one = (place, ...drawn) => {
+        const [isPicked, isTarget, isSource] = [place === picked, Boolean(to?.has(place)), place > 0 && ways.has(place)];
+        const count = place > 0 ? points[place - 1] : free;
+        const key = place === 0 ? "off" : `point ${place}`;
+        const how = isPicked ? ", its checker is to move" : isTarget ? ", a checker can go there" : isSource && !to ? ", can move" : "";
+        const many = count === 1 ? "1 checker" : `${count} checkers`;
+        return h("g", {
+            class: `point to-play${isPicked ? " picked" : ""}${isTarget ? " target" : ""}${isSource ? " source" : ""}`,
+            role: "button", tabindex: key === at ? 0 : -1, "data-key": key, "data-point": place, "data-count": count,
+            "aria-label": `${place === 0 ? "Off" : `Point ${place}`}, ${many}${how}`,
+            "aria-pressed": isSource ? String(isPicked) : null, "aria-disabled": isTarget || isSource ? null : "true",
+            focusin: () => act.stop("board", key),
+            click: () => act.touch(place),
+            keydown: (event) => {
+                const next = STOPS[STOPS.indexOf(place) + ({ ArrowLeft: -1, ArrowRight: 1 }[event.key] || NaN)];
+                if (next !== undefined) event.currentTarget.parentNode.querySelector(`[data-point="${next}"]`).focus();
+                else if (event.key === "Enter" || event.key === " ") (play ? act.play(play.text) : act.touch(place));
+                else if (["Backspace", "Delete", "Escape"].includes(event.key)) act.undo();
+                else return;
+                event.preventDefault();
+            },
+        },
+            h("rect", { class: "ground", x: (place === 0 ? 600 : (6 - place) * WIDTH) + 2, y: 4, width: WIDTH - 4, height: FLOOR - 2, rx: 6 }),
+            drawn,
+            mark(points, place, isSource && !to, isTarget), isPicked && mark(points, place, true, false));
+    };
+    return h("div", { class: "board" }, h("svg", {
+        viewBox: "0 0 700 372", role: "group", class: "to-play", "aria-label": "Home board, to make a play on",
+        pointerdown: (event) => act.grab(event),
+    },
+        h("rect", FELT),
+        POINTS.map((point) => one(point, standing(points, point))),
+        one(0, tray(free)),
+        POINTS.map((point) => number(middle(point), point)),
+        number(650, `off ${free}`),
+        h("circle", { class: "dragged", cx: -100, cy: -100, r: RADIUS - 1.5 })));
+}
+
+// Which place of such a board is under a part of its width.
+export const placeUnder = (part) => (part < 0 || part > 1 ? null : STOPS[Math.min(6, Math.floor(part * 7))]);
+
+const toldOf = (points, free) => {
+    const told = POINTS.filter((point) => points[point - 1] > 0).map((point) => `${points[point - 1]} on ${point}`);
+    return `The board: ${told.join(", ") || "no checker"}, ${free} borne off`;
+};
+
+// The board where one only looks, with the moves of a play.
+export function watched(points, moves) {
+    const free = MOST_CHECKERS - sumOf(points);
+    return h("div", { class: "board" }, h("svg", { viewBox: "0 0 700 372", role: "img", "aria-label": toldOf(points, free) },
+        tip("tip"),
+        h("rect", FELT),
+        POINTS.map((point) => h("g", { "data-point": point, "data-count": points[point - 1] }, standing(points, point), number(middle(point), point))),
+        tray(free),
+        arcs(points, moves, "tip"),
+        number(650, `off ${free}`)));
+}
+
 // A smaller board that is only looked at, with the moves of a play.
 export function lookedAt(points, moves) {
     const free = MOST_CHECKERS - sumOf(points);
-    const told = POINTS.filter((point) => points[point - 1] > 0).map((point) => `${points[point - 1]} on ${point}`);
     return h("svg", {
-        class: "small", viewBox: "0 0 700 372", role: "img",
-        "aria-label": `The board: ${told.join(", ") || "no checker"}, ${free} borne off`,
+        class: "small", viewBox: "0 0 700 372", role: "img", "aria-label": toldOf(points, free),
     },
-        tip("small-tip"),
+        moves.length > 0 && tip("small-tip"),
         h("rect", FELT),
         POINTS.map((point) => h("g", {}, standing(points, point), number(middle(point), point))),
         tray(free),

@@ -2,7 +2,7 @@
 // Captions are text.
 import { NoRaceError, read } from "../js/notation.js";
 import { MOST_CHECKERS, readPoints, sumOf } from "./points.js";
-import { ESTIMATED, readDrill, readLessons } from "./trainer.js";
+import { ASKED, ESTIMATED, LEVELS, readDrill, readLessons, readSeed, themeOf } from "./trainer.js";
 
 export const MOST_KEPT = 10;
 const LONGEST_CAPTION = 200;
@@ -41,9 +41,40 @@ export function readTyped(typed) {
 
 const text = (word) => (word || "").replace(/\s+/g, " ").trim().slice(0, LONGEST_CAPTION);
 
-// The state that an address states. What can't be read there is left out, and so is a position that stood before.
+// What of a link can't be taken, in sentences: each word with what it has to be.
+function faultsOf(words, drill) {
+    const isNone = (pattern) => (value) => !pattern.test(value);
+    const given = words.get("drill");
+    const checks = [
+        ["at", (value) => !readPoints(value), `a position is six counts of at most ${MOST_CHECKERS} checkers`],
+        ["p", (value) => !readPoints(value), `a position is six counts of at most ${MOST_CHECKERS} checkers`],
+        ["roll", isNone(/^[1-6]{2}$/), "a roll is two digits from 1 to 6"],
+        ["guess", isNone(/^1$/), "it is 1 or left out"],
+        ["pips", isNone(/^(44|58)$/), "the databases have 44 or 58 pips"],
+        ["view", isNone(/^board$/), "the only other view is board"],
+        ["drill", (value) => !themeOf(value), "there is no such theme"],
+        ["seed", (value) => readSeed(value) === null, "a seed is a whole number from 1 to 999999999"],
+        ["ask", (value) => !Object.hasOwn(ASKED, value), `a drill asks ${Object.keys(ASKED).join(", ")}`],
+        ["level", (value) => !LEVELS.some(({ name }) => name === value), `a level is ${LEVELS.map(({ name }) => name).join(", ")}`],
+        ["question", isNone(/^[1-9]\d?$/), "it is the number of one"],
+        ["estimate", (value) => !ESTIMATED.includes(value), `what is estimated is ${ESTIMATED.join(", ")}`],
+        ["lesson", isNone(/^[1-9]\d?$/), "it is the number of one"],
+        ["step", isNone(/^[1-9]\d?$/), "it is the number of one"],
+    ];
+    const faults = checks.flatMap(([name, isWrong, what]) => words.getAll(name).filter(isWrong)
+        .map((value) => `The link has ${name}=${value.slice(0, 40)}, which can't be taken: ${what}.`));
+    const { fault } = readLessons(words.get("text") || "");
+    if (words.get("text") && fault) faults.push(`The lesson of the link can't be read. ${fault}`);
+    if (given !== null && themeOf(given) && !words.has("seed")) faults.push("The link has a drill without a seed.");
+    if (given !== null && !drill && faults.length === 0) faults.push(`The link's drill has nothing to decide: ${themeOf(given).words}, Play.`);
+    return faults;
+}
+
+// The state that an address states. What can't be read there is left out, with a sentence that says so, and so is a
+// position that stood before.
 export function readLink(hash) {
     const words = new URLSearchParams(hash.replace(/^#/, ""));
+    const drill = readDrill({ theme: words.get("drill"), seed: words.get("seed"), ask: words.get("ask"), level: words.get("level") });
     const kept = [];
     let last = null;
     for (const [name, value] of words) {
@@ -67,23 +98,27 @@ export function readLink(hash) {
         bound: words.get("pips") === "58" ? 58 : 44,
         isPlaced: words.has("at"),
         isCompact: words.get("view") === "board",
-        drill: readDrill({ theme: words.get("drill"), seed: words.get("seed"), ask: words.get("ask") }),
+        drill,
+        place: /^[1-9]\d?$/.test(words.get("question") || "") ? Number(words.get("question")) - 1 : 0,
         estimate: ESTIMATED.includes(words.get("estimate")) ? words.get("estimate") : null,
         lesson: /^\d{1,2}$/.test(words.get("lesson") || "") ? Number(words.get("lesson")) : null,
         text: readLessons(words.get("text") || "").lessons[0] ? words.get("text") : "",
         step: /^[1-9]\d?$/.test(words.get("step") || "") ? Number(words.get("step")) : 1,
+        faults: faultsOf(words, drill),
     };
 }
 
 // The address of a state.
 export function writeLink({ points, kept, title, roll, guess, bound, ...more }) {
     const words = new URLSearchParams();
-    const { isCompact, drill, estimate, lesson, text: written, step } = more;
+    const { isCompact, drill, place, estimate, lesson, text: written, step } = more;
     if (isCompact) words.append("view", "board");
     if (drill) {
         for (const [name, value] of [["drill", drill.theme], ["seed", drill.seed], ["ask", drill.ask]]) {
             words.append(name, value);
         }
+        if (drill.level) words.append("level", drill.level);
+        if (place > 0) words.append("question", place + 1);
     }
     if (estimate) words.append("estimate", estimate);
     if (lesson) words.append("lesson", lesson);

@@ -83,7 +83,7 @@ export function chances(list) {
 
 const inWords = ([one, other]) => (one === other ? `Double ${one}` : `${one} and ${other}`);
 
-const dicePicture = ([one, other]) => [
+export const dicePicture = ([one, other]) => [
     heard(inWords([one, other])), h("span", { class: "dice", "aria-hidden": "true" }, die(one), die(other)),
 ];
 
@@ -140,7 +140,7 @@ const NO_ROLL = h("p", { class: "hint" }, "Choose a roll to see its plays here a
 
 // The plays of the chosen roll on a small board, and what each loses, in rolls; of the one that is shown in EPC too,
 // where `lost` has that. In a guess they stand in the order of their texts.
-export function plays({ points, dice, list, shown, lost, isHidden, stop }, act) {
+export function plays({ points, dice, list, shown, lost, isHidden, isTrained, stop }, act) {
     if (!dice) return NO_ROLL;
     const byText = (one, other) => one.text.localeCompare(other.text);
     const ordered = list && (isHidden ? [...list].sort(byText) : byLoss(list));
@@ -149,8 +149,8 @@ export function plays({ points, dice, list, shown, lost, isHidden, stop }, act) 
     return [
         h("div", { class: "top-line" },
             h("h3", {}, dicePicture(dice), " ", told),
-            h("button", { type: "button", class: "close", "data-key": "close", click: () => act.close() }, "Close")),
-        lookedAt(points, shown ? shown.moves : []),
+            !isTrained && h("button", { type: "button", class: "close", "data-key": "close", click: () => act.close() }, "Close")),
+        !isTrained && lookedAt(points, shown ? shown.moves : []),
         ordered && group("plays", "Plays", { class: "plays" }, stop, act, ordered.map((play) => h("button", {
             type: "button", "data-key": `play ${play.text}`, "aria-pressed": String(play.text === shown?.text),
             class: play.isBest && !isHidden ? "good" : null, click: () => act.play(play.text),
@@ -160,7 +160,7 @@ export function plays({ points, dice, list, shown, lost, isHidden, stop }, act) 
         shown && h("div", { class: "shown" },
             h("p", { class: "loss" }, shown.isBest ? `${shown.text} loses nothing.`
                 : `${shown.text} loses ${shown.exact} of a roll, ${lost ?? COMING} of EPC.`),
-            h("button", {
+            !isTrained && h("button", {
                 type: "button", class: "onward", "data-key": "onward", click: () => act.onward(),
             }, `Play ${shown.text}`)),
     ];

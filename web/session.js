@@ -12,7 +12,9 @@ function whyNot(failure) {
 
 // What stands for the reply to a question that failed.
 function noReply({ kind, fraction }, { bound }, refusal) {
-    return { ask: { refusal, status: 0, standing: null, bound }, rolls: [], draw: [], round: fraction }[kind];
+    return {
+        ask: { refusal, status: 0, standing: null, bound }, rolls: [], draw: [], again: { plays: [], answers: [] }, round: fraction,
+    }[kind];
 }
 
 export class Session {

@@ -2,9 +2,13 @@
 // An answer stands under its position and is read for that one alone; so nothing of a former position can be shown.
 import { MOST_KEPT, readTyped } from "./link.js";
 import { MOST_CHECKERS, sumOf } from "./points.js";
+import { decimal } from "./texts.js";
 import { inPips, sumOfFractions } from "./fractions.js";
 import { sameRoll } from "./rolls.js";
-import { ESTIMATED, meanOf, readEstimate, readLessons, thousandthsOf, writeLesson } from "./trainer.js";
+import { isWhole, reachedBy, ways } from "./steps.js";
+import {
+    drillOf, ESTIMATED, meanOf, readEstimate, readLessons, readSeed, themeOf, thousandthsOf, WANTED, writeLesson,
+} from "./trainer.js";
 
 // A digit that follows another one within so many milliseconds is its second.
 const DIGITS_APART = 1000;
@@ -18,14 +22,17 @@ export function begin(link, lessons = []) {
         lessons, // those that come with the page
         given: null, // the one of the link or of a file, read
         isAnswered: false, // whether the answer of a lesson's step is open
-        questions: null, // of the drill, once they are drawn
-        place: 0, // which of them is asked
-        estimates: [], // the position, what was estimated of it, and how far that was off
+        ...NO_RUN,
+        place: link.place || 0, // which question is asked: those of the drill, and then those that were missed
+        runs: new Map(), // other drills that were begun, by their words
+        seedFault: "", // why the seed that was typed for a drill is none
+        estimateFault: "", // and why what was estimated is no number
+        steps: [], // of the play that is made on the board, those that were made at once together
+        picked: null, // the point there whose checker is to move
         shown: null, // the text of the play that was chosen, or null for the best
         typed: null, // a position that was typed and refused, with the reason
         digits: null, // the digits that were typed on a point, and when
-        stops: { rolls: null, plays: null }, // where Tab stops within the rolls and within the plays
-        guesses: [], // the position, the roll, the play that was guessed and the best one
+        stops: { rolls: null, plays: null, board: null }, // where Tab stops within the rolls, the plays, and the board
         database: null, // the open one: its bound and how many positions it has
         loads: 0, // how many databases are being built or checked
         trouble: "", // what went wrong, in words
@@ -33,8 +40,15 @@ export function begin(link, lessons = []) {
         rolls: new Map(), // and of its 21 rolls
         decimals: new Map(), // a fraction's decimals
         said: "", // what is read aloud
+        notice: "", // what a link has that can't be taken, or what has ended
     }, link);
 }
+
+// Of a drill: its questions, once they are drawn; of each guess the position, the roll, the play that was guessed and the
+// best one, and so of the guesses of those that were asked again; of each estimate the position, what was estimated of it,
+// and how far that was off; and what was chosen before the page was loaded anew, until it is known what that lost.
+const MOST_RUNS = 10; // drills whose runs are kept
+const NO_RUN = { questions: null, guesses: [], again: [], estimates: [], picks: null };
 
 // The lesson that is on, or null.
 export const lessonOf = ({ lesson, lessons, given }) => (lesson ? lessons[lesson - 1] : given) || null;
@@ -42,18 +56,43 @@ export const lessonOf = ({ lesson, lessons, given }) => (lesson ? lessons[lesson
 // The step of the lesson that is on, or null.
 export const stepOf = (state) => lessonOf(state)?.steps[state.step - 1] || null;
 
-// The question of the drill that is asked, or null where there is none or all were.
-export const questionOf = ({ questions, place }) => questions?.[place] || null;
+// The questions of the drill whose guess lost something, in their order: each is asked once more.
+export const missedOf = (state) => (state.drill?.ask === "play" && state.questions ? state.questions : []).filter(
+    ({ points, roll }) => state.guesses.some((guess) => guess.at === keyOf(points) && sameRoll(guess.roll, roll) && !guess.play.isBest));
 
-// The state with the lesson of its link, at the position of the step where the link has no other.
-function placed(state, { isPlaced }) {
+// How many questions there are with those that are asked once more.
+export const lengthOf = (state) => (state.questions || []).length + missedOf(state).length;
+
+// Whether a question that was missed is asked once more.
+export const isAgain = (state) => state.questions !== null && state.place >= state.questions.length && state.place < lengthOf(state);
+
+// The question of the drill that is asked, or null where there is none or all were.
+export const questionOf = (state) =>
+    state.questions?.[state.place] || (state.questions && missedOf(state)[state.place - state.questions.length]) || null;
+
+// Whether one trains: a lesson or a drill is on, and the board has what it asks.
+export function isTraining(state) {
+    const asked = stepOf(state) || questionOf(state);
+    return Boolean(stepOf(state) || state.drill) && (!asked || keyOf(asked.points) === keyOf(state.points));
+}
+
+// The state with the lesson of its link, at the position of the step where the link has no other; and what of the link
+// can't be taken.
+function placed(state, { isPlaced, faults = [] }) {
     const given = state.text ? readLessons(state.text).lessons[0] || null : null;
-    const read = { ...state, given, isAnswered: false };
+    const read = { ...state, given, isAnswered: false, notice: faults.join(" ") };
     const lesson = lessonOf(read);
-    if (!lesson) return { ...read, lesson: null, step: 1 };
+    if (!lesson) {
+        const none = state.lesson ? `The link asks for lesson ${state.lesson}, and there are ${state.lessons.length}.` : "";
+        return { ...read, lesson: null, step: 1, notice: [read.notice, none].filter(Boolean).join(" ") };
+    }
     const step = Math.min(state.step, lesson.steps.length);
+    const past = step < state.step ? `The link asks for step ${state.step}, and the lesson has ${lesson.steps.length}.` : "";
     const { points, roll } = lesson.steps[step - 1];
-    return { ...read, step, ...(isPlaced ? {} : { points, roll, guess: Boolean(roll) }) };
+    return {
+        ...read, step, notice: [read.notice, past].filter(Boolean).join(" "),
+        ...(isPlaced ? {} : { points, roll, guess: Boolean(roll) }),
+    };
 }
 
 export const freeOf = ({ points }) => MOST_CHECKERS - sumOf(points);
@@ -77,9 +116,9 @@ export function byLoss(plays) {
 // The plays of the chosen roll, or undefined.
 export const chosenOf = (state) => rollsOf(state)?.find(({ dice }) => sameRoll(dice, state.roll));
 
-// What was guessed of a roll in the board's position.
+// What was guessed of a roll in the board's position; where it is asked once more, then.
 export const guessOf = (state, roll = state.roll) =>
-    state.guesses.find((guess) => guess.at === keyOf(state.points) && sameRoll(guess.roll, roll));
+    (isAgain(state) ? state.again : state.guesses).find((guess) => guess.at === keyOf(state.points) && sameRoll(guess.roll, roll));
 
 // Whether the answer for a roll is hidden, since it is to be guessed.
 export const hides = (state, roll = state.roll) => state.guess && !guessOf(state, roll);
@@ -100,6 +139,17 @@ export function asksNumber(state) {
 // Whether the numbers of the board's position are hidden, since one of them is to be estimated or is asked.
 export const hidesNumbers = (state) =>
     asksNumber(state) || (Boolean(estimated(state)) && !answerOf(state)?.refusal && !estimateOf(state));
+
+// The play that is made on the board, or null where none is: the points after its steps, where each checker can go now, and
+// the play itself, once it is whole.
+export function makingOf(state) {
+    if (!isTraining(state) || !state.roll || !hides(state)) return null;
+    const list = chosenOf(state)?.plays;
+    if (!list) return { points: state.points, ways: new Map(), play: null };
+    const at = reachedBy(state.points, state.roll, state.steps.flat());
+    if (isWhole(at)) return { points: at.points, ways: new Map(), play: list.find(({ to }) => keyOf(to) === keyOf(at.points)) || null };
+    return { points: at.points, ways: ways(at, new Set(list.map(({ to }) => keyOf(to)))), play: null };
+}
 
 // The play that the board shows: the chosen one, or the best of the chosen roll.
 export function shownPlay(state) {
@@ -134,6 +184,7 @@ export function wanted(state) {
     const kept = state.kept.find((entry) => !answerOf(state, entry.points));
     if (kept) return { kind: "ask", points: kept.points };
     if (state.drill && !state.questions) return { kind: "draw", drill: state.drill };
+    if (state.drill && state.picks) return { kind: "again", picks: state.picks };
     const summed = state.guesses.length > 0 ? [lostOf(state), ...scoreOf(state)] : [];
     const fraction = [...summed, lostPips(state)].find((one) => one !== null && !state.decimals.has(one));
     return fraction ? { kind: "round", fraction } : null;
@@ -186,9 +237,14 @@ export function verdictOf(state) {
     const first = play.isBest
         ? `${play.text} is best${play.isRecorded ? "" : `, as is ${best.text}`}.`
         : `${play.text} loses ${play.lossText} of a roll; best is ${best.text}.`;
+    return { isBest: play.isBest, first, all: lostInAll(state), lost: play.exact, exact, isWhole: decimals !== undefined };
+}
+
+// What all guesses have lost, in words.
+function lostInAll(state) {
     const count = state.guesses.length;
-    const all = `${count === 1 ? "One guess has" : `${count} guesses have`} lost ${decimals ?? "\u2026"} of a roll.`;
-    return { isBest: play.isBest, first, all, exact, isWhole: decimals !== undefined };
+    const decimals = state.decimals.get(lostOf(state));
+    return `${count === 1 ? "One guess has" : `${count} guesses have`} lost ${decimals ?? "\u2026"} of a roll.`;
 }
 
 // The answers of positions that are still shown.
@@ -206,12 +262,40 @@ export function received(state, database, question, reply) {
         return verdict && verdict.isWhole ? { ...next, said: `${verdict.first} ${verdict.all}` } : next;
     }
     if (question.kind === "draw") {
-        return question.drill === state.drill ? askNext({ ...state, questions: reply }, 0) : state;
+        if (question.drill !== state.drill) return state;
+        const next = { ...state, questions: reply };
+        return state.picks ? next : arrived(next);
+    }
+    if (question.kind === "again") {
+        return question.picks === state.picks ? arrived(resumed({ ...state, picks: null }, question.picks, reply)) : state;
     }
     const key = keyOf(question.points);
     if (question.kind === "rolls") return { ...state, rolls: stillShown(new Map([[key, reply]]), state) };
     const next = { ...state, answers: stillShown(new Map(state.answers).set(key, reply), state) };
-    return key === keyOf(state.points) ? { ...next, said: spoken(next) } : next;
+    if (key !== keyOf(state.points)) return next;
+    // what a lesson or a drill asks is heard before the numbers
+    return { ...next, said: [isTraining(state) ? state.said : "", state.roll && isTraining(state) ? "" : spoken(next)].filter(Boolean).join(" ") };
+}
+
+// The drill's question of its place, where the link had no other position.
+function arrived(state) {
+    const place = Math.min(state.place, lengthOf(state));
+    const question = questionOf({ ...state, place });
+    const isElsewhere = state.isPlaced && question && keyOf(question.points) !== keyOf(state.points);
+    return isElsewhere ? { ...state, place } : askNext(state, place);
+}
+
+// What was chosen before, with what it lost by the plays of each roll and the numbers of each position.
+function resumed(state, picks, { plays, answers }) {
+    const guesses = (rolls, first) => rolls.flatMap(([points, roll, text], place) => {
+        const play = plays[first + place]?.find((one) => one.text === text);
+        return play ? [{ at: keyOf(points), roll, play, best: byLoss(plays[first + place])[0] }] : [];
+    });
+    const estimates = picks.estimates.flatMap(([points, kind, told], place) => {
+        const answer = answers[place];
+        return answer && !answer.refusal ? [measured(points, kind, BigInt(told), answer)] : [];
+    });
+    return { ...state, guesses: guesses(picks.guesses, 0), again: guesses(picks.again, picks.guesses.length), estimates };
 }
 
 // A database begins to be built or checked.
@@ -237,9 +321,12 @@ export function ended(state, words) {
     return { ...state, loads: 0, database: null, trouble: words };
 }
 
+// Nothing chosen or typed that belongs to a former position or roll.
+const AFRESH = { shown: null, typed: null, digits: null, steps: [], picked: null, estimateFault: "" };
+
 // Another position on the board.
 export function setPoints(state, points) {
-    const next = { ...state, points, roll: null, shown: null, typed: null, digits: null };
+    const next = { ...state, ...AFRESH, points, roll: null, stops: { ...state.stops, board: null } };
     return { ...next, said: spoken(next) };
 }
 
@@ -285,7 +372,7 @@ export function typePosition(state, text) {
 
 // A roll, or none.
 export function chooseRoll(state, roll) {
-    return { ...state, roll, shown: null, stops: { ...state.stops, plays: null }, said: "" };
+    return { ...state, roll, shown: null, steps: [], picked: null, stops: { ...state.stops, plays: null }, said: "" };
 }
 
 // A play of the chosen roll: a guess where it is to be guessed, and else one to look at. A roll is guessed once.
@@ -295,9 +382,35 @@ export function choosePlay(state, text) {
     if (!play) return state;
     if (!hides(state)) return { ...state, shown: text };
     const guess = { at: keyOf(state.points), roll: state.roll, play, best: byLoss(chosen.plays)[0] };
-    const next = { ...state, shown: text, guesses: [...state.guesses, guess], said: "" };
+    const list = isAgain(state) ? "again" : "guesses";
+    const next = { ...state, shown: text, steps: [], picked: null, [list]: [...state[list], guess], said: "" };
     const verdict = verdictOf(next);
     return verdict.isWhole ? { ...next, said: `${verdict.first} ${verdict.all}` } : next;
+}
+
+const nameOf = (place) => (place === 0 ? "off" : `point ${place}`);
+
+// A point of the board, or the place of those that are off, 0, in a play that is made there: the checker that was picked
+// goes there where it can, and else one that can move from there is picked, or put back.
+export function touch(state, place) {
+    const making = makingOf(state);
+    if (!making) return state;
+    const made = making.ways.get(state.picked)?.get(place);
+    if (made) {
+        const next = { ...state, picked: null, steps: [...state.steps, made] };
+        const { play } = makingOf(next);
+        const from = nameOf(made[0].move[0]);
+        return { ...next, said: play ? `${play.text} is made: Enter plays it, Backspace undoes.` : `From ${from} to ${nameOf(place)}.` };
+    }
+    const picked = making.ways.has(place) && state.picked !== place ? place : null;
+    const to = picked === null ? [] : [...making.ways.get(picked).keys()].map(nameOf);
+    return { ...state, picked, said: picked === null ? "" : `Point ${place}: to ${to.join(", ")}.` };
+}
+
+// Without what was moved last, or with the checker put back that was picked.
+export function undo(state) {
+    if (state.picked !== null) return { ...state, picked: null, said: "" };
+    return state.steps.length === 0 ? state : { ...state, steps: state.steps.slice(0, -1), said: "Undone." };
 }
 
 // The position after the play that is shown.
@@ -308,23 +421,57 @@ export function playOn(state) {
 
 // A question of the drill, by its place.
 export function askNext(state, place) {
-    const question = state.questions?.[place];
-    if (!question) return { ...state, place, said: "The drill is over." };
+    const question = questionOf({ ...state, place });
+    if (!question) return { ...state, ...AFRESH, place, said: "The drill is over." };
     const next = { ...setPoints(state, question.points), roll: question.roll, guess: state.drill.ask === "play", place };
-    return { ...next, said: `Question ${place + 1} of ${state.questions.length}.` };
+    return { ...next, said: askedIn(next) };
+}
+
+// What a question of a drill asks, in words.
+export function askedIn(state) {
+    const { questions, place, drill } = state;
+    const which = isAgain(state) ? `Once more, ${place - questions.length + 1} of ${missedOf(state).length}.`
+        : `Question ${place + 1} of ${questions.length}.`;
+    const { roll } = questionOf(state);
+    return `${which} ${roll ? `Which play of ${roll.join("-")} is best?` : `What is the ${WANTED[drill.ask]}?`}`;
+}
+
+// A drill by its words, which are in the links of all who are asked the same.
+export const drillKey = ({ theme, seed, ask, level = "any" }) => [theme, seed, ask, level].join();
+
+// The state without its drill, whose run is kept, and with another one or none; one that was begun goes on. A lesson ends.
+function changeDrill(state, drill) {
+    const { questions, guesses, again, estimates, picks } = state;
+    const runs = new Map(state.runs);
+    if (state.drill) runs.set(drillKey(state.drill), { questions, guesses, again, estimates, picks });
+    const run = (drill && runs.get(drillKey(drill))) || NO_RUN;
+    return {
+        ...state, ...AFRESH, ...run, drill, runs, lesson: null, text: "", given: null, place: 0, seedFault: "",
+        decimals: new Map(), estimate: null, notice: "",
+    };
 }
 
 // A drill begins: its questions are drawn anew, and nothing was answered.
 export function beginDrill(state, drill) {
-    return {
-        ...state, drill, lesson: null, text: "", given: null, questions: null, place: 0, guesses: [], estimates: [],
-        decimals: new Map(), estimate: null,
-    };
+    return { ...changeDrill(state, drill), ...NO_RUN, isPlaced: false };
+}
+
+// A drill of what the fields say, whose seed is the one there, or else another one.
+export function chooseDrill(state, { theme, ask, level, seed }, another) {
+    const read = seed.trim() === "" ? another : readSeed(seed);
+    if (read === null) {
+        return { ...state, seedFault: "A seed is a whole number from 1 to 999999999. Without one each drill is another." };
+    }
+    const { isPlayed, words } = themeOf(theme);
+    const isPossible = ask !== "play" || isPlayed;
+    const next = beginDrill(state, drillOf({ theme, seed: read, ask: isPossible ? ask : "effective", level }));
+    return isPossible ? next : { ...next, notice: `${words}: nothing is to be decided there, so the EPC is asked.` };
 }
 
 // No drill and no lesson.
 export function endTraining(state) {
-    return { ...beginDrill(state, null), guess: false, roll: null, shown: null, step: 1, said: "It is over." };
+    const what = state.drill ? "The drill is over." : "The lesson is over.";
+    return { ...changeDrill(state, null), guess: false, roll: null, step: 1, said: what };
 }
 
 // Another step of the lesson.
@@ -345,7 +492,7 @@ export function openAnswer(state) {
 export function giveLesson(state, text) {
     const { lessons, fault } = readLessons(text);
     if (fault) return { ...state, trouble: `The lesson can't be read. ${fault}` };
-    const next = { ...beginDrill(state, null), given: lessons[0], text: writeLesson(lessons[0]), trouble: "" };
+    const next = { ...changeDrill(state, null), given: lessons[0], text: writeLesson(lessons[0]), trouble: "" };
     return goToStep(next, 1);
 }
 
@@ -355,17 +502,28 @@ export function setEstimate(state, kind) {
     return { ...next, said: spoken(next) };
 }
 
-// An estimate of the board's position, which is taken once. What is no number is no estimate.
+// How far something told of a position is off.
+function measured(points, kind, told, answer) {
+    const exact = thousandthsOf(answer, kind);
+    return { at: keyOf(points), kind, told, exact, error: told > exact ? told - exact : exact - told };
+}
+
+// An estimate of the board's position, which is taken once. What is no number is no estimate, and the page says so.
 export function giveEstimate(state, text) {
     const told = readEstimate(text);
     const answer = answerOf(state);
-    if (!hidesNumbers(state) || !estimated(state) || !answer || told === null) return state;
-    const kind = estimated(state);
-    const exact = thousandthsOf(answer, kind);
-    const error = told > exact ? told - exact : exact - told;
-    const next = { ...state, estimates: [...state.estimates, { at: keyOf(state.points), kind, told, exact, error }] };
-    return { ...next, said: spoken(next) };
+    if (!hidesNumbers(state) || !estimated(state) || !answer) return state;
+    if (told === null) {
+        return { ...state, estimateFault: "An estimate is a number with at most three decimals, such as 51 or 51.5." };
+    }
+    const estimate = measured(state.points, estimated(state), told, answer);
+    const next = { ...state, estimateFault: "", estimates: [...state.estimates, estimate] };
+    return { ...next, said: [toldOf(estimate), spoken(next)].join(" ") };
 }
+
+// What was estimated, and how far that was off.
+export const toldOf = ({ told, error }) =>
+    `You said ${told < 0n ? `\u2212${decimal(-told)}` : decimal(told)}: ${decimal(error)} off.`;
 
 // The mean of all errors of what is estimated now, in thousandths, or null where there are none.
 export function meanError(state) {
@@ -373,8 +531,17 @@ export function meanError(state) {
     return errors.length > 0 ? meanOf(errors) : null;
 }
 
+// Whether plays are to be guessed from now on. Where they aren't any more, what was guessed is over: it would be told.
 export function setGuess(state, guess) {
-    return { ...state, guess, shown: null, said: "" };
+    const next = { ...state, guess, shown: null, steps: [], picked: null, said: "" };
+    if (guess) return next;
+    if (state.drill) {
+        const notice = "The drill has ended, since its plays are hidden no longer.";
+        return { ...endTraining(next), said: notice, notice };
+    }
+    if (state.guesses.length === 0) return next;
+    const notice = `Guessing has ended: ${lostInAll(state)}`;
+    return { ...next, guesses: [], notice, said: notice };
 }
 
 // No guess was made yet.
@@ -417,10 +584,32 @@ export function stopAt(state, group, key) {
 
 // What another address states. Its database is for whoever loads it.
 export function visit(state, link) {
-    const { points, kept, title, roll, guess, drill, estimate, lesson, text, step } = link;
+    const { points, kept, title, roll, guess, drill, estimate, lesson, text, step, place, isPlaced } = link;
     const isSame = JSON.stringify(drill) === JSON.stringify(state.drill);
-    const begun = isSame ? state : beginDrill(state, drill);
-    const stated = { ...begun, points, kept, title, roll, guess, shown: null, typed: null, digits: null };
+    const begun = isSame ? state : changeDrill(state, drill);
+    const stated = { ...begun, ...AFRESH, points, kept, title, roll, guess, place, isPlaced };
     const next = placed({ ...stated, estimate, lesson, text, step }, link);
-    return { ...next, said: spoken(next) };
+    if (drill && !isPlaced && next.questions) return askNext(next, place);
+    const asked = questionOf(next) && isTraining(next) ? askedIn(next) : "";
+    return { ...next, said: [next.notice, asked, spoken(next)].filter(Boolean).join(" ") };
 }
+
+// What was chosen in each drill, as it is kept while the page is loaded anew: texts and counts, and no number of the module.
+export function picksOf(state) {
+    const runs = new Map(state.runs);
+    if (state.drill) runs.set(drillKey(state.drill), state);
+    const pointsOf = (at) => at.split(",").map(Number);
+    const picked = (guesses) => guesses.map(({ at, roll, play }) => [pointsOf(at), roll, play.text]);
+    return Object.fromEntries([...runs].slice(-MOST_RUNS).map(([key, { guesses, again, estimates, picks }]) => [key, picks || {
+        guesses: picked(guesses), again: picked(again),
+        estimates: estimates.map(({ at, kind, told }) => [pointsOf(at), kind, String(told)]),
+    }]).filter(([, run]) => run.guesses.length + run.estimates.length > 0));
+}
+
+// The state with what was chosen in its drills before the page was loaded anew.
+export function withPicks(state, all) {
+    const runs = new Map(Object.entries(all).map(([key, picks]) => [key, { ...NO_RUN, picks }]));
+    const run = state.drill && runs.get(drillKey(state.drill));
+    return { ...state, ...(run || {}), runs };
+}
+

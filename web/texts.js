@@ -34,7 +34,19 @@ export function percent(thousandths) {
     return `${digits.slice(0, -1)}.${digits.slice(-1)} %`;
 }
 
-// The moves of a play in the usual notation.
+// The moves of a play as players write them: those of one checker joined, the same ones counted, the highest first. So
+// 4/3 3/2 2/1 1/off is 4/off, and 4/off four times is 4/off(4).
 export function notation(moves) {
-    return moves.map(([from, to]) => `${from}/${to === 0 ? "off" : to}`).join(" ");
+    const ways = [];
+    for (const [from, to] of [...moves].sort(([one], [other]) => other - one)) {
+        const way = ways.find((other) => other.to === from);
+        if (way) way.to = to;
+        else ways.push({ from, to });
+    }
+    const texts = ways.sort((one, other) => other.from - one.from || one.to - other.to)
+        .map(({ from, to }) => `${from}/${to === 0 ? "off" : to}`);
+    return [...new Set(texts)].map((text) => {
+        const count = texts.filter((other) => other === text).length;
+        return count > 1 ? `${text}(${count})` : text;
+    }).join(" ");
 }

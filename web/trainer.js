@@ -7,6 +7,7 @@ export const MOST_PIPS = 44;
 const MOST_STEPS = 60;
 const LONGEST_TEXT = 1200;
 const MODULUS = 2147483647;
+const MOST_TRIES = 20000; // until a drill has its questions
 
 // The positions of at most so many pips, in the order of their ranks: by pips, and then as words in a dictionary.
 export function positions(most = MOST_PIPS) {
@@ -32,7 +33,8 @@ const isWithin = (low, high) => (points) =>
 const hasGap = (points) => points.some((count, place) =>
     count === 0 && sumOf(points.slice(0, place)) > 0 && sumOf(points.slice(place)) > 0);
 
-// The themes: the name in a link, the words, the positions, and whether a roll can have something to decide there.
+// The themes: the name in a link, the words, the positions, whether a roll can have something to decide there, and what
+// else of the plays has to hold.
 export const THEMES = [
     { name: "all", words: "All positions", has: (points) => sumOf(points) > 1, isPlayed: true },
     {
@@ -50,18 +52,64 @@ export const THEMES = [
         name: "few", words: "Two to four checkers", isPlayed: true,
         has: (points) => sumOf(points) > 1 && sumOf(points) < 5,
     },
+    {
+        name: "fewer", words: "Bear off fewer", isPlayed: true, has: (points) => sumOf(points) > 1,
+        isAsked: (plays) => plays.every(({ to, isBest }) => !isBest || sumOf(to) > leastLeft(plays)),
+    },
 ];
 
-// What a drill asks: the name in a link, and the words.
+export const themeOf = (theme) => THEMES.find(({ name }) => name === theme);
+
+// What a drill asks: the name in a link, the words, and the words within a sentence.
 export const ASKED = { play: "Play", pips: "Pip count", effective: "EPC", wastage: "Wastage" };
 export const ESTIMATED = ["pips", "effective", "wastage"];
+export const WANTED = { pips: "pip count", effective: "EPC", wastage: "wastage" };
+
+// How few checkers a play can leave.
+const leastLeft = (plays) => Math.min(...plays.map(({ to }) => sumOf(to)));
+
+const fillsOf = ({ to }) => to.filter((count) => count > 0).length;
+
+// The plays that a novice chooses from: those that bear off the most checkers, and of these those that fill the most points.
+export function naturalOf(plays) {
+    const most = plays.filter(({ to }) => sumOf(to) === leastLeft(plays));
+    const filled = Math.max(...most.map(fillsOf));
+    return most.filter((play) => fillsOf(play) === filled);
+}
+
+// Thousandths of a roll that the next best play loses, at most in a close decision and at least in a clear one.
+const CLOSE = 20n;
+const CLEAR = 80n;
+
+// How hard a drill is: the name in a link, the words, and which plays it asks, the best first, after so many questions of
+// a theme. In a hard one each other question is one whose natural plays all lose something; the rest can be close instead.
+export const LEVELS = [
+    { name: "any", words: "Any", isAsked: () => true },
+    {
+        name: "easy", words: "Easy",
+        isAsked: (plays, count, { isAsked }) => plays[1].loss >= CLEAR && (Boolean(isAsked) || naturalOf(plays).some(({ isBest }) => isBest)),
+    },
+    {
+        name: "hard", words: "Hard",
+        isAsked: (plays, count) => naturalOf(plays).every(({ isBest }) => !isBest) || (count % 2 === 1 && plays[1].loss <= CLOSE),
+    },
+];
+
+// A drill of some words, where "any" level has no word.
+export const drillOf = ({ theme, seed, ask, level }) =>
+    ({ theme, seed, ask, ...(ask === "play" && level !== "any" ? { level } : {}) });
+
+// A seed as it is typed, or null.
+export const readSeed = (text) => (/^\s*\d{1,9}\s*$/.test(text || "") && Number(text) > 0 ? Number(text) : null);
 
 // The drill of these words of a link, or null.
-export function readDrill({ theme, seed, ask }) {
-    const known = THEMES.find(({ name }) => name === theme);
-    if (!known || !/^\d{1,9}$/.test(seed || "") || Number(seed) < 1) return null;
+export function readDrill({ theme, seed, ask, level }) {
+    const known = themeOf(theme);
+    const read = readSeed(seed);
+    if (!known || read === null) return null;
     const kind = Object.hasOwn(ASKED, ask) ? ask : "play";
-    return kind === "play" && !known.isPlayed ? null : { theme, seed: Number(seed), ask: kind };
+    if (kind === "play" && !known.isPlayed) return null;
+    return drillOf({ theme, seed: read, ask: kind, level: LEVELS.some(({ name }) => name === level) ? level : "any" });
 }
 
 // Numbers that look random: each is 48271 times the one before it, modulo 2^31 - 1; the first comes from the seed.
@@ -73,12 +121,15 @@ export function* numbersFrom(seed) {
 }
 
 // The questions of a drill: `playsOf` says the plays of a roll, the best first. A roll is asked only where there is
-// something to decide: more than one play, and the next best loses something.
-export function drawQuestions({ theme, seed, ask }, rolls, playsOf) {
-    const themed = positions().filter(THEMES.find(({ name }) => name === theme).has);
+// something to decide: more than one play, and the next best loses something; and where its theme and its level ask it.
+export function drawQuestions({ theme, seed, ask, level = "any" }, rolls, playsOf) {
+    const asked = themeOf(theme);
+    const { has, isAsked = () => true } = asked;
+    const asks = LEVELS.find(({ name }) => name === level).isAsked;
+    const themed = positions().filter(has);
     const numbers = numbersFrom(seed);
     const drawn = new Map();
-    for (let tries = 0; drawn.size < Math.min(QUESTIONS, themed.length) && tries < 5000; tries += 1) {
+    for (let tries = 0; drawn.size < Math.min(QUESTIONS, themed.length) && tries < MOST_TRIES; tries += 1) {
         const points = themed[numbers.next().value % themed.length];
         const roll = rolls[numbers.next().value % rolls.length];
         if (ask !== "play") {
@@ -86,7 +137,7 @@ export function drawQuestions({ theme, seed, ask }, rolls, playsOf) {
             continue;
         }
         const plays = playsOf(points, roll);
-        if (plays.length > 1 && !plays[1].isBest) drawn.set(points.join(), { points, roll });
+        if (plays.length > 1 && !plays[1].isBest && isAsked(plays) && asks(plays, drawn.size, asked)) drawn.set(points.join(), { points, roll });
     }
     return [...drawn.values()];
 }

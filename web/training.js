@@ -1,33 +1,36 @@
 // What is shown of a lesson, of a drill, of an estimate, and of what can be begun.
 import { decimal } from "./texts.js";
-import { COMING } from "./panels.js";
+import { lookedAt } from "./board.js";
+import { COMING, dicePicture } from "./panels.js";
 import { h } from "./tree.js";
-import { ASKED, ESTIMATED, meanOf, THEMES } from "./trainer.js";
+import { ASKED, ESTIMATED, LEVELS, meanOf, MOST_PIPS, themeOf, THEMES, WANTED } from "./trainer.js";
 import {
-    answeredOf, drillErrors, estimated, estimateOf, lessonOf, meanError, mistakesOf, questionOf, scoreOf, stepOf,
+    answeredOf, askedIn, drillErrors, drillGuesses, estimated, estimateOf, isAgain, isTraining, lengthOf, lessonOf, meanError,
+    missedOf, mistakesOf, questionOf, scoreOf, stepOf, toldOf,
 } from "./state.js";
+import { sumOfFractions } from "./fractions.js";
 
 const button = (key, text, click, more = {}) => h("button", { type: "button", "data-key": key, click, ...more }, text);
 
-const link = (words) => `#${new URLSearchParams(words).toString()}`;
+const link = (words) => `#${new URLSearchParams(words).toString().replaceAll("%2C", ",")}`;
 
-const end = (act) => button("end training", "End", () => act.end());
+// The heading of what is on, with how it ends.
+const head = (act, title) => h("div", { class: "top-line" }, h("h2", {}, title), button("end training", "End", () => act.end()));
+
+// A way to look at a question's position with all that the page has; Back leads to the question again.
+const lookAround = (state) => isTraining(state)
+    && [" ", h("a", { href: link({ at: state.points.join() }), "data-key": "look around" }, "Look around"), "."];
 
 function lessonPanel(state, act) {
     const lesson = lessonOf(state);
-    const { text, ask, answer } = stepOf(state);
-    const count = lesson.steps.length;
+    const { text, ask, answer, roll } = stepOf(state);
     return h("div", { class: "coach" },
-        h("h2", {}, lesson.title),
-        h("p", { class: "how" }, `Step ${state.step} of ${count}`),
+        head(act, lesson.title),
+        h("p", { class: "how" }, `Step ${state.step} of ${lesson.steps.length}.`, lookAround(state)),
         text && h("p", { class: "says" }, text),
-        ask && h("p", { class: "asks" }, ask),
-        answer && (state.isAnswered ? h("p", { class: "answers" }, answer)
-            : button("answer", "Show the answer", () => act.answer())),
-        h("p", { class: "steering" },
-            state.step > 1 && button("previous step", "Previous", () => act.step(state.step - 1)),
-            state.step < count && button("next step", "Next", () => act.step(state.step + 1)),
-            end(act)));
+        (ask || roll) && h("p", { class: "asks" }, ask, roll && [" ", dicePicture(roll)]),
+        answer && state.isAnswered && h("p", { class: "answers" }, answer),
+        !isTraining(state) && h("p", { class: "steering" }, button("back to it", "Back to the step", () => act.step(state.step))));
 }
 
 // A drill's score, once all was asked.
@@ -35,72 +38,114 @@ function score(state) {
     const count = answeredOf(state);
     if (state.drill.ask !== "play") {
         const errors = drillErrors(state);
-        const mean = errors.length > 0 ? ` The mean error is ${decimal(meanOf(errors))}.` : "";
-        return h("p", { class: "says" }, `${count} of ${state.questions.length} were estimated.${mean}`);
+        const mean = errors.length > 0 ? ` The mean error is ${decimal(meanOf(errors))} pips.` : "";
+        return h("p", { class: "says score" }, `${count} of ${state.questions.length} were estimated.${mean}`);
     }
     const [rolls, pips] = scoreOf(state);
     const told = (fraction) => state.decimals.get(fraction) ?? (count === 0 ? "0.000" : COMING);
     const mistakes = mistakesOf(state);
+    const missed = missedOf(state).length;
+    const right = state.again.filter(({ play }) => play.isBest).length;
     return [
         h("p", { class: "says score" }, `${count} of ${state.questions.length} were played. They lost ${told(rolls)} rolls, or `
             + `${told(pips)} of EPC. Exactly: ${rolls} of a roll.`),
+        missed > 0 && h("p", { class: "says" }, `${missed === 1 ? "One was missed" : `${missed} were missed`}; `
+            + `asked once more, ${right} ${right === 1 ? "was" : "were"} right.`),
         mistakes && h("p", {}, h("a", { href: link({ text: mistakes }), "data-key": "mistakes" }, "The mistakes as a lesson")),
     ];
 }
 
-function drillPanel(state, act) {
-    const { drill, questions, place } = state;
-    const theme = THEMES.find(({ name }) => name === drill.theme).words;
-    const question = questionOf(state);
-    const isThere = question && question.points.join() === state.points.join();
-    return h("div", { class: "coach" },
-        h("h2", {}, `Drill: ${theme}, ${ASKED[drill.ask]}`),
-        h("p", { class: "how" }, `Seed ${drill.seed}. The link of this page asks everybody the same.`),
-        !questions ? h("p", {}, COMING)
-            : questions.length === 0 ? h("p", {}, "A drill needs a database of 44 pips.")
-            : question ? h("p", { class: "asks" }, `Question ${place + 1} of ${questions.length}. `
-                + (question.roll ? `Which play of ${question.roll.join("-")} is best? Choose it among the plays.`
-                    : `What is the ${ASKED[drill.ask] === "EPC" ? "EPC" : ASKED[drill.ask].toLowerCase()}?`))
-            : score(state),
-        h("p", { class: "steering" },
-            isThere && question.roll && button("to the plays", "To the plays", () => act.lookAt("plays")),
-            question && !isThere && button("back to it", "Back to the question", () => act.question(place)),
-            questions && place > 0 && button("previous question", "Previous", () => act.question(place - 1)),
-            question && button("next question", place + 1 < questions.length ? "Next" : "Score", () => act.question(place + 1)),
-            end(act)));
+// What a drill has brought so far.
+function soFar(state) {
+    const count = answeredOf(state);
+    if (count === 0) return "";
+    if (state.drill.ask !== "play") return ` ${count} estimated, mean error ${decimal(meanOf(drillErrors(state)))} pips.`;
+    const lost = sumOfFractions(drillGuesses(state).map(({ play }) => play.exact));
+    return ` ${count} played, ${state.decimals.get(lost) ?? COMING} rolls lost.`;
 }
 
-// Below a play that was chosen in a drill: the way to the plays of the next question, or to the score.
-export function onward({ questions, place }, act) {
-    const isLast = place + 1 === questions.length;
-    return h("p", { class: "steering" }, button("question after", isLast ? "Score" : "Next question", () => {
-        act.question(place + 1);
-        act.lookAt(isLast ? "coach" : "plays");
-    }));
+function drillPanel(state, act) {
+    const { drill, questions, place } = state;
+    const question = questionOf(state);
+    const level = drill.level ? `, ${LEVELS.find(({ name }) => name === drill.level).words.toLowerCase()}` : "";
+    return h("div", { class: "coach" },
+        head(act, `Drill: ${themeOf(drill.theme).words}, ${ASKED[drill.ask]}${level}`),
+        !questions ? h("p", {}, COMING)
+            : questions.length === 0 ? h("p", {}, state.database?.bound < MOST_PIPS ? `A drill needs a database of ${MOST_PIPS} pips.`
+                : "No roll of this theme is of this level.")
+            : question ? h("p", { class: "asks" }, askedIn(state), question.roll && [" ", dicePicture(question.roll)])
+            : score(state),
+        h("p", { class: "how" }, `Seed ${drill.seed}.${question ? soFar(state) : ""}`, lookAround(state)),
+        question && !isTraining(state) && h("p", { class: "steering" },
+            button("back to it", "Back to the question", () => act.question(place))));
 }
 
 // The lesson or the drill that is on.
 export const coach = (state, act) =>
     (stepOf(state) ? lessonPanel(state, act) : state.drill ? drillPanel(state, act) : []);
 
-const NAMES = { pips: "pip count", effective: "EPC", wastage: "wastage" };
+// Where the thumb is, while one trains: the play that is made, what it lost, and the ways on.
+export function steering(state, making, verdict, act) {
+    if (!isTraining(state)) return [];
+    const step = stepOf(state);
+    const { place, questions } = state;
+    const count = step ? lessonOf(state).steps.length : lengthOf(state);
+    const isOpen = Boolean(making || (!step && estimated(state) && !estimateOf(state)) || (step?.answer && !state.isAnswered));
+    const last = step ? state.step === count : place + 1 >= count && !isOpen;
+    const begun = state.steps.length > 0 || state.picked !== null;
+    return [
+        making && h("p", { class: "hint" }, making.play ? `${making.play.text}?`
+            : begun ? "Where to? A ring marks each place." : "Move a checker on the board, or choose a play of the list."),
+        verdict && h("p", { class: verdict.isBest ? "verdict good" : "verdict" }, verdict.first,
+            verdict.isBest ? null : ` Exactly: ${verdict.lost} of a roll.`),
+        h("p", { class: "steering" },
+            making?.play && button("made", `Play ${making.play.text}`, () => act.play(making.play.text), { class: "first" }),
+            making && begun && button("undo", "Undo", () => act.undo()),
+            step?.answer && !state.isAnswered && button("answer", "Show the answer", () => act.answer(), { class: making ? null : "first" }),
+            step ? state.step > 1 && button("previous step", "Previous", () => act.step(state.step - 1))
+                : place > 0 && questions && button("previous question", "Previous", () => act.question(place - 1)),
+            step ? !last && button("next step", "Next", () => act.step(state.step + 1), { class: isOpen ? null : "first" })
+                : questionOf(state) && button("next question", isOpen ? "Skip" : last ? "Score" : "Next", () => act.question(place + 1),
+                    { class: isOpen ? null : "first" })),
+    ];
+}
+
+// The whole lesson as it is printed: each step with its board, and the answers at its end.
+export function printed(state) {
+    const lesson = lessonOf(state);
+    if (!lesson) return [];
+    return [
+        h("h2", {}, lesson.title),
+        h("ol", { class: "steps-printed" }, lesson.steps.map(({ points, roll, text, ask }) => h("li", {},
+            lookedAt(points, []),
+            h("p", {}, text, " ", (ask || roll) && h("b", {}, ask), roll && [" ", dicePicture(roll)])))),
+        lesson.steps.some(({ answer }) => answer) && [h("h3", {}, "Answers"), h("ol", {}, lesson.steps.map(({ answer }) =>
+            h("li", {}, answer || "\u2013")))],
+    ];
+}
+
+const NAMES = WANTED;
 
 // The field for an estimate, where the numbers are hidden till then.
-export const estimateField = (state, act) => h("div", { class: "estimate" },
-    h("label", {}, `Your estimate of the ${NAMES[estimated(state)]} `, h("input", {
-        type: "text", "data-key": "estimate", inputmode: "decimal", autocomplete: "off",
-        keydown: ({ key, target }) => { if (key === "Enter") act.guessNumber(target.value); },
-    })), " ",
-    button("tell", "Compare", () => act.guessNumber()));
+export const estimateField = (state, act) => [
+    h("div", { class: "estimate" },
+        h("label", {}, `Your estimate of the ${NAMES[estimated(state)]} `, h("input", {
+            type: "text", "data-key": "estimate", inputmode: "decimal", autocomplete: "off",
+            "aria-invalid": String(Boolean(state.estimateFault)), "aria-describedby": "estimate-why",
+            keydown: ({ key, target }) => { if (key === "Enter") act.guessNumber(target.value); },
+        })), " pips ",
+        button("tell", "Compare", () => act.guessNumber())),
+    fault("estimate-why", state.estimateFault),
+];
+
+// Beside a field, why what was typed there can't be taken; it is heard once it comes.
+const fault = (id, words) => h("div", { role: "alert", id }, words && h("p", { class: "trouble" }, words));
 
 // How far an estimate was off, and all of them.
 export function estimateTold(state) {
     const estimate = estimated(state) && estimateOf(state);
     if (!estimate) return null;
-    const mean = meanError(state);
-    const told = estimate.told < 0n ? `\u2212${decimal(-estimate.told)}` : decimal(estimate.told);
-    return h("p", { class: "verdict" }, `You said ${told}: ${decimal(estimate.error)} off. `
-        + `The mean error so far is ${decimal(mean)}.`);
+    return h("p", { class: "verdict" }, `${toldOf(estimate)} The mean error so far is ${decimal(meanError(state))}.`);
 }
 
 // The ace-stack rule, where it speaks of a position: without doubles a stack takes half as many rolls as it has checkers,
@@ -131,8 +176,14 @@ export const training = (state, act) => [
     h("p", { class: "choices" },
         choice("theme", "Theme", THEMES.map(({ name, words }) => [name, words])),
         choice("asked", "Asked", Object.entries(ASKED)),
-        h("label", {}, "Seed ", h("input", { type: "text", "data-key": "seed", inputmode: "numeric", value: "1" })),
+        choice("level", "Level", LEVELS.map(({ name, words }) => [name, words])),
+        h("label", {}, "Seed ", h("input", {
+            type: "text", "data-key": "seed", inputmode: "numeric", autocomplete: "off", placeholder: "another",
+            "aria-invalid": String(Boolean(state.seedFault)), "aria-describedby": "seed-why",
+            keydown: ({ key }) => { if (key === "Enter") act.drill(); },
+        })),
         button("begin drill", "Begin", () => act.drill())),
+    fault("seed-why", state.seedFault),
     h("h3", {}, "Estimate first"),
     h("p", { class: "choices" }, h("label", {}, "Hide the numbers until you have estimated ", h("select", {
         "data-key": "estimated", value: state.estimate || "", change: ({ target }) => act.estimate(target.value),

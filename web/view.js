@@ -1,16 +1,20 @@
 // What the page shows of a state: trees for its parts, its texts, and what is hidden. Each is what this state says, and
 // nothing of a former one.
 import { h } from "./tree.js";
-import { board } from "./board.js";
+import { board, played, watched } from "./board.js";
 import { chances, kept, numbers, plays, rolls, verdict } from "./panels.js";
-import { coach, estimateField, estimateTold, onward, thumb, training } from "./training.js";
+import { coach, estimateField, estimateTold, printed, steering, thumb, training } from "./training.js";
 import {
-    answerOf, asksNumber, chosenOf, hides, hidesNumbers, isComing, isFull, isKept, lessonOf, lostPips, orderOf, questionOf,
-    rollsOf, shownPlay, verdictOf,
+    answerOf, asksNumber, chosenOf, drillKey, hides, hidesNumbers, isComing, isFull, isKept, isTraining, lessonOf, lostPips,
+    makingOf, orderOf, rollsOf, shownPlay, verdictOf,
 } from "./state.js";
 
 // What stands in the place of numbers that a lesson asks for.
 const asked = h("p", { class: "hint" }, "The numbers come with the answer.");
+
+// What one trains and which question or step is on, as a text, or "" where one doesn't train.
+const trainedOf = (state) => (!isTraining(state) ? ""
+    : state.drill ? `${drillKey(state.drill)} ${state.place}` : `${state.lesson || state.text} ${state.step}`);
 
 export function view(state, act) {
     const { points, roll, guess, stops, database, typed } = state;
@@ -21,12 +25,17 @@ export function view(state, act) {
     const chosen = chosenOf(state)?.plays;
     const isHidden = hides(state) || hidesNumbers(state);
     const isEstimated = hidesNumbers(state);
+    const making = makingOf(state);
+    const trains = isTraining(state);
+    const moves = shown ? shown.moves : [];
     const hasChances = !isEstimated && (answer ? !answer.refusal : isComing(state));
     const hasRolls = answer ? !answer.refusal && answer.standing.checkers > 0 : isComing(state);
     return {
         trees: {
-            board: board(points, shown ? shown.moves : [], act),
+            board: making ? played(making, state.picked, stops.board, act) : trains ? watched(points, moves) : board(points, moves, act),
             coach: coach(state, act),
+            steering: steering(state, making, told, act),
+            printed: printed(state),
             training: training(state, act),
             numbers: asksNumber(state) ? asked : isEstimated ? estimateField(state, act)
                 : [numbers(answer, isComing(state)), thumb(points, answer), estimateTold(state)],
@@ -35,16 +44,16 @@ export function view(state, act) {
             plays: [
                 plays({
                     points, dice: roll, list: chosen, shown, lost: state.decimals.get(lostPips(state)),
-                    isHidden: hides(state), stop: stops.plays,
+                    isHidden: hides(state), isTrained: trains, stop: stops.plays,
                 }, act),
-                told && verdict(told, act),
-                told && questionOf(state) && onward(state, act),
+                told && !trains && verdict(told, act),
             ],
             kept: kept(orderOf(state), (at) => answerOf(state, at), isHidden, act),
         },
         texts: {
             lesson: state.title,
             trouble: state.trouble,
+            notice: state.notice,
             said: state.said,
             open: database ? `${database.bound} pips` : "\u2026",
             known: database ? database.positions.toLocaleString("en") : "\u2026",
@@ -54,6 +63,8 @@ export function view(state, act) {
         },
         hidden: {
             coach: !state.drill && !lessonOf(state),
+            steering: !trains,
+            notice: !state.notice,
             lesson: !state.title,
             trouble: !state.trouble,
             wider: !(answer?.status === 4 && answer.bound < 58 && answer.standing.pips <= 58) || state.loads > 0,
@@ -69,5 +80,8 @@ export function view(state, act) {
         isKnown: Boolean(answer),
         guess,
         isCompact: state.isCompact,
+        isTraining: trains,
+        hasRoll: Boolean(roll),
+        trained: trainedOf(state),
     };
 }

@@ -1,7 +1,7 @@
 // What the worker does: it builds, checks and answers, so that the page never stands still.
 import { Database } from "../js/database.js";
 import { BearoffError } from "../js/errors.js";
-import { chancesOf, playsOf, roundedOf, roundText, signedOf } from "./answers.js";
+import { chancesOf, choicesOf, playsOf, roundedOf, roundText, signedOf } from "./answers.js";
 import { bytesOf, unpacked } from "./packed.js";
 import { ROLLS } from "./rolls.js";
 import { REFUSALS } from "./texts.js";
@@ -36,7 +36,15 @@ export function rollsOf(database, points) {
 
 // The questions of a drill; none where the database has fewer pips than they can have.
 export function drawn(database, drill) {
-    return database.bound < MOST_PIPS ? [] : drawQuestions(drill, ROLLS, (points, roll) => playsOf(database, points, roll));
+    return database.bound < MOST_PIPS ? [] : drawQuestions(drill, ROLLS, (points, roll) => choicesOf(database, points, roll));
+}
+
+// The plays of rolls that were guessed before, and the numbers of positions that were estimated.
+export function again(database, { guesses, again: more, estimates }) {
+    return {
+        plays: [...guesses, ...more].map(([points, roll]) => playsOf(database, points, roll)),
+        answers: estimates.map(([points]) => answer(database, points)),
+    };
 }
 
 // One desk of the worker: the compiled module, and the open database.
@@ -74,7 +82,7 @@ export class Desk {
         return { bound: database.bound, positions: database.positionCount };
     }
 
-    async take({ kind, bound, file, points, fraction, drill }) {
+    async take({ kind, bound, file, points, fraction, drill, picks }) {
         switch (kind) {
             case "build":
                 return this.build(bound);
@@ -87,6 +95,8 @@ export class Desk {
                 return rollsOf(this.database, points);
             case "draw":
                 return drawn(this.database, drill);
+            case "again":
+                return again(this.database, picks);
             case "round":
                 return roundText(this.database, fraction);
             default:

@@ -85,6 +85,15 @@ class AnyPage {
         return performance.now() - start;
     }
 
+    // Where the middle of an element is, in the window.
+    async middle(selector) {
+        await this.until(`document.querySelector(${JSON.stringify(selector)})`);
+        return this.value(`(() => {
+            const box = document.querySelector(${JSON.stringify(selector)}).getBoundingClientRect();
+            return { x: Math.round(box.x + box.width / 2), y: Math.round(box.y + box.height / 2) };
+        })()`);
+    }
+
     // Brings an element into sight, once it is there, and says where its middle is.
     async aim(selector) {
         await this.until(`document.querySelector(${JSON.stringify(selector)})`);
@@ -179,6 +188,15 @@ export class Page extends AnyPage {
         for (const type of ["mousePressed", "mouseReleased"]) {
             await this.send("Input.dispatchMouseEvent", { type, x, y, button, clickCount: 1, modifiers: shift ? 8 : 0 });
         }
+    }
+
+    // A drag from the middle of an element to that of another one, both in sight.
+    async drag(from, to) {
+        const [start, end] = [await this.middle(from), await this.middle(to)];
+        const mouse = (type, x, y) => this.send("Input.dispatchMouseEvent", { type, x, y, button: "left", buttons: type === "mouseReleased" ? 0 : 1, clickCount: 1 });
+        await mouse("mousePressed", start.x, start.y);
+        for (const part of [0.2, 0.6, 1]) await mouse("mouseMoved", start.x + part * (end.x - start.x), start.y + part * (end.y - start.y));
+        await mouse("mouseReleased", end.x, end.y);
     }
 
     // A tap there, where it is in sight.
@@ -335,6 +353,14 @@ class FirefoxPage extends AnyPage {
             { type: "pointerDown", button: which }, { type: "pointerUp", button: which },
         ], { parameters: { pointerType: "mouse" } });
         if (shift) await this.perform("key", [{ type: "keyUp", value: KEYS.Shift }]);
+    }
+
+    async drag(from, to) {
+        const [start, end] = [await this.middle(from), await this.middle(to)];
+        const move = ({ x, y }) => ({ type: "pointerMove", x, y, origin: "viewport", duration: 50 });
+        await this.perform("pointer", [
+            move(start), { type: "pointerDown", button: 0 }, move({ x: Math.round((start.x + end.x) / 2), y: start.y }), move(end), { type: "pointerUp", button: 0 },
+        ], { parameters: { pointerType: "mouse" } });
     }
 
     async key(key) {

@@ -30,7 +30,11 @@ part("texts of numbers", async () => {
         equal("a decimal", decimal(thousandths), text);
     }
     for (const [thousandths, text] of [[0n, "0.0 %"], [4n, "0.4 %"], [306n, "30.6 %"], [1000n, "100.0 %"]]) equal("a percentage", percent(thousandths), text);
-    equal("a play", notation([[4, 2], [2, 0]]), "4/2 2/off");
+    for (const [moves, text] of [
+        [[[4, 2], [2, 0]], "4/off"], [[[4, 3], [3, 2], [2, 1], [1, 0]], "4/off"], [Array(4).fill([4, 0]), "4/off(4)"], [[[6, 5], [5, 3], [4, 0]], "6/3 4/off"],
+        [[[6, 3], [6, 3], [3, 0], [3, 0]], "6/off(2)"], [[[6, 3], [6, 3], [3, 0], [5, 2]], "6/off 6/3 5/2"], [[[2, 0], [6, 4]], "6/4 2/off"],
+        [[[6, 4], [6, 4], [4, 2], [5, 3]], "6/2 6/4 5/3"], [[], ""], [[[6, 1]], "6/1"], [[[2, 1], [2, 1], [1, 0], [1, 0]], "2/off(2)"],
+    ]) equal(`the play ${JSON.stringify(moves)}`, notation(moves), text);
 });
 
 part("a step that goes on, and doesn't end before it is done", async () => {

@@ -11,7 +11,8 @@ import { pathToFileURL } from "node:url";
 import { installed, started } from "./browser.mjs";
 import { positions } from "../../web/trainer.js";
 import { audit } from "./audit.mjs";
-import { equal as same, pagePath, part, programPath, testedFolder, wrong as fault } from "./given.mjs";
+import { legalFrom } from "./stand_in.mjs";
+import { effectOf, equal as same, isJoined, pagePath, part, programPath, testedFolder, wrong as fault } from "./given.mjs";
 
 const address = pathToFileURL(pagePath()).href;
 const program = programPath();
@@ -60,7 +61,7 @@ document.addEventListener("securitypolicyviolation", ({ violatedDirective, block
         seen.add(text);
     };
     new MutationObserver(() => {
-        const board = [...document.querySelectorAll("[role=spinbutton]")].map((point) => point.getAttribute("aria-valuenow")).reverse().join();
+        const board = [1, 2, 3, 4, 5, 6].map((point) => document.querySelector('#board [data-point="' + point + '"]')?.dataset.count).join();
         const figures = [...document.querySelectorAll(".figure dd")].map((figure) => figure.textContent.trim().split(" ")[0]);
         if (figures.length === 4) keep(board, figures);
         const refusal = document.querySelector(".refusal")?.textContent.match(/^\\d+ pips/);
@@ -98,7 +99,7 @@ async function compareWatched(page, name, least) {
 
 // What the page shows, read from it.
 const SHOWN = `({
-    values: [...document.querySelectorAll("[role=spinbutton]")].map((point) => Number(point.getAttribute("aria-valuenow"))).reverse().join(),
+    values: [1, 2, 3, 4, 5, 6].map((point) => document.querySelector('#board [data-point="' + point + '"]').dataset.count).join(),
     figures: [...document.querySelectorAll(".figure dd")].map((figure) => figure.textContent.trim().split(" ")[0]),
     exact: [...document.querySelectorAll(".exact dd")].map((figure) => figure.textContent),
     said: document.getElementById("said").textContent,
@@ -127,7 +128,8 @@ async function compareRolls(page, position) {
         [roll.dataset.key.slice(5), roll.querySelector(".best").textContent, roll.querySelector(".next").textContent])`);
     equal("how many rolls", rolls.length, 21);
     for (const [roll, text, next] of rolls) {
-        equal(`the best play of ${roll}`, `play ${text}`, ask(`play ${position} ${roll}`).split(" to ")[0]);
+        equal(`the best play of ${roll}`, effectOf(text), effectOf(ask(`play ${position} ${roll}`).split(" to ")[0].slice(5)));
+        equal(`${text} as players write it`, isJoined(text), true);
         const losses = ask(`moves ${position} ${roll}`).split(" ").slice(1).map((word) => word.split(":")[1].split("/").map(BigInt))
             .map(([above, below]) => (2000n * above + below) / (2n * below)).sort((one, other) => (one < other ? -1 : one > other ? 1 : 0));
         equal(`the next best of ${roll}`, next, losses.length === 1 ? "only play" : `then \u2212${(Number(losses[1]) / 1000).toFixed(3)}`);
@@ -551,40 +553,155 @@ async function driveHosted(browser) {
     }
 }
 
-// A drill of twenty by its seed: each question's best play, or another one, is chosen; the score is that of the program.
-async function driveDrill(browser) {
-    const page = await browser.open(`${address}#drill=middle&seed=2026&ask=play`);
-    await page.until(`${READY} && document.querySelector('[data-key="next question"]')`);
+const point = (place) => (place === 0 ? '[data-key="off"]' : `[data-key="point ${place}"]`);
+
+// How a play is made on the board: by clicks, by dragging, by taps, or by keys alone. Each is given single moves; what is
+// made is played by its button, or by Enter.
+const WAYS = {
+    mouse: async (page, moves) => {
+        for (const [from, to] of moves) {
+            await page.click(point(from));
+            await page.click(point(to));
+        }
+        await page.click('[data-key="made"]');
+    },
+    drag: async (page, moves) => {
+        for (const [from, to] of moves) await page.drag(point(from), point(to));
+        await page.click('[data-key="made"]');
+    },
+    touch: async (page, moves) => {
+        for (const [from, to] of moves) {
+            await page.tap(point(from));
+            await page.tap(point(to));
+        }
+        await page.tap('[data-key="made"]');
+    },
+    keys: async (page, moves) => {
+        const go = async (place) => {
+            const order = [6, 5, 4, 3, 2, 1, 0];
+            const at = await page.value("Number(document.activeElement.dataset.point)");
+            const away = order.indexOf(place) - order.indexOf(at);
+            for (let count = Math.abs(away); count > 0; count -= 1) await page.key(away > 0 ? "ArrowRight" : "ArrowLeft");
+            await page.key("Enter");
+        };
+        for (const [from, to] of moves) {
+            await go(from);
+            await go(to);
+        }
+        await page.key("Enter");
+    },
+};
+
+// The single moves of some play that leads from a position to another one, by the rules.
+const movesTo = (position, roll, to) => legalFrom(position.split(",").map(Number))
+    .find(({ dice }) => dice.join("") === roll).plays.find((play) => play.to.join() === to).moves;
+
+const NEXT = '[data-key="next question"]';
+
+// A drill of twenty by its seed, each play made in the way of its place: each verdict, what it loses and the score are the program's.
+// What was missed is asked once more, and then counts for nothing.
+async function playDrill(page, hash, way, next) {
+    await page.until(`${READY} && document.querySelector('${NEXT}')`);
+    const nearest = ([above, below]) => (Number((2000n * above + below) / (2n * below)) / 1000).toFixed(3);
     let sum = [0n, 1n];
-    for (let place = 0; place < 20; place += 1) {
-        await page.until(`document.querySelector("#coach .asks").textContent.startsWith("Question ${place + 1} of 20.") && document.querySelector(".plays")`);
+    let [missed, right] = [0, 0];
+    for (let place = 0; place < 20 + missed; place += 1) {
+        const words = place < 20 ? `Question ${place + 1} of 20.` : `Once more, ${place - 19} of ${missed}.`;
+        await page.until(`document.querySelector("#coach .asks").textContent.startsWith("${words}") && document.querySelector("#board .source") && document.querySelector(".plays")`);
         const [position, roll, texts] = await page.value(`[document.getElementById("counts").value, document.querySelector('.rolls [aria-pressed="true"]').dataset.key.slice(5),
             [...document.querySelectorAll(".plays .moves")].map((node) => node.textContent)]`);
-        const losses = ask(`moves ${position} ${roll}`).split(" ").slice(1).map((word) => word.split(":")[1]);
+        const plays = ask(`moves ${position} ${roll}`).split(" ").slice(1).map((word) => word.split(":"));
+        const losses = plays.map(([, loss]) => loss);
         if (losses.length < 2 || losses.filter((loss) => loss.startsWith("0/")).length !== 1) wrong(`${position} ${roll} has nothing to decide`);
-        equal(`question ${place + 1} tells no loss`, await page.value('document.querySelectorAll("#plays .cost").length'), 0);
-        const text = texts[(7 * place) % texts.length];
-        await page.click(`[data-key="play ${text}"]`);
-        await page.until('document.querySelector("#plays .cost")');
-        const loss = await page.value(`document.querySelector('[data-key="play ${text}"] .cost').title.split(" ")[0]`);
-        if (!losses.includes(loss)) wrong(`${text} of ${position} ${roll} loses ${loss}, and the program knows ${losses.join(" ")}`);
-        const best = ask(`play ${position} ${roll}`).split(" to ")[0].slice(5);
-        equal(`${text} of ${position} ${roll}`, loss.startsWith("0/"), text === best);
+        equal(`${words} tells no loss`, await page.value('document.querySelectorAll("#plays .cost, #board .arc").length'), 0);
+        const [to, loss] = place < 20 || place % 2 === 0 ? plays[(7 * place) % plays.length] : plays.find(([, lost]) => lost.startsWith("0/"));
+        const moves = movesTo(position, roll, to);
+        await way(place)(page, moves, texts);
+        await page.until(`document.querySelector("#steering .verdict") && !document.querySelector("#steering .verdict").textContent.includes("\u2026")`);
+        const [verdict, shown, costs] = await page.value(`[document.querySelector("#steering .verdict").textContent, document.querySelector(".plays [aria-pressed=true] .moves").textContent,
+            document.querySelector(".plays [aria-pressed=true] .cost").title]`);
+        equal(`${words} what was played`, effectOf(shown), effectOf(moves.map(([from, end]) => `${from}/${end || "off"}`).join(" ")));
+        equal(`${words} what it loses`, costs, `${loss} of a roll`);
         const [above, below] = loss.split("/").map(BigInt);
-        sum = [sum[0] * below + above * sum[1], sum[1] * below];
-        await page.click(`[data-key="${place % 2 === 0 ? "next question" : "question after"}"]`);
+        const best = verdict.match(/best is ([^.]*)\./)?.[1] || verdict.match(/^(.*) is best\./)?.[1] || "";
+        equal(`${words} what is best`, effectOf(best), effectOf(ask(`play ${position} ${roll}`).split(" to ")[0].slice(5)));
+        equal(`${words} the verdict`, verdict, above === 0n ? `${shown} is best.` : `${shown} loses ${nearest([above, below])} of a roll; best is ${best}. Exactly: ${loss} of a roll.`);
+        if (place < 20) {
+            sum = [sum[0] * below + above * sum[1], sum[1] * below];
+            if (above > 0n) missed += 1;
+        } else if (above === 0n) right += 1;
+        await next(page);
     }
     await page.until('document.querySelector(".score") && !document.querySelector(".score").textContent.includes("\u2026")');
     const told = await page.value('document.querySelector(".score").textContent');
-    const nearest = ([above, below]) => (Number((2000n * above + below) / (2n * below)) / 1000).toFixed(3);
     const exact = told.match(/Exactly: (\d+)\/(\d+) of/).slice(1).map(BigInt);
-    equal("the score, exactly", exact[0] * sum[1] === sum[0] * exact[1], true);
-    equal("the score", told.split(" Exactly")[0], `20 of 20 were played. They lost ${nearest(sum)} rolls, or ${nearest([49n * sum[0], 6n * sum[1]])} of EPC.`);
+    equal(`${hash}: the score, exactly`, exact[0] * sum[1] === sum[0] * exact[1], true);
+    equal(`${hash}: the score`, told.split(" Exactly")[0], `20 of 20 were played. They lost ${nearest(sum)} rolls, or ${nearest([49n * sum[0], 6n * sum[1]])} of EPC.`);
+    equal(`${hash}: what was missed`, await page.value('document.querySelector(".score + p").textContent'),
+        `${missed === 1 ? "One was missed" : `${missed} were missed`}; asked once more, ${right} ${right === 1 ? "was" : "were"} right.`);
+    equal(`${hash}: nothing went wrong`, page.troubles(), []);
+}
+
+// Drills by mouse, through the list and by dragging; by touch alone; and by keyboard alone.
+async function driveDrill(browser) {
+    const drill = "#drill=middle&seed=2026&ask=play";
+    const page = await browser.open(address + drill);
+    const byList = async (used, moves, texts) => {
+        const text = texts.find((one) => effectOf(one) === effectOf(moves.map(([from, to]) => `${from}/${to || "off"}`).join(" ")));
+        await used.click(`[data-key="play ${text}"]`);
+    };
+    await playDrill(page, drill, (place) => [byList, WAYS.drag, WAYS.mouse][place % 3], (used) => used.click(NEXT));
     await page.click('[data-key="mistakes"]');
     await page.until('document.querySelector("#coach h2").textContent === "Mistakes of a drill"');
     for (const position of ["0,0,0,0,4,4", "3,0,0,0,0,0", "7,4,2,0,0,0"]) {
         const rank = Number(ask(`rank ${position}`).split(" ")[1]);
         equal(`the rank of ${position}`, positions()[rank].join(), position);
+    }
+    equal("nothing went wrong", page.troubles(), []);
+
+    const touch = "#drill=all&seed=31&ask=play&level=hard";
+    await playDrill(await browser.open(address + touch, { width: 360, height: 780, mobile: true }), touch, () => WAYS.touch, (used) => used.tap(NEXT));
+
+    const keys = "#drill=high&seed=5&ask=play&level=easy";
+    const typed = await browser.open(address + keys);
+    await typed.until(`${READY} && document.querySelector("#board .source")`);
+    let tabs = 0;
+    for (; tabs < 10 && !(await typed.value('document.activeElement.classList.contains("to-play")')); tabs += 1) await typed.key("Tab");
+    equal("Tabs to the board", tabs < 6, true);
+    await playDrill(typed, keys, () => WAYS.keys, (used) => used.key("Enter"));
+}
+
+// A play on the board in each browser: by dragging, by clicks and by keys, taken back, and played.
+async function drivePlayed(browser) {
+    const text = "lesson: One\nstep: 0,0,0,1,0,1\nroll: 52\nask: Which?\nstep: 0,0,0,4,4,1\nroll: 33\nask: Which?\nstep: 0,2,0,1,0,1\nroll: 31\nask: Which?";
+    const page = await browser.open(`${address}#${new URLSearchParams([["text", text]])}`);
+    const PLAYS = 'document.querySelector("#board .source")';
+    await page.until(`${READY} && ${PLAYS}`);
+    const board = async () => (await page.value(SHOWN)).values;
+    await page.drag(point(6), point(5));
+    equal("a place where nothing goes", await board(), "0,0,0,1,0,1");
+    equal("a checker that was dropped there is back", await page.value('document.querySelectorAll("#board .picked").length'), 0);
+    await page.drag(point(6), point(1));
+    equal("dragged", await board(), "1,0,0,1,0,0");
+    await page.drag(point(4), point(2));
+    equal("the play", await page.value('document.querySelector(\'[data-key="made"]\').textContent'), "Play 6/1 4/2");
+    await page.click('[data-key="undo"]');
+    await page.click('[data-key="undo"]');
+    equal("undone", await board(), "0,0,0,1,0,1");
+    await page.drag(point(6), point(0));
+    equal("with both dice", await page.value('document.querySelector(\'[data-key="made"]\').textContent'), "Play 6/off");
+    await page.click('[data-key="made"]');
+    await page.until('document.querySelector("#steering .verdict") && !document.querySelector("#steering .verdict").textContent.includes("\u2026")');
+    equal("its verdict", await page.value('document.querySelector("#steering .verdict").textContent'), "6/off loses 0.056 of a roll; best is 6/1 4/2. Exactly: 1/18 of a roll.");
+    for (const [way, to] of [["mouse", 0], ["keys", 1]]) {
+        await page.click('[data-key="next step"]');
+        await page.until(PLAYS);
+        const [position, roll] = [await board(), to === 0 ? "33" : "31"];
+        const words = ask(`moves ${position} ${roll}`).split(" ").slice(1).map((word) => word.split(":"));
+        const [end, loss] = words[to];
+        await WAYS[way](page, movesTo(position, roll, end));
+        await page.until('document.querySelector("#plays .cost")');
+        equal(`by ${way}`, await page.value('document.querySelector(".plays [aria-pressed=true] .cost").title'), `${loss} of a roll`);
     }
     equal("nothing went wrong", page.troubles(), []);
 }
@@ -815,7 +932,7 @@ const OWN = {
 
 // Those in which each browser is.
 const ALL = {
-    board: driveBoard, pasted: drivePasted, keyboard: driveKeyboard, sum: driveSum, lesson: driveLesson, history: driveHistory, copy: driveCopy, saved: driveSaved,
+    board: driveBoard, pasted: drivePasted, played: drivePlayed, keyboard: driveKeyboard, sum: driveSum, lesson: driveLesson, history: driveHistory, copy: driveCopy, saved: driveSaved,
 };
 
 function drive(browser) {

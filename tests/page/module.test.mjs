@@ -10,7 +10,7 @@ import { readPoints } from "../../web/points.js";
 import { ROLLS } from "../../web/rolls.js";
 import { decimal, FAULTS, notation } from "../../web/texts.js";
 import { answer, Desk, drawn, rollsOf, serve } from "../../web/worker.js";
-import { equal, linesOf, modulesFolder, part, programPath, testedFolder, wrong } from "./given.mjs";
+import { effectOf, equal, isJoined, linesOf, modulesFolder, part, programPath, testedFolder, wrong } from "./given.mjs";
 
 const program = programPath();
 const folder = testedFolder();
@@ -31,6 +31,8 @@ function comparePlays(name, plays, reply) {
         equal(`${name}, its text`, play.lossText, decimal(play.loss));
         equal(`${name}, best`, play.isBest, play.exact === "0/1");
         equal(`${name}, the moves`, notation(play.moves), play.text);
+        equal(`${name}, what ${play.text} does`, effectOf(play.text), effectOf(play.moves.map(([from, to]) => `${from}/${to || "off"}`).join(" ")));
+        equal(`${name}, ${play.text} as players write it`, isJoined(play.text), true);
     }
     equal(`${name}, recorded`, plays.filter(({ isRecorded }) => isRecorded).length, 1);
 }
@@ -93,7 +95,8 @@ function compareLines(database, bound) {
         const told = word === "play" && plays.get(`${at} ${dice}`);
         if (!told) return;
         const recorded = told.find(({ isRecorded }) => isRecorded);
-        equal(`${line}, over ${bound} pips`, `play ${recorded.text} to ${recorded.to}`, replies[place]);
+        const [, moves, to] = /^play (.*) to (.*)$/.exec(replies[place]);
+        equal(`${line}, over ${bound} pips`, [effectOf(recorded.text), recorded.to.join()], [effectOf(moves), to]);
         seen.play = true;
     });
     for (const kind of ["mean", "dist", "play", "moves", "error"]) seen[kind] || wrong(`no reply ${kind} over ${bound} pips`);

@@ -7,7 +7,7 @@ import Module, { createRequire } from "node:module";
 import { delimiter } from "node:path";
 import { ROLLS } from "../../web/rolls.js";
 import { drawQuestions } from "../../web/trainer.js";
-import { decimal, percent } from "../../web/texts.js";
+import { decimal, notation, percent } from "../../web/texts.js";
 
 // Debian's jsdom and what it rests on stand in a folder of their own.
 const FOLDER = "/usr/share/nodejs";
@@ -80,6 +80,8 @@ export class Window {
             },
             revokeObjectURL: (address) => { this.files.delete(address); },
         };
+        this.stored = new Map();
+        this.sessionStorage = { getItem: (name) => this.stored.get(name) ?? null, setItem: (name, text) => { this.stored.set(name, text); } };
         this.navigator = { clipboard: { writeText: async (text) => { this.copied = text; } } };
         const self = this;
         this.location = {
@@ -163,8 +165,11 @@ export class Worker {
     async answerAll(bound = 44) {
         await settled();
         while (this.asked.length > 0) {
-            const { kind, points, fraction, drill } = this.asked[0].question;
-            await this.answer({ ask: answerTo, rolls: rollsFrom, round: () => inThousandths(fraction), draw: () => drawFrom(drill) }[kind](points, bound));
+            const { kind, points, fraction, drill, picks } = this.asked[0].question;
+            const plays = this.plays || rollsFrom;
+            await this.answer({
+                ask: answerTo, rolls: plays, round: () => inThousandths(fraction), draw: () => drawFrom(drill), again: () => playedBefore(picks, plays),
+            }[kind](points, bound));
         }
     }
 }
@@ -217,5 +222,45 @@ export function rollsFrom(points) {
     }));
 }
 
-// A drill whose rolls all have a play that loses something, and none as good as the best.
-export const drawFrom = (drill) => drawQuestions(drill, ROLLS, () => [{ isBest: true }, { isBest: false }]);
+// The plays of each roll as the rules have them, found by trying each order of the dice. The first by its text is best,
+// and each further one loses an 18th more.
+export function legalFrom(points) {
+    return ROLLS.map(([one, other]) => {
+        const ends = new Map();
+        const go = (at, dice, moves) => {
+            const highest = at.reduce((most, count, place) => (count > 0 ? place + 1 : most), 0);
+            if (highest === 0 || dice.length === 0) {
+                ends.set(at.join(), { to: at, moves });
+                return;
+            }
+            at.forEach((count, place) => {
+                const from = place + 1;
+                if (count === 0 || (dice[0] > from && from < highest)) return;
+                const next = [...at];
+                next[place] -= 1;
+                if (from > dice[0]) next[place - dice[0]] += 1;
+                go(next, dice.slice(1), [...moves, [from, Math.max(0, from - dice[0])]]);
+            });
+        };
+        for (const dice of one === other ? [Array(4).fill(one)] : [[one, other], [other, one]]) go(points, dice, []);
+        const plays = [...ends.values()].map((play) => ({ ...play, text: notation(play.moves) }));
+        plays.sort((first, second) => (first.text < second.text ? -1 : 1));
+        return {
+            dice: [one, other],
+            plays: plays.map((play, place) => {
+                const loss = nearest(BigInt(place), 18n);
+                return { ...play, loss, lossText: decimal(loss), exact: place === 0 ? "0/1" : `${place}/18`, isBest: place === 0, isRecorded: place === 0 };
+            }),
+        };
+    });
+}
+
+// What was chosen before the page was loaded anew.
+export const playedBefore = ({ guesses, again, estimates }, plays) => ({
+    plays: [...guesses, ...again].map(([points, roll]) => plays(points).find(({ dice }) => dice.join() === roll.join()).plays),
+    answers: estimates.map(([points]) => answerTo(points)),
+});
+
+// A drill whose rolls all have a play that loses something, and none as good as the best, which bears off fewer.
+export const drawFrom = (drill) => drawQuestions(drill, ROLLS, () =>
+    [{ isBest: true, to: [2, 0, 0, 0, 0, 0], loss: 0n }, { isBest: false, to: [1, 0, 0, 0, 0, 0], loss: 50n }]);

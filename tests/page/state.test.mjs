@@ -13,7 +13,8 @@ import { drawn } from "../../web/worker.js";
 import { thumb } from "../../web/training.js";
 import { textOf } from "../../web/tree.js";
 import { equal as same, part as test, wrong as fault } from "./given.mjs";
-import { answerTo, newDocument, drawFrom, pipsOf, rollsFrom, settled, Window, Worker, tell } from "./stand_in.mjs";
+import { reachedBy, ways } from "../../web/steps.js";
+import { answerTo, newDocument, drawFrom, legalFrom, pipsOf, rollsFrom, settled, Window, Worker, tell } from "./stand_in.mjs";
 
 globalThis.Worker = Worker;
 let part = "";
@@ -22,12 +23,13 @@ const equal = (name, is, wanted) => same(`${part}: ${name}`, is, wanted);
 
 // A page that is used: what is on it is found by key or by name.
 class Used {
-    constructor(hash = "", { protocol, before = () => {} } = {}) {
+    constructor(hash = "", { protocol, before = () => {}, lessons = "", plays = rollsFrom } = {}) {
         this.document = newDocument();
         this.window = new Window(hash, protocol);
         before(this.window, this.document);
-        this.session = start(this.document, this.window, { worker: "", wide: "", narrow: "" });
+        this.session = start(this.document, this.window, { worker: "", wide: "", narrow: "", lessons });
         this.worker = Worker.last;
+        this.worker.plays = plays;
         this.worker.used = this;
     }
 
@@ -46,7 +48,7 @@ class Used {
 
     at(name) { return this.document.getElementById(name); }
 
-    text(name) { return this.at(name).textContent; }
+    text(name) { return (this.at(name) || this.find(name)).textContent; }
 
     find(key) { return this.document.querySelector(`[data-key="${key}"]`); }
 
@@ -64,8 +66,7 @@ class Used {
     }
 
     get board() {
-        return [...this.at("board").querySelectorAll('[role="spinbutton"]')]
-            .map((point) => Number(point.getAttribute("aria-valuenow"))).reverse();
+        return [1, 2, 3, 4, 5, 6].map((point) => Number(this.at("board").querySelector(`[data-point="${point}"]`).getAttribute("data-count")));
     }
 
     get figures() { return [...this.at("numbers").querySelectorAll("dd")].slice(0, 4).map((node) => node.textContent.split(" ")[0]); }
@@ -781,27 +782,48 @@ async function drills() {
     let used = await Used.open("#drill=gaps&seed=7&ask=play");
     const asked = drawFrom({ theme: "gaps", seed: 7, ask: "play" });
     equal("the first question", [used.board.join(), used.session.state.roll.join(), used.at("coach").hidden], [asked[0].points.join(), asked[0].roll.join(), false]);
-    used.click("to the plays");
-    equal("to the plays", [used.document.activeElement === used.at("plays"), used.at("plays").scrolled], [true, 1]);
+    equal("it comes into sight, and is where one goes on", [used.focus(), used.document.body.scrolled], ["coach", 1]);
+    equal("what is heard", used.text("said"), `Question 1 of 20. Which play of ${asked[0].roll.join("-")} is best?`);
+    equal("nothing edits a position", ["Add 1", "Remove 1", "clear", "close", "onward"].map((key) => used.find(key)), Array(5).fill(null));
     equal("its best play is hidden", [used.text("plays").includes("Which play is best?"), used.text("grid").includes("/")], [true, false]);
     equal("no score yet", used.text("coach").includes("lost"), false);
     for (const [place, { points, roll: [high, low] }] of asked.entries()) {
         equal(`question ${place + 1}`, [used.board.join(), used.text("coach").includes(`Question ${place + 1} of 20`)], [points.join(), true]);
+        equal(`the way on from question ${place + 1}`, used.text("next question"), "Skip");
         if (place < 7) await used.clicked(`play ${high}/1 ${low}/2`);
         else if (place < 19) await used.clicked(`play ${high}/off ${low}/1`);
-        const isBelow = place % 2 === 1 && place < 19;
-        await used.clicked(isBelow ? "question after" : "next question");
-        if (isBelow) equal("the plays of the next question", [used.document.activeElement === used.at("plays"), used.find("question after")], [true, null]);
+        if (place < 19) {
+            equal(`the verdict of question ${place + 1}`, used.at("steering").querySelector(".verdict").textContent,
+                place < 7 ? `${high}/1 ${low}/2 loses 0.056 of a roll; best is ${high}/off ${low}/0. Exactly: 1/18 of a roll.`
+                    : `${high}/off ${low}/1 is best, as is ${high}/off ${low}/0.`);
+            equal(`the focus after question ${place + 1}`, [used.focus(), used.text("next question")], ["next question", "Next"]);
+        }
+        await used.clicked("next question");
+        if (place < 19) equal(`question ${place + 2} comes into sight, and its board is where one goes on`, [used.document.body.scrolled, used.document.activeElement.getAttribute("role")], [place + 2, "button"]);
     }
+    const missed = asked.slice(0, 7);
+    for (const [place, { points, roll: [high, low] }] of missed.entries()) {
+        equal(`once more, ${place + 1}`, [used.board.join(), used.text("coach").includes(`Once more, ${place + 1} of 7.`), used.text("plays").includes("Which play is best?"), used.text("grid").includes("/")],
+            [points.join(), true, true, false]);
+        await used.clicked(place < 3 ? `play ${high}/off ${low}/0` : `play ${high}/1 ${low}/2`);
+        equal(`the way on from there, ${place + 1}`, used.text("next question"), place < 6 ? "Next" : "Score");
+        await used.clicked("next question");
+    }
+    equal("what was missed", used.text("coach").includes("7 were missed; asked once more, 3 were right."), true);
+    equal("what is heard at the end", used.text("said"), "The drill is over.");
     equal("the score", used.text("coach").includes("19 of 20 were played. They lost 0.389 rolls, or 3.176 of EPC. Exactly: 7/18 of a roll."), true);
     const mistakes = used.find("mistakes").getAttribute("href");
     equal("the mistakes", readLessons(readLink(mistakes).text).lessons[0].steps.map(({ points }) => points.join()), asked.slice(0, 7).map(({ points }) => points.join()));
     used.window.pass(1000);
     equal("the seed is in the link", readLink(used.window.location.hash).drill, { theme: "gaps", seed: 7, ask: "play" });
-    await used.clicked("Add 1");
-    equal("over a changed board it stays", used.text("coach").includes("19 of 20"), true);
+    used.window.type(used.find("look around").getAttribute("href"));
+    await used.worker.answerAll();
+    equal("over another position it is away", [used.at("coach").hidden, used.find("Add 1") !== null], [true, true]);
+    used.window.go(-1);
+    await used.worker.answerAll();
+    equal("and with Back it is there again", used.text("coach").includes("19 of 20 were played. They lost 0.389 rolls"), true);
     await used.clicked("end training");
-    equal("it ends", [used.at("coach").hidden, used.session.state.guess], [true, false]);
+    equal("it ends", [used.at("coach").hidden, used.session.state.guess, used.focus(), used.text("said")], [true, false, "train", "The drill is over."]);
 
     part = "a drill of estimates";
     used = await Used.open("#drill=ace&seed=3&ask=effective");
@@ -880,6 +902,346 @@ async function lessons() {
     equal("compact", (await Used.open("#view=board")).document.body.classList.contains("compact"), true);
 }
 
+// Each play that the module lists can be made on a board, step by step, and no other.
+function steps() {
+    part = "the steps of plays";
+    const endsOf = (points, roll, ends) => {
+        const found = new Set();
+        const seen = new Set();
+        const walk = (made) => {
+            const at = reachedBy(points, roll, made);
+            const key = `${at.points} ${at.dice}`;
+            if (seen.has(key)) return;
+            seen.add(key);
+            if (at.dice.length === 0 || at.points.every((count) => count === 0)) {
+                found.add(at.points.join());
+                return;
+            }
+            const all = ways(at, ends);
+            if (all.size === 0) wrong(`${points} ${roll}: no way on from ${key}`);
+            for (const [from, places] of all) {
+                for (const [to, more] of places) {
+                    if (more[0].move[0] !== from || more.at(-1).move[1] !== to) wrong(`${points} ${roll}: ${from} to ${to} is ${JSON.stringify(more)}`);
+                    walk([...made, ...more]);
+                }
+            }
+        };
+        walk([]);
+        return [...found].sort();
+    };
+    const few = positions(18).filter((points) => points.some((count) => count > 0) && points.reduce((sum, count) => sum + count, 0) < 5);
+    equal("how many positions", few.length > 150, true);
+    for (const points of [...few, [2, 2, 2, 2, 2, 2], [0, 5, 0, 3, 0, 2], [7, 4, 2, 0, 0, 0], [0, 0, 0, 4, 4, 1]]) {
+        for (const { dice, plays } of legalFrom(points)) {
+            const all = plays.map(({ to }) => to.join());
+            equal(`the plays of ${points} ${dice}`, endsOf(points, dice, new Set(all)), [...all].sort());
+            if (all.length > 1) equal(`without the last one of ${points} ${dice}`, endsOf(points, dice, new Set(all.slice(0, -1))), all.slice(0, -1).sort());
+        }
+    }
+    const from = (points, roll) => [...ways(reachedBy(points, roll, []), new Set(legalFrom(points).find(({ dice }) => dice.join() === roll.join()).plays.map(({ to }) => to.join())))]
+        .map(([point, places]) => `${point}: ${[...places.keys()].join(" ")}`);
+    equal("with one die and with both", from([0, 0, 0, 1, 0, 1], [5, 2]), ["6: 1 4 0", "4: 2"]);
+    equal("a double", from([0, 0, 0, 0, 0, 2], [1, 1]), ["6: 5 4 3 2"]);
+    equal("off with a higher die", from([0, 0, 1, 0, 0, 0], [6, 5]), ["3: 0"]);
+}
+
+// A play that is made on the board, by clicks and by keys.
+async function making() {
+    part = "a play on the board";
+    const text = "lesson: One\nstep: 0,0,0,1,0,1\nroll: 52\nask: Which?\nanswer: That.\nstep: 0,0,0,0,2,1\nroll: 41\nask: And here?";
+    const used = new Used(`#text=${encodeURIComponent(text)}`, { plays: legalFrom });
+    const points = () => [6, 5, 4, 3, 2, 1, 0].map((point) => used.at("board").querySelector(`[data-point="${point}"]`));
+    const told = () => points().map((point) => point.getAttribute("aria-label").replace(/^.*?checkers?/, "").replace(", ", "") || "-");
+    equal("nothing moves before the plays are known", [points().map((point) => point.getAttribute("role")), told()], [Array(7).fill("button"), Array(7).fill("-")]);
+    used.click("point 6");
+    equal("nor is picked", used.session.state.picked, null);
+    await used.ready();
+    equal("what can move", told(), ["can move", "-", "can move", "-", "-", "-", "-"]);
+    equal("where nothing can be done", points().map((point) => point.getAttribute("aria-disabled")), [null, "true", null, "true", "true", "true", "true"]);
+    equal("one stop of Tab", points().filter((point) => point.getAttribute("tabindex") === "0").map((point) => point.getAttribute("data-key")), ["point 6"]);
+    equal("what to do", used.text("steering").includes("Move a checker on the board"), true);
+    equal("no play is made yet", [used.find("made"), used.find("undo")], [null, null]);
+    const rings = (name) => [...used.at("board").querySelectorAll(`.${name}`)].map((ring) => ring.getAttribute("cx") || "off");
+    equal("rings around what can move", [rings("mark"), rings("spot")], [["50", "250"], []]);
+    used.click("off");
+    used.click("point 3");
+    equal("a place where nothing can go", [used.session.state.picked, used.session.state.steps.length], [null, 0]);
+    used.click("point 6");
+    equal("picked", [told(), used.text("said"), points()[0].getAttribute("aria-pressed"), points()[2].getAttribute("aria-pressed")],
+        ["its checker is to move,-,a checker can go there,-,-,a checker can go there,a checker can go there".split(","), "Point 6: to point 1, point 4, off.", "true", "false"]);
+    equal("rings where it can go", [rings("mark"), rings("spot")], [["50"], ["250", "550", "off"]]);
+    used.click("point 6");
+    equal("put back", [used.session.state.picked, rings("mark")], [null, ["50", "250"]]);
+    used.click("point 6");
+    used.click("point 4");
+    equal("moved", [used.board, used.text("said"), told()], [[0, 0, 0, 2, 0, 0], "From point 6 to point 4.", ["-", "-", "can move", "-", "-", "-", "-"]]);
+    equal("undo comes", [used.find("undo") !== null, used.find("made")], [true, null]);
+    used.click("point 4");
+    used.click("off");
+    equal("whole", [used.board, used.text("made"), used.text("said"), points()[6].getAttribute("data-count")], [[0, 0, 0, 1, 0, 0], "Play 6/off", "6/off is made: Enter plays it, Backspace undoes.", "14"]);
+    equal("nothing more moves", told(), Array(7).fill("-"));
+    equal("and nothing is told", [used.session.state.guesses.length, used.text("plays").includes("best."), used.find("play 6/off").textContent], [0, false, "6/off "]);
+    used.click("undo");
+    equal("one step back", [used.board, used.find("made"), used.focus()], [[0, 0, 0, 2, 0, 0], null, "undo"]);
+    used.click("point 4");
+    used.click("undo");
+    equal("a checker that was picked is put back first", [used.board, used.session.state.picked], [[0, 0, 0, 2, 0, 0], null]);
+    used.click("undo");
+    equal("all back", [used.board, used.find("undo"), used.focus(), used.session.state.steps], [[0, 0, 0, 1, 0, 1], null, "point 4", []]);
+    for (const [first, then] of [[[6, 1], [4, 2]], [[4, 2], [6, 1]]]) {
+        for (const place of [...first, ...then]) used.click(`point ${place}`);
+        equal(`${first} and ${then} are one play`, used.text("made"), "Play 6/1 4/2");
+        used.click("undo");
+        used.click("undo");
+    }
+    const press = (key) => tell(used.document.activeElement, "keydown", { key });
+    used.find("point 6").focus();
+    const path = ["ArrowLeft", "ArrowRight", "ArrowRight", "ArrowLeft", "ArrowLeft"].map((key) => [press(key).defaultPrevented, used.focus()].join(" "));
+    equal("arrows lead from point to point", path, ["false point 6", "true point 5", "true point 4", "true point 5", "true point 6"]);
+    equal("Enter picks", [press("Enter").defaultPrevented, used.session.state.picked], [true, 6]);
+    equal("Escape puts back", [press("Escape").defaultPrevented, used.session.state.picked], [true, null]);
+    used.find("point 6").focus();
+    press(" ");
+    for (const key of Array(6).fill("ArrowRight")) press(key);
+    equal("to the place of those that are off", used.focus(), "off");
+    press("Enter");
+    equal("with both dice at once", [used.board, used.text("made")], [[0, 0, 0, 1, 0, 0], "Play 6/off"]);
+    press("Backspace");
+    equal("Backspace takes both back", used.board, [0, 0, 0, 1, 0, 1]);
+    equal("another key is not used", [tell(used.find("point 6"), "keydown", { key: "a" }).defaultPrevented, tell(used.find("point 6"), "keydown", { key: "Tab" }).defaultPrevented], [false, false]);
+    for (const place of ["point 6", "point 1", "point 4", "point 2"]) used.click(place);
+    used.click("made");
+    equal("a play that is made is guessed", [used.session.state.guesses.map(({ play }) => play.text), used.focus()], [["6/1 4/2"], "next step"]);
+    used.session.become({ ...used.session.state, guesses: [], shown: null });
+    used.click("point 4");
+    used.click("point 2");
+    used.click("play 6/off");
+    equal("a play of the list ends what was begun", [used.session.state.steps, used.board, used.session.state.guesses.length], [[], [0, 0, 0, 1, 0, 1], 1]);
+    await used.worker.answerAll();
+    equal("its verdict", used.at("steering").querySelector(".verdict").textContent, "6/off loses 0.056 of a roll; best is 6/1 4/2. Exactly: 1/18 of a roll.");
+    equal("the board shows it, and is looked at", [used.at("board").querySelectorAll(".arc").length, used.at("board").querySelector("svg").getAttribute("role"), used.find("point 6")], [2, "img", null]);
+    equal("where one goes on", used.focus(), "next step");
+    await used.clicked("answer");
+    equal("the answer", [used.text("coach").includes("That."), used.focus(), used.find("answer")], [true, "next step", null]);
+    await used.clicked("next step");
+    equal("the next step", [used.board, used.focus()], [[0, 0, 0, 0, 2, 1], "point 6"]);
+    for (const place of [6, 2, 5, 4]) used.click(`point ${place}`);
+    equal("made", [used.text("made"), used.session.state.guesses.length], ["Play 6/2 5/4", 1]);
+    used.find("point 4").focus();
+    press("Enter");
+    await used.worker.answerAll();
+    equal("its guess", used.session.state.guesses.map(({ play }) => play.text), ["6/off", "6/2 5/4"]);
+    equal("the focus is where the thumb is", used.at("steering").contains(used.document.activeElement), true);
+    const parts = [...used.at("coach").querySelectorAll(".die")].length;
+    equal("the dice stand beside what is asked", parts, 2);
+    tell(used.at("rolls"), "keydown", { key: "Escape" });
+    equal("Escape leaves the roll that is asked", used.session.state.roll, [4, 1]);
+}
+
+// A run goes on where it was: after a reload, Back and Forward, and another position.
+async function runs() {
+    part = "a run that goes on";
+    const hash = "#drill=gaps&seed=7&ask=play";
+    let used = await Used.open(hash);
+    const asked = drawFrom({ theme: "gaps", seed: 7, ask: "play" });
+    for (const place of [0, 1, 2]) {
+        const [high, low] = asked[place].roll;
+        await used.clicked(place === 1 ? `play ${high}/off ${low}/1` : `play ${high}/1 ${low}/2`);
+        used.window.pass(1000);
+        if (place < 2) await used.clicked("next question");
+        used.window.pass(1000);
+    }
+    const soFar = "3 played, 0.111 rolls lost.";
+    equal("so far", used.text("coach").includes(soFar), true);
+    equal("its link has the question", [readLink(used.window.location.hash).place, used.window.location.hash.includes("question=3")], [2, true]);
+    const links = used.window.entries.length;
+    used.window.go(-2);
+    await used.worker.answerAll();
+    used.check("Back");
+    equal("Back to the first", [used.board, used.text("coach").includes("Question 1 of 20."), used.text("coach").includes(soFar), used.at("steering").querySelector(".verdict") !== null], [asked[0].points, true, true, true]);
+    used.window.go(1 - used.window.place - 1);
+    used.window.type("#at=1,0,0,0,0,0");
+    await used.worker.answerAll();
+    equal("another position", [used.at("coach").hidden, used.session.state.drill, used.session.state.guesses.length], [true, null, 0]);
+    used.window.go(-1);
+    await used.worker.answerAll();
+    equal("and Back", [used.text("coach").includes(soFar), used.session.state.guesses.length, used.worker.asked.length], [true, 3, 0]);
+    equal("entries", links > 2, true);
+    const { stored } = used.window;
+    const kept = JSON.parse([...stored.values()][0]);
+    equal("what is kept is no number", Object.values(kept).map(({ guesses }) => guesses.map(([points, roll, text]) => [points.join(), roll.join(), text.includes("/")])),
+        [asked.slice(0, 3).map(({ points, roll }) => [points.join(), roll.join(), true])]);
+    const again = async (link, before = stored) => {
+        const next = await Used.open(link, { before: (window) => { window.stored = before; } });
+        next.window.pass(1000);
+        return next;
+    };
+    used = await again(`${hash}&question=4&at=${asked[3].points}&roll=${asked[3].roll.join("")}`);
+    equal("a reload", [used.board, used.text("coach").includes("Question 4 of 20."), used.text("coach").includes(soFar), used.session.state.guesses.map(({ play }) => play.exact)],
+        [asked[3].points, true, true, ["1/18", "0/1", "1/18"]]);
+    equal("what was missed is known", used.session.state.guesses.map(({ best }) => best.text), asked.slice(0, 3).map(({ roll: [high, low] }) => `${high}/off ${low}/0`));
+    await used.clicked("previous question");
+    equal("what was answered stays answered", [used.at("steering").querySelector(".verdict") !== null, used.find("made"), used.text("next question")], [true, null, "Next"]);
+    used = await again(`${hash}&question=4&at=1,1,0,0,0,0`);
+    equal("a reload over another position", [used.board, used.session.state.guesses.length, used.find("back to it") !== null, used.at("steering").hidden, used.find("Add 1") !== null], [[1, 1, 0, 0, 0, 0], 3, true, true, true]);
+    await used.clicked("back to it");
+    equal("and back to the question", [used.board, used.session.state.roll], [asked[3].points, asked[3].roll]);
+    used = await again("#drill=gaps&seed=8&ask=play");
+    equal("another drill has its own", used.session.state.guesses.length, 0);
+    equal("a run that isn't finished is there at its link", (await again(hash)).session.state.guesses.length, 3);
+    used = await again(hash);
+    used.find("theme").value = "gaps";
+    used.find("seed").value = " 7 ";
+    await used.clicked("begin drill");
+    equal("begun anew", [used.session.state.drill, used.session.state.guesses.length, used.text("coach").includes("Question 1 of 20.")], [{ theme: "gaps", seed: 7, ask: "play" }, 0, true]);
+    for (const text of ["{", "7", "null", '{"gaps,7,play,any":{"guesses":7}}', '{"gaps,7,play,any":null}',
+        JSON.stringify({ "gaps,7,play,any": { guesses: [[asked[0].points, asked[0].roll, "6/7"], [[99, 0, 0, 0, 0, 0], [1, 1], "x"], [asked[1].points, [7, 1], "x"], [asked[1].points, [2, 1], 5], 3], again: [], estimates: [[[1], "pips", "1"]] } })]) {
+        used = await again(hash, new Map([["bearoff drills", text]]));
+        equal(`kept was ${text.slice(0, 30)}`, [used.session.state.guesses.length, used.text("coach").includes("Question 1 of 20.")], [0, true]);
+    }
+    used = await Used.open(hash, { before: (window) => { delete window.sessionStorage; } });
+    await used.clicked(`play ${asked[0].roll[0]}/1 ${asked[0].roll[1]}/2`);
+    equal("a browser that keeps nothing", used.session.state.guesses.length, 1);
+
+    part = "a run of estimates that goes on";
+    used = await Used.open("#drill=ace&seed=3&ask=wastage");
+    used.find("estimate").value = "-1.5";
+    await used.clicked("tell");
+    equal("the focus goes on", used.focus(), "next question");
+    const [{ error }] = used.session.state.estimates;
+    used.window.pass(1000);
+    used = await again(used.window.location.hash, used.window.stored);
+    equal("a reload", used.session.state.estimates.map(({ told, error: off, kind }) => [String(told), String(off), kind]), [["-1500", String(error), "wastage"]]);
+    equal("it isn't asked anew", [used.find("estimate"), used.text("numbers").includes("You said \u22121.500: ")], [null, true]);
+
+    part = "a question once more after a reload";
+    used = await Used.open("#drill=few&seed=5&ask=play&level=hard");
+    const { questions } = used.session.state;
+    const last = questions.length;
+    equal("a level is in the link", used.session.state.drill, { theme: "few", seed: 5, ask: "play", level: "hard" });
+    for (const { roll: [high, low] } of questions) {
+        await used.clicked(`play ${high}/1 ${low}/2`);
+        await used.clicked("next question");
+    }
+    await used.clicked(`play ${questions[0].roll[0]}/off ${questions[0].roll[1]}/0`);
+    await used.clicked("next question");
+    used.window.pass(1000);
+    equal("its place", readLink(used.window.location.hash).place, last + 1);
+    used = await again(used.window.location.hash, used.window.stored);
+    equal("a reload", [used.text("coach").includes(`Once more, 2 of ${last}.`), used.session.state.again.map(({ play }) => play.isBest), used.session.state.guesses.length], [true, [true], last]);
+    await used.clicked("previous question");
+    equal("the right one once more", used.at("steering").querySelector(".verdict.good") !== null, true);
+
+    part = "Guess first is turned off";
+    used = await again(`${hash}&question=4&at=1,1,0,0,0,0`);
+    tell(used.at("guess"), "change", { target: { checked: false } });
+    await used.worker.answerAll();
+    equal("the drill ends, and says so", [used.session.state.drill, used.at("coach").hidden, used.text("notice"), used.at("notice").hidden, used.text("said").includes("The drill has ended")],
+        [null, true, "The drill has ended, since its plays are hidden no longer.", false, true]);
+    used = await Used.open("#at=0,0,0,1,0,1&guess=1&roll=52");
+    tell(used.at("guess"), "change", { target: { checked: false } });
+    equal("nothing was guessed", [used.at("notice").hidden, used.session.state.guess], [true, false]);
+    tell(used.at("guess"), "change", { target: { checked: true } });
+    await used.clicked("play 5/1 2/2");
+    tell(used.at("guess"), "change", { target: { checked: false } });
+    equal("guesses end, and are told", [used.text("notice"), used.text("said"), used.session.state.guesses.length], ["Guessing has ended: One guess has lost 0.056 of a roll.", "Guessing has ended: One guess has lost 0.056 of a roll.", 0]);
+}
+
+// Nothing that can't be taken is passed over in silence.
+async function silence() {
+    part = "links that can't be taken";
+    const lessons = "lesson: One\nstep: 1,0,0,0,0,0\nlesson: Two\nstep: 2,0,0,0,0,0";
+    for (const [hash, words] of [
+        ["#at=99,0,0,0,0,0", "The link has at=99,0,0,0,0,0, which can't be taken: a position is six counts of at most 15 checkers."],
+        ["#p=1,2", "The link has p=1,2, which can't be taken: a position is six counts of at most 15 checkers."],
+        ["#roll=70", "The link has roll=70, which can't be taken: a roll is two digits from 1 to 6."],
+        ["#pips=90", "The link has pips=90, which can't be taken: the databases have 44 or 58 pips."],
+        ["#guess=yes", "The link has guess=yes, which can't be taken: it is 1 or left out."],
+        ["#view=all", "The link has view=all, which can't be taken: the only other view is board."],
+        ["#drill=x&seed=1", "The link has drill=x, which can't be taken: there is no such theme."],
+        ["#drill=gaps&seed=12345678901", "The link has seed=12345678901, which can't be taken: a seed is a whole number from 1 to 999999999."],
+        ["#drill=gaps&seed=7&ask=all", "The link has ask=all, which can't be taken: a drill asks play, pips, effective, wastage."],
+        ["#drill=gaps&seed=7&level=6", "The link has level=6, which can't be taken: a level is any, easy, hard."],
+        ["#drill=gaps&seed=7&question=x", "The link has question=x, which can't be taken: it is the number of one."],
+        ["#drill=gaps", "The link has a drill without a seed."],
+        ["#drill=ace&seed=7", "The link's drill has nothing to decide: Ace point alone, Play."],
+        ["#estimate=all", "The link has estimate=all, which can't be taken: what is estimated is pips, effective, wastage."],
+        ["#lesson=x", "The link has lesson=x, which can't be taken: it is the number of one."],
+        ["#lesson=13", "The link asks for lesson 13, and there are 2."],
+        ["#lesson=2&step=9", "The link asks for step 9, and the lesson has 1."],
+        ["#text=hello", "The lesson of the link can't be read. Line 1: no such word"],
+        ["#at=1&roll=1", "The link has at=1, which can't be taken: a position is six counts of at most 15 checkers. The link has roll=1, which can't be taken: a roll is two digits from 1 to 6."],
+    ]) {
+        const used = new Used(hash, { lessons });
+        equal(`at the start, ${hash}`, [used.text("notice"), used.at("notice").hidden, used.at("notice").getAttribute("role")], [words, false, "alert"]);
+        const open = await Used.open("", { lessons });
+        open.window.pass(1000);
+        open.window.type(hash);
+        equal(`in an open page, ${hash}`, [open.text("notice"), open.text("said").startsWith(words)], [words, true]);
+        open.window.pass(1000);
+        open.window.type("#at=1,0,0,0,0,0");
+        equal("a right one after it", [open.at("notice").hidden, open.text("notice")], [true, ""]);
+    }
+    for (const hash of ["", "#at=1,0,0,0,0,0&p=1,0,0,0,0,0&c=x&roll=13&guess=1&pips=58&t=T&view=board", "#drill=gaps&seed=7", "#drill=gaps&seed=7&ask=play&level=hard&question=3", "#drill=ace&seed=7&ask=pips", "#estimate=pips", "#lesson=2&step=1"]) {
+        equal(`a right link, ${hash}`, new Used(hash, { lessons }).at("notice").hidden, true);
+    }
+
+    part = "estimates that are none";
+    let used = await Used.open("#at=1,0,0,0,0,0&estimate=effective");
+    const why = () => used.at("estimate-why");
+    equal("nothing is wrong yet", [why().textContent, why().getAttribute("role"), used.find("estimate").getAttribute("aria-describedby"), used.find("estimate").getAttribute("aria-invalid")], ["", "alert", "estimate-why", "false"]);
+    for (const text of ["abc", "51.1234", "51.", "", "1e3", "1234"]) {
+        used.find("estimate").value = text;
+        await used.clicked("tell");
+        equal(`the estimate ${text}`, [why().textContent, used.find("estimate").getAttribute("aria-invalid"), used.find("estimate").value, used.focus(), used.session.state.estimates.length],
+            ["An estimate is a number with at most three decimals, such as 51 or 51.5.", "true", text, "estimate", 0]);
+    }
+    used.find("estimate").value = "8";
+    await used.clicked("tell");
+    equal("a right one", [used.session.state.estimates.length, used.text("said").startsWith("You said 8.000: ")], [1, true]);
+
+    part = "seeds that are none";
+    used = await Used.open("");
+    for (const seed of ["12345678901", "0", "x", "1.5", "-1"]) {
+        used.find("seed").value = seed;
+        await used.clicked("begin drill");
+        equal(`the seed ${seed}`, [used.text("seed-why"), used.at("seed-why").getAttribute("role"), used.find("seed").getAttribute("aria-invalid"), used.session.state.drill],
+            ["A seed is a whole number from 1 to 999999999. Without one each drill is another.", "alert", "true", null]);
+    }
+    const seeds = [];
+    for (let count = 0; count < 3; count += 1) {
+        used.find("seed").value = "";
+        await used.clicked("begin drill");
+        seeds.push(used.session.state.drill.seed);
+        equal("a seed of its own", [used.text("seed-why"), used.text("coach").includes(`Seed ${seeds.at(-1)}`)], ["", true]);
+    }
+    equal("each another", new Set(seeds).size, 3);
+    equal("of the size that a link can have", seeds.every((seed) => Number.isInteger(seed) && seed > 0 && seed <= 999999999), true);
+    used.find("theme").value = "ace";
+    used.find("asked").value = "play";
+    await used.clicked("begin drill");
+    equal("nothing to play on the ace point", [used.session.state.drill.ask, used.text("notice")], ["effective", "Ace point alone: nothing is to be decided there, so the EPC is asked."]);
+    used.find("theme").value = "gaps";
+    used.find("level").value = "hard";
+    tell(used.find("seed"), "keydown", { key: "Enter" });
+    await used.worker.answerAll();
+    equal("Enter begins, and the words are gone", [used.session.state.drill.level, used.at("notice").hidden], ["hard", true]);
+}
+
+// What is printed of a lesson: each step with its board, and the answers.
+async function paper() {
+    part = "a lesson on paper";
+    const text = "lesson: <b>One</b>\nstep: 0,0,0,1,0,1\nroll: 52\ntext: First.\nask: Which?\nanswer: That.\nstep: 3,0,0,0,0,0\ntext: Second.";
+    const used = await Used.open(`#text=${encodeURIComponent(text)}`);
+    const items = [...used.at("printed").querySelectorAll(".steps-printed > li")];
+    equal("its title", used.at("printed").querySelector("h2").textContent, "<b>One</b>");
+    equal("its boards", items.map((item) => [item.querySelectorAll("circle.checker").length, item.querySelectorAll(".die").length]), [[2, 2], [3, 0]]);
+    equal("its texts", items.map((item) => item.querySelector("p").textContent.trim()), ["First. Which? 5 and 2", "Second. "].map((words) => words.trim()));
+    equal("its answers", [...used.at("printed").querySelectorAll("h3 + ol li")].map((item) => item.textContent), ["That.", "\u2013"]);
+    await used.clicked("end training");
+    equal("without a lesson nothing", used.text("printed"), "");
+}
+
 // A picture is saved as a file of its position and of its caption, where it is kept with one.
 async function pictures() {
     for (const [hash, caption] of [["#at=0,0,0,0,4,1", ""], ["#at=0,0,0,0,4,1&p=1,0,0,0,0,0&c=other&p=0,0,0,0,4,1&c=Five", "Five"]]) {
@@ -901,6 +1263,7 @@ async function pictures() {
 
 for (const [name, body] of [
     ["what is drawn and what a lesson's text says", trained], ["drills", drills], ["lessons", lessons],
+    ["the steps of plays", steps], ["plays on the board", making], ["runs that go on", runs], ["nothing in silence", silence], ["paper", paper],
     ["pictures", pictures], ["the wrong moments", moments], ["clicks", clicks], ["keys", keys],
     ["typed counts", typed], ["positions as players have them", pasted], ["plays", plays], ["guesses", guesses], ["keeping", keeping],
     ["addresses", addresses], ["browsers that can't", older],

@@ -1,0 +1,34 @@
+// What was chosen in drills, as it is kept while the page is loaded anew: texts and counts in the browser's own store of the
+// tab. A browser that lets the page keep nothing has none.
+import { MOST_CHECKERS, sumOf } from "./points.js";
+import { ESTIMATED } from "./trainer.js";
+
+const NAME = "bearoff drills";
+
+const isPosition = (points) => Array.isArray(points) && points.length === 6
+    && points.every((count) => Number.isInteger(count) && count >= 0) && sumOf(points) <= MOST_CHECKERS;
+const isRoll = (roll) => Array.isArray(roll) && roll.length === 2 && roll.every((die) => [1, 2, 3, 4, 5, 6].includes(die));
+const isGuess = (guess) => Array.isArray(guess) && isPosition(guess[0]) && isRoll(guess[1]) && typeof guess[2] === "string";
+const isEstimate = (estimate) => Array.isArray(estimate) && isPosition(estimate[0]) && ESTIMATED.includes(estimate[1])
+    && /^-?\d{1,7}$/.test(estimate[2]);
+
+// What is kept, by the words of each drill; what isn't as this page wrote it is left out.
+export function readPicks(window) {
+    try {
+        const all = JSON.parse(window.sessionStorage.getItem(NAME)) || {};
+        const only = (list, isOne) => (Array.isArray(list) ? list.filter(isOne) : []);
+        return Object.fromEntries(Object.entries(all).map(([key, { guesses, again, estimates }]) =>
+            [key, { guesses: only(guesses, isGuess), again: only(again, isGuess), estimates: only(estimates, isEstimate) }]));
+    } catch {
+        return {};
+    }
+}
+
+export function writePicks(window, picks) {
+    const text = JSON.stringify(picks);
+    try {
+        if ((window.sessionStorage.getItem(NAME) || "{}") !== text) window.sessionStorage.setItem(NAME, text);
+    } catch {
+        // the run is kept while the page stays
+    }
+}
