@@ -91,7 +91,9 @@ export function actionsOf(session, document, window) {
         play(text) {
             const isAsked = makingOf(session.state) !== null;
             change(choosePlay, text);
-            if (isAsked) focusOn(["next question", "next step", "answer"], "steering");
+            if (!isAsked) return;
+            document.body.scrollIntoView({ block: "start" });
+            focusOn(["next question", "next step", "next lesson", "finish"], "steering");
         },
         touch: (place) => change(touch, place),
         undo() {
@@ -115,7 +117,8 @@ export function actionsOf(session, document, window) {
         guess: (isOn) => change(setGuess, isOn),
         answer() {
             change(openAnswer);
-            focusOn(["next step"], "coach");
+            document.querySelector(".answers")?.scrollIntoView({ block: "nearest" });
+            focusOn(["next step", "next lesson", "finish"], "coach");
         },
         step(step) {
             change(goToStep, step);
@@ -224,16 +227,15 @@ export function start(document, window, parts) {
     const bar = new Bar(document, window);
     const past = new Past(window);
     let act = null;
-    let trained = ""; // the question or the step that is on
+    let trained = ["", ""]; // the lesson or drill that is on, and which step or question of it
 
     // What is asked anew comes into sight, and what begins is where Tab and a reader go on.
     const show = (state) => {
         const shown = view(state, act);
         put(document, shown);
-        if (shown.trained && shown.trained !== trained) {
-            document.body.scrollIntoView({ block: "start" });
-            if (!trained) at("coach").focus({ preventScroll: true });
-        }
+        const [what, which] = shown.trained;
+        if (what && (what !== trained[0] || which !== trained[1])) document.body.scrollIntoView({ block: "start" });
+        if (what && what !== trained[0]) at("coach").focus({ preventScroll: true });
         trained = shown.trained;
     };
 

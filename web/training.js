@@ -84,6 +84,11 @@ function drillPanel(state, act) {
 export const coach = (state, act) =>
     (stepOf(state) ? lessonPanel(state, act) : state.drill ? drillPanel(state, act) : []);
 
+// What follows the last step of a lesson: the next one of the page, or its end.
+const afterLesson = ({ lesson, lessons }, isOpen, act) => (lesson && lesson < lessons.length
+    ? h("a", { href: link({ lesson: lesson + 1 }), "data-key": "next lesson", class: isOpen ? "button" : "button first" }, "Next lesson")
+    : button("finish", "End of the lesson", () => act.end(), { class: isOpen ? null : "first" }));
+
 // Where the thumb is, while one trains: the play that is made, what it lost, and the ways on.
 export function steering(state, making, verdict, act) {
     if (!isTraining(state)) return [];
@@ -104,7 +109,7 @@ export function steering(state, making, verdict, act) {
             step?.answer && !state.isAnswered && button("answer", "Show the answer", () => act.answer(), { class: making ? null : "first" }),
             step ? state.step > 1 && button("previous step", "Previous", () => act.step(state.step - 1))
                 : place > 0 && questions && button("previous question", "Previous", () => act.question(place - 1)),
-            step ? !last && button("next step", "Next", () => act.step(state.step + 1), { class: isOpen ? null : "first" })
+            step ? (last ? afterLesson(state, isOpen, act) : button("next step", "Next", () => act.step(state.step + 1), { class: isOpen ? null : "first" }))
                 : questionOf(state) && button("next question", isOpen ? "Skip" : last ? "Score" : "Next", () => act.question(place + 1),
                     { class: isOpen ? null : "first" })),
     ];

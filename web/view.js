@@ -2,7 +2,7 @@
 // nothing of a former one.
 import { h } from "./tree.js";
 import { board, played, watched } from "./board.js";
-import { chances, kept, numbers, plays, rolls, verdict } from "./panels.js";
+import { chances, COMING, kept, numbers, plays, rolls, verdict } from "./panels.js";
 import { coach, estimateField, estimateTold, printed, steering, thumb, training } from "./training.js";
 import {
     answerOf, asksNumber, chosenOf, drillKey, hides, hidesNumbers, isComing, isFull, isKept, isTraining, lessonOf, lostPips,
@@ -12,9 +12,12 @@ import {
 // What stands in the place of numbers that a lesson asks for.
 const asked = h("p", { class: "hint" }, "The numbers come with the answer.");
 
-// What one trains and which question or step is on, as a text, or "" where one doesn't train.
-const trainedOf = (state) => (!isTraining(state) ? ""
-    : state.drill ? `${drillKey(state.drill)} ${state.place}` : `${state.lesson || state.text} ${state.step}`);
+// The same, while the questions of a drill are drawn.
+const drawing = h("p", { class: "hint" }, COMING);
+
+// The lesson or drill that one trains, and which question or step of it is on, as texts, or "" where one doesn't train.
+const trainedOf = (state) => (!isTraining(state) ? ["", ""]
+    : state.drill ? [drillKey(state.drill), String(state.place)] : [String(state.lesson || state.text), String(state.step)]);
 
 export function view(state, act) {
     const { points, roll, guess, stops, database, typed } = state;
@@ -37,7 +40,7 @@ export function view(state, act) {
             steering: steering(state, making, told, act),
             printed: printed(state),
             training: training(state, act),
-            numbers: asksNumber(state) ? asked : isEstimated ? estimateField(state, act)
+            numbers: asksNumber(state) ? asked : state.drill && !state.questions ? drawing : isEstimated ? estimateField(state, act)
                 : [numbers(answer, isComing(state)), thumb(points, answer), estimateTold(state)],
             chances: answer && hasChances ? chances(answer.distribution) : [],
             grid: rolls(list, roll, (dice) => hides(state, dice), stops.rolls, act),

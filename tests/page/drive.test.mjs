@@ -671,6 +671,149 @@ async function driveDrill(browser) {
     await playDrill(typed, keys, () => WAYS.keys, (used) => used.key("Enter"));
 }
 
+// What of some parts of the page isn't in sight whole, nothing being scrolled: its top, middle and bottom are what a click
+// there meets.
+const OUT_OF_SIGHT = (selectors) => `${JSON.stringify(selectors)}.flatMap((selector) => {
+    const all = [...document.querySelectorAll(selector)];
+    if (all.length === 0) return [selector + " is missing"];
+    return all.flatMap((element) => {
+        const { left, top, right, bottom } = element.getBoundingClientRect();
+        const meets = [top + 2, (top + bottom) / 2, bottom - 2].every((y) => element.contains(document.elementFromPoint((left + right) / 2, y)));
+        return right > left && top >= 0 && left >= 0 && bottom <= innerHeight && right <= innerWidth && meets ? []
+            : [selector + " at " + Math.round(top) + " to " + Math.round(bottom) + ' of ' + innerHeight];
+    });
+})`;
+
+// What edits a position, or shows what isn't asked, and can be seen.
+const EDITING = `[...document.querySelectorAll("[role=spinbutton], #counts, #keep, .steps button, #how, #guess, .rolls button")]
+    .filter((element) => element.getBoundingClientRect().width > 0).map((element) => element.id || element.className || element.dataset.key)`;
+
+// One trains at three sizes: what begins is in sight with its question, board and buttons, and what is said of it with the
+// way on; nothing edits a position; and the focus is never lost.
+async function driveSight(browser) {
+    let [measured, actions] = [0, 0];
+    for (const [width, height, mobile] of [[360, 780, true], [768, 1024, true], [1180, 800, false]]) {
+        const page = await browser.open(address, { width, height, mobile });
+        await page.until(READY);
+        const press = (selector) => page.value(`(() => {
+            const element = document.querySelector(${JSON.stringify(selector)});
+            element.focus();
+            element.dispatchEvent(new MouseEvent("click", { bubbles: true, cancelable: true }));
+        })()`);
+        const look = async (name, ...parts) => {
+            measured += 1;
+            const size = `${width} x ${height}, ${name}`;
+            equal(`${size}: out of sight`, await page.value(OUT_OF_SIGHT(["#coach h2", "#board svg", "#steering button, #steering a", ...parts])), []);
+            equal(`${size}: what edits`, await page.value(EDITING), []);
+            equal(`${size}: how wide`, await page.value("document.documentElement.scrollWidth"), width);
+        };
+        const acted = async (name) => {
+            actions += 1;
+            const at = await page.value('document.activeElement === document.body ? "" : document.activeElement.id || document.activeElement.dataset.key');
+            if (!at) wrong(`${width} x ${height}, ${name}: the focus is lost`);
+            return at;
+        };
+        // from far below, where the lessons stand
+        const titles = await page.value('[...document.querySelectorAll(".lessons a")].map((link) => link.textContent)');
+        for (const [place, title] of titles.entries()) {
+            await page.value(`(() => {
+                const link = document.querySelector('[data-key="lesson ${place + 1}"]');
+                link.focus();
+                scrollTo(0, document.documentElement.scrollHeight);
+                link.click();
+            })()`);
+            await page.until(`document.querySelector("#coach h2")?.textContent === ${JSON.stringify(title)} && ${KNOWN.replace("!", 'document.querySelector(".figures") === null || !')}`);
+            equal(`${title} begins where one goes on`, await acted(title), "coach");
+            const count = Number((await page.value('document.querySelector("#coach .how").textContent')).match(/of (\d+)/)[1]);
+            for (let step = 1; step <= count; step += 1) {
+                const name = `${title}, step ${step}`;
+                const [hasText, hasQuestion, hasRoll, hasAnswer] = await page.value(`[".says", ".asks", ".asks .die", '[data-key="answer"]'].map((part) => Boolean(document.querySelector((part.startsWith(".") ? "#coach " : "") + part)))`);
+                if (hasRoll) await page.until('document.querySelector("#board .source")');
+                await look(name, ...(hasText ? ["#coach .says"] : []), ...(hasQuestion ? ["#coach .asks"] : []));
+                equal(`${name}: dice where a roll is asked`, await page.value('document.querySelectorAll("#coach .die").length'), hasRoll ? 2 : 0);
+                if (hasRoll) {
+                    await press(".plays button:last-child");
+                    await page.until('document.querySelector("#steering .verdict") && !document.querySelector("#steering .verdict").textContent.includes("\u2026")');
+                    await acted(`${name}, a play`);
+                    await look(`${name}, its verdict`, "#steering .verdict");
+                }
+                if (hasAnswer) {
+                    await press('[data-key="answer"]');
+                    await page.until('document.querySelector(".answers")');
+                    await acted(`${name}, the answer`);
+                    await look(`${name}, its answer`, "#coach .answers");
+                }
+                if (step === count) break;
+                await press('[data-key="next step"]');
+                await acted(`${name}, next`);
+            }
+            if (count > 1) {
+                await press('[data-key="previous step"]');
+                await acted(`${title}, previous`);
+            }
+        }
+        await press('[data-key="end training"]');
+        equal("the end of a lesson", await acted("the end"), "train");
+
+        for (const [asked, level] of [["play", "hard"], ["effective", "any"]]) {
+            await page.value(`(() => {
+                for (const [key, value] of [["theme", "all"], ["asked", "${asked}"], ["level", "${level}"], ["seed", "12"]]) document.querySelector('[data-key="' + key + '"]').value = value;
+                const button = document.querySelector('[data-key="begin drill"]');
+                button.scrollIntoView();
+                button.focus();
+                button.click();
+            })()`);
+            await page.until(asked === "play" ? 'document.querySelector("#board .source") && document.querySelector(".plays")' : 'document.querySelector(".estimate input") && document.querySelector("#coach .asks")');
+            equal("a drill begins where one goes on", await acted("a drill"), "coach");
+            if (asked === "play") {
+                let tabs = 0;
+                for (; tabs < 30 && !(await page.value('(document.activeElement.dataset.key || "").startsWith("play ")')); tabs += 1) await page.key("Tab");
+                equal(`${width} x ${height}: Tabs to the first play`, tabs < 10, true);
+            }
+            for (let place = 0; place < 4; place += 1) {
+                const name = `${asked}, question ${place + 1}`;
+                await look(name, "#coach .asks", ...(asked === "play" ? [] : ["#numbers .estimate input", '[data-key="tell"]']));
+                if (asked === "play") {
+                    // the first by the board, with its undo, and the others by the list
+                    if (place === 0) {
+                        const from = await page.value('document.querySelector("#board .source").dataset.key');
+                        await press(`[data-key="${from}"]`);
+                        await acted(`${name}, picked`);
+                        await press("#board .target");
+                        await acted(`${name}, moved`);
+                        await look(`${name}, moved`, '[data-key="undo"]');
+                        await press('[data-key="undo"]');
+                        await acted(`${name}, undone`);
+                    }
+                    await press(`.plays button:nth-child(${place + 1})`);
+                    await page.until('document.querySelector("#steering .verdict") && !document.querySelector("#steering .verdict").textContent.includes("\u2026")');
+                    equal(`${name}: the focus is at the way on`, await acted(`${name}, played`), "next question");
+                    await look(`${name}, its verdict`, "#steering .verdict", NEXT);
+                } else {
+                    await page.value('document.querySelector(".estimate input").value = "x"');
+                    await press('[data-key="tell"]');
+                    await acted(`${name}, a word`);
+                    await look(`${name}, a word`, "#estimate-why p");
+                    await page.value('document.querySelector(".estimate input").value = "40"');
+                    await press('[data-key="tell"]');
+                    await page.until('document.querySelector("#numbers .verdict")');
+                    equal(`${name}: the focus is at the way on`, await acted(`${name}, estimated`), "next question");
+                    await look(`${name}, its verdict`, "#numbers .verdict", NEXT);
+                }
+                await press(NEXT);
+                await acted(`${name}, next`);
+                await page.until(asked === "play" ? 'document.querySelector("#board .source") && document.querySelector(".plays")' : 'document.querySelector(".estimate input")');
+            }
+            await press('[data-key="previous question"]');
+            await acted(`${asked}, previous`);
+            await press('[data-key="end training"]');
+            equal("the end of a drill", await acted("the end"), "train");
+        }
+        equal(`${width} x ${height}: nothing went wrong`, page.troubles(), []);
+    }
+    console.log(`page: ${measured} states of lessons and drills were in sight, and ${actions} actions kept the focus`);
+}
+
 // A play on the board in each browser: by dragging, by clicks and by keys, taken back, and played.
 async function drivePlayed(browser) {
     const text = "lesson: One\nstep: 0,0,0,1,0,1\nroll: 52\nask: Which?\nstep: 0,0,0,4,4,1\nroll: 33\nask: Which?\nstep: 0,2,0,1,0,1\nroll: 31\nask: Which?";
@@ -927,7 +1070,7 @@ const OWN = {
         await driveFiles(page);
     },
     moments: driveMoments, older: driveOlder, hosted: driveHosted, touch: driveTouch, print: drivePrint,
-    audit: driveAudit, pictures: takePictures, drill: driveDrill, lessons: driveLessons, still: driveStill, clicks: driveClicks,
+    audit: driveAudit, pictures: takePictures, drill: driveDrill, sight: driveSight, lessons: driveLessons, still: driveStill, clicks: driveClicks,
 };
 
 // Those in which each browser is.

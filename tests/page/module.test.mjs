@@ -6,9 +6,10 @@ import { mkdtempSync, readFileSync, rmSync, writeFileSync } from "node:fs";
 import { tmpdir } from "node:os";
 import { join } from "node:path";
 import { playsOf, roundText, signedOf } from "../../web/answers.js";
-import { readPoints } from "../../web/points.js";
+import { readPoints, sumOf } from "../../web/points.js";
 import { ROLLS } from "../../web/rolls.js";
 import { decimal, FAULTS, notation } from "../../web/texts.js";
+import { drillOf, themeOf, THEMES } from "../../web/trainer.js";
 import { answer, Desk, drawn, rollsOf, serve } from "../../web/worker.js";
 import { effectOf, equal, isJoined, linesOf, modulesFolder, part, programPath, testedFolder, wrong } from "./given.mjs";
 
@@ -151,6 +152,53 @@ async function compareDrawn(desk) {
     equal("the same drill", JSON.stringify(await desk.take({ kind: "draw", drill })), JSON.stringify(questions));
 }
 
+// By its level: a novice, who bears off the most checkers and then fills the most points, is right in fewer than 60 % of the
+// hard questions, and in all of the easy ones, whose next best play loses a good deal; and where bearing off fewer is best,
+// never.
+function compareLevels(database) {
+    const least = (plays) => Math.min(...plays.map(({ to }) => sumOf(to)));
+    const isRight = (plays) => {
+        const off = plays.filter(({ to }) => sumOf(to) === least(plays));
+        const filled = (play) => play.to.filter((count) => count > 0).length;
+        return off.filter((play) => off.every((other) => filled(other) <= filled(play))).some(({ exact }) => exact === "0/1");
+    };
+    for (const { name } of THEMES.filter(({ isPlayed }) => isPlayed)) {
+        for (const level of ["any", "easy", "hard"]) {
+            let [count, right, close, fewer] = [0, 0, 0, 0];
+            for (const seed of [3, 1789, 20260101]) {
+                const questions = drawn(database, drillOf({ theme: name, seed, ask: "play", level }));
+                for (const { points, roll } of questions) {
+                    const plays = playsOf(database, points, roll);
+                    const [best, next] = plays;
+                    if (!best.isBest || next.isBest) wrong(`${name}, ${level}: ${points} ${roll} has nothing to decide`);
+                    if (!themeOf(name).has(points)) wrong(`${name}, ${level}: ${points} is of another theme`);
+                    count += 1;
+                    if (isRight(plays)) right += 1;
+                    if (next.loss <= 20n) close += 1;
+                    if (sumOf(best.to) > least(plays)) fewer += 1;
+                    if (level === "easy" && next.loss < 80n) wrong(`${name}, easy: ${points} ${roll} loses ${next.loss} thousandths`);
+                    if (level === "hard" && isRight(plays) && next.loss > 20n) wrong(`${name}, hard: ${points} ${roll} is neither`);
+                }
+            }
+            equal(`${name}, ${level}: questions`, count >= (name === "fewer" && level === "easy" ? 10 : 60), true);
+            if (level === "hard") equal(`${name}: the novice in the hard ones`, 100 * right < 60 * count, true);
+            if (level === "easy" && name !== "fewer") equal(`${name}: the novice in the easy ones`, right, count);
+            if (name === "fewer") equal(`${name}, ${level}: fewer are borne off`, [fewer, right], [count, 0]);
+            if (level === "hard") console.log(`page: the novice is right in ${right} of ${count} hard questions of ${name}, ${close} of which are close`);
+        }
+    }
+    equal("no drill of plays where there are none", THEMES.filter(({ isPlayed }) => !isPlayed).map(({ name }) => name), ["ace"]);
+}
+
+// What was chosen before the page was loaded anew is told again by the module.
+async function compareAgain(desk) {
+    const picks = { guesses: [[[0, 0, 0, 1, 0, 1], [5, 2], "6/off"]], again: [[[1, 1, 1, 1, 0, 0], [4, 1], "x"]], estimates: [[[0, 0, 0, 0, 0, 1], "pips", "6000"]] };
+    const { plays, answers } = await desk.take({ kind: "again", picks });
+    equal("plays", plays.map((list) => list.length > 1), [true, true]);
+    equal("of the first", plays[0].find(({ text }) => text === "6/off").exact, "1/18");
+    equal("numbers", answers.map(({ mean }) => mean.exact), ["5/4"]);
+}
+
 function compareRounded(database) {
     for (const fraction of ["0/1", "1/6", "1/2000", "999/2000000", "31/2", `${7n ** 40n}/${36n ** 22n}`, `${7n ** 43n}/${36n ** 22n}`, "180/1"]) {
         equal(`${fraction} in decimals`, roundText(database, fraction), decimal(nearest(...over(fraction))));
@@ -196,5 +244,7 @@ part("drills", async () => {
     const drill = { theme: "gaps", seed: 7, ask: "play" };
     equal("a small database has no drill", drawn(small.database, drill).length, 0);
 });
+part("drills of each level", () => compareLevels(large.database));
+part("what was chosen before", () => compareAgain(large));
 part("rounded fractions", () => compareRounded(small.database));
 part("messages", compareServed);

@@ -799,7 +799,7 @@ async function drills() {
             equal(`the focus after question ${place + 1}`, [used.focus(), used.text("next question")], ["next question", "Next"]);
         }
         await used.clicked("next question");
-        if (place < 19) equal(`question ${place + 2} comes into sight, and its board is where one goes on`, [used.document.body.scrolled, used.document.activeElement.getAttribute("role")], [place + 2, "button"]);
+        if (place < 19) equal(`question ${place + 2} comes into sight, and its board is where one goes on`, [used.document.body.scrolled, used.document.activeElement.getAttribute("role")], [2 * place + 3, "button"]);
     }
     const missed = asked.slice(0, 7);
     for (const [place, { points, roll: [high, low] }] of missed.entries()) {
@@ -1031,7 +1031,7 @@ async function making() {
     press("Enter");
     await used.worker.answerAll();
     equal("its guess", used.session.state.guesses.map(({ play }) => play.text), ["6/off", "6/2 5/4"]);
-    equal("the focus is where the thumb is", used.at("steering").contains(used.document.activeElement), true);
+    equal("after the last step", [used.focus(), used.text("finish")], ["finish", "End of the lesson"]);
     const parts = [...used.at("coach").querySelectorAll(".die")].length;
     equal("the dice stand beside what is asked", parts, 2);
     tell(used.at("rolls"), "keydown", { key: "Escape" });
