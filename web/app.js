@@ -40,6 +40,7 @@ export function put(document, shown) {
     at("counts").setAttribute("aria-invalid", String(shown.isRefused));
     at("keep").setAttribute("aria-disabled", String(!shown.canKeep));
     at("guess").checked = shown.guess;
+    at("whole").setAttribute("href", shown.whole);
     at("rolls").classList.toggle("opened", shown.isOpen);
     document.body.classList.toggle("compact", shown.isCompact);
     document.body.classList.toggle("training", shown.isTraining);
@@ -60,6 +61,7 @@ export function actionsOf(session, document, window) {
         const found = keys.map((key) => document.querySelector(`[data-key="${key}"]`)).find(Boolean);
         (found || document.getElementById(name)).focus({ preventScroll: true });
     };
+    const anySeed = () => 1 + Math.floor(Math.random() * MOST_SEED);
     const onBoard = () => document.querySelector('#board [tabindex="0"].to-play');
     // where a checker that is dragged is taken, and then where it is dropped
     const pick = (place, isFirst) => {
@@ -147,8 +149,10 @@ export function actionsOf(session, document, window) {
         drill() {
             const [theme, ask, level, seed] = ["theme", "asked", "level", "seed"].map((key) =>
                 document.querySelector(`[data-key="${key}"]`).value);
-            change(chooseDrill, { theme, ask, level, seed }, 1 + Math.floor(Math.random() * MOST_SEED));
+            change(chooseDrill, { theme, ask, level, seed }, anySeed());
         },
+        // another drill like the one that is over
+        another: () => change(chooseDrill, { level: "any", ...session.state.drill, seed: "" }, anySeed()),
         reset() {
             const { roll } = session.state;
             change(resetGuesses);

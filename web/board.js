@@ -67,7 +67,7 @@ function standing(points, point) {
             points: `${left + 8},${FLOOR} ${left + WIDTH - 8},${FLOOR} ${left + WIDTH / 2},70`,
         }),
         stack(point, count),
-        count > 4 && h("text", { class: "tally", x: middle(point), y: height(count - 1, count) + 8 }, count),
+        count > 4 && h("text", { class: "tally", "aria-hidden": "true", x: middle(point), y: height(count - 1, count) + 8 }, count),
     ];
 }
 

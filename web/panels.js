@@ -145,7 +145,7 @@ export function plays({ points, dice, list, shown, lost, isHidden, isTrained, st
     const byText = (one, other) => one.text.localeCompare(other.text);
     const ordered = list && (isHidden ? [...list].sort(byText) : byLoss(list));
     const told = !ordered ? COMING : isHidden ? "Which play is best?"
-        : ordered.length === 1 ? "One play" : `${ordered.length} plays`;
+        : ordered.length === 1 ? "One play" : `${ordered.length} plays, losses in rolls`;
     return [
         h("div", { class: "top-line" },
             h("h3", {}, dicePicture(dice), " ", told),
@@ -159,7 +159,7 @@ export function plays({ points, dice, list, shown, lost, isHidden, isTrained, st
             !isHidden && h("span", { class: "cost", title: `${play.exact} of a roll` }, cost(play))))),
         shown && h("div", { class: "shown" },
             h("p", { class: "loss" }, shown.isBest ? `${shown.text} loses nothing.`
-                : `${shown.text} loses ${shown.exact} of a roll, ${lost ?? COMING} of EPC.`),
+                : `${shown.text} loses ${shown.exact} of a roll, ${lost ?? COMING} pips of EPC.`),
             !isTrained && h("button", {
                 type: "button", class: "onward", "data-key": "onward", click: () => act.onward(),
             }, `Play ${shown.text}`)),

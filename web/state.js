@@ -73,7 +73,7 @@ export const questionOf = (state) =>
 // Whether one trains: a lesson or a drill is on, and the board has what it asks.
 export function isTraining(state) {
     const asked = stepOf(state) || questionOf(state);
-    return Boolean(stepOf(state) || state.drill) && (!asked || keyOf(asked.points) === keyOf(state.points));
+    return !state.isCompact && Boolean(stepOf(state) || state.drill) && (!asked || keyOf(asked.points) === keyOf(state.points));
 }
 
 // The state with the lesson of its link, at the position of the step where the link has no other; and what of the link
@@ -186,7 +186,9 @@ export function wanted(state) {
     if (state.drill && !state.questions) return { kind: "draw", drill: state.drill };
     if (state.drill && state.picks) return { kind: "again", picks: state.picks };
     const summed = state.guesses.length > 0 ? [lostOf(state), ...scoreOf(state)] : [];
-    const fraction = [...summed, lostPips(state)].find((one) => one !== null && !state.decimals.has(one));
+    const guess = guessOf(state);
+    const guessed = guess && !guess.play.isBest ? inPips(guess.play.exact) : null;
+    const fraction = [...summed, lostPips(state), guessed].find((one) => one !== null && !state.decimals.has(one));
     return fraction ? { kind: "round", fraction } : null;
 }
 
@@ -237,7 +239,7 @@ export function verdictOf(state) {
     const first = play.isBest
         ? `${play.text} is best${play.isRecorded ? "" : `, as is ${best.text}`}.`
         : `${play.text} loses ${play.lossText} of a roll; best is ${best.text}.`;
-    return { isBest: play.isBest, first, all: lostInAll(state), lost: play.exact, exact, isWhole: decimals !== undefined };
+    return { isBest: play.isBest, first, all: lostInAll(state), pips: inPips(play.exact), exact, isWhole: decimals !== undefined };
 }
 
 // What all guesses have lost, in words.
@@ -422,7 +424,7 @@ export function playOn(state) {
 // A question of the drill, by its place.
 export function askNext(state, place) {
     const question = questionOf({ ...state, place });
-    if (!question) return { ...state, ...AFRESH, place, said: "The drill is over." };
+    if (!question) return { ...state, ...AFRESH, roll: null, place, said: "The drill is over." };
     const next = { ...setPoints(state, question.points), roll: question.roll, guess: state.drill.ask === "play", place };
     return { ...next, said: askedIn(next) };
 }
@@ -523,7 +525,7 @@ export function giveEstimate(state, text) {
 
 // What was estimated, and how far that was off.
 export const toldOf = ({ told, error }) =>
-    `You said ${told < 0n ? `\u2212${decimal(-told)}` : decimal(told)}: ${decimal(error)} off.`;
+    `You said ${told < 0n ? `\u2212${decimal(-told)}` : decimal(told)}: ${decimal(error)} pips off.`;
 
 // The mean of all errors of what is estimated now, in thousandths, or null where there are none.
 export function meanError(state) {

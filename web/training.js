@@ -48,7 +48,7 @@ function score(state) {
     const right = state.again.filter(({ play }) => play.isBest).length;
     return [
         h("p", { class: "says score" }, `${count} of ${state.questions.length} were played. They lost ${told(rolls)} rolls, or `
-            + `${told(pips)} of EPC. Exactly: ${rolls} of a roll.`),
+            + `${told(pips)} pips of EPC. Exactly: ${rolls} of a roll.`),
         missed > 0 && h("p", { class: "says" }, `${missed === 1 ? "One was missed" : `${missed} were missed`}; `
             + `asked once more, ${right} ${right === 1 ? "was" : "were"} right.`),
         mistakes && h("p", {}, h("a", { href: link({ text: mistakes }), "data-key": "mistakes" }, "The mistakes as a lesson")),
@@ -100,9 +100,9 @@ export function steering(state, making, verdict, act) {
     const begun = state.steps.length > 0 || state.picked !== null;
     return [
         making && h("p", { class: "hint" }, making.play ? `${making.play.text}?`
-            : begun ? "Where to? A ring marks each place." : "Move a checker on the board, or choose a play of the list."),
+            : begun ? "Where to? A ring marks each place." : "Move a checker, or choose from the list."),
         verdict && h("p", { class: verdict.isBest ? "verdict good" : "verdict" }, verdict.first,
-            verdict.isBest ? null : ` Exactly: ${verdict.lost} of a roll.`),
+            verdict.isBest ? null : ` In EPC: ${state.decimals.get(verdict.pips) ?? COMING} pips.`),
         h("p", { class: "steering" },
             making?.play && button("made", `Play ${making.play.text}`, () => act.play(making.play.text), { class: "first" }),
             making && begun && button("undo", "Undo", () => act.undo()),
@@ -111,7 +111,8 @@ export function steering(state, making, verdict, act) {
                 : place > 0 && questions && button("previous question", "Previous", () => act.question(place - 1)),
             step ? (last ? afterLesson(state, isOpen, act) : button("next step", "Next", () => act.step(state.step + 1), { class: isOpen ? null : "first" }))
                 : questionOf(state) && button("next question", isOpen ? "Skip" : last ? "Score" : "Next", () => act.question(place + 1),
-                    { class: isOpen ? null : "first" })),
+                    { class: isOpen ? null : "first" }),
+            !step && questions?.length > 0 && place >= count && button("another drill", "Another drill", () => act.another(), { class: "first" })),
     ];
 }
 
@@ -150,7 +151,7 @@ const fault = (id, words) => h("div", { role: "alert", id }, words && h("p", { c
 export function estimateTold(state) {
     const estimate = estimated(state) && estimateOf(state);
     if (!estimate) return null;
-    return h("p", { class: "verdict" }, `${toldOf(estimate)} The mean error so far is ${decimal(meanError(state))}.`);
+    return h("p", { class: "verdict" }, `${toldOf(estimate)} The mean error so far is ${decimal(meanError(state))} pips.`);
 }
 
 // The ace-stack rule, where it speaks of a position: without doubles a stack takes half as many rolls as it has checkers,

@@ -1,5 +1,6 @@
 // What the page shows of a state: trees for its parts, its texts, and what is hidden. Each is what this state says, and
 // nothing of a former one.
+import { writeLink } from "./link.js";
 import { h } from "./tree.js";
 import { board, played, watched } from "./board.js";
 import { chances, COMING, kept, numbers, plays, rolls, verdict } from "./panels.js";
@@ -83,6 +84,7 @@ export function view(state, act) {
         isKnown: Boolean(answer),
         guess,
         isCompact: state.isCompact,
+        whole: state.isCompact ? writeLink({ ...state, isCompact: false }) : "#",
         isTraining: trains,
         hasRoll: Boolean(roll),
         trained: trainedOf(state),

@@ -8,7 +8,8 @@ const ACTED_ON = new Set(["button", "checkbox", "textbox", "spinbutton", "link",
 const NAMED = new Set(["image", "img", "table", "region", "dialog"]);
 
 // In the page: what is seen, and its contrasts. Colours are those that the browser computed.
-const LOOK = `(() => {
+const look = (isStart) => `(() => {
+    const isStart = ${isStart};
     const parsed = (text) => {
         const numbers = (text.match(/[\\d.]+/g) || []).map(Number);
         const alpha = numbers[3] ?? 1;
@@ -75,19 +76,22 @@ const LOOK = `(() => {
         ["the pips of a die", paint(".die circle", "fill"), paint(".die rect", "fill"), 3],
         ["a checker of a small picture", paint(".miniature circle", "fill"), ground(document.querySelector(".show")), 3],
         ["a point of a small picture", paint(".miniature line", "stroke"), ground(document.querySelector(".show")), 3],
-    ]) enough(what, one, other, least);
+    ]) if (isStart || (one && other)) enough(what, one, other, least);
 
     // what is focused by keyboard is seen to be
     const before = document.activeElement;
-    for (const selector of ["#keep", "#counts", '[data-key="roll 21"]', "[data-key^='play ']", "#guess", "#promises"]) {
+    for (const selector of ["#keep", "#counts", '[data-key="roll 21"]', "[data-key^='play ']", "#guess", "#promises", "#steering button", '[data-key="end training"]', '[data-key="look around"]', ".estimate input"]) {
+        if (isStart && !document.querySelector(selector)) continue;
         const element = document.querySelector(selector);
+        if (!isStart && (!element || !isSeen(element))) continue;
         element.focus({ focusVisible: true, preventScroll: true });
         const style = getComputedStyle(element);
         if (style.outlineStyle === "none" || parseFloat(style.outlineWidth) < 2) faults.push("no ring around " + selector);
         else enough("the ring around " + selector, parsed(style.outlineColor)?.rgb, ground(element.parentElement), 3);
     }
-    document.querySelector('[data-key="point 3"]').focus({ focusVisible: true, preventScroll: true });
-    enough("the ring around a point", paint('[data-key="point 3"] .ground', "stroke"), paint("#board .felt", "fill"), 3);
+    const third = document.querySelector('[data-key="point 3"]');
+    third?.focus({ focusVisible: true, preventScroll: true });
+    if (third) enough("the ring around a point", paint('[data-key="point 3"] .ground', "stroke"), paint("#board .felt", "fill"), 3);
     if (before && before !== document.body) before.focus({ preventScroll: true });
     else document.activeElement.blur();
 
@@ -95,26 +99,27 @@ const LOOK = `(() => {
     for (const id of ids) if (ids.indexOf(id) !== ids.lastIndexOf(id)) faults.push("the id " + id + " stands twice");
     for (const [selector, what] of [["#grid [tabindex='0']", "rolls"], [".plays [tabindex='0']", "plays"]]) {
         const stops = document.querySelectorAll(selector).length;
-        if (stops !== 1) faults.push(stops + " stops of Tab among the " + what);
+        if (stops !== 1 && (isStart || document.querySelector(selector.split(" ")[0])?.childElementCount > 0)) faults.push(stops + " stops of Tab among the " + what);
     }
 
     // what is seen of each thing that one acts on, for its name
     let number = 0;
-    const seen = [...document.querySelectorAll("button, input, [role=spinbutton], summary")].filter(isSeen).map((element) => {
+    const seen = [...document.querySelectorAll("button, input, select, [role=spinbutton], summary")].filter(isSeen).map((element) => {
         number += 1;
         element.setAttribute("data-audited", number);
         const copy = element.cloneNode(true);
-        copy.querySelectorAll('[aria-hidden="true"], .heard, svg').forEach((part) => part.remove());
+        copy.querySelectorAll('[aria-hidden="true"], .heard, svg, option').forEach((part) => part.remove());
         const label = element.labels?.[0] ? element.labels[0].cloneNode(true) : null;
-        label?.querySelectorAll("input").forEach((part) => part.remove());
+        label?.querySelectorAll("input, select").forEach((part) => part.remove());
         return { number, text: (copy.textContent + " " + (label ? label.textContent : "")).replace(/\\s+/g, " ").trim() };
     });
     return { faults, compared, seen };
 })()`;
 
-// The faults of an open page, in words, and how much was compared. A roll of it is chosen, and positions are kept.
-export async function audit(page) {
-    const { faults, compared, seen } = await page.value(LOOK);
+// The faults of an open page, in words, and how much was compared. At its start a roll of it is chosen, and positions are
+// kept.
+export async function audit(page, isStart = true) {
+    const { faults, compared, seen } = await page.value(look(isStart));
     await page.send("DOM.enable");
     await page.send("Accessibility.enable");
     const { nodes } = await page.send("Accessibility.getFullAXTree");
@@ -127,18 +132,19 @@ export async function audit(page) {
         if ((ACTED_ON.has(role) || NAMED.has(role)) && !name) faults.push(`a ${role} has no name`);
     }
     for (const [role, count] of [["banner", 1], ["main", 1], ["contentinfo", 1], ["spinbutton", 6], ["toolbar", 2], ["status", 2]]) {
+        if (!isStart && role !== "main") continue;
         if (roles(role).length !== count) faults.push(`${roles(role).length} of the role ${role}, and not ${count}`);
     }
     for (const { name, value } of roles("spinbutton")) {
         if (!/^Point [1-6]$/.test(name) || !/^\d+$/.test(value)) faults.push(`a point is called ${name}, ${value}`);
     }
-    if (!roles("group").some(({ name }) => name.startsWith("Home board"))) faults.push("the board has no name");
+    if (isStart && !roles("group").some(({ name }) => name.startsWith("Home board"))) faults.push("the board has no name");
     const toolbars = roles("toolbar").map(({ name }) => name).sort().join();
-    if (toolbars !== "Plays,The 21 rolls") faults.push(`the groups are called ${toolbars}`);
+    if (isStart && toolbars !== "Plays,The 21 rolls") faults.push(`the groups are called ${toolbars}`);
     const levels = roles("heading").map(({ properties }) => properties.level);
     if (levels.filter((level) => level === 1).length !== 1 || levels.some((level, place) => level > (levels[place - 1] ?? 0) + 1)) faults.push(`headings of the levels ${levels}`);
     const pressed = told.filter(({ role, properties }) => role === "button" && properties.pressed === "true").map(({ name }) => name);
-    if (pressed.length !== 2) faults.push(`pressed are ${pressed.join("; ")}`);
+    if (isStart && pressed.length !== 2) faults.push(`pressed are ${pressed.join("; ")}`);
     const names = [...roles("button"), ...roles("textbox")].map(({ role, name }) => `${role} ${name}`);
     for (const name of new Set(names)) {
         if (names.indexOf(name) !== names.lastIndexOf(name)) faults.push(`two are called ${name}`);

@@ -9,7 +9,7 @@ import { join } from "node:path";
 import { after, test } from "node:test";
 import { pathToFileURL } from "node:url";
 import { installed, started } from "./browser.mjs";
-import { positions } from "../../web/trainer.js";
+import { positions, readLessons } from "../../web/trainer.js";
 import { audit } from "./audit.mjs";
 import { legalFrom } from "./stand_in.mjs";
 import { effectOf, equal as same, isJoined, pagePath, part, programPath, testedFolder, wrong as fault } from "./given.mjs";
@@ -144,7 +144,7 @@ async function compareRolls(page, position) {
     await page.until('!document.querySelector(".loss").textContent.includes("\u2026")');
     const [above, below] = costs.at(-1).split("/").map(BigInt);
     const lost = (Number((2n * 49000n * above + 6n * below) / (12n * below)) / 1000).toFixed(3);
-    equal("in EPC", (await page.value('document.querySelector(".loss").textContent')).split(", ")[1] ?? "nothing", above === 0n ? "nothing" : `${lost} of EPC.`);
+    equal("in EPC", (await page.value('document.querySelector(".loss").textContent')).split(", ")[1] ?? "nothing", above === 0n ? "nothing" : `${lost} pips of EPC.`);
 }
 
 // The bars are as long as the chances beside them.
@@ -625,7 +625,7 @@ async function playDrill(page, hash, way, next) {
         const [above, below] = loss.split("/").map(BigInt);
         const best = verdict.match(/best is ([^.]*)\./)?.[1] || verdict.match(/^(.*) is best\./)?.[1] || "";
         equal(`${words} what is best`, effectOf(best), effectOf(ask(`play ${position} ${roll}`).split(" to ")[0].slice(5)));
-        equal(`${words} the verdict`, verdict, above === 0n ? `${shown} is best.` : `${shown} loses ${nearest([above, below])} of a roll; best is ${best}. Exactly: ${loss} of a roll.`);
+        equal(`${words} the verdict`, verdict, above === 0n ? `${shown} is best.` : `${shown} loses ${nearest([above, below])} of a roll; best is ${best}. In EPC: ${nearest([49n * above, 6n * below])} pips.`);
         if (place < 20) {
             sum = [sum[0] * below + above * sum[1], sum[1] * below];
             if (above > 0n) missed += 1;
@@ -636,7 +636,7 @@ async function playDrill(page, hash, way, next) {
     const told = await page.value('document.querySelector(".score").textContent');
     const exact = told.match(/Exactly: (\d+)\/(\d+) of/).slice(1).map(BigInt);
     equal(`${hash}: the score, exactly`, exact[0] * sum[1] === sum[0] * exact[1], true);
-    equal(`${hash}: the score`, told.split(" Exactly")[0], `20 of 20 were played. They lost ${nearest(sum)} rolls, or ${nearest([49n * sum[0], 6n * sum[1]])} of EPC.`);
+    equal(`${hash}: the score`, told.split(" Exactly")[0], `20 of 20 were played. They lost ${nearest(sum)} rolls, or ${nearest([49n * sum[0], 6n * sum[1]])} pips of EPC.`);
     equal(`${hash}: what was missed`, await page.value('document.querySelector(".score + p").textContent'),
         `${missed === 1 ? "One was missed" : `${missed} were missed`}; asked once more, ${right} ${right === 1 ? "was" : "were"} right.`);
     equal(`${hash}: nothing went wrong`, page.troubles(), []);
@@ -835,13 +835,17 @@ async function drivePlayed(browser) {
     equal("with both dice", await page.value('document.querySelector(\'[data-key="made"]\').textContent'), "Play 6/off");
     await page.click('[data-key="made"]');
     await page.until('document.querySelector("#steering .verdict") && !document.querySelector("#steering .verdict").textContent.includes("\u2026")');
-    equal("its verdict", await page.value('document.querySelector("#steering .verdict").textContent'), "6/off loses 0.056 of a roll; best is 6/1 4/2. Exactly: 1/18 of a roll.");
+    equal("its verdict", await page.value('document.querySelector("#steering .verdict").textContent'), "6/off loses 0.056 of a roll; best is 6/1 4/2. In EPC: 0.454 pips.");
     for (const [way, to] of [["mouse", 0], ["keys", 1]]) {
         await page.click('[data-key="next step"]');
         await page.until(PLAYS);
         const [position, roll] = [await board(), to === 0 ? "33" : "31"];
         const words = ask(`moves ${position} ${roll}`).split(" ").slice(1).map((word) => word.split(":"));
         const [end, loss] = words[to];
+        if (way === "mouse") {
+            await page.drag(point(5), point(4));
+            equal("dropped on a point that it can't reach", [await board(), await page.value('document.querySelectorAll("#board .picked").length')], [position, 0]);
+        }
         await WAYS[way](page, movesTo(position, roll, end));
         await page.until('document.querySelector("#plays .cost")');
         equal(`by ${way}`, await page.value('document.querySelector(".plays [aria-pressed=true] .cost").title'), `${loss} of a roll`);
@@ -854,7 +858,7 @@ async function driveLessons(browser) {
     const page = await browser.open(address);
     await page.until(READY);
     const count = await page.value('document.querySelectorAll(".lessons a").length');
-    equal("how many lessons", count, 12);
+    equal("how many lessons", count, 15);
     for (let number = 1; number <= count; number += 1) {
         const title = await page.value(`document.querySelector('[data-key="lesson ${number}"]').textContent`);
         await page.click(`[data-key="lesson ${number}"]`);
@@ -882,10 +886,21 @@ async function driveLessons(browser) {
     for (const key of ["5", "1", "Enter"]) await guess.key(key);
     await guess.until('document.querySelector("#numbers .verdict")');
     const off = Math.abs(51 - Number(ask("mean 7,4,2,0,0,0").split(" ")[4])).toFixed(3);
-    equal("how far off", await guess.value('document.querySelector("#numbers .verdict").textContent'), `You said 51.000: ${off} off. The mean error so far is ${off}.`);
-    const small = await browser.open(`${address}#view=board&at=7,4,2,0,0,0`, { width: 480, height: 320 });
-    await small.until(`${READY} && ${KNOWN}`);
-    equal("a compact board fits", await small.value("[document.documentElement.scrollWidth <= 480, document.documentElement.scrollHeight <= 320]"), [true, true]);
+    equal("how far off", await guess.value('document.querySelector("#numbers .verdict").textContent'), `You said 51.000: ${off} pips off. The mean error so far is ${off} pips.`);
+    for (const hash of ["#view=board&at=7,4,2,0,0,0", "#view=board&at=2,2,2,2,2,2&roll=31"]) {
+        const small = await browser.open(address + hash, { width: 480, height: 320 });
+        await small.until(`${READY} && ${KNOWN}`);
+        equal(`${hash} fits`, await small.value("[document.documentElement.scrollWidth <= 480, document.documentElement.scrollHeight <= 320]"), [true, true]);
+        equal(`${hash} leads to the whole page`, await small.value('[document.getElementById("whole").getAttribute("href"), document.getElementById("whole").offsetHeight > 0]'), [hash.replace("view=board&", ""), true]);
+        const entries = await small.value("history.length");
+        for (const place of [1, 1, 3]) {
+            await small.click(point(place));
+            await wait(300);
+        }
+        equal(`${hash}: what is set up there is no entry of the page around`, [await small.value("history.length"), await small.value('location.hash.includes("view=board&at=")')], [entries, true]);
+        await small.close();
+    }
+    equal("elsewhere there is no such link", await guess.value('document.getElementById("whole").offsetHeight'), 0);
     equal("nothing went wrong", page.troubles(), []);
 }
 
@@ -949,7 +964,7 @@ async function driveClicks(browser) {
             if (isLost) lost.push(`${what} at ${offset} ms`);
             return !isLost;
         };
-        const next = number % 12 + 1;
+        const next = number % 15 + 1;
         if (await opened("the first", number)) {
             await page.click(`[data-key="lesson ${next}"]`);
             await opened("the second", next);
@@ -964,7 +979,7 @@ async function driveClicks(browser) {
         const loops = Array.from({ length: count }, () => spawn(process.execPath, ["-e", BUSY]));
         try {
             for (let offset = isBusy ? 10 : 0; offset <= 500 && lost.length < 5; offset += 20) {
-                early += await clickAt(offset, offset / 10 % 12 + 1);
+                early += await clickAt(offset, offset / 10 % 15 + 1);
             }
         } finally {
             for (const loop of loops) loop.kill();
@@ -1031,10 +1046,57 @@ async function drivePrint(browser) {
             if (pictures) writeFileSync(join(pictures, `${what} on ${paper}.pdf`.replaceAll(" ", "-")), bytes);
         }
     }
+    // each lesson of the page, whole: its title, and of each step the board, the text, the question, the dice and the answer
+    const { lessons } = readLessons(readFileSync(new URL("../../web/lessons.txt", import.meta.url), "utf8"));
+    for (const [number, { title, steps }] of lessons.entries()) {
+        const page = await browser.open(`${address}#lesson=${number + 1}`);
+        await page.until('document.body.dataset.ready && document.querySelector("#printed h2")');
+        for (const [paper, width, height] of [["A4", 8.27, 11.69], ["US Letter", 8.5, 11]]) {
+            const bytes = await page.pdf(width, height);
+            equal(`pages of ${paper} for ${title}`, (bytes.toString("latin1").match(/\/Type\s*\/Page\b(?!s)/g) || []).length, 1);
+        }
+        await page.send("Emulation.setEmulatedMedia", { media: "print" });
+        const [text, boards, dice, others] = await page.value(`[document.getElementById("printed").innerText.replace(/\\s+/g, " "),
+            [...document.querySelectorAll("#printed .small")].filter((board) => board.getBoundingClientRect().width > 100).map((board) => board.querySelectorAll("circle.checker").length),
+            document.querySelectorAll("#printed .die").length, [".top", "#rolls", "#coach", "#steering", "#train"].filter((part) => document.querySelector(part).offsetHeight > 0)]`);
+        for (const part of [title, ...steps.flatMap((step) => [step.text, step.ask, step.answer])]) {
+            if (!text.includes(part)) wrong(`${title} on paper is without "${part}"`);
+        }
+        equal(`${title} on paper: its boards`, boards, steps.map(({ points }) => points.reduce((sum, count) => sum + count, 0)));
+        equal(`${title} on paper: its dice`, dice, 2 * steps.filter(({ roll }) => roll).length);
+        equal(`${title} on paper: nothing else`, others, []);
+        await page.close();
+    }
 }
+
+// What is open beside the start: each with what is waited for, and what is done then.
+const OPENED = [
+    ["a lesson", "#lesson=3", '#board .source', ""],
+    ["an answer", "#lesson=1", '[data-key="answer"]', `document.querySelector('[data-key="answer"]').click()`],
+    ["a drill", "#drill=all&seed=31&ask=play&level=hard", "#board .source", 'document.querySelector("#board .source").dispatchEvent(new MouseEvent("click", { bubbles: true }))'],
+    ["a verdict", "#drill=all&seed=31&ask=play", "#board .source", 'document.querySelector(".plays button:last-child").click()'],
+    ["an estimate", "#drill=all&seed=31&ask=wastage", ".estimate input", `document.querySelector('[data-key="tell"]').click()`],
+    ["a refusal", "#at=0,0,0,0,0,15&lesson=99", ".refusal", ""],
+    ["the embedded view", "#view=board&at=7,4,2,0,0,0", ".figures", ""],
+];
 
 async function driveAudit(browser) {
     let [compared, labels] = [0, 0];
+    for (const [width, height, mobile] of [[360, 780, true], [1180, 800, false]]) {
+        for (const colours of ["light", "dark"]) {
+            for (const [what, hash, there, act] of OPENED) {
+                const page = await browser.open(address + hash, { width, height, mobile, colours });
+                await page.until(`document.body.dataset.ready && document.querySelector(${JSON.stringify(there)})`);
+                if (act) await page.value(act);
+                await wait(200);
+                const told = await audit(page, false);
+                for (const fault of told.faults) wrong(`${what}, ${width} wide, ${colours}: ${fault}`);
+                compared += told.compared;
+                labels += told.labels;
+                await page.close();
+            }
+        }
+    }
     for (const [width, height, mobile] of [[360, 780, true], [1180, 800, false]]) {
         for (const colours of ["light", "dark", "forced"]) {
             const page = await browser.open(address + TEACHING, { width, height, mobile, colours });

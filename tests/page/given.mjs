@@ -1,7 +1,7 @@
 // What the tests under node are given: the program that was proved here, the page and the two
 // modules that `make page` made, and the folder that `make tested` made of the program's files and
 // replies. The variables PROGRAM, PAGE, MODULES and TESTED name others. And how a part of a test
-// is told.
+// is told; with the variable FIRST_FAULT the first part that fails ends the file.
 import assert from "node:assert/strict";
 import { existsSync, readFileSync } from "node:fs";
 import { join, resolve } from "node:path";
@@ -70,6 +70,8 @@ export function part(name, body, options = {}) {
         } catch (error) {
             thrown = error;
         }
+        // whoever only asks whether something is wrong needs no more
+        if (process.env.FIRST_FAULT && (thrown || faults.length > 0)) process.exit(1);
         const told = faults.slice(0, 20).join("\n");
         if (faults.length > 0) assert.fail(`${told}\n${faults.length} wrong${thrown ? `, and ${thrown.stack}` : ""}`);
         if (thrown) throw thrown;

@@ -465,9 +465,9 @@ async function plays() {
     equal("arcs with their halos", paths(), 4);
     equal("what is lost", used.text("plays").includes("3/off 1/0 loses nothing."), true);
     used.click("play 3/1 1/2");
-    equal("what isn't known yet", used.text("plays").includes("3/1 1/2 loses 1/18 of a roll, \u2026 of EPC."), true);
+    equal("what isn't known yet", used.text("plays").includes("3/1 1/2 loses 1/18 of a roll, \u2026 pips of EPC."), true);
     await used.worker.answerAll();
-    equal("exactly", used.text("plays").includes("3/1 1/2 loses 1/18 of a roll, 0.454 of EPC."), true);
+    equal("exactly", used.text("plays").includes("3/1 1/2 loses 1/18 of a roll, 0.454 pips of EPC."), true);
     equal("as decimals", used.find("play 3/1 1/2").textContent, "3/1 1/2 \u22120.056");
     equal("exactly, for a mouse that is held over it", [...used.find("play 3/1 1/2").querySelectorAll("*")].map((node) => node.getAttribute("title")).filter(Boolean), ["1/18 of a roll"]);
     equal("it is chosen", used.find("play 3/1 1/2").getAttribute("aria-pressed"), "true");
@@ -794,7 +794,7 @@ async function drills() {
         else if (place < 19) await used.clicked(`play ${high}/off ${low}/1`);
         if (place < 19) {
             equal(`the verdict of question ${place + 1}`, used.at("steering").querySelector(".verdict").textContent,
-                place < 7 ? `${high}/1 ${low}/2 loses 0.056 of a roll; best is ${high}/off ${low}/0. Exactly: 1/18 of a roll.`
+                place < 7 ? `${high}/1 ${low}/2 loses 0.056 of a roll; best is ${high}/off ${low}/0. In EPC: 0.454 pips.`
                     : `${high}/off ${low}/1 is best, as is ${high}/off ${low}/0.`);
             equal(`the focus after question ${place + 1}`, [used.focus(), used.text("next question")], ["next question", "Next"]);
         }
@@ -810,8 +810,8 @@ async function drills() {
         await used.clicked("next question");
     }
     equal("what was missed", used.text("coach").includes("7 were missed; asked once more, 3 were right."), true);
-    equal("what is heard at the end", used.text("said"), "The drill is over.");
-    equal("the score", used.text("coach").includes("19 of 20 were played. They lost 0.389 rolls, or 3.176 of EPC. Exactly: 7/18 of a roll."), true);
+    equal("what is heard at the end", [used.text("said"), used.focus(), used.plays(), used.at("steering").querySelector(".verdict")], ["The drill is over.", "coach", [], null]);
+    equal("the score", used.text("coach").includes("19 of 20 were played. They lost 0.389 rolls, or 3.176 pips of EPC. Exactly: 7/18 of a roll."), true);
     const mistakes = used.find("mistakes").getAttribute("href");
     equal("the mistakes", readLessons(readLink(mistakes).text).lessons[0].steps.map(({ points }) => points.join()), asked.slice(0, 7).map(({ points }) => points.join()));
     used.window.pass(1000);
@@ -822,6 +822,8 @@ async function drills() {
     used.window.go(-1);
     await used.worker.answerAll();
     equal("and with Back it is there again", used.text("coach").includes("19 of 20 were played. They lost 0.389 rolls"), true);
+    await used.clicked("another drill");
+    equal("another one like it", [used.session.state.drill.theme, used.session.state.drill.seed === 7, used.session.state.guesses.length, used.text("coach").includes("Question 1 of 20."), used.focus()], ["gaps", false, 0, true, "coach"]);
     await used.clicked("end training");
     equal("it ends", [used.at("coach").hidden, used.session.state.guess, used.focus(), used.text("said")], [true, false, "train", "The drill is over."]);
 
@@ -836,7 +838,7 @@ async function drills() {
     };
     await compare(first % 1000000n);
     const off = first - (first % 1000000n);
-    equal("told", [used.figures.length, used.text("numbers").includes(`${(Number(off) / 1000).toFixed(3)} off`)], [4, true]);
+    equal("told", [used.figures.length, used.text("numbers").includes(`${(Number(off) / 1000).toFixed(3)} pips off`)], [4, true]);
     await used.clicked("next question");
     equal("hidden again", used.figures, []);
     await compare(1n);
@@ -899,7 +901,13 @@ async function lessons() {
     number.click("copy-text");
     await settled();
     equal("as text", [number.window.copied, number.text("copied")], ["1,0,0,0,0,0\n\n. . . . . O\n6 5 4 3 2 1", "The position is copied as text."]);
-    equal("compact", (await Used.open("#view=board")).document.body.classList.contains("compact"), true);
+    const compact = await Used.open("#view=board&at=1,0,0,0,0,0");
+    equal("compact", compact.document.body.classList.contains("compact"), true);
+    for (const key of ["Add 1", "Add 2", "Add 3"]) {
+        await compact.clicked(key);
+        compact.window.pass(1000);
+    }
+    equal("no entry of what is around it", [compact.window.entries, compact.at("whole").getAttribute("href")], [["#view=board&at=2,1,1,0,0,0"], "#at=2,1,1,0,0,0"]);
 }
 
 // Each play that the module lists can be made on a board, step by step, and no other.
@@ -959,7 +967,7 @@ async function making() {
     equal("what can move", told(), ["can move", "-", "can move", "-", "-", "-", "-"]);
     equal("where nothing can be done", points().map((point) => point.getAttribute("aria-disabled")), [null, "true", null, "true", "true", "true", "true"]);
     equal("one stop of Tab", points().filter((point) => point.getAttribute("tabindex") === "0").map((point) => point.getAttribute("data-key")), ["point 6"]);
-    equal("what to do", used.text("steering").includes("Move a checker on the board"), true);
+    equal("what to do", used.text("steering").includes("Move a checker, or choose from the list."), true);
     equal("no play is made yet", [used.find("made"), used.find("undo")], [null, null]);
     const rings = (name) => [...used.at("board").querySelectorAll(`.${name}`)].map((ring) => ring.getAttribute("cx") || "off");
     equal("rings around what can move", [rings("mark"), rings("spot")], [["50", "250"], []]);
@@ -1018,13 +1026,20 @@ async function making() {
     used.click("play 6/off");
     equal("a play of the list ends what was begun", [used.session.state.steps, used.board, used.session.state.guesses.length], [[], [0, 0, 0, 1, 0, 1], 1]);
     await used.worker.answerAll();
-    equal("its verdict", used.at("steering").querySelector(".verdict").textContent, "6/off loses 0.056 of a roll; best is 6/1 4/2. Exactly: 1/18 of a roll.");
+    equal("its verdict", used.at("steering").querySelector(".verdict").textContent, "6/off loses 0.056 of a roll; best is 6/1 4/2. In EPC: 0.454 pips.");
     equal("the board shows it, and is looked at", [used.at("board").querySelectorAll(".arc").length, used.at("board").querySelector("svg").getAttribute("role"), used.find("point 6")], [2, "img", null]);
     equal("where one goes on", used.focus(), "next step");
     await used.clicked("answer");
     equal("the answer", [used.text("coach").includes("That."), used.focus(), used.find("answer")], [true, "next step", null]);
     await used.clicked("next step");
     equal("the next step", [used.board, used.focus()], [[0, 0, 0, 0, 2, 1], "point 6"]);
+    used.click("point 6");
+    used.click("point 5");
+    used.click("point 5");
+    used.click("previous step");
+    used.click("next step");
+    equal("what was begun is of its question alone", [used.board, used.session.state.steps, used.session.state.picked], [[0, 0, 0, 0, 2, 1], [], null]);
+    await used.worker.answerAll();
     for (const place of [6, 2, 5, 4]) used.click(`point ${place}`);
     equal("made", [used.text("made"), used.session.state.guesses.length], ["Play 6/2 5/4", 1]);
     used.find("point 4").focus();
