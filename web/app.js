@@ -7,12 +7,13 @@ import { readLink, writeLink } from "./link.js";
 import { asPng, asSvg } from "./picture.js";
 import { Bar } from "./progress.js";
 import { Session } from "./session.js";
-import { readPicks, writePicks } from "./kept.js";
+import { readDraft, readPicks, writeDraft as keepDraft, writePicks } from "./kept.js";
 import { asText, readLessons } from "./trainer.js";
 import {
-    addCheckers, askNext, captionOf, chooseDrill, choosePlay, chooseRoll, endTraining, giveEstimate, giveLesson, goToStep,
-    isTraining, keep, makingOf, openAnswer, orderOf, picksOf, playOn, pressed, remove, resetGuesses, setCaption, setEstimate,
-    setGuess, setPoints, stopAt, touch, typePosition, undo, visit, withPicks,
+    addCheckers, addDraft, askNext, beginDraft, captionOf, chooseDrill, choosePlay, chooseRoll, closeDraft, draftText, endTraining, giveEstimate, giveLesson, goToStep,
+    isTraining, keep, makingOf, moveDraft, openAnswer, orderOf, picksOf, playOn, pressed, remove, removeDraft, resetGuesses, setCaption, setEstimate,
+    setGuess, setPoints, stopAt, tellDraft, titleDraft, touch, typePosition, undo, visit, withPicks,
+    writeDraft,
 } from "./state.js";
 import { draw } from "./tree.js";
 import { view } from "./view.js";
@@ -60,6 +61,11 @@ export function actionsOf(session, document, window) {
     const focusOn = (keys, name) => {
         const found = keys.map((key) => document.querySelector(`[data-key="${key}"]`)).find(Boolean);
         (found || document.getElementById(name)).focus({ preventScroll: true });
+    };
+    const withDraft = (use) => {
+        const { text, fault } = draftText(session.state);
+        if (fault) change(tellDraft, fault);
+        else use(text);
     };
     const anySeed = () => 1 + Math.floor(Math.random() * MOST_SEED);
     const onBoard = () => document.querySelector('#board [tabindex="0"].to-play');
@@ -151,6 +157,41 @@ export function actionsOf(session, document, window) {
                 document.querySelector(`[data-key="${key}"]`).value);
             change(chooseDrill, { theme, ask, level, seed }, anySeed());
         },
+        beginDraft() {
+            change(beginDraft);
+            document.getElementById("editing").scrollIntoView({ block: "start" });
+            focusOn(["draft title"], "editing");
+        },
+        titleDraft: (title) => change(titleDraft, title),
+        addDraft: () => change(addDraft),
+        writeDraft: (place, word, text) => change(writeDraft, place, word, text),
+        moveDraft(from, to) {
+            const { key } = session.state.draft.steps[from];
+            change(moveDraft, from, to);
+            focusOn([`draft up ${key}`, `draft remove ${key}`], "editing");
+        },
+        removeDraft(place) {
+            const { steps } = session.state.draft;
+            const next = steps[place + 1] || steps[place - 1];
+            change(removeDraft, place);
+            focusOn(next ? [`draft remove ${next.key}`] : ["draft add"], "editing");
+        },
+        closeDraft() {
+            change(closeDraft);
+            focusOn(["draft begin"], "train");
+        },
+        // the lesson that is made, opened, as a link, or as a file; or why it is none yet
+        tryDraft: () => withDraft((text) => change(giveLesson, text)),
+        copyDraft: () => withDraft(async (text) => {
+            const href = `${window.location.href.replace(/#.*/, "")}#${new URLSearchParams({ text })}`;
+            const told = await window.navigator.clipboard.writeText(href).then(() => "The link of the lesson is copied.",
+                () => "The browser lets this page copy nothing: try the lesson, and copy its address.");
+            change(tellDraft, told);
+        }),
+        saveDraft: () => withDraft((text) => {
+            saveAs(document, window, new window.Blob([text], { type: "text/plain" }), "lesson.txt");
+            change(tellDraft, "The lesson is saved as lesson.txt.");
+        }),
         // another drill like the one that is over
         another: () => change(chooseDrill, { level: "any", ...session.state.drill, seed: "" }, anySeed()),
         reset() {
@@ -208,18 +249,23 @@ export async function copyPosition(document, window, points) {
     }
 }
 
+// Saves a file by a name, which it answers.
+function saveAs(document, window, file, name) {
+    const link = document.createElement("a");
+    link.href = window.URL.createObjectURL(file);
+    link.download = name;
+    link.click();
+    window.setTimeout(() => window.URL.revokeObjectURL(link.href), SAVING);
+    return name;
+}
+
 // Saves a picture of a position as a file, or says why it can't be.
 export async function savePicture(document, window, kind, points, caption) {
     const told = document.getElementById("copied");
     try {
         const picture = kind === "png" ? await asPng(document, window, points, caption)
             : new window.Blob([asSvg(points, caption)], { type: "image/svg+xml" });
-        const link = document.createElement("a");
-        link.href = window.URL.createObjectURL(picture);
-        link.download = `bearoff-${points.join("-")}.${kind}`;
-        link.click();
-        window.setTimeout(() => window.URL.revokeObjectURL(link.href), SAVING);
-        told.textContent = `The picture is saved as ${link.download}.`;
+        told.textContent = `The picture is saved as ${saveAs(document, window, picture, `bearoff-${points.join("-")}.${kind}`)}.`;
     } catch (error) {
         told.textContent = `The browser makes no such picture: ${error.message}.`;
     }
@@ -249,8 +295,9 @@ export function start(document, window, parts) {
         if (state.loads === 0) bar.show(null);
         past.remember(writeLink(state), isStep && !state.isCompact);
         writePicks(window, picksOf(state));
+        keepDraft(window, state.draft);
     }, readLessons(parts.lessons || "").lessons);
-    session.state = withPicks(session.state, readPicks(window));
+    session.state = { ...withPicks(session.state, readPicks(window)), draft: readDraft(window) };
     act = actionsOf(session, document, window);
 
     const load = (text, question, lent) => {

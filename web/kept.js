@@ -1,9 +1,10 @@
-// What was chosen in drills, as it is kept while the page is loaded anew: texts and counts in the browser's own store of the
-// tab. A browser that lets the page keep nothing has none.
+// What was chosen in drills, and a lesson that is being made, as they are kept while the page is loaded anew: texts and
+// counts in the browser's own store of the tab. A browser that lets the page keep nothing has none.
 import { MOST_CHECKERS, sumOf } from "./points.js";
 import { ESTIMATED } from "./trainer.js";
 
 const NAME = "bearoff drills";
+const LESSON = "bearoff lesson";
 
 const isPosition = (points) => Array.isArray(points) && points.length === 6
     && points.every((count) => Number.isInteger(count) && count >= 0) && sumOf(points) <= MOST_CHECKERS;
@@ -24,11 +25,29 @@ export function readPicks(window) {
     }
 }
 
-export function writePicks(window, picks) {
-    const text = JSON.stringify(picks);
+// Keeps what isn't kept so already; `none` is what nothing kept stands for.
+function keep(window, name, value, none) {
+    const text = JSON.stringify(value);
     try {
-        if ((window.sessionStorage.getItem(NAME) || "{}") !== text) window.sessionStorage.setItem(NAME, text);
+        if ((window.sessionStorage.getItem(name) || none) !== text) window.sessionStorage.setItem(name, text);
     } catch {
-        // the run is kept while the page stays
+        // it is there while the page stays
     }
 }
+
+export const writePicks = (window, picks) => keep(window, NAME, picks, "{}");
+
+const isStep = (step) => isPosition(step?.points) && Number.isInteger(step.key)
+    && ["roll", "text", "ask", "answer"].every((word) => typeof step[word] === "string");
+
+// The lesson that was being made, or null.
+export function readDraft(window) {
+    try {
+        const { title, steps } = JSON.parse(window.sessionStorage.getItem(LESSON));
+        return typeof title === "string" && Array.isArray(steps) && steps.every(isStep) ? { title, steps } : null;
+    } catch {
+        return null;
+    }
+}
+
+export const writeDraft = (window, draft) => keep(window, LESSON, draft, "null");

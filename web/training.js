@@ -178,6 +178,7 @@ export const training = (state, act) => [
     h("h3", {}, "Lessons"),
     h("ol", { class: "lessons" }, state.lessons.map(({ title }, place) =>
         h("li", {}, h("a", { href: link({ lesson: place + 1 }), "data-key": `lesson ${place + 1}` }, title)))),
+    h("p", {}, button("draft begin", "Make a lesson of your own", () => act.beginDraft())),
     h("h3", {}, "A drill of twenty"),
     h("p", { class: "choices" },
         choice("theme", "Theme", THEMES.map(({ name, words }) => [name, words])),

@@ -3,6 +3,7 @@
 import { writeLink } from "./link.js";
 import { h } from "./tree.js";
 import { board, played, watched } from "./board.js";
+import { editor } from "./editor.js";
 import { chances, COMING, kept, numbers, plays, rolls, verdict } from "./panels.js";
 import { coach, estimateField, estimateTold, printed, steering, thumb, training } from "./training.js";
 import {
@@ -40,6 +41,7 @@ export function view(state, act) {
             coach: coach(state, act),
             steering: steering(state, making, told, act),
             printed: printed(state),
+            draft: editor(state, act),
             training: training(state, act),
             numbers: asksNumber(state) ? asked : state.drill && !state.questions ? drawing : isEstimated ? estimateField(state, act)
                 : [numbers(answer, isComing(state)), thumb(points, answer), estimateTold(state)],
@@ -58,6 +60,7 @@ export function view(state, act) {
             lesson: state.title,
             trouble: state.trouble,
             notice: state.notice,
+            "file-why": state.trouble,
             said: state.said,
             open: database ? `${database.bound} pips` : "\u2026",
             known: database ? database.positions.toLocaleString("en") : "\u2026",
@@ -69,6 +72,8 @@ export function view(state, act) {
             coach: !state.drill && !lessonOf(state),
             steering: !trains,
             notice: !state.notice,
+            "file-why": !state.trouble,
+            editing: !state.draft || trains,
             lesson: !state.title,
             trouble: !state.trouble,
             wider: !(answer?.status === 4 && answer.bound < 58 && answer.standing.pips <= 58) || state.loads > 0,

@@ -1,12 +1,12 @@
 // What the page's script draws, and what it reads from an address, under node.
-import { board, lookedAt, miniature } from "../../web/board.js";
+import { board, lookedAt, miniature, placeUnder, played, watched } from "../../web/board.js";
 import { abilities } from "../../js/abilities.js";
 import { Client } from "../../web/client.js";
 import { bytesOf } from "../../web/packed.js";
 import { decimal, notation, percent } from "../../web/texts.js";
 import { MOST_KEPT, readLink, START, writeLink } from "../../web/link.js";
 import { readPoints } from "../../web/points.js";
-import { chances, kept, numbers } from "../../web/panels.js";
+import { chances, die, kept, numbers } from "../../web/panels.js";
 import { asSvg, linesOf } from "../../web/picture.js";
 import { Bar, reached } from "../../web/progress.js";
 import { byLoss } from "../../web/state.js";
@@ -79,6 +79,49 @@ part("the board", async () => {
     equal("how many stand in a stack", classed(build(document, board([5, 4, 0, 0, 0, 0], [], act)), "text", "tally").map((text) => text.textContent), ["5"]);
     equal("a miniature", all(build(document, miniature([1, 2, 3, 4, 5, 0])), "circle").map((disc) => disc.getAttribute("cx")).filter((x) => x === "88").length, 1);
     equal("in a miniature", all(build(document, miniature([1, 2, 3, 4, 5, 0])), "circle").length, 15);
+});
+
+part("what stands in a picture", async () => {
+    const spots = (value) => all(build(document, die(value)), "circle").map((spot) => `${spot.getAttribute("cx")},${spot.getAttribute("cy")}`).sort().join(" ");
+    for (const [value, places] of [
+        [1, "10,10"], [2, "15,15 5,5"], [3, "10,10 15,15 5,5"], [4, "15,15 15,5 5,15 5,5"], [5, "10,10 15,15 15,5 5,15 5,5"], [6, "15,10 15,15 15,5 5,10 5,15 5,5"],
+    ]) equal(`the spots of a ${value}`, spots(value), places);
+    const points = [3, 0, 7, 2, 0, 1];
+    for (const view of [board(points, [], act), watched(points, []), lookedAt(points, []), played({ points, ways: new Map(), play: null }, null, null, act)]) {
+        const drawn = classed(build(document, view), "circle", "checker");
+        for (const [place, count] of points.entries()) {
+            const stack = drawn.filter((checker) => Number(checker.getAttribute("cx")) === 550 - 100 * place).map((checker) => Number(checker.getAttribute("cy")));
+            const apart = count < 6 ? 60 : 240 / (count - 1);
+            equal(`the checkers of point ${place + 1}`, stack, Array.from({ length: count }, (_, higher) => 300 - apart * higher));
+        }
+    }
+    // each arc begins in the middle of the checker that leaves, and ends where it lands; both have rings
+    const ends = (moves) => {
+        const drawn = build(document, watched([0, 0, 0, 2, 0, 3], moves));
+        return [classed(drawn, "path", "way").map((way) => way.getAttribute("d").match(/[\d.]+/g).map(Number)).map((way) => [...way.slice(0, 2), ...way.slice(-2)].join(" ")),
+            ...["leaving", "landing"].map((kind) => classed(drawn, "circle", kind).map((ring) => `${ring.getAttribute("cx")} ${ring.getAttribute("cy")}`))];
+    };
+    equal("a move and one off", ends([[6, 3], [4, 0]]), [["50 180 350 300", "250 240 650 180"], ["50 180", "250 240"], ["350 300"]]);
+    equal("two of a point", ends([[6, 4], [6, 4]]), [["50 180 250 180", "50 240 250 120"], ["50 180", "50 240"], ["250 180", "250 120"]]);
+    equal("one that goes on", ends([[6, 5], [5, 0]]), [["50 180 150 300", "150 300 650 180"], ["50 180", "150 300"], ["150 300"]]);
+    const marks = build(document, played({ points: [0, 0, 0, 2, 0, 3], ways: new Map([[6, new Map([[3, []], [0, []]])]]), play: null }, 6, null, act));
+    equal("rings where a checker can go", [classed(marks, "circle", "spot").map((ring) => `${ring.getAttribute("cx")} ${ring.getAttribute("cy")}`), classed(marks, "rect", "spot").length, classed(marks, "circle", "mark").map((ring) => `${ring.getAttribute("cx")} ${ring.getAttribute("cy")}`)], [["350 300"], 1, ["50 180"]]);
+    equal("the places under a board's width", [0, 0.1, 0.15, 0.5, 0.85, 0.9, 1, -0.1, 1.1].map(placeUnder), [6, 6, 5, 3, 1, 0, 0, null, null]);
+    const small = [...all(build(document, miniature([2, 0, 0, 0, 0, 7])), "circle")].map((disc) => `${disc.getAttribute("cx")} ${Number(disc.getAttribute("cy")).toFixed(2)}`);
+    equal("the discs of a miniature", small.sort(), [...Array.from({ length: 7 }, (_, higher) => `8 ${(35 - 5 * higher).toFixed(2)}`), "88 30.00", "88 35.00"].sort());
+});
+
+part("each word of a link, there and back", () => {
+    const whole = {
+        points: [0, 0, 1, 0, 0, 1], kept: [{ points: [1, 0, 0, 0, 0, 0], caption: "one & two" }, { points: [0, 2, 0, 0, 0, 0], caption: "" }], title: "T = 1", roll: [6, 1],
+        guess: true, bound: 58, isCompact: true, drill: { theme: "few", seed: 999999999, ask: "play", level: "easy" }, place: 6, estimate: "pips", lesson: 12, text: "", step: 3,
+    };
+    const text = "lesson: L\nstep: 1,0,0,0,0,0\nroll: 52\ntext: a=b&c";
+    for (const state of [whole, { ...whole, lesson: null, text }, { ...whole, drill: { theme: "ace", seed: 1, ask: "wastage" }, guess: false, roll: null, bound: 44, isCompact: false, estimate: null, place: 0, step: 1, title: "", kept: [] }]) {
+        const back = readLink(writeLink(state));
+        for (const name of Object.keys(state)) equal(`the word of ${name}`, back[name], state[name]);
+        equal("and nothing wrong in it", back.faults, []);
+    }
 });
 
 part("pictures as files", async () => {

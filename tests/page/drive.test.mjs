@@ -1077,6 +1077,7 @@ const OPENED = [
     ["a verdict", "#drill=all&seed=31&ask=play", "#board .source", 'document.querySelector(".plays button:last-child").click()'],
     ["an estimate", "#drill=all&seed=31&ask=wastage", ".estimate input", `document.querySelector('[data-key="tell"]').click()`],
     ["a refusal", "#at=0,0,0,0,0,15&lesson=99", ".refusal", ""],
+    ["a lesson that is made", "#at=0,0,0,1,0,1&p=0,0,0,1,0,1&c=First&p=3,0,0,0,0,0", '[data-key="draft begin"]', `document.querySelector('[data-key="draft begin"]').click()`],
     ["the embedded view", "#view=board&at=7,4,2,0,0,0", ".figures", ""],
 ];
 

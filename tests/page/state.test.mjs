@@ -130,6 +130,7 @@ async function moments() {
     used.check("refused");
     equal("the reason", used.text("trouble"), "The file was refused, and nothing of it is used. A recorded play doesn't reach the least mean. First fault: record 3 mean.");
     equal("the former database", used.text("open"), "44 pips");
+    equal("the reason beside the field too", [used.text("file-why"), used.at("file-why").hidden, used.at("file").getAttribute("aria-describedby")], [used.text("trouble"), false, "file-why"]);
     equal("the bar is gone", used.at("bar").hidden, true);
     await used.worker.answerAll();
     used.check("answered");
@@ -828,6 +829,9 @@ async function drills() {
     equal("it ends", [used.at("coach").hidden, used.session.state.guess, used.focus(), used.text("said")], [true, false, "train", "The drill is over."]);
 
     part = "a drill of estimates";
+    used = new Used("#drill=ace&seed=3&ask=effective");
+    await used.worker.answer({ bound: 44, positions: 26313 });
+    equal("while it is drawn nothing is estimated", [used.find("estimate"), used.figures, used.text("numbers")], [null, [], "\u2026"]);
     used = await Used.open("#drill=ace&seed=3&ask=effective");
     equal("fifteen stacks", used.session.state.questions.length, 15);
     equal("hidden", [used.figures, used.text("chances"), used.text("said").includes("effective")], [[], "", false]);
@@ -843,7 +847,20 @@ async function drills() {
     equal("hidden again", used.figures, []);
     await compare(1n);
     equal("the mean of both", used.session.state.estimates.map(({ error }) => String(error)), [off, second - 1n].map(String));
-    equal("seen", used.text("numbers").includes("The mean error so far is"), true);
+    const inPips = (thousandths) => `${thousandths / 1000n}.${String(thousandths % 1000n).padStart(3, "0")}`;
+    const meanOfAll = (errors) => inPips((2n * errors.reduce((sum, error) => sum + error, 0n) + BigInt(errors.length)) / BigInt(2 * errors.length));
+    equal("seen", used.text("numbers").includes(`You said 0.001: ${inPips(second - 1n)} pips off. The mean error so far is ${meanOfAll([off, second - 1n])} pips.`), true);
+    equal("and above", used.text("coach").includes(`2 estimated, mean error ${meanOfAll([off, second - 1n])} pips.`), true);
+    const errors = [off, second - 1n];
+    for (const { points } of used.session.state.questions.slice(2)) {
+        await used.clicked("next question");
+        await compare(7000n);
+        const exact = answerTo(points).effective.thousandths;
+        errors.push(exact > 7000n ? exact - 7000n : 7000n - exact);
+        equal(`the mean of ${errors.length}`, used.text("numbers").includes(`: ${inPips(errors.at(-1))} pips off. The mean error so far is ${meanOfAll(errors)} pips.`), true);
+    }
+    await used.clicked("next question");
+    equal("the score of estimates", used.text("coach").includes(`15 of 15 were estimated. The mean error is ${meanOfAll(errors)} pips.`), true);
 
     part = "estimates";
     used = await Used.open("#at=1,0,0,0,0,0&p=1,0,0,0,0,0&estimate=wastage");
@@ -1134,16 +1151,16 @@ async function runs() {
     const { questions } = used.session.state;
     const last = questions.length;
     equal("a level is in the link", used.session.state.drill, { theme: "few", seed: 5, ask: "play", level: "hard" });
-    for (const { roll: [high, low] } of questions) {
-        await used.clicked(`play ${high}/1 ${low}/2`);
+    for (const [place, { roll: [high, low] }] of questions.entries()) {
+        await used.clicked(place === 0 ? `play ${high}/off ${low}/0` : `play ${high}/1 ${low}/2`);
         await used.clicked("next question");
     }
-    await used.clicked(`play ${questions[0].roll[0]}/off ${questions[0].roll[1]}/0`);
+    await used.clicked(`play ${questions[1].roll[0]}/off ${questions[1].roll[1]}/0`);
     await used.clicked("next question");
     used.window.pass(1000);
     equal("its place", readLink(used.window.location.hash).place, last + 1);
     used = await again(used.window.location.hash, used.window.stored);
-    equal("a reload", [used.text("coach").includes(`Once more, 2 of ${last}.`), used.session.state.again.map(({ play }) => play.isBest), used.session.state.guesses.length], [true, [true], last]);
+    equal("a reload", [used.text("coach").includes(`Once more, 2 of ${last - 1}.`), used.session.state.again.map(({ play }) => play.isBest), used.session.state.guesses.length], [true, [true], last]);
     await used.clicked("previous question");
     equal("the right one once more", used.at("steering").querySelector(".verdict.good") !== null, true);
 
@@ -1243,6 +1260,75 @@ async function silence() {
     equal("Enter begins, and the words are gone", [used.session.state.drill.level, used.at("notice").hidden], ["hard", true]);
 }
 
+// A lesson that is made on the page: of kept positions, edited, tried, and taken away as a link and as a file.
+async function editing() {
+    part = "a lesson of one's own";
+    const used = await Used.open("#t=Mine&at=0,0,0,1,0,1&p=0,0,0,1,0,1&c=First&p=3,0,0,0,0,0&c=<b>Second</b>");
+    const keys = () => [...used.at("draft").querySelectorAll("li")].map((item) => item.querySelector("span").textContent);
+    const put = (key, value) => {
+        used.find(key).focus();
+        used.find(key).value = value;
+        tell(used.find(key), "change");
+    };
+    const told = () => used.at("draft").querySelector('[role="status"]').textContent;
+    equal("away at first", [used.at("editing").hidden, used.text("draft")], [true, ""]);
+    await used.clicked("draft begin");
+    equal("of what is kept", [used.at("editing").hidden, keys(), used.find("draft title").value, used.find("draft text 1").value, used.find("draft text 2").value, used.focus(), used.at("editing").scrolled],
+        [false, ["0,0,0,1,0,1", "3,0,0,0,0,0"], "Mine", "First", "<b>Second</b>", "draft title", 1]);
+    put("draft title", "  A lesson\n of mine ");
+    for (const [word, value] of [["roll", "70"], ["text", "One.\nstep: two"], ["ask", "Which?"], ["answer", "That one: 6/off."]]) put(`draft ${word} 1`, value);
+    equal("on one line", [used.find("draft title").value, used.find("draft text 1").value], ["A lesson of mine", "One. step: two"]);
+    await used.clicked("draft try");
+    equal("a roll that is none", [told(), used.session.state.given], ["Step 1: a roll is two digits from 1 to 6.", null]);
+    put("draft roll 1", "25");
+    equal("the fault is gone", told(), "");
+    await used.clicked("draft add");
+    equal("the board's position", [keys(), used.find("draft text 3").value], [["0,0,0,1,0,1", "3,0,0,0,0,0", "0,0,0,1,0,1"], ""]);
+    put("draft ask 3", "And?");
+    await used.clicked("draft up 3");
+    equal("one up", [keys(), used.find("draft ask 3").value, used.focus()], [["0,0,0,1,0,1", "0,0,0,1,0,1", "3,0,0,0,0,0"], "And?", "draft up 3"]);
+    await used.clicked("draft up 3");
+    equal("and up", [used.session.state.draft.steps.map(({ key }) => key), used.find("draft up 3"), used.focus()], [[3, 1, 2], null, "draft remove 3"]);
+    await used.clicked("draft remove 3");
+    equal("removed", [keys(), used.focus()], [["0,0,0,1,0,1", "3,0,0,0,0,0"], "draft remove 1"]);
+    const wanted = { title: "A lesson of mine", steps: [
+        { points: [0, 0, 0, 1, 0, 1], roll: [5, 2], text: "One. step: two", ask: "Which?", answer: "That one: 6/off." },
+        { points: [3, 0, 0, 0, 0, 0], roll: null, text: "<b>Second</b>", ask: "", answer: "" },
+    ] };
+    used.click("draft save");
+    await settled();
+    const [file] = [...used.window.files.values()].slice(-1);
+    equal("as a file", [readLessons(file.text), file.type, used.document.saved.at(-1).download, told()], [{ lessons: [wanted], fault: "" }, "text/plain", "lesson.txt", "The lesson is saved as lesson.txt."]);
+    used.click("draft copy");
+    await settled();
+    equal("as a link", [readLessons(readLink(used.window.copied.replace(/^[^#]*/, "")).text).lessons, told()], [[wanted], "The link of the lesson is copied."]);
+    used.window.navigator = { clipboard: { writeText: async () => { throw new Error("no"); } } };
+    used.click("draft copy");
+    await settled();
+    equal("where nothing is copied", told(), "The browser lets this page copy nothing: try the lesson, and copy its address.");
+    await used.clicked("draft try");
+    equal("tried", [used.session.state.given, used.at("editing").hidden, used.board, used.text("coach").includes("Which?"), used.focus()], [wanted, true, [0, 0, 0, 1, 0, 1], true, "coach"]);
+    await used.clicked("end training");
+    equal("and edited on", [used.at("editing").hidden, keys()], [false, ["0,0,0,1,0,1", "3,0,0,0,0,0"]]);
+    const anew = await Used.open("", { before: (window) => { window.stored = used.window.stored; } });
+    equal("after the page was loaded anew", [anew.at("editing").hidden, anew.session.state.draft], [false, used.session.state.draft]);
+    for (const text of ["{", "7", '{"title":1,"steps":[]}', '{"title":"x","steps":[{"points":[99]}]}', '{"title":"x","steps":[{"key":1,"points":[1,0,0,0,0,0],"roll":5,"text":"","ask":"","answer":""}]}']) {
+        equal(`kept was ${text}`, (await Used.open("", { before: (window) => { window.stored = new Map([["bearoff lesson", text]]); } })).session.state.draft, null);
+    }
+    put("draft title", " ");
+    await used.clicked("draft copy");
+    equal("without a title", told(), "A lesson has a title.");
+    await used.clicked("draft remove 1");
+    await used.clicked("draft remove 2");
+    equal("without a step", [used.find("draft try"), used.find("draft copy"), used.focus()], [null, null, "draft add"]);
+    await used.clicked("draft close");
+    equal("closed", [used.at("editing").hidden, used.focus()], [true, "draft begin"]);
+    await used.clicked("remove 0,0,0,1,0,1");
+    await used.clicked("remove 3,0,0,0,0,0");
+    await used.clicked("draft begin");
+    equal("of the board's position, where none is kept", keys(), ["0,0,0,1,0,1"]);
+}
+
 // What is printed of a lesson: each step with its board, and the answers.
 async function paper() {
     part = "a lesson on paper";
@@ -1279,6 +1365,7 @@ async function pictures() {
 for (const [name, body] of [
     ["what is drawn and what a lesson's text says", trained], ["drills", drills], ["lessons", lessons],
     ["the steps of plays", steps], ["plays on the board", making], ["runs that go on", runs], ["nothing in silence", silence], ["paper", paper],
+    ["a lesson of one's own", editing],
     ["pictures", pictures], ["the wrong moments", moments], ["clicks", clicks], ["keys", keys],
     ["typed counts", typed], ["positions as players have them", pasted], ["plays", plays], ["guesses", guesses], ["keeping", keeping],
     ["addresses", addresses], ["browsers that can't", older],
