@@ -29,9 +29,9 @@ export function positions(most = MOST_PIPS) {
 const isWithin = (low, high) => (points) =>
     points.every((count, place) => count === 0 || (place + 1 >= low && place + 1 <= high));
 
-// An empty point with checkers on both sides of it.
-const hasGap = (points) => points.some((count, place) =>
-    count === 0 && sumOf(points.slice(0, place)) > 0 && sumOf(points.slice(place)) > 0);
+// The empty points with checkers on both sides of them, by their places.
+const gapsOf = (points) => points.flatMap((count, place) =>
+    (count === 0 && sumOf(points.slice(0, place)) > 0 && sumOf(points.slice(place)) > 0 ? [place] : []));
 
 // The themes: the name in a link, the words, the positions, whether a roll can have something to decide there, and what
 // else of the plays has to hold.
@@ -41,7 +41,10 @@ export const THEMES = [
         name: "low", words: "Low stacks", isPlayed: true,
         has: (points) => isWithin(1, 3)(points) && points.some((count) => count > 3),
     },
-    { name: "gaps", words: "Gaps", has: (points) => hasGap(points) && sumOf(points) > 4, isPlayed: true },
+    {
+        name: "gaps", words: "Gaps", isPlayed: true, has: (points) => gapsOf(points).length > 0 && sumOf(points) > 4,
+        isAsked: ([best], points) => gapsOf(points).some((place) => best.to[place] > 0),
+    },
     {
         name: "middle", words: "Five to nine checkers", isPlayed: true,
         has: (points) => sumOf(points) > 4 && sumOf(points) < 10,
@@ -87,7 +90,7 @@ export const LEVELS = [
     { name: "any", words: "Any", isAsked: () => true },
     {
         name: "easy", words: "Easy",
-        isAsked: (plays, count, { isAsked }) => plays[1].loss >= CLEAR && (Boolean(isAsked) || naturalOf(plays).some(({ isBest }) => isBest)),
+        isAsked: (plays, count, { name }) => plays[1].loss >= CLEAR && (name === "fewer" || naturalOf(plays).some(({ isBest }) => isBest)),
     },
     {
         name: "hard", words: "Hard",
@@ -137,7 +140,7 @@ export function drawQuestions({ theme, seed, ask, level = "any" }, rolls, playsO
             continue;
         }
         const plays = playsOf(points, roll);
-        if (plays.length > 1 && !plays[1].isBest && isAsked(plays) && asks(plays, drawn.size, asked)) drawn.set(points.join(), { points, roll });
+        if (plays.length > 1 && !plays[1].isBest && isAsked(plays, points) && asks(plays, drawn.size, asked)) drawn.set(points.join(), { points, roll });
     }
     return [...drawn.values()];
 }

@@ -176,6 +176,8 @@ function compareLevels(database) {
                     if (isRight(plays)) right += 1;
                     if (next.loss <= 20n) close += 1;
                     if (sumOf(best.to) > least(plays)) fewer += 1;
+                    const isFilled = points.some((on, place) => on === 0 && best.to[place] > 0 && points.slice(0, place).some(Boolean) && points.slice(place).some(Boolean));
+                    if (name === "gaps" && !isFilled) wrong(`gaps, ${level}: the best play of ${points} ${roll} fills none`);
                     if (level === "easy" && next.loss < 80n) wrong(`${name}, easy: ${points} ${roll} loses ${next.loss} thousandths`);
                     if (level === "hard" && isRight(plays) && next.loss > 20n) wrong(`${name}, hard: ${points} ${roll} is neither`);
                 }

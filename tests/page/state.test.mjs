@@ -752,7 +752,7 @@ function trained() {
     equal("positions in the order of their ranks", [all.length, all.slice(0, 7).map(String)], [26314, ["0,0,0,0,0,0", "1,0,0,0,0,0", "0,1,0,0,0,0", "2,0,0,0,0,0", "0,0,1,0,0,0", "1,1,0,0,0,0", "3,0,0,0,0,0"]]);
     const numbers = numbersFrom(1);
     equal("numbers", [1, 2, 3].map(() => numbers.next().value), [48271, 182605794, 1291394886]);
-    const two = () => [{ isBest: true }, { isBest: false }];
+    const two = (points) => [{ isBest: true, to: points.map((count) => Math.max(1, count)) }, { isBest: false }];
     const text = (drill) => JSON.stringify(drawQuestions(drill, ROLLS, two));
     const drill = { theme: "gaps", seed: 7, ask: "play" };
     equal("a seed draws the same", text(drill) === text({ ...drill }), true);
@@ -764,7 +764,8 @@ function trained() {
     const has = (name, points) => THEMES.find((theme) => theme.name === name).has(points);
     equal("themes", [has("low", [4, 0, 1, 0, 0, 0]), has("low", [4, 0, 0, 1, 0, 0]), has("gaps", [2, 0, 3, 0, 0, 0]), has("gaps", [0, 2, 3, 0, 0, 0]), has("middle", [5, 0, 0, 0, 0, 0]), has("middle", [10, 0, 0, 0, 0, 0]), has("high", [0, 0, 0, 1, 1, 1]), has("high", [0, 0, 1, 1, 1, 1]), has("ace", [3, 0, 0, 0, 0, 0]), has("few", [0, 0, 0, 0, 0, 5])], [true, false, true, false, true, false, true, false, true, false]);
     equal("one play is not asked", drawQuestions(drill, ROLLS, () => [{ isBest: true }]).length, 0);
-    equal("nor a tie", drawQuestions(drill, ROLLS, () => [{ isBest: true }, { isBest: true }, { isBest: false }]).length, 0);
+    equal("nor a tie", drawQuestions(drill, ROLLS, (points) => [two(points)[0], { isBest: true }, { isBest: false }]).length, 0);
+    equal("nor a gap that stays", drawQuestions(drill, ROLLS, (points) => [{ isBest: true, to: points }, { isBest: false }]).length, 0);
     equal("a small database has none", drawn({ bound: 8 }, drill).length, 0);
     equal("links", [readLink("#drill=gaps&seed=7").drill, readLink("#drill=ace&seed=7&ask=play").drill, readLink("#drill=gaps&seed=0").drill, readLink("#drill=x&seed=1").drill], [drill, null, null, null]);
     part = "texts";
