@@ -34,6 +34,7 @@ PAGED = "crates/db_reader/src/paged.rt"
 MOVES = "crates/epc_query/src/move_list.rt"
 LOSSES = "crates/epc_query/src/losses.rt"
 RUNNING = "crates/epc_query/src/running.rt"
+LINES = "crates/epc_query/src/lines.rt"
 ACT = "crates/bearoff_cli/src/act.rt"
 FILES = "crates/bearoff_cli/src/files.rt"
 CHECKED = "crates/certificate/src/checked.rt"
@@ -51,7 +52,7 @@ UPGRADE_START = "    let header = Header::new(COMPACT_VERSION, old.bound).unwrap
 RUN_START = "    let mut held = LineBuffer::new();"
 MOVES_START = "    let Ok(choices) = Vec::with_capacity(alloc, found.len()) else {"
 TAKE = "        let Ok(taken) = reader.read(&mut chunk) else {"
-ANSWERED = "    let count = answer_chunk(alloc, answers, held, bytes, text, writer)?;\n"
+REST_KEPT = "    held.extend(&chunk[start..]);\n"
 NUMBERS = "    let Some(numbers) = numbers_in(&table.lend(rank, &room)) else {\n        return Err(UpgradeFault::"
 COMPACT = "        write_compact(table, ranks, &header, rank, writer)?;\n    }"
 TELL = "    tell(perform(rt, alloc, words, input, output), errors).status"
@@ -372,9 +373,9 @@ PLANTED = [
     ),
     (
         "run_flushes_few_lines_alone",
-        RUNNING,
-        ANSWERED + "    flush(writer)?;",
-        ANSWERED + "    if count < 200 { flush(writer)?; }",
+        LINES,
+        REST_KEPT + "    flush(writer)?;",
+        REST_KEPT + "    if count < 200 { flush(writer)?; }",
         "file_tests",
     ),
     (
