@@ -1148,20 +1148,23 @@ async function runs() {
     equal("it isn't asked anew", [used.find("estimate"), used.text("numbers").includes("You said \u22121.500: ")], [null, true]);
 
     part = "a question once more after a reload";
-    used = await Used.open("#drill=few&seed=5&ask=play&level=hard");
+    used = await Used.open("#drill=few&seed=6&ask=play&level=hard");
     const { questions } = used.session.state;
     const last = questions.length;
-    equal("a level is in the link", used.session.state.drill, { theme: "few", seed: 5, ask: "play", level: "hard" });
-    for (const [place, { roll: [high, low] }] of questions.entries()) {
+    equal("a level is in the link", used.session.state.drill, { theme: "few", seed: 6, ask: "play", level: "hard" });
+    for (const [place, { roll: [high, low] }] of questions.slice(0, 4).entries()) {
         await used.clicked(place === 0 ? `play ${high}/off ${low}/0` : `play ${high}/1 ${low}/2`);
         await used.clicked("next question");
     }
+    used.window.type(`#drill=few&seed=6&ask=play&level=hard&question=${last + 1}`);
+    await used.worker.answerAll();
+    equal("a link to what is asked once more", [used.board, used.text("coach").includes("Once more, 1 of 3.")], [questions[1].points, true]);
     await used.clicked(`play ${questions[1].roll[0]}/off ${questions[1].roll[1]}/0`);
     await used.clicked("next question");
     used.window.pass(1000);
     equal("its place", readLink(used.window.location.hash).place, last + 1);
     used = await again(used.window.location.hash, used.window.stored);
-    equal("a reload", [used.text("coach").includes(`Once more, 2 of ${last - 1}.`), used.session.state.again.map(({ play }) => play.isBest), used.session.state.guesses.length], [true, [true], last]);
+    equal("a reload", [used.text("coach").includes("Once more, 2 of 3."), used.session.state.again.map(({ play }) => play.isBest), used.session.state.guesses.length], [true, [true], 4]);
     await used.clicked("previous question");
     equal("the right one once more", used.at("steering").querySelector(".verdict.good") !== null, true);
 
@@ -1184,6 +1187,8 @@ async function runs() {
 async function silence() {
     part = "links that can't be taken";
     const lessons = "lesson: One\nstep: 1,0,0,0,0,0\nlesson: Two\nstep: 2,0,0,0,0,0";
+    const open = await Used.open("", { lessons });
+    open.window.pass(1000);
     for (const [hash, words] of [
         ["#at=99,0,0,0,0,0", "The link has at=99,0,0,0,0,0, which can't be taken: a position is six counts of at most 15 checkers."],
         ["#p=1,2", "The link has p=1,2, which can't be taken: a position is six counts of at most 15 checkers."],
@@ -1207,8 +1212,6 @@ async function silence() {
     ]) {
         const used = new Used(hash, { lessons });
         equal(`at the start, ${hash}`, [used.text("notice"), used.at("notice").hidden, used.at("notice").getAttribute("role")], [words, false, "alert"]);
-        const open = await Used.open("", { lessons });
-        open.window.pass(1000);
         open.window.type(hash);
         equal(`in an open page, ${hash}`, [open.text("notice"), open.text("said").startsWith(words)], [words, true]);
         open.window.pass(1000);
@@ -1235,6 +1238,7 @@ async function silence() {
 
     part = "seeds that are none";
     used = await Used.open("");
+    equal("where it is said why", used.find("seed").getAttribute("aria-describedby"), "seed-why");
     for (const seed of ["12345678901", "0", "x", "1.5", "-1"]) {
         used.find("seed").value = seed;
         await used.clicked("begin drill");
