@@ -942,6 +942,29 @@ async function driveStill(browser) {
     }
 }
 
+// Beside a lesson that was opened nothing that stands below it moves while its answers come.
+async function driveOpened(browser) {
+    const page = await browser.open(address);
+    await page.until(`${READY} && document.querySelector(".rolls .next")`);
+    const count = await page.value('document.querySelectorAll(".lessons a").length');
+    for (let number = 1; number <= count; number += 1) {
+        const far = await page.value(`(async () => {
+            const link = document.querySelector('[data-key="lesson ${number}"]');
+            const tick = (wait) => new Promise((keep) => setTimeout(keep, wait));
+            link.click();
+            while (document.querySelector("#coach h2")?.textContent !== link.textContent) await tick(0);
+            const below = document.querySelector('[data-key="lesson 4"]');
+            below.scrollIntoView({ block: "center" });
+            const first = below.getBoundingClientRect().top;
+            let most = 0;
+            for (const start = performance.now(); performance.now() - start < 400; await tick(2)) most = Math.max(most, Math.abs(below.getBoundingClientRect().top - first));
+            return most;
+        })()`);
+        equal(`how far the lessons moved when lesson ${number} was open`, far, 0);
+    }
+    equal("nothing went wrong", page.troubles(), []);
+}
+
 // Keeps a processor busy, until the test has ended at the latest.
 const BUSY = "const parent = process.ppid; while (process.ppid === parent);";
 
@@ -1133,7 +1156,7 @@ const OWN = {
         await driveFiles(page);
     },
     moments: driveMoments, older: driveOlder, hosted: driveHosted, touch: driveTouch, print: drivePrint,
-    audit: driveAudit, pictures: takePictures, drill: driveDrill, sight: driveSight, lessons: driveLessons, still: driveStill, clicks: driveClicks,
+    audit: driveAudit, pictures: takePictures, drill: driveDrill, sight: driveSight, lessons: driveLessons, still: driveStill, opened: driveOpened, clicks: driveClicks,
 };
 
 // Those in which each browser is.
