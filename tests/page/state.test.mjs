@@ -8,7 +8,7 @@ import { ROLLS } from "../../web/rolls.js";
 import { moved } from "../../web/panels.js";
 import { asSvg } from "../../web/picture.js";
 import { begin, giveEstimate, pressed, received, wanted } from "../../web/state.js";
-import { drawQuestions, meanOf, numbersFrom, positions, readEstimate, readLessons, THEMES, writeLesson } from "../../web/trainer.js";
+import { drawQuestions, LEVELS, meanOf, numbersFrom, positions, readEstimate, readLessons, THEMES, writeLesson } from "../../web/trainer.js";
 import { drawn } from "../../web/worker.js";
 import { thumb } from "../../web/training.js";
 import { textOf } from "../../web/tree.js";
@@ -766,6 +766,11 @@ function trained() {
     equal("one play is not asked", drawQuestions(drill, ROLLS, () => [{ isBest: true }]).length, 0);
     equal("nor a tie", drawQuestions(drill, ROLLS, (points) => [two(points)[0], { isBest: true }, { isBest: false }]).length, 0);
     equal("nor a gap that stays", drawQuestions(drill, ROLLS, (points) => [{ isBest: true, to: points }, { isBest: false }]).length, 0);
+    const asks = (name, loss, best, count = 0) => LEVELS.find((level) => level.name === name).isAsked(
+        [{ to: best, isBest: true, loss: 0n }, { to: [1, 0, 0, 0, 0, 0], isBest: false, loss }], count, { name: "all" });
+    const [natural, tempted] = [[0, 0, 0, 0, 0, 0], [2, 0, 0, 0, 0, 0]];
+    equal("what an easy drill asks", [asks("easy", 80n, natural), asks("easy", 79n, natural), asks("easy", 500n, tempted)], [true, false, false]);
+    equal("what a hard one asks", [asks("hard", 500n, tempted), asks("hard", 20n, natural, 1), asks("hard", 20n, natural, 2), asks("hard", 21n, natural, 1)], [true, true, false, false]);
     equal("a small database has none", drawn({ bound: 8 }, drill).length, 0);
     equal("links", [readLink("#drill=gaps&seed=7").drill, readLink("#drill=ace&seed=7&ask=play").drill, readLink("#drill=gaps&seed=0").drill, readLink("#drill=x&seed=1").drill], [drill, null, null, null]);
     part = "texts";
