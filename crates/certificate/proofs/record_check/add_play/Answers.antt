@@ -1,6 +1,6 @@
 -- One roll: what is recorded for it is accepted, and added.
-use Rattle.std.proofs.Common.{◌≡◌, ◌<◌, ℕ, Some, List, get_or, take, ap, subst, ◌∙◌, arith}
-use Rattle.race_model.specs.Positions.{Board, IsFinished, pips}
+use Rattle.std.proofs.Common.{get_or, take, ap, subst, ◌∙◌, arith}
+use Rattle.race_model.specs.Positions.{IsFinished, pips}
 use Rattle.race_model.specs.Dice.{weight}
 use Rattle.race_model.proofs.Strategies.Horizons.{most_rolls-most}
 use Rattle.fixed_fraction.specs.Totals.{IsAdded}

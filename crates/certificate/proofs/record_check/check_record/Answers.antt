@@ -5,7 +5,7 @@ use Rattle.race_model.specs.Positions.{Board, IsPosition, pips}
 use Rattle.race_model.specs.Ranks.{rank, count_to, at_rank}
 use Rattle.race_model.specs.Dice.{roll_at}
 use Rattle.race_model.specs.LocalEquations.{IsLocalAt}
-use Rattle.race_model.specs.Files.{bound_of, record_at, mean_of, mean_at, play_of, share_of}
+use Rattle.race_model.specs.Files.{bound_of, record_at, mean_of, mean_at, play_of}
 use Rattle.race_model.proofs.Dice.Throws.{roll_of_index}
 use Rattle.race_model.proofs.Plays.Results.{legal_position}
 use Rattle.race_model.proofs.Plays.Spent.{legal_takes}

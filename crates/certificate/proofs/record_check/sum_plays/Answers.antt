@@ -1,5 +1,5 @@
 -- The rolls one after another: what is recorded for each is accepted, and added up.
-use Rattle.std.proofs.Common.{◌≡◌, ℕ, ◌+◌, ◌<◌, List, Some, slice_index, sym, ap, ap₂, subst, ◌∙◌}
+use Rattle.std.proofs.Common.{◌≡◌, ◌<◌, slice_index, sym, ap, ap₂, subst, ◌∙◌}
 use Rattle.std.proofs.Common.{below_more, arith}
 use Rattle.race_model.specs.Positions.{Board, IsPosition, IsFinished}
 use Rattle.race_model.specs.Dice.{roll_at, weight}
