@@ -64,8 +64,8 @@ def read(path):
 
 
 def files(folder, ending):
-    for place, folders, names in sorted(os.walk(ROOT / folder)):
-        folders[:] = [name for name in folders if name != "out"]
+    for place, folders, names in os.walk(ROOT / folder):
+        folders[:] = sorted(name for name in folders if name != "out")
         for name in sorted(names):
             if name.endswith(ending):
                 yield os.path.relpath(os.path.join(place, name), ROOT)
