@@ -1,6 +1,6 @@
 -- The recurrences of the table, from those of the counts of lists.
-use Rattle.std.proofs.Common.{◌≡◌, ℕ, suc, ◌+◌, ◌-◌, ◌<◌, ◌≤◌, cond, ◌&&◌, if◌then◌else◌}
-use Rattle.std.proofs.Common.{nat_lt, min, refl, sym, ◌∙◌, ap, inl, inr, arith}
+use Rattle.std.proofs.Common.{◌≡◌, ℕ, zero, suc, ◌+◌, ◌-◌, ◌<◌, ◌≤◌, cond, ◌&&◌, if◌then◌else◌}
+use Rattle.std.proofs.Common.{nat_lt, min, refl, sym, ◌∙◌, ap, inl, inr, add-one, arith}
 use Rattle.std.specs.Prelude.{◌⊎◌, ◌==◌}
 use Rattle.std.proofs.lemmas.Bool.{lt-ltb, le-ltb, cases_lt}
 use Rattle.race_model.specs.Positions.{pips_from}
@@ -59,6 +59,18 @@ used-step p k m h l = used-is (6 - p) p (suc k) m (omega arith) ∙ by_room (cas
       rw (le-ltb m p room)
       (counts.used-more (6 - p) p k m l room
       ∙ sym (ways-is (suc (6 - p)) p k (m - p) (omega arith)))
+
+-- the positions of at most m pips are those of fewer and those of m
+pub first_of-step : (m : ℕ) → first_of (m + 1) ≡ first_of m + ways 1 15 m
+first_of-step m =
+    let e : m + 1 ≡ suc m = add-one m in
+    omega
+    (arith, ap first_of e, order.first_of-suc m, order.count_to-step m, ways-is 6 1 15 m refl)
+
+-- no more positions have fewer pips than there are
+pub first_of-most : (m : ℕ) → first_of m ≤ 54264
+first_of-most zero = omega (arith, order.first_of-zero)
+first_of-most (suc m) = omega (arith, order.first_of-suc m, totals.count_to-most m)
 
 -- pip counts above 90 count as 90, or 91 where fewer are counted
 pub first_of-capped : (b : ℕ) → first_of (min b 91) ≡ first_of b

@@ -6,8 +6,9 @@ ghost use Rattle.race_model.specs.Ranks.{rank, at_rank, first_of, count_to};
 ghost use Rattle.ranking.specs.Lists.{ways, used};
 ghost use Rattle.ranking.specs.Tables.{IsRankTable, IsRow};
 
-use crate::firsts::{self, FIRSTS};
+use crate::firsts;
 use crate::point_table::PointTable;
+use crate::row::{PIP_COUNTS, Row};
 use home_board::Position;
 
 /// How many positions there are.
@@ -44,7 +45,7 @@ impl RankTable {
         }
         RankTable {
             points,
-            starts: FIRSTS,
+            starts: starts_of(&ways.rows[15]),
         }
     }
 
@@ -143,4 +144,16 @@ impl RankTable {
         let row = &table.rows[usize::from(checkers)];
         row.cells[usize::from(pips)]
     }
+}
+
+/// How many positions have fewer pips, for each pip count from 0 to 91.
+fn starts_of(row: &Row) -> [u16; 92]
+    requires { IsRow (ways 1 15) row.now }
+    ensures { (m : ℕ) → m < 92 → slice_index result m ≡ first_of m }
+{
+    let mut starts = [0; 92];
+    for pips in 0..PIP_COUNTS {
+        starts[pips + 1] = starts[pips] + row.cells[pips];
+    }
+    starts
 }
