@@ -134,10 +134,10 @@ pub extern "C" fn bearoff_standing(position: &Counts, standing: &mut Standing) -
     OK
 }
 
-/// The position that a text states: six counts of one to three digits with commas between them, that
-/// of point 1 first, the first of several digits not 0, and nothing before or behind them. Refused
-/// as `BadText` where the bytes are no such text, and as `TooMany` where they are and the counts add
-/// up to more than 15; then `position` stays as it was.
+/// The position that a text states: six counts of one to three digits with commas between them,
+/// that of point 1 first, the first of several digits not 0, and nothing before or behind them.
+/// Refused as `BadText` where the bytes are no such text, and as `TooMany` where they are and the
+/// counts add up to more than 15; then `position` stays as it was.
 #[unsafe(no_mangle)]
 pub extern "C" fn bearoff_parse_position(text: &[u8], position: &mut Counts) -> u32
     ensures bad_text { (result ≡ 11)

@@ -52,9 +52,10 @@ pub returns-then-is_finished-clause-best : goal.returns-then-is_finished-clause-
 returns-then-is_finished-clause-best g c = λ i lt.
     let x = c.args.position.now in
     let none : IsFinished x = c.is_finished.ensures.value.0 c.if-is_finished.true in
-    subst (IsBestPlay (g.M.RankedMeans.mean c.args.means.now) x (roll_at i)) (sym (get_or-zeros 21 i))
-    (play-at_end (g.M.RankedMeans.mean c.args.means.now) x (roll_at i) c.is_finished.ensures.position
-    none)
+    subst (IsBestPlay (g.M.RankedMeans.mean c.args.means.now) x (roll_at i))
+    (sym (get_or-zeros 21 i))
+    (play-at_end (g.M.RankedMeans.mean c.args.means.now) x (roll_at i)
+    c.is_finished.ensures.position none)
 
 pub returns-clause-known : goal.returns-clause-known
 returns-clause-known g c =

@@ -16,7 +16,8 @@ best_of-best-requires g c =
         (
           c.requires.rows,
           λ i j lt few.
-              kept_held_each (g.M.RankedMeans.mean c.args.means.now) (g.M.RankedMeans.count c.args.means.now)
+              kept_held_each (g.M.RankedMeans.mean c.args.means.now)
+              (g.M.RankedMeans.count c.args.means.now)
               c.args.self.now steps.position c.requires.next steps.die c.as_slice.result.now i j
               (subst (AreSteps steps.position steps.die) (sym c.as_slice.ensures.value)
               c.requires.steps)

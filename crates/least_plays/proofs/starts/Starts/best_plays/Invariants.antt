@@ -9,5 +9,6 @@ abbrev pub invariant-loop-index : goal.invariant-loop-index
 invariant-loop-index g l = record {
   len : length l.plays ≡ 21;
   best : (j : ℕ) → j < l.index →
-      IsBestPlay (g.M.RankedMeans.mean l.means) l.self.position (roll_at j) (slice_index l.plays j);
+      IsBestPlay (g.M.RankedMeans.mean l.means) l.self.position (roll_at j)
+      (slice_index l.plays j);
 }
