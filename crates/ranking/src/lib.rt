@@ -2,8 +2,9 @@
 //! no memory, answers both ways with a few look-ups. The crate rests on `home_board` for
 //! positions; the crates above may use that `rank` is the number of positions before one, that
 //! `unrank` gives the position of each number below 54,264, and what `first_of` and `count_to`
-//! count. `Ranks` is the table with the fact that it is the right one, so none of its contracts
-//! speaks of the table; `RankTable` is the table alone, for a struct of C.
+//! count. These two, and `pips_of`, are functions over constants too, and need no table. `Ranks` is
+//! the table with the fact that it is the right one, so none of its contracts speaks of the table;
+//! `RankTable` is the table alone, for a struct of C.
 #![tactic(auto)]
 
 pub use firsts::{FIRSTS, count_to, first_of, pips_of};

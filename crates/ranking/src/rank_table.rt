@@ -146,7 +146,8 @@ impl RankTable {
     }
 }
 
-/// How many positions have fewer pips, for each pip count from 0 to 91.
+/// How many positions have fewer pips, for each pip count from 0 to 91. They are counted where they
+/// stand: copied from the constants, they took 16 KB more of the stack.
 fn starts_of(row: &Row) -> [u16; 92]
     requires { IsRow (ways 1 15) row.now }
     ensures { (m : ℕ) → m < 92 → slice_index result m ≡ first_of m }
