@@ -2,3 +2,5 @@
 pub mod FromLocal
 pub mod FromRight
 pub mod Files
+pub mod Endings
+pub mod Boards

@@ -12,7 +12,11 @@ pub mod FirstFault
 pub mod Strategies
 pub mod RightFiles
 pub mod Books
+pub mod Endings
 pub mod FileBooks
+pub mod BoardFiles
+pub mod BoardHeaders
+pub mod RightBoards
 pub mod BestPlays
 pub mod BuiltFile
 pub mod Losses

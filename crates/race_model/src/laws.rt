@@ -1,7 +1,8 @@
 //! Facts about the definitions, each on a function with an empty body: a call
 //! brings the fact into the caller's proof, and costs nothing when it runs.
 
-pub use books::law_books;
+pub use boards::law_boards;
+pub use books::{law_books, law_endings};
 pub use bounds::law_bounds;
 pub use dice::law_rolls;
 pub use faults::{law_first_fault, law_header};
@@ -15,6 +16,7 @@ pub use right_files::{law_agree, law_recorded, law_right, law_spread};
 pub use strategies::{law_horizon, law_least, law_sample, law_scale, law_turn};
 pub use upgrades::law_upgrade;
 
+pub mod boards;
 pub mod books;
 pub mod bounds;
 pub mod dice;

@@ -7,6 +7,7 @@ use Rattle.race_model.specs.Positions.{pips}
 use Rattle.race_model.specs.Ranks.{at_rank, count_to, numbers_from}
 use Rattle.race_model.specs.Versions.{Version, full, compact, record_length}
 use Rattle.race_model.specs.Files.{bytes_at, version_of, bound_of, record_place, IsFile, stored_at}
+use Rattle.race_model.specs.BoardFiles.{board_place, board_length}
 use Rattle.race_model.proofs.Strategies.Horizons.{most_rolls-most}
 use Rattle.race_model.proofs.FirstFaults.Questions.{within_bound}
 
@@ -14,11 +15,6 @@ use Rattle.race_model.proofs.FirstFaults.Questions.{within_bound}
 pub length-bytes_at : (f : List ℕ) (place n : ℕ) → place + n ≤ length f →
     length (bytes_at f place n) ≡ n
 length-bytes_at f place n long = omega (arith, length-take n (drop place f), length-drop place f)
-
--- no record begins in the header
-pub header_before : (version : Version) (r : ℕ) → 32 ≤ record_place version r
-unfolding record_place
-header_before version r = omega arith
 
 -- the length of the record of a rank
 abbrev pub length_at : Version → ℕ → ℕ
@@ -41,68 +37,134 @@ sum_by-numbers_next g a (suc n) =
     later : (a n : ℕ) → suc a + n ≡ a + suc n
     later a n = omega arith
 
+-- where the record of a rank begins, where that of a position of p pips has size p bytes
+unfoldable pub place_by : (ℕ → ℕ) → ℕ → ℕ
+place_by size r = 32 + sum_by (λ k. size (pips (at_rank k))) (numbers_from 0 r)
+
+-- the bytes of the record of a rank, by those of each pip count
+module _ (size : ℕ → ℕ) where
+  -- no record begins in the header
+  pub place_by-most : (r : ℕ) → 32 ≤ place_by size r
+  unfolding place_by
+  place_by-most r = omega arith
+
+  -- the first record stands behind the header
+  pub place_by-first : place_by size 0 ≡ 32
+  unfolding place_by numbers_from
+  place_by-first = refl
+
+  -- .. and each behind the one before it
+  pub place_by-next : (r : ℕ) →
+      place_by size (suc r) ≡ place_by size r + size (pips (at_rank r))
+  unfolding place_by
+  place_by-next r =
+      omega (
+        arith,
+        sum_by-numbers_next (λ k. size (pips (at_rank k))) 0 r,
+        ap (λ k. size (pips (at_rank k))) (none r),
+      )
+    where
+      none : (r : ℕ) → 0 + r ≡ r
+      none r = omega arith
+
+  -- records of one length stand that length apart
+  pub place_by-level : (length r n : ℕ) →
+      ((k : ℕ) → r ≤ k → k < r + n → size (pips (at_rank k)) ≡ length) →
+      place_by size (r + n) ≡ place_by size r + n * length
+  place_by-level length r zero same = omega (arith, ap (place_by size) (none r))
+    where
+      none : (r : ℕ) → r + 0 ≡ r
+      none r = omega arith
+  place_by-level length r (suc n) same =
+      omega (
+        arith,
+        ap (place_by size) (later r n),
+        place_by-next (r + n),
+        place_by-level length r n (λ k from under. same k from (omega arith)),
+        same (r + n) (omega arith) (omega arith),
+      )
+    where
+      later : (r n : ℕ) → r + suc n ≡ suc (r + n)
+      later r n = omega arith
+
+  -- .. and records of no more than one length begin no later
+  pub place_by-at_most : (length r : ℕ) →
+      ((k : ℕ) → k < r → size (pips (at_rank k)) ≤ length) →
+      place_by size r ≤ 32 + length * r
+  place_by-at_most length zero few = omega (arith, place_by-first)
+  place_by-at_most length (suc r) few =
+      omega (
+        arith,
+        place_by-next r,
+        place_by-at_most length r (λ k under. few k (omega arith)),
+        few r (omega arith),
+      )
+
+  -- a record ends before any of higher rank begins
+  pub place_by-rises : (r n : ℕ) →
+      place_by size r + size (pips (at_rank r)) ≤ place_by size (suc r + n)
+  place_by-rises r zero =
+      omega (arith, place_by-next r, ap (place_by size) (none r))
+    where
+      none : (r : ℕ) → suc r + 0 ≡ suc r
+      none r = omega arith
+  place_by-rises r (suc n) =
+      omega (
+        arith,
+        place_by-rises r n,
+        place_by-next (suc r + n),
+        ap (place_by size) (later r n),
+      )
+    where
+      later : (r n : ℕ) → suc r + suc n ≡ suc (suc r + n)
+      later r n = omega arith
+
+-- the records of a version
+pub record_place-by : (version : Version) (r : ℕ) →
+    record_place version r ≡ place_by (record_length version) r
+unfolding record_place place_by
+record_place-by version r = refl
+
+-- .. and those of a board file
+pub board_place-by : (r : ℕ) → board_place r ≡ place_by board_length r
+unfolding board_place place_by
+board_place-by r = refl
+
+-- no record begins in the header
+pub header_before : (version : Version) (r : ℕ) → 32 ≤ record_place version r
+header_before version r =
+    omega (arith, record_place-by version r, place_by-most (record_length version) r)
+
 -- the first record stands behind the header
 pub record_place-first : (version : Version) → record_place version 0 ≡ 32
-unfolding record_place numbers_from
-record_place-first version = refl
+record_place-first version = record_place-by version 0 ∙ place_by-first (record_length version)
 
 -- .. and each behind the one before it
 pub record_place-next : (version : Version) (r : ℕ) →
     record_place version (suc r) ≡ record_place version r + length_at version r
-unfolding record_place
 record_place-next version r =
     omega (
       arith,
-      sum_by-numbers_next (length_at version) 0 r,
-      ap (length_at version) (none r),
+      record_place-by version r,
+      record_place-by version (suc r),
+      place_by-next (record_length version) r,
     )
-  where
-    none : (r : ℕ) → 0 + r ≡ r
-    none r = omega arith
 
 -- records that are all full stand 426 bytes apart
 pub record_place-full : (r : ℕ) → record_place full r ≡ 32 + 426 * r
 record_place-full zero = record_place-first full
 record_place-full (suc r) = omega (arith, record_place-next full r, record_place-full r)
 
--- .. and those of one length that length apart
-pub record_place-level : (version : Version) (size r n : ℕ) →
-    ((k : ℕ) → r ≤ k → k < r + n → length_at version k ≡ size) →
-    record_place version (r + n) ≡ record_place version r + n * size
-record_place-level version size r zero same = omega (arith, ap (record_place version) (none r))
-  where
-    none : (r : ℕ) → r + 0 ≡ r
-    none r = omega arith
-record_place-level version size r (suc n) same =
-    omega (
-      arith,
-      ap (record_place version) (later r n),
-      record_place-next version (r + n),
-      record_place-level version size r n (λ k from under. same k from (omega arith)),
-      same (r + n) (omega arith) (omega arith),
-    )
-  where
-    later : (r n : ℕ) → r + suc n ≡ suc (r + n)
-    later r n = omega arith
-
 -- a record ends before any of higher rank begins
 pub record_place-rises : (version : Version) (r n : ℕ) →
     record_place version r + length_at version r ≤ record_place version (suc r + n)
-record_place-rises version r zero =
-    omega (arith, record_place-next version r, ap (record_place version) (none r))
-  where
-    none : (r : ℕ) → suc r + 0 ≡ suc r
-    none r = omega arith
-record_place-rises version r (suc n) =
+record_place-rises version r n =
     omega (
       arith,
-      record_place-rises version r n,
-      record_place-next version (suc r + n),
-      ap (record_place version) (later r n),
+      record_place-by version r,
+      record_place-by version (suc r + n),
+      place_by-rises (record_length version) r n,
     )
-  where
-    later : (r n : ℕ) → suc r + suc n ≡ suc (suc r + n)
-    later r n = omega arith
 
 -- a record of at most 58 pips is never longer than a full one
 pub record_length-most : (version : Version) (p : ℕ) → p ≤ 58 → record_length version p ≤ 426
@@ -112,13 +174,14 @@ record_length-most compact p low = omega (arith, most_rolls-most p low)
 -- .. so no record of at most 58 pips begins later than full ones would
 pub record_place-most : (version : Version) (r : ℕ) → r ≤ count_to 58 →
     record_place version r ≤ 32 + 426 * r
-record_place-most version zero under = omega (arith, record_place-first version)
-record_place-most version (suc r) under =
+record_place-most version r under =
     omega (
       arith,
-      record_place-next version r,
-      record_place-most version r (le_trans (omega arith) under),
-      record_length-most version (pips (at_rank r)) (within_bound 58 r under).1,
+      record_place-by version r,
+      place_by-at_most (record_length version) 426 r
+          (λ k below.
+          record_length-most version (pips (at_rank k))
+          (within_bound 58 k (le_trans below under)).1),
     )
 
 -- what a file stores for a rank is as long as the record of its pip count

@@ -30,7 +30,7 @@ one_throw_more : (m : ℕ) → 36 ^ m * 36 ≡ 36 ^ suc m
 one_throw_more m = sym (pow-suc 36 m)
 
 -- a sum over the sequences of a throw more, by their first throw
-sum_by-sequences : (m : ℕ) (g : List Throw → ℕ) →
+pub sum_by-sequences : (m : ℕ) (g : List Throw → ℕ) →
     sum_by g (sequences (suc m)) ≡ sum_by (λ v. sum_by (λ w. g (v ∷ w)) (sequences m)) throws
 unfolding sequences
 sum_by-sequences m g =

@@ -1,0 +1,21 @@
+//! The law of board files: what a check of the whole home board establishes.
+ghost use Rattle.std.specs.Prelude.{◌≡◌, ℕ, ◌≤◌, List};
+ghost use Rattle.race_model.specs.Positions.{Board, IsPosition, pips};
+ghost use Rattle.race_model.specs.Ranks.{rank};
+ghost use Rattle.race_model.specs.Files.{bound_of};
+ghost use Rattle.race_model.specs.Books.{follow_in};
+ghost use Rattle.race_model.specs.Endings.{endings};
+ghost use Rattle.race_model.specs.BoardFiles.{board_book, count_at};
+ghost use Rattle.race_model.specs.RightBoards.{IsLocalBoard, IsRightBoard};
+
+/// A board file meets the equations of its records exactly where it is right: its means are the
+/// least over all strategies, its plays reach them, and its shares are those of its plays, over
+/// all sequences of 33 throws. Then a count of k throws is of the sequences of k throws how many
+/// end the game of these plays with the last one.
+pub fn law_boards()
+    ensures right { (f : List ℕ) → IsLocalBoard f → IsRightBoard f }
+    ensures local { (f : List ℕ) → IsRightBoard f → IsLocalBoard f }
+    ensures counts { (f : List ℕ) → IsRightBoard f → (x : Board) → IsPosition x →
+        pips x ≤ bound_of f → (k : ℕ) → k ≤ 33 →
+        count_at f (rank x) k ≡ endings (follow_in (board_book f) 33 x) k }
+{}
