@@ -7,50 +7,59 @@ use Rattle.race_model.specs.Ranks.{first_of}
 use Rattle.race_model.specs.Versions.{compact, record_length}
 use Rattle.race_model.specs.Files.{record_place}
 use Rattle.race_model.proofs.Ranks.RankOrder.{first_of-zero}
-use Rattle.race_model.proofs.RightFiles.Places.{record_place-first}
+use Rattle.race_model.proofs.RightFiles.Places.{place_by, place_by-first, record_place-by}
 use Rattle.ranking.specs.declared.firsts.TheConstants.{FIRSTS}
 use Rattle.ranking.proofs.KnownCounts.{at_first}
 use Rattle.db_layout.specs.declared.places.TheConstants.{STARTS}
 use Rattle.db_layout.proofs.RecordPlaces.{place_beyond}
 
--- where the records of a pip count begin
-abbrev place : ℕ → ℕ
-place p = record_place compact (first_of p)
+-- the records of p pips have size p bytes
+module _ (size : ℕ → ℕ) where
+  -- where the records of a pip count begin
+  abbrev place : ℕ → ℕ
+  place p = place_by size (first_of p)
 
--- the same for n pip counts from p on, by sums over the counts f of fewer pips
-abbrev sums_from : (ℕ → ℕ) → ℕ → ℕ → ℕ → List ℕ
-sums_from f p start zero = []
-sums_from f p start (suc n) =
-    start ∷ sums_from f (suc p) (start + (f (suc p) - f p) * record_length compact p) n
+  -- the same for n pip counts from p on, by sums over the counts f of fewer pips
+  abbrev pub starts_from : (ℕ → ℕ) → ℕ → ℕ → ℕ → List ℕ
+  starts_from f p start zero = []
+  starts_from f p start (suc n) =
+      start ∷ starts_from f (suc p) (start + (f (suc p) - f p) * size p) n
 
--- .. these are the places
-map-place : (f : ℕ → ℕ) (p n : ℕ) → ((m : ℕ) → m ≤ p + n → f m ≡ first_of m) →
-    map place (range_with_len p n) ≡ sums_from f p (place p) n
-map-place f p zero counts = refl
-map-place f p (suc n) counts =
-    rw (add-one p)
-    (ap (λ xs. place p ∷ xs)
-    (map-place f (suc p) n (λ m low. counts m (omega (arith, low)))
-    ∙ ap (λ start. sums_from f (suc p) start n) next))
-  where
-    next : place (suc p) ≡ place p + (f (suc p) - f p) * record_length compact p
-    next =
-        ap place (sym (add-one p)) ∙ place_beyond compact p
-        ∙ ap (λ count. place p + count * record_length compact p)
-        (ap₂ (λ a b. a - b) (ap first_of (add-one p) ∙ sym (counts (suc p) (omega arith)))
-        (sym (counts p (omega arith))))
+  -- .. these are the places
+  map-place : (f : ℕ → ℕ) (p n : ℕ) → ((m : ℕ) → m ≤ p + n → f m ≡ first_of m) →
+      map place (range_with_len p n) ≡ starts_from f p (place p) n
+  map-place f p zero counts = refl
+  map-place f p (suc n) counts =
+      rw (add-one p)
+      (ap (λ xs. place p ∷ xs)
+      (map-place f (suc p) n (λ m low. counts m (omega (arith, low)))
+      ∙ ap (λ start. starts_from f (suc p) start n) next))
+    where
+      next : place (suc p) ≡ place p + (f (suc p) - f p) * size p
+      next =
+          ap place (sym (add-one p)) ∙ place_beyond size p
+          ∙ ap (λ count. place p + count * size p)
+          (ap₂ (λ a b. a - b) (ap first_of (add-one p) ∙ sym (counts (suc p) (omega arith)))
+          (sym (counts p (omega arith))))
 
--- each of them is where these records begin
+  -- each of a table of these sums is where the records of a pip count begin
+  pub at_place : (table : List ℕ) (n : ℕ) → n < 92 →
+      table ≡ starts_from (slice_index FIRSTS) 0 32 n → (p : ℕ) → p < n →
+      slice_index table p ≡ place_by size (first_of p)
+  at_place table n few sums p low =
+      ap (λ xs. slice_index xs p) all
+      ∙ get_or-map-range_with_len place 0 n p p 0 low (omega arith)
+    where
+      all : table ≡ map place (range_with_len 0 n)
+      all =
+          sums
+          ∙ sym (map-place (slice_index FIRSTS) 0 n
+          (λ m at_most. at_first m (omega (arith, at_most, few)))
+          ∙ ap (λ start. starts_from (slice_index FIRSTS) 0 start n)
+          (ap (place_by size) first_of-zero ∙ place_by-first size))
+
+-- each number of the table for version 2 is where the records of a pip count begin
 pub at_start : (p : ℕ) → p < 60 → slice_index STARTS p ≡ record_place compact (first_of p)
 at_start p low =
-    ap (λ xs. slice_index xs p) all ∙ get_or-map-range_with_len place 0 60 p p 0 low (omega arith)
-  where
-    table : STARTS ≡ sums_from (slice_index FIRSTS) 0 32 60
-    table = refl
-
-    all : STARTS ≡ map place (range_with_len 0 60)
-    all =
-        table
-        ∙ sym (map-place (slice_index FIRSTS) 0 60 (λ m few. at_first m (omega (arith, few)))
-        ∙ ap (λ start. sums_from (slice_index FIRSTS) 0 start 60)
-        (ap (record_place compact) first_of-zero ∙ record_place-first compact))
+    at_place (record_length compact) STARTS 60 (omega arith) refl p low
+    ∙ sym (record_place-by compact (first_of p))

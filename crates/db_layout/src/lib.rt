@@ -3,9 +3,11 @@
 //! them.
 #![tactic(auto)]
 
-pub use header::{COMPACT_VERSION, Header, HeaderFault, VERSION, parse_header};
+pub use header::{COMPACT_VERSION, Header, HeaderFault, MAGIC, VERSION, parse_header};
 pub use places::{Place, most_rolls, offset_of, record_length};
-pub use record::{HEADER_BYTES, RECORD_BYTES, RecordView};
+pub use record::{
+    HEADER_BYTES, RECORD_BYTES, RecordView, read_long, read_short, read_wide, read_word,
+};
 pub use write_fault::WriteFault;
 pub use writing::{law_record, write_bytes, write_header, write_record};
 

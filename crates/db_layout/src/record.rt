@@ -4,7 +4,7 @@ ghost use Rattle.race_model.specs.Dice.{roll_index};
 ghost use Rattle.race_model.specs.Versions.{version_by, first_share, record_length};
 ghost use Rattle.race_model.specs.Files.{bytes_at, told_record, mean_of, play_of, share_of};
 ghost use Rattle.race_model.specs.ToldShares.{told_share};
-ghost use Rattle.std.specs.Int.{w16, w32, w128, from_be_bytes};
+ghost use Rattle.std.specs.Int.{w16, w32, w64, w128, from_be_bytes};
 
 use crate::header::{COMPACT_VERSION, Header};
 use crate::places::{most_rolls, record_length};
@@ -163,7 +163,7 @@ fn read_share(bytes: &[u8], place: u8) -> u128
 }
 
 /// The number in the 16 bytes from a place on, high byte first.
-fn read_wide(bytes: &[u8], place: usize) -> u128
+pub fn read_wide(bytes: &[u8], place: usize) -> u128
     requires { place + 16 ≤ length bytes.now }
     ensures { result ≡ from_be_bytes w128 (bytes_at bytes.now place 16) }
 {
@@ -174,7 +174,7 @@ fn read_wide(bytes: &[u8], place: usize) -> u128
 }
 
 /// The number in the 2 bytes from a place on, high byte first.
-pub(crate) fn read_short(bytes: &[u8], place: usize) -> u16
+pub fn read_short(bytes: &[u8], place: usize) -> u16
     requires { place + 2 ≤ length bytes.now }
     ensures { result ≡ from_be_bytes w16 (bytes_at bytes.now place 2) }
 {
@@ -185,12 +185,23 @@ pub(crate) fn read_short(bytes: &[u8], place: usize) -> u16
 }
 
 /// The number in the 4 bytes from a place on, high byte first.
-pub(crate) fn read_word(bytes: &[u8], place: usize) -> u32
+pub fn read_word(bytes: &[u8], place: usize) -> u32
     requires { place + 4 ≤ length bytes.now }
     ensures { result ≡ from_be_bytes w32 (bytes_at bytes.now place 4) }
 {
     match bytes[place..place + 4].try_into() {
         Ok(number) => u32::from_be_bytes(number),
+        Err(_) => unreachable!(),
+    }
+}
+
+/// The number in the 8 bytes from a place on, high byte first.
+pub fn read_long(bytes: &[u8], place: usize) -> u64
+    requires { place + 8 ≤ length bytes.now }
+    ensures { result ≡ from_be_bytes w64 (bytes_at bytes.now place 8) }
+{
+    match bytes[place..place + 8].try_into() {
+        Ok(number) => u64::from_be_bytes(number),
         Err(_) => unreachable!(),
     }
 }

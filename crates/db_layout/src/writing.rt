@@ -123,13 +123,14 @@ fn record_bytes(
 }
 
 /// The 16 bytes of a number, high byte first, by two of 64 bits: a compiler turns those round at
-/// once, and one of 128 bits byte by byte.
+/// once, and one of 128 bits byte by byte; the upper half too, unless it is turned round as a
+/// number before its bytes are taken.
 #[inline]
 fn be_bytes(number: u128) -> [u8; 16]
     ensures { result ≡ to_be_bytes w128 number }
 {
     let mut bytes = [0; 16];
-    bytes[..8].copy_from_slice(&((number >> 64) as u64).to_be_bytes());
+    bytes[..8].copy_from_slice(&((number >> 64) as u64).swap_bytes().to_le_bytes());
     bytes[8..].copy_from_slice(&((number % (1 << 64)) as u64).to_be_bytes());
     bytes
 }

@@ -3,11 +3,11 @@ use Rattle.std.proofs.Math.Dec.{eqb}
 use Rattle.std.proofs.lemmas.Bool.Decides.{eqb_tells}
 use Rattle.std.proofs.Math.Facts.{Fits-of_lt}
 use Rattle.race_model.specs.Ranks.{first_of, count_to}
-use Rattle.race_model.specs.Versions.{full, version_by}
+use Rattle.race_model.specs.Versions.{full, version_by, record_length}
 use Rattle.race_model.specs.Files.{record_place}
 use Rattle.race_model.proofs.Ranks.RankOrder.{count_to-rises}
 use Rattle.race_model.proofs.Ranks.PositionTotals.{count_to-most}
-use Rattle.race_model.proofs.RightFiles.Places.{record_place-full, record_place-most}
+use Rattle.race_model.proofs.RightFiles.Places.{record_place-by, record_place-full, record_place-most}
 use Rattle.db_layout.proofs.RecordPlaces.{first_of-next, place_of_rank}
 use Rattle.db_layout.proofs.places.offset_of.Goals as goal
 
@@ -23,13 +23,15 @@ offset : (c : goal.After-from-2) →
     c.start_of.result + c.from-earlier.result * c.from-2.result
     ≡ record_place (version_by c.args.version) c.args.rank
 offset c =
-    place_of_rank (version_by c.args.version) c.args.pips c.args.rank
+    place_of_rank (record_length (version_by c.args.version)) c.args.pips c.args.rank
     c.start_of.result c.from-earlier.result c.from-2.result c.requires.from c.requires.beyond
     (c.start_of.ensures
     ∙ ap (λ n. record_place (version_by n) (first_of c.args.pips))
-    (sym c.if-version-ne-COMPACT_VERSION.false))
+    (sym c.if-version-ne-COMPACT_VERSION.false)
+    ∙ record_place-by (version_by c.args.version) (first_of c.args.pips))
     (omega (arith, c.from-earlier.ensures, c.first_of.ensures))
     (c.from-2.ensures ∙ c.record_length.ensures)
+    ∙ sym (record_place-by (version_by c.args.version) c.args.rank)
 
 pub returns-then-version-ne-COMPACT_VERSION : goal.returns-then-version-ne-COMPACT_VERSION
 returns-then-version-ne-COMPACT_VERSION c =
