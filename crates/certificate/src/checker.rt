@@ -15,7 +15,7 @@ use crate::kept::LowerRecords;
 use crate::record_check::check_record;
 use db_layout::Header;
 use db_reader::{Record, Table, TableFault};
-use least_plays::{ROWS_TO_8, ROWS_TO_58};
+use least_plays::{ROWS_TO_8, ROWS_TO_90};
 use ranking::Ranks;
 
 /// How many means are kept to 8 pips: those of all positions.
@@ -53,9 +53,9 @@ pub fn check_records<T: Table>(table: &mut T, ranks: &Ranks) -> Result<Header, C
     if count <= ROOM_TO_8 {
         check_with_room::<T, ROOM_TO_8, ROWS_TO_8>(table, ranks, header)
     } else if count <= ROOM_TO_44 {
-        check_with_room::<T, ROOM_TO_44, ROWS_TO_58>(table, ranks, header)
+        check_with_room::<T, ROOM_TO_44, ROWS_TO_90>(table, ranks, header)
     } else {
-        check_with_room::<T, ROOM_TO_58, ROWS_TO_58>(table, ranks, header)
+        check_with_room::<T, ROOM_TO_58, ROWS_TO_90>(table, ranks, header)
     }
 }
 

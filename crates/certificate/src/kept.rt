@@ -99,7 +99,6 @@ impl<const ROOM: usize, const ROWS: usize> LowerRecords<ROOM, ROWS> {
     #[inline(never)]
     pub fn best_plays(&mut self, ranks: &Ranks, position: &Position) -> [u16; 21]
         requires position { IsPosition position.now }
-        requires low { pips position.now ≤ 58 }
         requires room { rank_of position.now ≤ ROOM + ROOM }
         requires rows { HasRows ROWS (rank_of position.now) }
         requires known { Knows (kept_mean ROOM self.old.means) self.old.plays

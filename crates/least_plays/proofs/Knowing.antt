@@ -14,7 +14,7 @@ use Rattle.race_model.proofs.Plays.MostPlays.{get_or-zeros}
 use Rattle.race_model.proofs.Plays.Results.{run_to_position}
 use Rattle.race_model.proofs.Plays.Spent.{run_takes}
 use Rattle.race_model.proofs.Ranks.RankOrder.{rank_apart, rank_bound, count_to-rises}
-use Rattle.race_model.proofs.Ranks.PositionTotals.{seven_levels}
+use Rattle.ranking.proofs.LevelCounts.{seven_levels}
 use Rattle.race_model.proofs.Ranks.BestPlays.{run_lower, run-agree_reached}
 use Rattle.least_plays.specs.Known.{HasRows, row_in, number_in, IsBestAfter, Knows}
 use Rattle.least_plays.specs.declared.room.Row.{Row}
@@ -70,13 +70,13 @@ number_in-same rows place r row d n same inside =
 -- the position of the next rank is known once its row is written
 pub knows_more : {size : ℕ} (mean : ℕ → ℕ) (plays : LeastPlays size) (x : Board) (place : ℕ)
     (row : Row) →
-    IsPosition x → pips x ≤ 58 → length plays.rows ≡ size → HasRows size (rank x) →
+    IsPosition x → length plays.rows ≡ size → HasRows size (rank x) →
     place ≡ rank x % size → place < size → Knows mean plays (rank x) →
     ((d : Die) (n : ℕ) → n < 3 →
     IsBestAfter mean x (d ∷ replicate n d)
     (slice_index (slice_index_or row.after (number d - 1) []) n)) →
     Knows mean (record plays { rows = set plays.rows place row }) (rank x + 1)
-knows_more {size} mean plays x place row at low long has placed inside known best =
+knows_more {size} mean plays x place row at long has placed inside known best =
     record { each = each }
   where
     each : (y : Board) → IsPosition y → rank y < rank x + 1 → rank x + 1 < count_to (pips y + 6) →
@@ -87,7 +87,7 @@ knows_more {size} mean plays x place row at low long has placed inside known bes
         (λ below.
         let near_here = (rank_bound x (pips y + 6) at).0 (omega arith) in
         let apart : rank y % length plays.rows ≢ place =
-        λ e. rows_apart size (rank y) (rank x) has below (seven_levels x y at there low near_here)
+        λ e. rows_apart size (rank y) (rank x) has below (seven_levels x y at there near_here)
         (ap (λ len. rank y % len) (sym long) ∙ (e ∙ placed)) in
         subst (λ r. IsBestAfter mean y (d ∷ replicate n d) r)
         (sym (number_in-other plays.rows place (rank y) row d n apart))

@@ -15,7 +15,7 @@ use Rattle.least_plays.specs.declared.starts.Starts.{Starts}
 abbrev pub IsBestAfter : (ℕ → ℕ) → Board → List Die → ℕ → Type 0
 IsBestAfter mean x dice r = IsBestOf mean (Run x dice) r
 
--- so many rows do for the ranks up to one: as many as do to 58 pips, or one for each of them
+-- so many rows do for the ranks up to one: as many as do for any, or one for each of them
 pub record HasRows (rows r : ℕ) : Type 0 where
   pub few : rows ≤ 11452
   pub own : (r < rows) ⊎ (rows ≡ 11452)
@@ -42,7 +42,6 @@ pub record IsNext {n : ℕ} (mean : ℕ → ℕ) (count : ℕ) (plays : LeastPla
   where
     pub position : IsPosition x
     pub unfinished : ¬ IsFinished x
-    pub low : pips x ≤ 58
     pub held : rank x ≤ count
     pub known : Knows mean plays (rank x)
 

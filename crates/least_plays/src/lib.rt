@@ -7,7 +7,7 @@
 #![tactic(auto)]
 
 pub use means::RankedMeans;
-pub use room::{LeastPlays, ROWS_TO_8, ROWS_TO_58};
+pub use room::{LeastPlays, ROWS_TO_8, ROWS_TO_90};
 
 mod choice;
 pub mod means;

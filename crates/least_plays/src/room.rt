@@ -18,9 +18,9 @@ use home_board::Position;
 use legal_plays::Die;
 use ranking::Ranks;
 
-/// How many rows do for positions of at most 58 pips: no pip count has more than 1,636 of them,
-/// and a step leads at most 6 pips down.
-pub const ROWS_TO_58: usize = 7 * 1636;
+/// How many rows do for all positions, to 90 pips: no pip count has more than 1,636 of them, and a
+/// step leads at most 6 pips down.
+pub const ROWS_TO_90: usize = 7 * 1636;
 
 /// How many rows do for positions of at most 8 pips: one for each of them.
 pub const ROWS_TO_8: usize = 64;
@@ -39,7 +39,7 @@ impl Row {
 
 /// What is known of the positions of the last levels of pips, for the best plays of the next
 /// position, in so many rows. It takes no memory but its own: 36 bytes for each row, of
-/// `ROWS_TO_58` rows 412,272, which lie where the value lies, as on the stack of the function that
+/// `ROWS_TO_90` rows 412,272, which lie where the value lies, as on the stack of the function that
 /// makes it; so lend it by `&mut`.
 #[derive(Drop)]
 pub struct LeastPlays<const ROWS: usize> {
@@ -58,16 +58,15 @@ impl<const ROWS: usize> LeastPlays<ROWS> {
 
     /// The best plays of the 21 rolls from the next position, by rank: for each the rank of the
     /// result of least mean and, of equal means, the lowest rank. The position's rank is the next
-    /// one, it has at most 58 pips, and the means of all lower ranks are there. There are
-    /// `ROWS_TO_58` rows, or one for each rank so far. The position of the rank after it is the
-    /// next then. (The tie rule is this project's profile.)
+    /// one, and the means of all lower ranks are there. There are `ROWS_TO_90` rows, or one for
+    /// each rank so far. The position of the rank after it is the next then. (The tie rule is this
+    /// project's profile.)
     pub fn advance<M: RankedMeans>(
         &mut self,
         ranks: &Ranks,
         position: &Position,
         means: &M,
     ) -> [u16; 21]
-        requires low { pips position.now ≤ 58 }
         requires rows { HasRows ROWS (rank_of position.now) }
         requires held { rank_of position.now ≤ M.count means.now }
         requires known { Knows (M.mean means.now) self.old (rank_of position.now) }

@@ -4,3 +4,4 @@ pub mod Filling
 pub mod Reading
 pub mod Counting
 pub mod KnownCounts
+pub mod LevelCounts

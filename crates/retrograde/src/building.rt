@@ -22,7 +22,7 @@ use crate::room_records::{POSITIONS, POSITIONS_OF_A_LEVEL, RoomRecords};
 use db_layout::{COMPACT_VERSION, Header, VERSION, WriteFault, write_header, write_record};
 use fixed_fraction::{Scaled, Spread};
 use home_board::OLD_BOUND;
-use least_plays::{LeastPlays, ROWS_TO_8, ROWS_TO_58};
+use least_plays::{LeastPlays, ROWS_TO_8, ROWS_TO_90};
 use ranking::Ranks;
 use std::alloc::Global;
 use std::io::Write;
@@ -154,7 +154,7 @@ fn build_records<K: Keeper, W: Write>(
     if usize::from(header.count) <= ROWS_TO_8 {
         build_with_rows::<K, W, ROWS_TO_8>(records, header, writer)
     } else {
-        build_with_rows::<K, W, ROWS_TO_58>(records, header, writer)
+        build_with_rows::<K, W, ROWS_TO_90>(records, header, writer)
     }
 }
 

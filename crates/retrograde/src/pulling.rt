@@ -80,7 +80,6 @@ fn best_plays<K: Keeper, const ROWS: usize>(
     least: &mut LeastPlays<ROWS>,
 ) -> [u16; 21]
     ghost full: { AllRecords }
-    requires low { pips position.now ≤ 58 }
     requires agree { (r : ℕ) → r < length (K.means records.now) →
         slice_index (K.means records.now) r ≡ mean_of_rank full r }
     requires next { rank_of position.now ≡ length (K.means records.now) }

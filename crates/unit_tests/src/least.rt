@@ -1,7 +1,7 @@
 //! Least plays, over a table of means.
 ghost use Rattle.std.specs.Prelude.{slice_index};
 
-use least_plays::{LeastPlays, ROWS_TO_58, RankedMeans};
+use least_plays::{LeastPlays, ROWS_TO_90, RankedMeans};
 use ranking::Ranks;
 use std::test::Fail;
 
@@ -52,7 +52,7 @@ fn plays_to_8_pips(rt: HostRuntime) -> Result<(), Fail> {
             1756, 1793, 2301, 2301,
         ],
     };
-    let mut known: LeastPlays<ROWS_TO_58> = LeastPlays::new();
+    let mut known: LeastPlays<ROWS_TO_90> = LeastPlays::new();
     for rank in 0..64 {
         let position = ranks.unrank(rank).ok_or("no position")?;
         assert!(rt; position.pips() <= 8);

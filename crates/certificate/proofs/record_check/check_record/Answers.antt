@@ -59,14 +59,11 @@ best_plays-best-requires g c =
       (
         at g here,
         (
-          short g here,
+          omega (arith, is, c.requires.rank, c.requires.room),
           (
-            omega (arith, is, c.requires.rank, c.requires.room),
-            (
-              subst (HasRows g.row.ROWS) (sym is) c.requires.rows,
-              subst (Knows (kept_mean g.row.ROOM c.args.lower.now.means) c.args.lower.now.plays)
-                  (sym is) c.requires.kept.known,
-            ),
+            subst (HasRows g.row.ROWS) (sym is) c.requires.rows,
+            subst (Knows (kept_mean g.row.ROOM c.args.lower.now.means) c.args.lower.now.plays)
+                (sym is) c.requires.kept.known,
           ),
         ),
       ),

@@ -34,7 +34,7 @@ best_plays-plays-requires g c =
         search rules,
         (
           search rules,
-          (here.0, (here.1.0.means_are, (here.1.1.0, (here.1.1.1.1.0, here.1.1.1.1.1)))),
+          (here.1.0.means_are, (here.1.1.0, (here.1.1.1.1.0, here.1.1.1.1.1))),
         ),
       ),
     )

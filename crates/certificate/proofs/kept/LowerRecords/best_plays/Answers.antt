@@ -5,5 +5,5 @@ use Rattle.certificate.proofs.kept.LowerRecords.best_plays.Goals as goal
 pub advance-requires : goal.advance-requires
 advance-requires g c = (
   search rules,
-  (c.requires.low, (c.requires.rows, (c.requires.room, c.requires.known))),
+  (c.requires.rows, (c.requires.room, c.requires.known)),
 )

@@ -23,7 +23,6 @@ starts-starts-requires g c = (
       unfinished = λ none.
           let yes = c.is_finished.ensures.value.1 none in
           let no = c.if-is_finished.false in cc;
-      low = c.requires.low;
       held = c.requires.held;
       known = c.requires.known;
     },
@@ -37,7 +36,7 @@ returns-then-is_finished-clause-known g c =
     let none : IsFinished x = c.is_finished.ensures.value.0 c.if-is_finished.true in
     knows_more (g.M.RankedMeans.mean c.args.means.now) c.args.self.now x
     (c.from-place.result % g.row.ROWS)
-    (record { after = replicate 6 (replicate 3 0) }) c.is_finished.ensures.position c.requires.low
+    (record { after = replicate 6 (replicate 3 0) }) c.is_finished.ensures.position
     (omega arith) c.requires.rows
     (ap (λ r. r % g.row.ROWS) (c.from-place.ensures ∙ c.rank.ensures.value))
     (mod-lt c.from-place.result (has_some g.row.ROWS (rank c.args.position.now) c.requires.rows))
@@ -63,7 +62,7 @@ returns-clause-known g c =
     let x = c.args.position.now in
     let starts = c.starts-starts.result in
     knows_more mean c.args.self.now x (c.from-place.result % g.row.ROWS) c.row_of.result
-    c.is_finished.ensures.position c.requires.low (omega arith) c.requires.rows
+    c.is_finished.ensures.position (omega arith) c.requires.rows
     (ap (λ r. r % g.row.ROWS) (c.from-place.ensures ∙ c.rank.ensures.value))
     (mod-lt c.from-place.result (has_some g.row.ROWS (rank c.args.position.now) c.requires.rows))
     c.requires.known
