@@ -13,7 +13,6 @@ import pytest
 from running import ROOT, run, succeed
 
 PROGRAM = ROOT / "crates/bearoff_cli/out/bearoff_cli"
-TRIALS = ROOT / "crates/failing_calls/out/failing_calls"
 
 
 def pytest_addoption(parser):
@@ -23,6 +22,10 @@ def pytest_addoption(parser):
     parser.addoption(
         "--trials",
         help="the program of crates/failing_calls, in place of the one that was proved here",
+    )
+    parser.addoption(
+        "--number-trials",
+        help="the program of crates/number_trials, in place of the one that was proved here",
     )
     parser.addoption("--by-hand", action="store_true", help="run what takes long, too")
 
@@ -88,14 +91,15 @@ def program(request):
     return PROGRAM
 
 
-@pytest.fixture(scope="session")
-def trials(request):
-    """The program of crates/failing_calls."""
-    if request.config.getoption("--trials"):
-        return given(request.config.getoption("--trials"))
-    if not os.access(TRIALS, os.X_OK):
+def program_of(request, crate, option):
+    """The program of a crate: the one that an option names, or the one that was proved and built
+    of the sources as they are."""
+    if request.config.getoption(option):
+        return given(request.config.getoption(option))
+    program = ROOT / "crates" / crate / "out" / crate
+    if not os.access(program, os.X_OK):
         pytest.fail(
-            f"{TRIALS} is not built: run rt ci, or rt run in crates/failing_calls", pytrace=False
+            f"{program} is not built: run rt ci, or rt run in crates/{crate}", pytrace=False
         )
     sources = [
         ROOT / "crates.txt",
@@ -103,12 +107,24 @@ def trials(request):
         *(ROOT / "crates").glob("*/*/**/*.antt"),
     ]
     newest = max(path.stat().st_mtime for path in sources if "out" not in path.parts)
-    if TRIALS.stat().st_mtime < newest:
+    if program.stat().st_mtime < newest:
         pytest.fail(
-            f"a source has changed since {TRIALS} was proved: run rt run in crates/failing_calls",
+            f"a source has changed since {program} was proved: run rt run in crates/{crate}",
             pytrace=False,
         )
-    return TRIALS
+    return program
+
+
+@pytest.fixture(scope="session")
+def trials(request):
+    """The program of crates/failing_calls."""
+    return program_of(request, "failing_calls", "--trials")
+
+
+@pytest.fixture(scope="session")
+def number_trials(request):
+    """The program of crates/number_trials."""
+    return program_of(request, "number_trials", "--number-trials")
 
 
 @pytest.fixture(scope="session")

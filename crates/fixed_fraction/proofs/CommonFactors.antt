@@ -240,19 +240,23 @@ factors : 6 * whole ≡ 2 ^ 45 * (3 ^ 45 * 1)
 unfolding whole
 factors = refl
 
--- so numbers of which neither two nor three divides both are in lowest terms, where the second
--- divides that denominator
-pub lowest_without : (n d : ℕ) → d ∣ 6 * whole → AreApart 2 n d → AreApart 3 n d → IsGcd n d 1
-lowest_without n d divides twos threes = (
+-- a number and a product of threes and twos of which neither two nor three divides both are in
+-- lowest terms
+lowest_without : (n k s : ℕ) → AreApart 2 n (3 ^ k * 2 ^ s) → AreApart 3 n (3 ^ k * 2 ^ s) →
+    IsGcd n (3 ^ k * 2 ^ s) 1
+lowest_without n k s twos threes = (
   one-dvd n,
-  one-dvd d,
+  one-dvd (3 ^ k * 2 ^ s),
   λ g p q.
-      divides_rest 3 g 45 1 rests_of_three (omega arith)
-      (λ three. threes (dvd_trans 3 three p, dvd_trans 3 three q))
-      (divides_rest 2 g 45 (3 ^ 45 * 1) rests_of_two (omega arith)
+      divides_rest 2 g s 1 rests_of_two (omega arith)
       (λ two. twos (dvd_trans 2 two p, dvd_trans 2 two q))
-      (subst (λ m. g ∣ m) factors (dvd_trans g q divides))),
+      (subst (λ m. g ∣ m) (one (2 ^ s))
+      (divides_rest 3 g k (2 ^ s) rests_of_three (omega arith)
+      (λ three. threes (dvd_trans 3 three p, dvd_trans 3 three q)) q)),
 )
+  where
+    one : (m : ℕ) → m ≡ m * 1
+    one m = omega arith
 
 -- three divides not both of a number and a product of threes and twos, where it divides not both of
 -- the number and the threes, and two likewise
@@ -300,15 +304,15 @@ product_divides k s few few_twos =
         ∙ sym factors
 
 -- terms that the threes, and then the twos, were taken out of are lowest
-pub lowest_taken_out : (m b n e k s : ℕ) → k ≤ 45 → s ≤ 45 → AreApart 3 m (3 ^ k) →
-    IsDivided m b n e → AreApart 2 n (2 ^ s) → IsGcd n (3 ^ k * 2 ^ s) 1
-lowest_taken_out m b n e k s few few_twos threes less twos =
+pub lowest_taken_out : (m b n e k s : ℕ) → AreApart 3 m (3 ^ k) → IsDivided m b n e →
+    AreApart 2 n (2 ^ s) → IsGcd n (3 ^ k * 2 ^ s) 1
+lowest_taken_out m b n e k s threes less twos =
     let apart = apart_of_product n k s
     (λ both. threes (
       subst (λ a. 3 ∣ a) less.over (dvd-mul_left_of_dvd 3 both.0 less.factor),
       both.1,
     )) twos in
-    lowest_without n (3 ^ k * 2 ^ s) (product_divides k s few few_twos) apart.1 apart.0
+    lowest_without n k s apart.1 apart.0
 
 -- divided with one factor of a product, and then with the other
 pub divided_by_both : (a b c n d m e : ℕ) → IsDivided a b n d → IsDivided n c m e →
@@ -355,3 +359,18 @@ divided_over_whole a n k s m e all first second = record {
   where
     whole_factors : 3 ^ 44 * 2 ^ 44 ≡ whole
     whole_factors = refl
+
+-- a number that another divides, and a power of that, divided by it
+pub divided_once : (m p k : ℕ) → m % p ≡ 0 → 0 < k → IsDivided m (p ^ k) (m / p) (p ^ (k - 1))
+divided_once m p k none some = record {
+  factor = p;
+  over = mul-div_cancel' p (dvd_of_mod-eq-zero p none);
+  under = sym (pow-succ' p (k - 1)) ∙ ap (λ j. p ^ j) (next k some);
+}
+  where
+    next : (k : ℕ) → 0 < k → suc (k - 1) ≡ k
+    next k some = omega arith
+
+-- what leaves a rest divides not both of a number and another one
+pub rest_apart : (p n d : ℕ) → ¬ (n % p ≡ 0) → AreApart p n d
+rest_apart p n d rest both = rest (mod-eq-zero_of_dvd p both.0)

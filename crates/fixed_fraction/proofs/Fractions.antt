@@ -1,6 +1,6 @@
 -- Fractions that a common factor was taken out of.
 use Prim.Native.Nat.{◌∣◌}
-use Rattle.std.proofs.Common.{◌≡◌, ℕ, zero, suc, ◌+◌, ◌*◌, ◌%◌, ◌^◌, ◌<◌, ◌≤◌, map, refl, ap, ◌∙◌, arith}
+use Rattle.std.proofs.Common.{◌≡◌, ℕ, zero, suc, ◌+◌, ◌*◌, ◌%◌, ◌^◌, ◌<◌, ◌≤◌, map, refl, ap, ◌∙◌, arith, List}
 use Rattle.std.proofs.Common.{subst, sym, add-one}
 use Rattle.std.specs.Prelude.{slice_index_or}
 use Rattle.std.specs.Int.{IsGcd}
@@ -53,14 +53,16 @@ small_fraction a b n d positive within is divides lowest = record {
   lowest = lowest;
 }
 
--- the powers of three, as they stand in a table, are at their places
+-- powers, as they stand in a table, are at their places
+pub power_at : (b n k : ℕ) (table : List ℕ) → table ≡ map (λ k. b ^ k) (range_with_len 0 n) →
+    k < n → slice_index_or table k 0 ≡ b ^ k
+power_at b n k table is few =
+    ap (λ xs. slice_index_or xs k 0) is
+    ∙ get_or-map-range_with_len (λ k. b ^ k) 0 n k k 0 few (omega arith)
+
+-- .. so the powers of three
 pub at_power : (k : ℕ) → k < 46 → slice_index_or POWERS_OF_THREE k 0 ≡ 3 ^ k
-at_power k few =
-    ap (λ xs. slice_index_or xs k 0) table
-    ∙ get_or-map-range_with_len (λ k. 3 ^ k) 0 46 k k 0 few (omega arith)
-  where
-    table : POWERS_OF_THREE ≡ map (λ k. 3 ^ k) (range_with_len 0 46)
-    table = refl
+at_power k few = power_at 3 46 k POWERS_OF_THREE refl few
 
 -- a product of threes and twos, no more of each than the greatest denominator has, fits 128 bits
 pub no_bit_lost : (k s : ℕ) → k ≤ 45 → s ≤ 45 → 3 ^ k * 2 ^ s % 2 ^ 128 ≡ 3 ^ k * 2 ^ s
@@ -118,10 +120,10 @@ numerator_fits rolls n d few is = by_factor is.factor is.over is.under
         omega (arith, less)
 
 -- a mean's terms by 49 and by 6, and then divided, are those of its effective pip count, divided
-pub scaled_divided : (rolls n k s m e : ℕ) → IsDivided rolls whole n (3 ^ k * 2 ^ s) →
-    IsDivided (49 * n) (3 ^ (k + 1) * 2 ^ (s + 1)) m e → IsDivided (49 * rolls) (6 * whole) m e
-scaled_divided rolls n k s m e first second =
-    divided_twice (49 * rolls) (6 * whole) (49 * n) (3 ^ (k + 1) * 2 ^ (s + 1)) m e
+pub scaled_divided : (rolls b n k s m e : ℕ) → IsDivided rolls b n (3 ^ k * 2 ^ s) →
+    IsDivided (49 * n) (3 ^ (k + 1) * 2 ^ (s + 1)) m e → IsDivided (49 * rolls) (6 * b) m e
+scaled_divided rolls b n k s m e first second =
+    divided_twice (49 * rolls) (6 * b) (49 * n) (3 ^ (k + 1) * 2 ^ (s + 1)) m e
     (record {
       factor = first.factor;
       over = turned first.factor 49 n ∙ ap (λ l. 49 * l) first.over;

@@ -1,5 +1,8 @@
+pub mod TwoParts
 pub mod Fractions
 pub mod Pulls
 pub mod Shares
 pub mod RollSums
 pub mod CommonFactors
+pub mod WideNumbers
+pub mod Ended

@@ -67,17 +67,24 @@ sum-places xs len =
     sym all ∙ sum-by_places xs 23 (omega arith)
 
 -- one number more, of those that go by the index of the roll
+pub roll-next : (g : ℕ → ℕ) (i value w total : ℕ) → i < 21 → value ≡ g i →
+    w ≡ weight (roll_at i) →
+    total ≡ sum_by (λ v. weight v * g (roll_index v)) (take i all_rolls) →
+    total + w * value ≡ sum_by (λ v. weight v * g (roll_index v)) (take (i + 1) all_rolls)
+roll-next g i value w total lt is weighs so_far =
+    let here : value ≡ g (roll_index (roll_at i)) = is ∙ ap g (sym (roll_of_index i lt).1) in
+    let part : w * value ≡ weight (roll_at i) * g (roll_index (roll_at i)) =
+    ap (λ n. n * value) weighs ∙ ap (λ n. weight (roll_at i) * n) here in
+    rw (roll-more (λ v. weight v * g (roll_index v)) i lt) (omega (arith, so_far, part))
+
+-- .. of which none is too large
 module _ (g : ℕ → ℕ) (i value w total most : ℕ) (lt : i < 21) (is : value ≡ g i)
     (small : value ≤ most) (weighs : w ≡ weight (roll_at i))
     (so_far : total ≡ sum_by (λ v. weight v * g (roll_index v)) (take i all_rolls))
     (bound : total ≤ sum_by weight (take i all_rolls) * most) where
   pub roll-added : total + w * value
       ≡ sum_by (λ v. weight v * g (roll_index v)) (take (i + 1) all_rolls)
-  roll-added =
-      let here : value ≡ g (roll_index (roll_at i)) = is ∙ ap g (sym (roll_of_index i lt).1) in
-      let part : w * value ≡ weight (roll_at i) * g (roll_index (roll_at i)) =
-      ap (λ n. n * value) weighs ∙ ap (λ n. weight (roll_at i) * n) here in
-      rw (roll-more (λ v. weight v * g (roll_index v)) i lt) (omega (arith, so_far, part))
+  roll-added = roll-next g i value w total lt is weighs so_far
 
   pub roll-bound : total + w * value ≤ sum_by weight (take (i + 1) all_rolls) * most
   roll-bound =

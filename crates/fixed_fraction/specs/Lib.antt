@@ -1,3 +1,4 @@
+pub mod Board
 pub mod Ratios
 pub mod Shares
 pub mod Totals

@@ -18,8 +18,8 @@ pips_divided : (c : After-without_common-epc) → IsDivided (49 * c.numerator.re
     c.without_common-epc.result.numerator
     (3 ^ c.without_common-epc.result.threes * 2 ^ c.without_common-epc.result.twos)
 pips_divided c =
-    scaled_divided c.numerator.result c.lowest-mean.result.numerator c.lowest-mean.result.threes
-    c.lowest-mean.result.twos _ _ c.lowest-mean.ensures.divided
+    scaled_divided c.numerator.result whole c.lowest-mean.result.numerator
+    c.lowest-mean.result.threes c.lowest-mean.result.twos _ _ c.lowest-mean.ensures.divided
     c.without_common-epc.ensures.divided
 
 pub fraction_of-requires-clause-within : goal.fraction_of-requires-clause-within

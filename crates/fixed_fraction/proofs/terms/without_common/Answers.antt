@@ -1,4 +1,4 @@
-use Rattle.std.proofs.Common.{◌*◌, ◌^◌, subst, sym, arith}
+use Rattle.std.proofs.Common.{◌*◌, ◌^◌, subst, sym}
 use Rattle.std.specs.Int.{IsGcd}
 use Rattle.fixed_fraction.specs.Ratios.{IsDivided}
 use Rattle.fixed_fraction.proofs.CommonFactors.{divided_by_both, lowest_taken_out}
@@ -26,4 +26,4 @@ returns-clause-lowest c =
     subst
     (λ k. IsGcd c.without_twos.result.numerator (3 ^ k * 2 ^ c.without_twos.result.twos) 1)
     (sym less.threes)
-    (lowest_taken_out _ _ _ _ _ _ (omega arith) (omega arith) odd.apart less.divided less.apart)
+    (lowest_taken_out _ _ _ _ _ _ odd.apart less.divided less.apart)

@@ -1,0 +1,105 @@
+//! The bytes of numbers in two parts, and powers of 36.
+ghost use Rattle.std.specs.Prelude.{◌≡◌, ◌+◌, ◌*◌, ◌^◌, ◌<◌, ◌≤◌, ◌↔◌, ◌++◌, length, IsTrue};
+ghost use Rattle.std.specs.Int.{from_be_bytes, to_be_bytes, w64, w128};
+ghost use Rattle.race_model.specs.Files.{bytes_at};
+ghost use Rattle.fixed_fraction.specs.Board.{part};
+
+/// How many of a lower part are one of the upper part, 36 ^ 11 (this project's profile).
+pub const PART: u64 = 131621703842267136;
+
+/// 36 to the power of 0 to 22.
+const POWERS_OF_36: [u128; 23] = [
+    1,
+    36,
+    1296,
+    46656,
+    1679616,
+    60466176,
+    2176782336,
+    78364164096,
+    2821109907456,
+    101559956668416,
+    3656158440062976,
+    131621703842267136,
+    4738381338321616896,
+    170581728179578208256,
+    6140942214464815497216,
+    221073919720733357899776,
+    7958661109946400884391936,
+    286511799958070431838109696,
+    10314424798490535546171949056,
+    371319292745659279662190166016,
+    13367494538843734067838845976576,
+    481229803398374426442198455156736,
+    17324272922341479351919144385642496,
+];
+
+/// 36 to the power of up to 22.
+pub(crate) fn power_of_36(exponent: u8) -> u128
+    requires { exponent ≤ 22 }
+    ensures { result ≡ 36 ^ exponent }
+{
+    POWERS_OF_36[usize::from(exponent)]
+}
+
+/// Whether two parts are a number's: the lower one is less than 36 ^ 11, and the number at most so
+/// many of 36 ^ 11.
+#[inline(always)]
+pub(crate) fn are_parts(upper: u128, lower: u64, most: u128) -> bool
+    ensures { IsTrue result ↔ ((lower < part) × (upper * part + lower ≤ most * part)) }
+{
+    lower < PART && (upper < most || (upper == most && lower == 0))
+}
+
+/// Whether two parts are those of a count of `k` throws, k from 12 to 33: the lower one is less
+/// than 36 ^ 11, and the count at most 36 ^ k.
+#[inline(always)]
+pub(crate) fn are_count_parts(k: u8, upper: u128, lower: u64) -> bool
+    requires least { 12 ≤ k }
+    requires most { k ≤ 33 }
+    ensures { IsTrue result ↔ ((lower < part) × (upper * part + lower ≤ 36 ^ k)) }
+{
+    are_parts(upper, lower, power_of_36(k - 11))
+}
+
+/// The bytes of an upper part of 128 bits and a lower part, each with the greatest byte first.
+pub(crate) fn long_bytes(upper: u128, lower: u64) -> [u8; 24]
+    ensures { result ≡ to_be_bytes w128 upper ++ to_be_bytes w64 lower }
+{
+    let mut bytes = [0; 24];
+    bytes[..16].copy_from_slice(&upper.to_be_bytes());
+    bytes[16..].copy_from_slice(&lower.to_be_bytes());
+    bytes
+}
+
+/// The same of an upper part of 64 bits.
+pub(crate) fn middle_bytes(upper: u64, lower: u64) -> [u8; 16]
+    ensures { result ≡ to_be_bytes w64 upper ++ to_be_bytes w64 lower }
+{
+    let mut bytes = [0; 16];
+    bytes[..8].copy_from_slice(&upper.to_be_bytes());
+    bytes[8..].copy_from_slice(&lower.to_be_bytes());
+    bytes
+}
+
+/// The number in the 16 bytes from a place on, greatest byte first.
+pub(crate) fn read_wide(bytes: &[u8], place: usize) -> u128
+    requires { place + 16 ≤ length bytes.now }
+    ensures { result ≡ from_be_bytes w128 (bytes_at bytes.now place 16) }
+{
+    match bytes[place..place + 16].try_into() {
+        Ok(number) => u128::from_be_bytes(number),
+        Err(_) => unreachable!(),
+    }
+}
+
+/// The number in the 8 bytes from a place on, greatest byte first.
+pub(crate) fn read_long(bytes: &[u8], place: usize) -> u64
+    requires { place + 8 ≤ length bytes.now }
+    ensures { result ≡ from_be_bytes w64 (bytes_at bytes.now place 8) }
+{
+    match bytes[place..place + 8].try_into() {
+        Ok(number) => u64::from_be_bytes(number),
+        Err(_) => unreachable!(),
+    }
+}

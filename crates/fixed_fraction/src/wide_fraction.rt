@@ -1,0 +1,152 @@
+//! Fractions of the whole board in lowest terms, by twos and threes alone.
+ghost use Prim.Native.Nat.{◌∣◌};
+ghost use Rattle.std.specs.Prelude.{◌≡◌, ℕ, ◌+◌, ◌-◌, ◌*◌, ◌%◌, ◌^◌, ◌<◌, ◌≤◌};
+ghost use Rattle.std.specs.Int.{IsGcd};
+ghost use Rattle.race_model.specs.Fractions.{IsFraction};
+ghost use Rattle.fixed_fraction.specs.Board.{board_whole};
+ghost use Rattle.fixed_fraction.specs.Ratios.{Ratio, IsDivided, AreApart};
+
+use crate::board_mean::BoardMean;
+use crate::counts::LongCount;
+use crate::wide::Wide;
+use std::marker::Model;
+
+/// A fraction in lowest terms, as replies about the whole board print it: its numerator and its
+/// denominator have at most 192 bits.
+#[derive(Clone, Copy, Debug, PartialEq, Eq)]
+pub struct WideFraction {
+    numerator: Wide,
+    denominator: Wide,
+}
+
+// Clauses see the numerator and the denominator.
+impl Model for WideFraction {
+    ghost Value = { Ratio };
+
+    ghost view = { λ fraction. record {
+      numerator = fraction.numerator;
+      denominator = fraction.denominator;
+    } };
+
+    ghost invariant = { λ fraction.
+        (0 < fraction.denominator) × IsGcd fraction.numerator fraction.denominator 1 };
+
+    ghost inverse = { λ ratio. record {
+      numerator = ratio.numerator;
+      denominator = ratio.denominator;
+    } };
+}
+
+impl WideFraction {
+    /// The numerator in lowest terms.
+    pub fn numerator(self) -> Wide
+        ensures { result ≡ self.numerator }
+    {
+        self.numerator
+    }
+
+    /// The denominator in lowest terms, not 0.
+    pub fn denominator(self) -> Wide
+        ensures value { result ≡ self.denominator }
+        ensures positive { 0 < self.denominator }
+    {
+        self.denominator
+    }
+}
+
+/// A numerator over a product of so many threes and so many twos.
+#[derive(Clone, Copy)]
+struct WideTerms {
+    numerator: Wide,
+    threes: u32,
+    twos: u32,
+}
+
+/// The mean number of rolls as a fraction, and its effective pip count: 49/6 of it, since an
+/// average roll is worth 49/6 pips with doubles counted fourfold (the GNU Backgammon manual).
+pub fn board_mean_and_epc(mean: BoardMean) -> (WideFraction, WideFraction)
+    ensures mean { IsFraction mean board_whole result.0.numerator result.0.denominator }
+    ensures epc { IsFraction (49 * mean) (6 * board_whole)
+        result.1.numerator result.1.denominator }
+{
+    let lowest_mean = lowest(WideTerms {
+        numerator: mean.numerator(),
+        threes: 66,
+        twos: 66,
+    });
+    let lowest_epc = lowest(WideTerms {
+        numerator: lowest_mean.numerator.times(49),
+        threes: lowest_mean.threes + 1,
+        twos: lowest_mean.twos + 1,
+    });
+    (fraction_of(lowest_mean), fraction_of(lowest_epc))
+}
+
+/// The share of exactly `k` rolls as a fraction, from the count of sequences of so many throws
+/// that end the game with the last one.
+pub fn board_share(count: LongCount, k: u8) -> WideFraction
+    requires few { k ≤ 33 }
+    requires within { count ≤ 36 ^ k }
+    ensures { IsFraction (count * 36 ^ (33 - k)) board_whole
+        result.numerator result.denominator }
+{
+    let factors = 2 * u32::from(k);
+    fraction_of(lowest(WideTerms {
+        numerator: count.number(),
+        threes: factors,
+        twos: factors,
+    }))
+}
+
+/// The terms without the threes and the twos that both have.
+fn lowest(terms: WideTerms) -> WideTerms
+    ensures divided { IsDivided terms.numerator (3 ^ terms.threes * 2 ^ terms.twos)
+        result.numerator (3 ^ result.threes * 2 ^ result.twos) }
+    ensures threes { result.threes ≤ terms.threes }
+    ensures twos { result.twos ≤ terms.twos }
+    ensures lowest { IsGcd result.numerator (3 ^ result.threes * 2 ^ result.twos) 1 }
+{
+    let (odd, threes) = without(terms.numerator, 3, terms.threes);
+    let (numerator, twos) = without(odd, 2, terms.twos);
+    WideTerms {
+        numerator,
+        threes,
+        twos,
+    }
+}
+
+/// A number and a power of another one without what they have of that in common: the number, and
+/// the exponent that is left.
+fn without(number: Wide, factor: u64, exponent: u32) -> (Wide, u32)
+    requires { 2 ≤ factor }
+    ensures divided { IsDivided number (factor ^ exponent) result.0 (factor ^ result.1) }
+    ensures few { result.1 ≤ exponent }
+    ensures apart { AreApart factor result.0 (factor ^ result.1) }
+{
+    let mut less = number;
+    let mut left = exponent;
+    while left > 0 {
+        let (quotient, rest) = less.divided(factor);
+        if rest != 0 {
+            return (less, left);
+        }
+        less = quotient;
+        left -= 1;
+    }
+    (less, left)
+}
+
+/// Lowest terms as a fraction.
+fn fraction_of(terms: WideTerms) -> WideFraction
+    requires threes { terms.threes ≤ 67 }
+    requires twos { terms.twos ≤ 67 }
+    requires lowest { IsGcd terms.numerator (3 ^ terms.threes * 2 ^ terms.twos) 1 }
+    ensures numerator { result.numerator ≡ terms.numerator }
+    ensures denominator { result.denominator ≡ 3 ^ terms.threes * 2 ^ terms.twos }
+{
+    let threes = Wide::of(1).times_power(3, terms.threes);
+    WideFraction {
+        numerator: terms.numerator,
+        denominator: threes.times_power(2, terms.twos),
+    }
+}
