@@ -1,0 +1,2 @@
+pub mod KnownStarts
+pub mod BoardPlaces
