@@ -21,13 +21,15 @@ export function chancesOf(database, points) {
         if (share.numerator === 0n) return [];
         const exactly = BigInt(database.thousandths(share));
         const within = BigInt(database.within(points, rolls).thousandths);
-        return [{ rolls, exactly, within, exactlyText: percent(exactly), withinText: percent(within) }];
+        return [{ rolls, exactly, within, exactlyText: percent(exactly),
+            withinText: percent(within) }];
     });
 }
 
 // Every position that a roll can lead to, with what it loses, the best first.
 export const choicesOf = (database, points, roll) => database.moves(points, roll).map((choice) => ({
-    to: choice.to, lost: choice.loss, loss: BigInt(database.thousandths(choice.loss)), isBest: choice.loss.numerator === 0n,
+    to: choice.to, lost: choice.loss, loss: BigInt(database.thousandths(choice.loss)),
+    isBest: choice.loss.numerator === 0n,
 }));
 
 // The same with the play that leads there.
@@ -35,7 +37,10 @@ export function playsOf(database, points, roll) {
     const recorded = database.play(points, roll).to.join();
     return choicesOf(database, points, roll).map(({ to, lost, loss, isBest }) => {
         const moves = database.playTo(points, roll, to).moves.map((move) => [move.from, move.to]);
-        return { to, moves, text: notation(moves), loss, lossText: decimal(loss), exact: exactText(lost), isBest, isRecorded: to.join() === recorded };
+        return {
+            to, moves, text: notation(moves), loss, lossText: decimal(loss), exact: exactText(lost),
+            isBest, isRecorded: to.join() === recorded,
+        };
     });
 }
 

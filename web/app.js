@@ -1,4 +1,5 @@
-// The page: draws what the state says, and hands on what is clicked, typed, dropped, and where Back and Forward lead.
+// The page: draws what the state says, and hands on what is clicked, typed, dropped, and where Back
+// and Forward lead.
 import { abilities } from "../js/abilities.js";
 import { Client } from "./client.js";
 import { Dragging } from "./dragging.js";
@@ -10,10 +11,11 @@ import { Session } from "./session.js";
 import { readDraft, readPicks, writeDraft as keepDraft, writePicks } from "./kept.js";
 import { asText, readLessons } from "./trainer.js";
 import {
-    addCheckers, addDraft, askNext, beginDraft, captionOf, chooseDrill, choosePlay, chooseRoll, closeDraft, draftText, endTraining, giveEstimate, giveLesson, goToStep,
-    isTraining, keep, makingOf, moveDraft, openAnswer, orderOf, picksOf, playOn, pressed, remove, removeDraft, resetGuesses, setCaption, setEstimate,
-    setGuess, setPoints, stopAt, tellDraft, titleDraft, touch, typePosition, undo, visit, withPicks,
-    writeDraft,
+    addCheckers, addDraft, askNext, beginDraft, captionOf, chooseDrill, choosePlay, chooseRoll,
+    closeDraft, draftText, endTraining, giveEstimate, giveLesson, goToStep, hasBegun, isTraining,
+    keep, makingOf, moveDraft, needsMore, openAnswer, orderOf, picksOf, playOn, pressed, remove,
+    removeDraft, resetGuesses, setCaption, setEstimate, setGuess, setPoints, stopAt, tellDraft,
+    titleDraft, touch, triedAgain, typePosition, undo, visit, withPicks, writeDraft,
 } from "./state.js";
 import { draw } from "./tree.js";
 import { view } from "./view.js";
@@ -45,9 +47,12 @@ export function put(document, shown) {
     at("rolls").classList.toggle("opened", shown.isOpen);
     document.body.classList.toggle("compact", shown.isCompact);
     document.body.classList.toggle("training", shown.isTraining);
+    document.body.classList.toggle("playing", shown.isPlaying);
     document.body.classList.toggle("rolled", shown.hasRoll);
     // a focus whose element went goes on where one trains
-    if (had && had !== document.body && !document.body.contains(had) && shown.isTraining) at("coach").focus({ preventScroll: true });
+    if (had && had !== document.body && !document.body.contains(had) && shown.isTraining) {
+        at("coach").focus({ preventScroll: true });
+    }
 }
 
 // What the parts of the page do with a session.
@@ -59,7 +64,8 @@ export function actionsOf(session, document, window) {
     };
     // the first of some keys that is there, or else a part of the page
     const focusOn = (keys, name) => {
-        const found = keys.map((key) => document.querySelector(`[data-key="${key}"]`)).find(Boolean);
+        const found = keys.map((key) => document.querySelector(`[data-key="${key}"]`))
+            .find(Boolean);
         (found || document.getElementById(name)).focus({ preventScroll: true });
     };
     const withDraft = (use) => {
@@ -72,7 +78,8 @@ export function actionsOf(session, document, window) {
     // where a checker that is dragged is taken, and then where it is dropped
     const pick = (place, isFirst) => {
         if (isFirst) change((state) => touch({ ...state, picked: null }, place));
-        else change((state) => touch(state, makingOf(state)?.ways.get(state.picked)?.has(place) ? place : null));
+        else change((state) =>
+            touch(state, makingOf(state)?.ways.get(state.picked)?.has(place) ? place : null));
         return session.state.picked !== null;
     };
     const dragging = new Dragging(document, pick);
@@ -89,25 +96,48 @@ export function actionsOf(session, document, window) {
         type(text) {
             change(typePosition, text);
             // an ID of the position that was there already gives way to its counts
-            if (!session.state.typed) document.getElementById("counts").value = session.state.points.join();
+            if (!session.state.typed) {
+                document.getElementById("counts").value = session.state.points.join();
+            }
         },
+        // a play that is to be guessed can be made on the board, and so that comes into sight
         roll(roll, button) {
             change(chooseRoll, roll);
-            if (roll && button) button.scrollIntoView({ block: "nearest" });
+            if (roll && button) {
+                (makingOf(session.state) ? document.getElementById("board") : button)
+                    .scrollIntoView({ block: "nearest" });
+            }
         },
-        // a play that is asked where one trains leads on to what comes next
+        // a play that is asked where one trains leads on to what comes next, and a guess to what it
+        // lost
         play(text) {
             const isAsked = makingOf(session.state) !== null;
             change(choosePlay, text);
             if (!isAsked) return;
-            document.body.scrollIntoView({ block: "start" });
-            focusOn(["next question", "next step", "next lesson", "finish"], "steering");
+            if (isTraining(session.state)) {
+                document.body.scrollIntoView({ block: "start" });
+                focusOn(["next question", "next step", "next lesson", "finish"], "steering");
+            } else {
+                document.getElementById("plays").scrollIntoView({ block: "nearest" });
+                focusOn([`play ${text}`], "plays");
+            }
         },
         touch: (place) => change(touch, place),
         undo() {
             change(undo);
             focusOn(["undo"], "coach");
-            if (!document.querySelector('[data-key="undo"]')) onBoard()?.focus({ preventScroll: true });
+            if (!document.querySelector('[data-key="undo"]')) {
+                onBoard()?.focus({ preventScroll: true });
+            }
+        },
+        // takes back what was begun on the board, and else leaves it
+        leave() {
+            if (hasBegun(session.state)) this.undo();
+            else this.close();
+        },
+        retry() {
+            change(triedAgain);
+            focusOn([], "numbers");
         },
         grab: (event) => dragging.grab(event),
         close() {
@@ -184,7 +214,8 @@ export function actionsOf(session, document, window) {
         tryDraft: () => withDraft((text) => change(giveLesson, text)),
         copyDraft: () => withDraft(async (text) => {
             const href = `${window.location.href.replace(/#.*/, "")}#${new URLSearchParams({ text })}`;
-            const told = await window.navigator.clipboard.writeText(href).then(() => "The link of the lesson is copied.",
+            const told = await window.navigator.clipboard.writeText(href)
+                .then(() => "The link of the lesson is copied.",
                 () => "The browser lets this page copy nothing: try the lesson, and copy its address.");
             change(tellDraft, told);
         }),
@@ -193,7 +224,8 @@ export function actionsOf(session, document, window) {
             change(tellDraft, "The lesson is saved as lesson.txt.");
         }),
         // another drill like the one that is over
-        another: () => change(chooseDrill, { level: "any", ...session.state.drill, seed: "" }, anySeed()),
+        another: () =>
+            change(chooseDrill, { level: "any", ...session.state.drill, seed: "" }, anySeed()),
         reset() {
             const { roll } = session.state;
             change(resetGuesses);
@@ -230,7 +262,8 @@ export async function copyLink(document, window, href) {
         window.setTimeout(() => { at("copy").textContent = "Copy the link"; }, LONG);
         at("link").hidden = true;
     } catch {
-        at("copied").textContent = `The browser lets this page copy nothing. Copy the link from here:${where}`;
+        at("copied").textContent =
+            `The browser lets this page copy nothing. Copy the link from here:${where}`;
         at("link").hidden = false;
         at("link").value = href;
         at("link").select();
@@ -245,7 +278,8 @@ export async function copyPosition(document, window, points) {
         await window.navigator.clipboard.writeText(text);
         at("copied").textContent = "The position is copied as text.";
     } catch {
-        at("copied").textContent = `The browser lets this page copy nothing. The position is ${points.join()}.`;
+        at("copied").textContent =
+            `The browser lets this page copy nothing. The position is ${points.join()}.`;
     }
 }
 
@@ -265,7 +299,8 @@ export async function savePicture(document, window, kind, points, caption) {
     try {
         const picture = kind === "png" ? await asPng(document, window, points, caption)
             : new window.Blob([asSvg(points, caption)], { type: "image/svg+xml" });
-        told.textContent = `The picture is saved as ${saveAs(document, window, picture, `bearoff-${points.join("-")}.${kind}`)}.`;
+        const name = saveAs(document, window, picture, `bearoff-${points.join("-")}.${kind}`);
+        told.textContent = `The picture is saved as ${name}.`;
     } catch (error) {
         told.textContent = `The browser makes no such picture: ${error.message}.`;
     }
@@ -284,7 +319,9 @@ export function start(document, window, parts) {
         const shown = view(state, act);
         put(document, shown);
         const [what, which] = shown.trained;
-        if (what && (what !== trained[0] || which !== trained[1])) document.body.scrollIntoView({ block: "start" });
+        if (what && (what !== trained[0] || which !== trained[1])) {
+            document.body.scrollIntoView({ block: "start" });
+        }
         if (what && what !== trained[0]) at("coach").focus({ preventScroll: true });
         trained = shown.trained;
     };
@@ -292,21 +329,38 @@ export function start(document, window, parts) {
     const session = new Session(readLink(window.location.hash), (state, isStep) => {
         show(state);
         if (state.database) document.body.dataset.ready = String(state.database.bound);
-        if (state.loads === 0) bar.show(null);
+        tellBar();
         past.remember(writeLink(state), isStep && !state.isCompact);
         writePicks(window, picksOf(state));
         keepDraft(window, state.draft);
     }, readLessons(parts.lessons || "").lessons);
-    session.state = { ...withPicks(session.state, readPicks(window)), draft: readDraft(window) };
     act = actionsOf(session, document, window);
 
-    const load = (text, question, lent) => {
-        if (!session.client) return;
-        bar.show({ from: 0.02, until: 0.1, usual: 200, text });
-        session.load(question, lent);
+    const starting = (text) => ({ from: 0.02, until: 0.1, usual: 200, text });
+
+    // What the two workers are at; that of the second one is told where something needs it.
+    const steps = { first: null, second: null };
+
+    function tellBar() {
+        const { loads, isWidening } = session.state;
+        const second = isWidening && needsMore(session.state) ? steps.second : null;
+        bar.show(loads > 0 ? steps.first : second);
+    }
+
+    const makeClient = (isSecond) => {
+        const name = isSecond ? "second" : "first";
+        steps[name] = starting("Starting\u2026");
+        tellBar();
+        return new Client(parts.worker, (step) => {
+            steps[session.second ? name : "first"] = step;
+            tellBar();
+        });
     };
 
-    const build = (bound) => load("Starting\u2026", { kind: "build", bound });
+    const load = (text, question, lent) => {
+        steps.first = starting(text);
+        session.load(question, lent);
+    };
 
     const take = (file) => {
         if (!file) return;
@@ -314,7 +368,9 @@ export function start(document, window, parts) {
             file.text().then((text) => act.give(text));
             return;
         }
-        const read = file.arrayBuffer().then((bytes) => ({ kind: "open", file: new Uint8Array(bytes) }));
+        const read = file.arrayBuffer().then((bytes) => ({
+            kind: "open", file: new Uint8Array(bytes),
+        }));
         load("Reading the file\u2026", read, ({ file: bytes }) => [bytes.buffer]);
     };
 
@@ -322,7 +378,6 @@ export function start(document, window, parts) {
         if (!past.isElsewhere()) return;
         const link = readLink(window.location.hash);
         session.become(visit(session.state, link), false);
-        if (link.bound === 58 && session.state.bound < 58) build(58);
         session.ask();
     };
 
@@ -330,14 +385,20 @@ export function start(document, window, parts) {
         at("keep").addEventListener("click", act.keep);
         at("guess").addEventListener("change", ({ target }) => act.guess(target.checked));
         at("counts").addEventListener("change", ({ target }) => act.type(target.value));
-        at("counts").addEventListener("input", ({ target, inputType }) => { if (inputType === "insertFromPaste") act.type(target.value); });
-        at("rolls").addEventListener("keydown", ({ key }) => { if (key === "Escape") act.close(); });
-        at("wider").addEventListener("click", () => build(58));
+        at("counts").addEventListener("input", ({ target, inputType }) => {
+            if (inputType === "insertFromPaste") act.type(target.value);
+        });
+        at("rolls").addEventListener("keydown", ({ key }) => {
+            if (key === "Escape") act.close();
+        });
+        at("wider").addEventListener("click", act.retry);
         at("print").addEventListener("click", () => window.print());
-        at("copy-text").addEventListener("click", () => copyPosition(document, window, session.state.points));
+        at("copy-text").addEventListener("click", () =>
+            copyPosition(document, window, session.state.points));
         for (const kind of ["svg", "png"]) {
             at(`save-${kind}`).addEventListener("click", () =>
-                savePicture(document, window, kind, session.state.points, captionOf(session.state)));
+                savePicture(document, window, kind, session.state.points,
+                    captionOf(session.state)));
         }
         at("copy").addEventListener("click", () => {
             past.settle();
@@ -362,22 +423,28 @@ export function start(document, window, parts) {
         at("promises").addEventListener("click", () => at("proved").showModal());
     }
 
-    // Starts the worker, which compiles and builds while the page is drawn; says so where nothing can be computed.
+    // Starts the worker, or says why nothing can be computed.
     function begin() {
         const able = abilities(window.WebAssembly);
-        if (able === "none") throw new Error("this browser runs no WebAssembly; one of the last few years can");
-        if (!window.Worker) throw new Error("this browser runs no workers; one of the last few years can");
-        session.client = new Client(parts.worker, (step) => { if (session.state.loads > 0) bar.show(step); });
-        const module = { text: parts[able], isPacked: able === "wide" };
-        load("Starting\u2026", { kind: "start", module, bound: session.state.bound });
+        if (able === "none") {
+            throw new Error("this browser runs no WebAssembly; one of the last few years can");
+        }
+        if (!window.Worker) {
+            throw new Error("this browser runs no workers; one of the last few years can");
+        }
+        return session.begin(makeClient, { text: parts[able], isPacked: able === "wide" });
     }
 
-    listen();
+    // What was kept is read, and the page is drawn, once the worker is at work.
+    let [database, why] = [null, ""];
     try {
-        begin();
+        database = begin();
     } catch (error) {
-        session.end(`Nothing can be computed here: ${error.message}.`);
+        why = `Nothing can be computed here: ${error.message}.`;
     }
-    show(session.state);
+    session.state = { ...withPicks(session.state, readPicks(window)), draft: readDraft(window) };
+    listen();
+    if (database) session.open(database);
+    else session.end(why);
     return session;
 }

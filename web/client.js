@@ -38,8 +38,17 @@ export class Client {
     fail(message) {
         this.isDead = true;
         this.message = message;
-        for (const { refuse } of this.waiting.values()) refuse(new Failure({ message, status: 0, line: "" }));
+        for (const { refuse } of this.waiting.values()) {
+            refuse(new Failure({ message, status: 0, line: "" }));
+        }
         this.waiting.clear();
+    }
+
+    // The worker isn't wanted any more.
+    close() {
+        this.worker.terminate();
+        URL.revokeObjectURL(this.address);
+        this.fail("the worker was let go");
     }
 
     ask(question, lent = []) {

@@ -4,7 +4,8 @@ import { placeUnder } from "./board.js";
 const FAR = 6; // pixels from which on a press is no click
 
 export class Dragging {
-    // `touch` is called with the place where a checker is taken, and with the one where it is dropped, or null outside.
+    // `touch` is called with the place where a checker is taken, and with the one where it is
+    // dropped, or null outside.
     constructor(document, touch) {
         this.document = document;
         this.touch = touch;
@@ -70,7 +71,8 @@ export class Dragging {
     let() {
         this.draw(-100, -100);
         this.isDragging = false;
-        for (const [name, listener] of [["pointermove", this.move], ["pointerup", this.end], ["pointercancel", this.end]]) {
+        for (const [name, listener] of [["pointermove", this.move], ["pointerup", this.end],
+            ["pointercancel", this.end]]) {
             this.document.removeEventListener(name, listener);
         }
     }

@@ -1,4 +1,5 @@
-// Sums of fractions, and rolls in pips, exactly: the numbers that the page's script works out itself.
+// Sums of fractions, and rolls in pips, exactly: the numbers that the page's script works out
+// itself.
 
 const divisor = (one, other) => (other === 0n ? one : divisor(other, one % other));
 

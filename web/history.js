@@ -1,6 +1,6 @@
-// The addresses that one went through: each change is a step, and Back undoes it. What follows a change at once, as
-// under a key that is held, belongs to the same step, since browsers take only so many changes of an address in a
-// while.
+// The addresses that one went through: each change is a step, and Back undoes it. What follows a
+// change at once, as under a key that is held, belongs to the same step, since browsers take only
+// so many changes of an address in a while.
 
 const ONE_STEP = 250; // milliseconds
 
@@ -44,7 +44,8 @@ export class Past {
         this.written = this.window.location.hash;
     }
 
-    // Whether the address was changed by something else than the page: by Back, Forward, or a reader who typed one.
+    // Whether the address was changed by something else than the page: by Back, Forward, or a
+    // reader who typed one.
     isElsewhere() {
         this.written = this.window.location.hash;
         if (this.written === this.current) return false;

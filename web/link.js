@@ -1,5 +1,5 @@
-// What the address keeps: the positions, their captions, and how the page stands; and what a reader types as a position.
-// Captions are text.
+// What the address keeps: the positions, their captions, and how the page stands; and what a reader
+// types as a position. Captions are text.
 import { NoRaceError, read } from "../js/notation.js";
 import { MOST_CHECKERS, readPoints, sumOf } from "./points.js";
 import { ASKED, ESTIMATED, LEVELS, readDrill, readLessons, readSeed, themeOf } from "./trainer.js";
@@ -8,7 +8,8 @@ export const MOST_KEPT = 10;
 const LONGEST_CAPTION = 200;
 export const START = [2, 2, 2, 2, 2, 2];
 
-// Six counts as a reader types them, with commas, spaces or full stops between them; or, in words, why they are none.
+// Six counts as a reader types them, with commas, spaces or full stops between them; or, in words,
+// why they are none.
 export function readCounts(typed) {
     const separator = /^[\d.]*$/.test(typed.trim()) ? /\.+/ : /[\s,;]+/;
     const counts = typed.trim().split(separator).filter((count) => count !== "");
@@ -16,7 +17,9 @@ export function readCounts(typed) {
         return { fault: "A count is a whole number; commas or spaces stand between the six." };
     }
     if (counts.length !== 6) {
-        return { fault: `Six counts are wanted, and here ${counts.length === 1 ? "is 1" : `are ${counts.length}`}.` };
+        return {
+            fault: `Six counts are wanted, and here ${counts.length === 1 ? "is 1" : `are ${counts.length}`}.`,
+        };
     }
     const points = counts.map(Number);
     return sumOf(points) > MOST_CHECKERS
@@ -24,8 +27,8 @@ export function readCounts(typed) {
         : { points };
 }
 
-// What a reader types or pastes: six counts, an XGID, or an ID of GNU Backgammon. The checkers of the player on roll, and
-// the roll where the text has one; or, in words, why there are none.
+// What a reader types or pastes: six counts, an XGID, or an ID of GNU Backgammon. The checkers of
+// the player on roll, and the roll where the text has one; or, in words, why there are none.
 export function readTyped(typed) {
     const counts = readCounts(typed);
     if (counts.points) return { points: counts.points, roll: null };
@@ -34,7 +37,8 @@ export function readTyped(typed) {
         return { points: mine, roll: dice };
     } catch (error) {
         if (!(error instanceof NoRaceError)) throw error;
-        const isId = /[a-z]{3}|:|^\s*[a-z\d+/]{10}/i.test(typed); // and not counts with a letter among them
+        // And not counts with a letter among them
+        const isId = /[a-z]{3}|:|^\s*[a-z\d+/]{10}/i.test(typed);
         return isId ? { fault: `This is no bearoff race: ${error.message}` } : counts;
     }
 }
@@ -46,35 +50,49 @@ function faultsOf(words, drill) {
     const isNone = (pattern) => (value) => !pattern.test(value);
     const given = words.get("drill");
     const checks = [
-        ["at", (value) => !readPoints(value), `a position is six counts of at most ${MOST_CHECKERS} checkers`],
-        ["p", (value) => !readPoints(value), `a position is six counts of at most ${MOST_CHECKERS} checkers`],
+        ["at", (value) => !readPoints(value),
+            `a position is six counts of at most ${MOST_CHECKERS} checkers`],
+        ["p", (value) => !readPoints(value),
+            `a position is six counts of at most ${MOST_CHECKERS} checkers`],
         ["roll", isNone(/^[1-6]{2}$/), "a roll is two digits from 1 to 6"],
         ["guess", isNone(/^1$/), "it is 1 or left out"],
         ["pips", isNone(/^(44|58)$/), "the databases have 44 or 58 pips"],
         ["view", isNone(/^board$/), "the only other view is board"],
         ["drill", (value) => !themeOf(value), "there is no such theme"],
-        ["seed", (value) => readSeed(value) === null, "a seed is a whole number from 1 to 999999999"],
-        ["ask", (value) => !Object.hasOwn(ASKED, value), `a drill asks ${Object.keys(ASKED).join(", ")}`],
-        ["level", (value) => !LEVELS.some(({ name }) => name === value), `a level is ${LEVELS.map(({ name }) => name).join(", ")}`],
+        ["seed", (value) => readSeed(value) === null,
+            "a seed is a whole number from 1 to 999999999"],
+        ["ask", (value) => !Object.hasOwn(ASKED, value),
+            `a drill asks ${Object.keys(ASKED).join(", ")}`],
+        ["level", (value) => !LEVELS.some(({ name }) => name === value),
+            `a level is ${LEVELS.map(({ name }) => name).join(", ")}`],
         ["question", isNone(/^[1-9]\d?$/), "it is the number of one"],
-        ["estimate", (value) => !ESTIMATED.includes(value), `what is estimated is ${ESTIMATED.join(", ")}`],
+        ["estimate", (value) => !ESTIMATED.includes(value),
+            `what is estimated is ${ESTIMATED.join(", ")}`],
         ["lesson", isNone(/^[1-9]\d?$/), "it is the number of one"],
         ["step", isNone(/^[1-9]\d?$/), "it is the number of one"],
     ];
     const faults = checks.flatMap(([name, isWrong, what]) => words.getAll(name).filter(isWrong)
-        .map((value) => `The link has ${name}=${value.slice(0, 40)}, which can't be taken: ${what}.`));
+        .map((value) =>
+            `The link has ${name}=${value.slice(0, 40)}, which can't be taken: ${what}.`));
     const { fault } = readLessons(words.get("text") || "");
     if (words.get("text") && fault) faults.push(`The lesson of the link can't be read. ${fault}`);
-    if (given !== null && themeOf(given) && !words.has("seed")) faults.push("The link has a drill without a seed.");
-    if (given !== null && !drill && faults.length === 0) faults.push(`The link's drill has nothing to decide: ${themeOf(given).words}, Play.`);
+    if (given !== null && themeOf(given) && !words.has("seed")) {
+        faults.push("The link has a drill without a seed.");
+    }
+    if (given !== null && !drill && faults.length === 0) {
+        faults.push(`The link's drill has nothing to decide: ${themeOf(given).words}, Play.`);
+    }
     return faults;
 }
 
-// The state that an address states. What can't be read there is left out, with a sentence that says so, and so is a
-// position that stood before.
+// The state that an address states. What can't be read there is left out, with a sentence that says
+// so, and so is a position that stood before.
 export function readLink(hash) {
     const words = new URLSearchParams(hash.replace(/^#/, ""));
-    const drill = readDrill({ theme: words.get("drill"), seed: words.get("seed"), ask: words.get("ask"), level: words.get("level") });
+    const drill = readDrill({
+        theme: words.get("drill"), seed: words.get("seed"), ask: words.get("ask"),
+        level: words.get("level"),
+    });
     const kept = [];
     let last = null;
     for (const [name, value] of words) {
@@ -88,7 +106,8 @@ export function readLink(hash) {
         }
         if (name === "c" && last && last.caption === "") last.caption = text(value);
     }
-    const roll = /^[1-6]{2}$/.test(words.get("roll") || "") ? [...words.get("roll")].map(Number) : null;
+    const roll = /^[1-6]{2}$/.test(words.get("roll") || "")
+        ? [...words.get("roll")].map(Number) : null;
     return {
         points: readPoints(words.get("at") || "") || (kept.length > 0 ? kept[0].points : START),
         kept,
@@ -99,7 +118,8 @@ export function readLink(hash) {
         isPlaced: words.has("at"),
         isCompact: words.get("view") === "board",
         drill,
-        place: /^[1-9]\d?$/.test(words.get("question") || "") ? Number(words.get("question")) - 1 : 0,
+        place: /^[1-9]\d?$/.test(words.get("question") || "")
+            ? Number(words.get("question")) - 1 : 0,
         estimate: ESTIMATED.includes(words.get("estimate")) ? words.get("estimate") : null,
         lesson: /^\d{1,2}$/.test(words.get("lesson") || "") ? Number(words.get("lesson")) : null,
         text: readLessons(words.get("text") || "").lessons[0] ? words.get("text") : "",
@@ -114,7 +134,8 @@ export function writeLink({ points, kept, title, roll, guess, bound, ...more }) 
     const { isCompact, drill, place, estimate, lesson, text: written, step } = more;
     if (isCompact) words.append("view", "board");
     if (drill) {
-        for (const [name, value] of [["drill", drill.theme], ["seed", drill.seed], ["ask", drill.ask]]) {
+        for (const [name, value] of [["drill", drill.theme], ["seed", drill.seed],
+            ["ask", drill.ask]]) {
             words.append(name, value);
         }
         if (drill.level) words.append("level", drill.level);

@@ -1,10 +1,13 @@
 // What is shown of a position beside the board: numbers, chances, rolls and plays.
 import { h } from "./tree.js";
 import { lookedAt, miniature } from "./board.js";
+import { GREATEST } from "./points.js";
 import { ROLLS, sameRoll } from "./rolls.js";
 import { byLoss } from "./state.js";
 
-const FACES = { 1: [5], 2: [1, 9], 3: [1, 5, 9], 4: [1, 3, 7, 9], 5: [1, 3, 5, 7, 9], 6: [1, 3, 4, 6, 7, 9] };
+const FACES = {
+    1: [5], 2: [1, 9], 3: [1, 5, 9], 4: [1, 3, 7, 9], 5: [1, 3, 5, 7, 9], 6: [1, 3, 4, 6, 7, 9],
+};
 
 export const COMING = "\u2026"; // what isn't known yet
 
@@ -19,7 +22,8 @@ export function die(value) {
 }
 
 const figure = (name, value, unit, explained) =>
-    h("div", { class: "figure", title: explained }, h("dt", {}, name), h("dd", {}, value, " ", h("small", {}, unit)));
+    h("div", { class: "figure", title: explained }, h("dt", {}, name),
+        h("dd", {}, value, " ", h("small", {}, unit)));
 
 // The four figures of a position, as texts.
 const figures = (pips, mean, effective, wastage) => h("dl", { class: "figures" },
@@ -29,26 +33,30 @@ const figures = (pips, mean, effective, wastage) => h("dl", { class: "figures" }
     figure("Wastage", wastage, "pips", "The effective pip count less the pip count"));
 
 // The mean and the effective pip count as fractions.
-const fractions = (mean, effective) => h("details", { class: "exact" }, h("summary", {}, "As fractions"),
+const fractions = (mean, effective) =>
+    h("details", { class: "exact" }, h("summary", {}, "As fractions"),
     h("dl", {}, h("dt", {}, "Mean"), h("dd", {}, mean),
         h("dt", {}, "Effective pip count"), h("dd", {}, effective)));
 
-// Pip count, mean, effective pip count and wastage. Without an answer, whether one comes; what comes has its room.
-export function numbers(answer, isComing = true) {
+// Pip count, mean, effective pip count and wastage. Without an answer, whether one comes; what
+// comes has its room. Where the greatest database is made ready for them, `awaited` is the pip
+// count.
+export function numbers(answer, isComing = true, awaited = false) {
     if (!answer) {
         const text = isComing ? COMING : "\u2013";
         return [
-            figures(text, text, text, text),
+            figures(awaited || text, text, text, text),
             isComing ? fractions(text, text) : h("p", { class: "hint" }, "No database is open."),
+            awaited && h("p", { class: "hint" },
+                `The database of ${GREATEST} pips is being built for it.`),
         ];
     }
     if (answer.refusal) {
         const { status, standing, bound } = answer;
         return h("div", { class: "refusal" },
             h("p", {}, standing ? `${standing.pips} pips. ${answer.refusal}` : answer.refusal),
-            status === 4 && h("p", {}, bound < 58 && standing.pips <= 58
-                ? "The one of 58 pips has it: it takes a second or two more."
-                : `It goes to ${bound} pips.`));
+            status === 4 && h("p", {}, standing.pips > GREATEST
+                ? `The greatest has ${GREATEST} pips.` : `It goes to ${bound} pips.`));
     }
     const { standing, mean, effective, wastage } = answer;
     return [
@@ -60,17 +68,20 @@ export function numbers(answer, isComing = true) {
 // How long a bar is, of a hundred: the longest chance has them all.
 const length = (exactly, longest) => (100 * Number(exactly)) / Number(longest);
 
-const bar = (width) => h("svg", { viewBox: "0 0 100 10", preserveAspectRatio: "none", "aria-hidden": "true" },
+const bar = (width) =>
+    h("svg", { viewBox: "0 0 100 10", preserveAspectRatio: "none", "aria-hidden": "true" },
     h("rect", { width, height: 10 }));
 
-// The chance of each number of rolls, as bars, and to be off within it. What rounds to nothing is named below.
+// The chance of each number of rolls, as bars, and to be off within it. What rounds to nothing is
+// named below.
 export function chances(list) {
     const rows = list.filter(({ exactly }) => exactly > 0n);
     const rare = list.filter(({ exactly }) => exactly === 0n).map(({ rolls: count }) => count);
     const longest = rows.reduce((most, { exactly }) => (exactly > most ? exactly : most), 1n);
     return h("table", { class: "chances" },
         h("caption", {}, "Rolls until all are off"),
-        h("thead", {}, h("tr", {}, h("th", { scope: "col" }, "Rolls"), h("th", { scope: "col" }, "exactly"),
+        h("thead", {},
+            h("tr", {}, h("th", { scope: "col" }, "Rolls"), h("th", { scope: "col" }, "exactly"),
             h("td", { class: "bar" }), h("th", { scope: "col" }, "within"))),
         h("tbody", {}, rows.map((row) => h("tr", {},
             h("th", { scope: "row" }, row.rolls),
@@ -84,13 +95,15 @@ export function chances(list) {
 const inWords = ([one, other]) => (one === other ? `Double ${one}` : `${one} and ${other}`);
 
 export const dicePicture = ([one, other]) => [
-    heard(inWords([one, other])), h("span", { class: "dice", "aria-hidden": "true" }, die(one), die(other)),
+    heard(inWords([one, other])),
+    h("span", { class: "dice", "aria-hidden": "true" }, die(one), die(other)),
 ];
 
 // Where a key leads among the elements of a group that stand in rows of so many columns, or null.
 export function moved(key, place, count, columns) {
     const next = {
-        ArrowRight: place + 1, ArrowLeft: place - 1, ArrowDown: place + columns, ArrowUp: place - columns,
+        ArrowRight: place + 1, ArrowLeft: place - 1, ArrowDown: place + columns,
+        ArrowUp: place - columns,
         Home: 0, End: count - 1,
     }[key];
     return next === undefined || next < 0 || next >= count ? null : next;
@@ -112,11 +125,13 @@ function group(name, label, words, stop, act, buttons) {
             all[next].focus();
         },
     }, buttons.map((button) => ({
-        ...button, attributes: { ...button.attributes, tabindex: button.attributes["data-key"] === at ? 0 : -1 },
+        ...button, attributes: { ...button.attributes,
+            tabindex: button.attributes["data-key"] === at ? 0 : -1 },
     })));
 }
 
-// The 21 rolls. Each has its best play and what the next best loses, where `list` knows them and `isHidden` allows it.
+// The 21 rolls. Each has its best play and what the next best loses, where `list` knows them and
+// `isHidden` allows it.
 export function rolls(list, chosen, isHidden, stop, act) {
     return group("rolls", "The 21 rolls", { class: "rolls" }, stop, act, ROLLS.map((dice) => {
         const found = list?.find((roll) => sameRoll(roll.dice, dice));
@@ -129,17 +144,19 @@ export function rolls(list, chosen, isHidden, stop, act) {
         },
             dicePicture(dice), " ",
             h("span", { class: "best" }, best ? best.text : COMING), " ",
-            best && h("span", { class: "next" }, next ? `then \u2212${next.lossText}` : "only play"));
+            best && h("span", { class: "next" },
+                next ? `then \u2212${next.lossText}` : "only play"));
     }));
 }
 
-const cost = (play) => (play.isRecorded ? "best" : play.isBest ? "as good" : `\u2212${play.lossText}`);
+const cost = (play) =>
+    (play.isRecorded ? "best" : play.isBest ? "as good" : `\u2212${play.lossText}`);
 
 // What the plays of a roll are before they are known, and where no roll was chosen.
 const NO_ROLL = h("p", { class: "hint" }, "Choose a roll to see its plays here and on the board.");
 
-// The plays of the chosen roll on a small board, and what each loses, in rolls; of the one that is shown in EPC too,
-// where `lost` has that. In a guess they stand in the order of their texts.
+// The plays of the chosen roll on a small board, and what each loses, in rolls; of the one that is
+// shown in EPC too, where `lost` has that. In a guess they stand in the order of their texts.
 export function plays({ points, dice, list, shown, lost, isHidden, isTrained, stop }, act) {
     if (!dice) return NO_ROLL;
     const byText = (one, other) => one.text.localeCompare(other.text);
@@ -149,14 +166,19 @@ export function plays({ points, dice, list, shown, lost, isHidden, isTrained, st
     return [
         h("div", { class: "top-line" },
             h("h3", {}, dicePicture(dice), " ", told),
-            !isTrained && h("button", { type: "button", class: "close", "data-key": "close", click: () => act.close() }, "Close")),
-        !isTrained && lookedAt(points, shown ? shown.moves : []),
-        ordered && group("plays", "Plays", { class: "plays" }, stop, act, ordered.map((play) => h("button", {
-            type: "button", "data-key": `play ${play.text}`, "aria-pressed": String(play.text === shown?.text),
-            class: play.isBest && !isHidden ? "good" : null, click: () => act.play(play.text),
-        },
-            h("span", { class: "moves" }, play.text), " ",
-            !isHidden && h("span", { class: "cost", title: `${play.exact} of a roll` }, cost(play))))),
+            !isTrained && h("button", {
+                type: "button", class: "close", "data-key": "close", click: () => act.close(),
+            }, "Close")),
+        !isTrained && !isHidden && lookedAt(points, shown ? shown.moves : []),
+        ordered && group("plays", "Plays", { class: "plays" }, stop, act, ordered.map((play) =>
+            h("button", {
+                type: "button", "data-key": `play ${play.text}`,
+                "aria-pressed": String(play.text === shown?.text),
+                class: play.isBest && !isHidden ? "good" : null, click: () => act.play(play.text),
+            },
+                h("span", { class: "moves" }, play.text), " ",
+                !isHidden && h("span", { class: "cost", title: `${play.exact} of a roll` },
+                    cost(play))))),
         shown && h("div", { class: "shown" },
             h("p", { class: "loss" }, shown.isBest ? `${shown.text} loses nothing.`
                 : `${shown.text} loses ${shown.exact} of a roll, ${lost ?? COMING} pips of EPC.`),
@@ -170,25 +192,29 @@ export function plays({ points, dice, list, shown, lost, isHidden, isTrained, st
 export function verdict({ isBest, first, all, exact }, act) {
     return h("div", { class: isBest ? "verdict good" : "verdict" },
         h("p", {}, first, " ", all, exact === "0/1" ? null : ` Exactly: ${exact}.`),
-        h("button", { type: "button", "data-key": "reset", click: () => act.reset() }, "Count anew"));
+        h("button", { type: "button", "data-key": "reset", click: () => act.reset() },
+            "Count anew"));
 }
 
 const TOLD = [["mean", "Mean"], ["effective", "EPC"], ["wastage", "Wastage"]];
 
 const named = (points) => points.join(" ");
 
-// The positions that are kept, in order, each with its own answer where that is known and not hidden.
+// The positions that are kept, in order, each with its own answer where that is known and not
+// hidden.
 export function kept(entries, answerTo, isHidden, act) {
     const heads = ["Position", "Caption", "Pips", "Mean", "EPC", "Wastage"];
     return h("table", { class: "kept" },
         h("caption", { class: "heard" }, "Positions side by side"),
-        h("thead", {}, h("tr", {}, heads.map((head) => h("th", { scope: "col" }, head)), h("td", {}))),
+        h("thead", {},
+            h("tr", {}, heads.map((head) => h("th", { scope: "col" }, head)), h("td", {}))),
         h("tbody", {}, entries.map(({ points, caption }) => {
             const key = points.join();
             const answer = isHidden ? undefined : answerTo(points);
             return h("tr", { "data-key": key },
                 h("td", {}, h("button", {
-                    type: "button", class: "show", "data-key": `show ${key}`, click: () => act.show(points),
+                    type: "button", class: "show", "data-key": `show ${key}`,
+                    click: () => act.show(points),
                     "aria-label": `Show ${named(points)} on the board`,
                 }, miniature(points))),
                 h("td", { class: "caption" }, h("span", { class: "printed" }, caption), h("input", {
@@ -198,9 +224,11 @@ export function kept(entries, answerTo, isHidden, act) {
                 })),
                 h("td", { "data-head": "Pips" }, answer?.standing ? answer.standing.pips : COMING),
                 answer?.refusal ? h("td", { colspan: 3 }, answer.refusal)
-                    : TOLD.map(([name, head]) => h("td", { "data-head": head }, answer ? answer[name].text : COMING)),
+                    : TOLD.map(([name, head]) =>
+                        h("td", { "data-head": head }, answer ? answer[name].text : COMING)),
                 h("td", {}, h("button", {
-                    type: "button", class: "remove", "data-key": `remove ${key}`, click: () => act.remove(key),
+                    type: "button", class: "remove", "data-key": `remove ${key}`,
+                    click: () => act.remove(key),
                     "aria-label": `Remove ${named(points)}`,
                 }, h("span", { "aria-hidden": "true" }, "\u00d7"))));
         })));

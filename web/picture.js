@@ -1,5 +1,5 @@
-// A picture of a position as a file: the small board, with a caption and the six counts below it. Each shape has its
-// colours with it, since a file has no style of the page's.
+// A picture of a position as a file: the small board, with a caption and the six counts below it.
+// Each shape has its colours with it, since a file has no style of the page's.
 import { lookedAt } from "./board.js";
 import { h } from "./tree.js";
 
@@ -20,8 +20,10 @@ const LOOKS = {
     caption: { fill: "#1f2a27", "font-size": 26, "text-anchor": "middle" },
 };
 
-// A text within markup; what can't stand in such a file, as half of a pair of code units, is a replacement sign.
-const escaped = (text) => String(text).replace(/[&<>"']/g, (letter) => `&#${letter.codePointAt(0)};`)
+// A text within markup; what can't stand in such a file, as half of a pair of code units, is a
+// replacement sign.
+const escaped = (text) =>
+    String(text).replace(/[&<>"']/g, (letter) => `&#${letter.codePointAt(0)};`)
     .replace(/[\p{Cc}\p{Cs}\ufffe\uffff]/gu, "\ufffd");
 
 // A tree as text, with the looks of its classes.
@@ -36,7 +38,8 @@ function markup(tree) {
 
 // The words of a caption in lines; a word that is longer than a line is cut.
 export function linesOf(caption) {
-    const words = caption.split(/\s+/).flatMap((word) => word.match(new RegExp(`.{1,${LINE_LETTERS}}`, "gu")) || []);
+    const words = caption.split(/\s+/)
+        .flatMap((word) => word.match(new RegExp(`.{1,${LINE_LETTERS}}`, "gu")) || []);
     const lines = [];
     for (const word of words) {
         const longer = lines.length > 0 ? `${lines.at(-1)} ${word}` : "";
@@ -47,17 +50,21 @@ export function linesOf(caption) {
 }
 
 // How large the picture of a caption is.
-const sizeOf = (caption) => ({ ...DRAWN, height: DRAWN.height + LINE_HEIGHT * (linesOf(caption).length + 1) + LINE_HEIGHT / 2 });
+const sizeOf = (caption) => ({
+    ...DRAWN, height: DRAWN.height + LINE_HEIGHT * (linesOf(caption).length + 1) + LINE_HEIGHT / 2,
+});
 
 // The picture as the text of an SVG file.
 export function asSvg(points, caption = "") {
     const { width, height } = sizeOf(caption);
     const below = [...linesOf(caption), points.join()].map((line, place) =>
-        h("text", { class: "caption", x: width / 2, y: DRAWN.height + LINE_HEIGHT * (place + 1) }, line));
+        h("text", { class: "caption", x: width / 2, y: DRAWN.height + LINE_HEIGHT * (place + 1) },
+            line));
     const { attributes, children } = lookedAt(points, []);
     const { viewBox, class: small, ...names } = attributes;
     return `${markup(h("svg", {
-        xmlns: "http://www.w3.org/2000/svg", width, height, viewBox: `0 0 ${width} ${height}`, "font-family": "sans-serif", ...names,
+        xmlns: "http://www.w3.org/2000/svg", width, height, viewBox: `0 0 ${width} ${height}`,
+        "font-family": "sans-serif", ...names,
     }, h("rect", { width, height, fill: "#fffefb" }), children, below))}\n`;
 }
 

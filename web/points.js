@@ -4,6 +4,14 @@ export const MOST_CHECKERS = 15;
 
 export const sumOf = (counts) => counts.reduce((sum, count) => sum + count, 0);
 
+export const pipsOf = (counts) =>
+    counts.reduce((sum, count, place) => sum + count * (place + 1), 0);
+
+// The bounds, in pips, of the databases that the page builds: the first one, and the greatest that
+// there is.
+export const FIRST = 44;
+export const GREATEST = 58;
+
 // Six counts of at most 15 checkers in all, or null.
 export function readPoints(text) {
     const counts = text.split(",");

@@ -1,6 +1,10 @@
 // Asks the worker for what the state wants, one question after the other, and loads databases.
 import { FAULTS } from "./texts.js";
-import { begin, ended, loading, opened, received, refused, wanted } from "./state.js";
+import { GREATEST } from "./points.js";
+import {
+    begin, dropped, ended, firstBound, loading, notWidened, opened, received, refused, wanted,
+    wantsMore, widened, widening,
+} from "./state.js";
 
 // Why a database was not opened, in words.
 function whyNot(failure) {
@@ -13,18 +17,30 @@ function whyNot(failure) {
 // What stands for the reply to a question that failed.
 function noReply({ kind, fraction }, { bound }, refusal) {
     return {
-        ask: { refusal, status: 0, standing: null, bound }, rolls: [], draw: [], again: { plays: [], answers: [] }, round: fraction,
+        ask: { refusal, status: 0, standing: null, bound }, rolls: [], draw: [],
+        again: { plays: [], answers: [] }, round: fraction,
     }[kind];
 }
 
 export class Session {
-    // A session that starts with a link's state; `changed` is called with each state that follows, and with whether
-    // the reader made it.
+    // A session that starts with a link's state; `changed` is called with each state that follows,
+    // and with whether the reader made it.
     constructor(link, changed, lessons) {
         this.state = begin(link, lessons);
         this.changed = changed;
-        this.client = null;
+        this.client = null; // with the worker that has the open database
+        this.second = null; // with one that builds the database of 58 pips meanwhile
         this.isAsking = false;
+    }
+
+    // Starts a worker, which compiles the module and builds the first database: it is at work when
+    // this returns, with a promise of that database. `makeClient` makes a client, and is told
+    // whether it is the second one.
+    begin(makeClient, module) {
+        this.start = (client, bound) => client.ask({ kind: "start", module, bound });
+        this.makeClient = makeClient;
+        this.client = makeClient(false);
+        return this.start(this.client, firstBound(this.state));
     }
 
     become(state, isStep) {
@@ -45,11 +61,13 @@ export class Session {
         this.isAsking = true;
         for (let question = wanted(this.state); question; question = wanted(this.state)) {
             const { database } = this.state;
+            const { client } = this;
             let reply;
             try {
-                reply = await this.client.ask(question);
+                reply = await client.ask(question);
             } catch (failure) {
-                if (this.client.isDead) {
+                if (client !== this.client) continue;
+                if (client.isDead) {
                     this.stop(failure);
                     break;
                 }
@@ -58,22 +76,65 @@ export class Session {
             this.become(received(this.state, database, question, reply), false);
         }
         this.isAsking = false;
+        this.widen();
     }
 
-    // Builds or opens a database; the question may be one that is still read. Where it is refused, the database that
-    // was open stays so, and where the worker died, none comes any more.
-    async load(question, lent = () => []) {
-        if (!this.client) return;
+    // Waits for a database that is made ready. Where it is refused, the one that was open stays so,
+    // and where the worker died, none comes any more.
+    async open(reply, isOwn) {
         this.become(loading(this.state), false);
         try {
-            const whole = await question;
-            const database = await this.client.ask(whole, lent(whole));
-            this.become(opened(this.state, database), false);
+            const database = await reply;
+            this.become(opened(this.state, database, isOwn), false);
         } catch (failure) {
             if (this.client.isDead) this.stop(failure);
             else this.become(refused(this.state, whyNot(failure)), false);
         }
         await this.ask();
+    }
+
+    // Opens a file; the question may be one that is still read. What is built meanwhile isn't
+    // wanted any more.
+    load(question, lent) {
+        if (!this.client) return;
+        this.drop();
+        this.open((async () => {
+            const whole = await question;
+            return this.client.ask(whole, lent(whole));
+        })(), true);
+    }
+
+    // Builds the database of 58 pips where it is wanted, in a worker of its own: the open one
+    // answers meanwhile, and goes on where this fails.
+    async widen() {
+        if (!wantsMore(this.state)) return;
+        this.become(widening(this.state), false);
+        let second = null;
+        try {
+            second = this.makeClient(true);
+            this.second = second;
+            const database = await this.start(second, GREATEST);
+            const first = this.client;
+            this.client = second;
+            this.second = null;
+            first.close();
+            this.become(widened(this.state, database), false);
+        } catch (failure) {
+            if (second !== this.second) return;
+            this.second = null;
+            second?.close();
+            this.become(notWidened(this.state, failure.message), false);
+        }
+        await this.ask();
+    }
+
+    // Lets go of the second worker.
+    drop() {
+        const { second } = this;
+        if (!second) return;
+        this.second = null;
+        second.close();
+        this.become(dropped(this.state), false);
     }
 
     // The worker is gone.
@@ -83,6 +144,7 @@ export class Session {
 
     // Nothing comes any more, for the reason in these words.
     end(words) {
+        this.drop();
         this.become(ended(this.state, words), false);
     }
 }

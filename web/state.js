@@ -1,13 +1,15 @@
-// What the page knows, and what changes it. A state is a plain object that stays as it is: each change makes a new one.
-// An answer stands under its position and is read for that one alone; so nothing of a former position can be shown.
+// What the page knows, and what changes it. A state is a plain object that stays as it is: each
+// change makes a new one. An answer stands under its position and is read for that one alone; so
+// nothing of a former position can be shown.
 import { MOST_KEPT, readTyped } from "./link.js";
-import { MOST_CHECKERS, sumOf } from "./points.js";
+import { FIRST, GREATEST, MOST_CHECKERS, pipsOf, sumOf } from "./points.js";
 import { decimal } from "./texts.js";
 import { inPips, sumOfFractions } from "./fractions.js";
 import { sameRoll } from "./rolls.js";
 import { isWhole, reachedBy, ways } from "./steps.js";
 import {
-    drillOf, ESTIMATED, meanOf, readEstimate, readLessons, readSeed, themeOf, thousandthsOf, WANTED, writeLesson,
+    drillOf, ESTIMATED, FAR, meanOf, MOST_PIPS, readEstimate, readLessons, readSeed, themeOf,
+    thousandthsOf, WANTED, writeLesson,
 } from "./trainer.js";
 
 // A digit that follows another one within so many milliseconds is its second.
@@ -23,7 +25,8 @@ export function begin(link, lessons = []) {
         given: null, // the one of the link or of a file, read
         isAnswered: false, // whether the answer of a lesson's step is open
         ...NO_RUN,
-        place: link.place || 0, // which question is asked: those of the drill, and then those that were missed
+        // Which question is asked: those of the drill, and then those that were missed
+        place: link.place || 0,
         runs: new Map(), // other drills that were begun, by their words
         draft: null, // the lesson that is made: its title and its steps, each with a key of its own
         draftTold: "", // why it is none yet, or what was done with it
@@ -34,9 +37,15 @@ export function begin(link, lessons = []) {
         shown: null, // the text of the play that was chosen, or null for the best
         typed: null, // a position that was typed and refused, with the reason
         digits: null, // the digits that were typed on a point, and when
-        stops: { rolls: null, plays: null, board: null }, // where Tab stops within the rolls, the plays, and the board
-        database: null, // the open one: its bound and how many positions it has
-        loads: 0, // how many databases are being built or checked
+        // Where Tab stops within the rolls, the plays, and the board
+        stops: { rolls: null, plays: null, board: null },
+        // The open one: its bound, how many positions it has, how long its build took, whether it
+        // is a file
+        database: null,
+        loads: 0, // how many databases are being built or checked, which nothing is asked meanwhile
+        isWidening: false, // whether the one of 58 pips is built beside the open one
+        notWide: "", // why it couldn't be, or ""
+        isGivenUp: false, // whether something needed it then
         trouble: "", // what went wrong, in words
         answers: new Map(), // what the open database says of a position
         rolls: new Map(), // and of its 21 rolls
@@ -46,50 +55,76 @@ export function begin(link, lessons = []) {
     }, link);
 }
 
-// Of a drill: its questions, once they are drawn; of each guess the position, the roll, the play that was guessed and the
-// best one, and so of the guesses of those that were asked again; of each estimate the position, what was estimated of it,
-// and how far that was off; and what was chosen before the page was loaded anew, until it is known what that lost.
+// Of a drill: its questions, once they are drawn; of each guess the position, the roll, the play
+// that was guessed and the best one, and so of the guesses of those that were asked again; of each
+// estimate the position, what was estimated of it, and how far that was off, and so of those that
+// were asked again; and what was chosen before the page was loaded anew, until it is known what
+// that lost.
 const MOST_RUNS = 10; // drills whose runs are kept
-const NO_RUN = { questions: null, guesses: [], again: [], estimates: [], picks: null };
+const NO_RUN = {
+    questions: null, guesses: [], again: [], estimates: [], estimatesAgain: [], picks: null,
+};
+const runOf = (state) => Object.fromEntries(Object.keys(NO_RUN).map((name) => [name, state[name]]));
 
 // The lesson that is on, or null.
-export const lessonOf = ({ lesson, lessons, given }) => (lesson ? lessons[lesson - 1] : given) || null;
+export const lessonOf = ({ lesson, lessons, given }) =>
+    (lesson ? lessons[lesson - 1] : given) || null;
 
 // The step of the lesson that is on, or null.
 export const stepOf = (state) => lessonOf(state)?.steps[state.step - 1] || null;
 
-// The questions of the drill whose guess lost something, in their order: each is asked once more.
-export const missedOf = (state) => (state.drill?.ask === "play" && state.questions ? state.questions : []).filter(
-    ({ points, roll }) => state.guesses.some((guess) => guess.at === keyOf(points) && sameRoll(guess.roll, roll) && !guess.play.isBest));
+// Whether an estimate is far off.
+export const isFar = ({ kind, error }) => error >= FAR[kind];
+
+// The questions of the drill whose guess lost something, or whose estimate was far off, in their
+// order: each is asked once more.
+export function missedOf({ drill, questions, guesses, estimates }) {
+    const isMissed = drill?.ask === "play"
+        ? ({ at, roll, play }, asked) =>
+            at === keyOf(asked.points) && sameRoll(roll, asked.roll) && !play.isBest
+        : (estimate, { points }) =>
+            estimate.at === keyOf(points) && estimate.kind === drill.ask && isFar(estimate);
+    const answered = drill?.ask === "play" ? guesses : estimates;
+    return (questions || []).filter((question) => answered.some((one) => isMissed(one, question)));
+}
 
 // How many questions there are with those that are asked once more.
 export const lengthOf = (state) => (state.questions || []).length + missedOf(state).length;
 
 // Whether a question that was missed is asked once more.
-export const isAgain = (state) => state.questions !== null && state.place >= state.questions.length && state.place < lengthOf(state);
+export const isAgain = (state) =>
+    state.questions !== null && state.place >= state.questions.length
+        && state.place < lengthOf(state);
 
 // The question of the drill that is asked, or null where there is none or all were.
 export const questionOf = (state) =>
-    state.questions?.[state.place] || (state.questions && missedOf(state)[state.place - state.questions.length]) || null;
+    state.questions?.[state.place]
+        || (state.questions && missedOf(state)[state.place - state.questions.length]) || null;
 
 // Whether one trains: a lesson or a drill is on, and the board has what it asks.
 export function isTraining(state) {
     const asked = stepOf(state) || questionOf(state);
-    return !state.isCompact && Boolean(stepOf(state) || state.drill) && (!asked || keyOf(asked.points) === keyOf(state.points));
+    return !state.isCompact && Boolean(stepOf(state) || state.drill)
+        && (!asked || keyOf(asked.points) === keyOf(state.points));
 }
 
-// The state with the lesson of its link, at the position of the step where the link has no other; and what of the link
-// can't be taken.
+// The state with the lesson of its link, at the position of the step where the link has no other;
+// and what of the link can't be taken.
 function placed(state, { isPlaced, faults = [] }) {
     const given = state.text ? readLessons(state.text).lessons[0] || null : null;
     const read = { ...state, given, isAnswered: false, notice: faults.join(" ") };
     const lesson = lessonOf(read);
     if (!lesson) {
-        const none = state.lesson ? `The link asks for lesson ${state.lesson}, and there are ${state.lessons.length}.` : "";
-        return { ...read, lesson: null, step: 1, notice: [read.notice, none].filter(Boolean).join(" ") };
+        const none = state.lesson
+            ? `The link asks for lesson ${state.lesson}, and there are ${state.lessons.length}.`
+            : "";
+        return {
+            ...read, lesson: null, step: 1, notice: [read.notice, none].filter(Boolean).join(" "),
+        };
     }
     const step = Math.min(state.step, lesson.steps.length);
-    const past = step < state.step ? `The link asks for step ${state.step}, and the lesson has ${lesson.steps.length}.` : "";
+    const past = step < state.step
+        ? `The link asks for step ${state.step}, and the lesson has ${lesson.steps.length}.` : "";
     const { points, roll } = lesson.steps[step - 1];
     return {
         ...read, step, notice: [read.notice, past].filter(Boolean).join(" "),
@@ -120,38 +155,61 @@ export const chosenOf = (state) => rollsOf(state)?.find(({ dice }) => sameRoll(d
 
 // What was guessed of a roll in the board's position; where it is asked once more, then.
 export const guessOf = (state, roll = state.roll) =>
-    (isAgain(state) ? state.again : state.guesses).find((guess) => guess.at === keyOf(state.points) && sameRoll(guess.roll, roll));
+    (isAgain(state) ? state.again : state.guesses)
+        .find((guess) => guess.at === keyOf(state.points) && sameRoll(guess.roll, roll));
 
 // Whether the answer for a roll is hidden, since it is to be guessed.
 export const hides = (state, roll = state.roll) => state.guess && !guessOf(state, roll);
 
 // What is to be estimated: the pip count, the effective one or the wastage; or null.
-export const estimated = ({ drill, estimate }) => (drill ? (drill.ask === "play" ? null : drill.ask) : estimate);
+export const estimated = ({ drill, estimate }) =>
+    (drill ? (drill.ask === "play" ? null : drill.ask) : estimate);
 
-// What was estimated of a position, by what is asked now.
+// What was estimated of a position, by what is asked now; where it is asked once more, then.
 export const estimateOf = (state, points = state.points) =>
-    state.estimates.find(({ at, kind }) => at === keyOf(points) && kind === estimated(state));
+    (isAgain(state) ? state.estimatesAgain : state.estimates)
+        .find(({ at, kind }) => at === keyOf(points) && kind === estimated(state));
 
 // Whether a lesson asks for a number of the board's position, and its answer isn't open yet.
 export function asksNumber(state) {
     const step = stepOf(state);
-    return Boolean(step && step.answer && !step.roll && !state.isAnswered) && keyOf(step.points) === keyOf(state.points);
+    return Boolean(step && step.answer && !step.roll && !state.isAnswered)
+        && keyOf(step.points) === keyOf(state.points);
 }
 
-// Whether the numbers of the board's position are hidden, since one of them is to be estimated or is asked.
-export const hidesNumbers = (state) =>
-    asksNumber(state) || (Boolean(estimated(state)) && !answerOf(state)?.refusal && !estimateOf(state));
+// Whether the numbers of the board's position are hidden, since one of them is to be estimated or
+// is asked.
+export const hidesNumbers = (state) => asksNumber(state)
+    || (Boolean(estimated(state)) && (!answerOf(state)?.refusal || isAwaited(state))
+        && !estimateOf(state));
 
-// The play that is made on the board, or null where none is: the points after its steps, where each checker can go now, and
-// the play itself, once it is whole.
+// Whether the database of 58 pips is made ready for a position, which the open one doesn't have.
+export function isAwaited(state, points = state.points) {
+    const answer = answerOf(state, points);
+    return answer?.status === 4 && state.database !== null && !state.isGivenUp
+        && isOver(points, answer.bound);
+}
+
+// The play that is made on the board, or null where none is: the points after its steps, where each
+// checker can go now, and the play itself, once it is whole.
 export function makingOf(state) {
-    if (!isTraining(state) || !state.roll || !hides(state)) return null;
+    if (state.isCompact || !state.roll || !hides(state)) return null;
     const list = chosenOf(state)?.plays;
     if (!list) return { points: state.points, ways: new Map(), play: null };
     const at = reachedBy(state.points, state.roll, state.steps.flat());
-    if (isWhole(at)) return { points: at.points, ways: new Map(), play: list.find(({ to }) => keyOf(to) === keyOf(at.points)) || null };
-    return { points: at.points, ways: ways(at, new Set(list.map(({ to }) => keyOf(to)))), play: null };
+    if (isWhole(at)) {
+        return {
+            points: at.points, ways: new Map(),
+            play: list.find(({ to }) => keyOf(to) === keyOf(at.points)) || null,
+        };
+    }
+    return {
+        points: at.points, ways: ways(at, new Set(list.map(({ to }) => keyOf(to)))), play: null,
+    };
 }
+
+// Whether a play was begun on the board.
+export const hasBegun = ({ steps, picked }) => steps.length > 0 || picked !== null;
 
 // The play that the board shows: the chosen one, or the best of the chosen roll.
 export function shownPlay(state) {
@@ -160,7 +218,8 @@ export function shownPlay(state) {
     return chosen.plays.find(({ text }) => text === state.shown) || byLoss(chosen.plays)[0];
 }
 
-// What the play that is shown loses in pips of the effective count, exactly, or null where it loses nothing.
+// What the play that is shown loses in pips of the effective count, exactly, or null where it loses
+// nothing.
 export function lostPips(state) {
     const play = shownPlay(state);
     return play && !play.isBest ? inPips(play.exact) : null;
@@ -169,14 +228,47 @@ export function lostPips(state) {
 // What all guesses have lost, exactly.
 export const lostOf = ({ guesses }) => sumOfFractions(guesses.map(({ play }) => play.exact));
 
-export const isKept = (state) => state.kept.some(({ points }) => keyOf(points) === keyOf(state.points));
+export const isKept = (state) =>
+    state.kept.some(({ points }) => keyOf(points) === keyOf(state.points));
 
 // The caption of the board's position, where it is kept with one.
-export const captionOf = (state) => state.kept.find(({ points }) => keyOf(points) === keyOf(state.points))?.caption || "";
+export const captionOf = (state) =>
+    state.kept.find(({ points }) => keyOf(points) === keyOf(state.points))?.caption || "";
 
 export const isFull = (state) => state.kept.length >= MOST_KEPT;
 
-// What is asked next of the open database, or null where nothing is. While another one is made ready, nothing is.
+// Whether a position has more pips than a bound, and the greatest database has it.
+const isOver = (points, bound) => pipsOf(points) > bound && pipsOf(points) <= GREATEST;
+
+// The bound of the database that is built first.
+export const firstBound = ({ points }) => (isOver(points, FIRST) ? GREATEST : FIRST);
+
+// Whether something on the page needs the database of 58 pips: a position, a step of the lesson,
+// the drill, or the link.
+export function needsMore(state) {
+    const { database, drill, kept } = state;
+    if (!database || database.bound >= GREATEST) return false;
+    return state.bound === GREATEST || Boolean(drill && database.bound < MOST_PIPS)
+        || [state, ...kept, ...(lessonOf(state)?.steps || [])]
+            .some(({ points }) => isOver(points, database.bound));
+}
+
+// A build of 58 pips takes about so many times as long as one of 44, and at most so many
+// milliseconds where nobody has asked for it.
+const LONGER = 2.2;
+const UNASKED = 2000;
+
+// Whether the database of 58 pips is to be built now: where something needs it, or where it takes
+// no time to speak of.
+export function wantsMore(state) {
+    const { database, loads, isWidening, notWide, isGivenUp, isCompact } = state;
+    if (!database || loads > 0 || isWidening || database.bound >= GREATEST) return false;
+    if (needsMore(state)) return !isGivenUp;
+    return !notWide && !isCompact && LONGER * database.took < UNASKED;
+}
+
+// What is asked next of the open database, or null where nothing is. While another one is made
+// ready, nothing is.
 export function wanted(state) {
     if (!state.database || state.loads > 0) return null;
     const { points } = state;
@@ -185,28 +277,35 @@ export function wanted(state) {
     if (!answer.refusal && !rollsOf(state)) return { kind: "rolls", points };
     const kept = state.kept.find((entry) => !answerOf(state, entry.points));
     if (kept) return { kind: "ask", points: kept.points };
-    if (state.drill && !state.questions) return { kind: "draw", drill: state.drill };
+    if (state.drill && !state.questions && state.database.bound >= MOST_PIPS) {
+        return { kind: "draw", drill: state.drill };
+    }
     if (state.drill && state.picks) return { kind: "again", picks: state.picks };
     const summed = state.guesses.length > 0 ? [lostOf(state), ...scoreOf(state)] : [];
     const guess = guessOf(state);
     const guessed = guess && !guess.play.isBest ? inPips(guess.play.exact) : null;
-    const fraction = [...summed, lostPips(state), guessed].find((one) => one !== null && !state.decimals.has(one));
+    const fraction = [...summed, lostPips(state), guessed]
+        .find((one) => one !== null && !state.decimals.has(one));
     return fraction ? { kind: "round", fraction } : null;
 }
 
 // The guesses of a drill's questions, in the order of these.
-export const drillGuesses = ({ questions, guesses }) => (questions || []).flatMap(({ points, roll }) =>
-    guesses.filter((guess) => guess.at === keyOf(points) && sameRoll(guess.roll, roll)));
+export const drillGuesses = ({ questions, guesses }) =>
+    (questions || []).flatMap(({ points, roll }) =>
+        guesses.filter((guess) => guess.at === keyOf(points) && sameRoll(guess.roll, roll)));
 
-// What a drill's plays have lost, exactly: in rolls, and in pips of the effective count, 49/6 for each.
+// What a drill's plays have lost, exactly: in rolls, and in pips of the effective count, 49/6 for
+// each.
 export function scoreOf(state) {
     const rolls = sumOfFractions(drillGuesses(state).map(({ play }) => play.exact));
     return state.drill?.ask === "play" ? [rolls, inPips(rolls)] : [];
 }
 
 // What a drill's estimates were off.
-export const drillErrors = ({ questions, estimates, drill }) => (questions || []).flatMap(({ points }) =>
-    estimates.filter(({ at, kind }) => at === keyOf(points) && kind === drill.ask).map(({ error }) => error));
+export const drillErrors = ({ questions, estimates, drill }) =>
+    (questions || []).flatMap(({ points }) =>
+        estimates.filter(({ at, kind }) => at === keyOf(points) && kind === drill.ask)
+            .map(({ error }) => error));
 
 // How many of a drill's questions were answered.
 export const answeredOf = (state) =>
@@ -214,7 +313,8 @@ export const answeredOf = (state) =>
 
 // The mistakes of a drill as the text of a lesson, or "" where there are none.
 export function mistakesOf(state) {
-    const steps = drillGuesses(state).filter(({ play }) => !play.isBest).map(({ at, roll, play, best }) => ({
+    const steps = drillGuesses(state).filter(({ play }) => !play.isBest)
+        .map(({ at, roll, play, best }) => ({
         points: at.split(",").map(Number), roll, text: "", ask: "Which play is best?",
         answer: `${best.text}; ${play.text} loses ${play.exact} of a roll.`,
     }));
@@ -225,6 +325,9 @@ export function mistakesOf(state) {
 function spoken(state) {
     const answer = answerOf(state);
     if (!answer || hidesNumbers(state)) return "";
+    if (isAwaited(state)) {
+        return `${answer.standing.pips} pips: the database of ${GREATEST} pips is being built.`;
+    }
     if (answer.refusal) return answer.refusal;
     const { standing, mean, effective, wastage } = answer;
     return `${standing.pips} pips, mean ${mean.text} rolls, effective pip count ${effective.text}, `
@@ -241,7 +344,10 @@ export function verdictOf(state) {
     const first = play.isBest
         ? `${play.text} is best${play.isRecorded ? "" : `, as is ${best.text}`}.`
         : `${play.text} loses ${play.lossText} of a roll; best is ${best.text}.`;
-    return { isBest: play.isBest, first, all: lostInAll(state), pips: inPips(play.exact), exact, isWhole: decimals !== undefined };
+    return {
+        isBest: play.isBest, first, all: lostInAll(state), pips: inPips(play.exact), exact,
+        isWhole: decimals !== undefined,
+    };
 }
 
 // What all guesses have lost, in words.
@@ -257,13 +363,15 @@ function stillShown(answers, state) {
     return new Map([...answers].filter(([key]) => shown.has(key)));
 }
 
-// The state with the database's reply to a question. A reply of a database that isn't open any more is none.
+// The state with the database's reply to a question. A reply of a database that isn't open any more
+// is none.
 export function received(state, database, question, reply) {
     if (state.database !== database) return state;
     if (question.kind === "round") {
         const next = { ...state, decimals: new Map(state.decimals).set(question.fraction, reply) };
         const verdict = verdictOf(next);
-        return verdict && verdict.isWhole ? { ...next, said: `${verdict.first} ${verdict.all}` } : next;
+        return verdict && verdict.isWhole
+            ? { ...next, said: `${verdict.first} ${verdict.all}` } : next;
     }
     if (question.kind === "draw") {
         if (question.drill !== state.drill) return state;
@@ -271,35 +379,48 @@ export function received(state, database, question, reply) {
         return state.picks ? next : arrived(next);
     }
     if (question.kind === "again") {
-        return question.picks === state.picks ? arrived(resumed({ ...state, picks: null }, question.picks, reply)) : state;
+        return question.picks === state.picks
+            ? arrived(resumed({ ...state, picks: null }, question.picks, reply)) : state;
     }
     const key = keyOf(question.points);
-    if (question.kind === "rolls") return { ...state, rolls: stillShown(new Map([[key, reply]]), state) };
+    if (question.kind === "rolls") {
+        return { ...state, rolls: stillShown(new Map([[key, reply]]), state) };
+    }
     const next = { ...state, answers: stillShown(new Map(state.answers).set(key, reply), state) };
     if (key !== keyOf(state.points)) return next;
     // what a lesson or a drill asks is heard before the numbers
-    return { ...next, said: [isTraining(state) ? state.said : "", state.roll && isTraining(state) ? "" : spoken(next)].filter(Boolean).join(" ") };
+    const first = isTraining(state) ? state.said : "";
+    const then = state.roll && isTraining(state) ? "" : spoken(next);
+    return { ...next, said: [first, then].filter(Boolean).join(" ") };
 }
 
 // The drill's question of its place, where the link had no other position.
 function arrived(state) {
     const place = Math.min(state.place, lengthOf(state));
     const question = questionOf({ ...state, place });
-    const isElsewhere = state.isPlaced && question && keyOf(question.points) !== keyOf(state.points);
+    const isElsewhere = state.isPlaced && question
+        && keyOf(question.points) !== keyOf(state.points);
     return isElsewhere ? { ...state, place } : askNext(state, place);
 }
 
-// What was chosen before, with what it lost by the plays of each roll and the numbers of each position.
+// What was chosen before, with what it lost by the plays of each roll and the numbers of each
+// position.
 function resumed(state, picks, { plays, answers }) {
     const guesses = (rolls, first) => rolls.flatMap(([points, roll, text], place) => {
         const play = plays[first + place]?.find((one) => one.text === text);
-        return play ? [{ at: keyOf(points), roll, play, best: byLoss(plays[first + place])[0] }] : [];
+        return play ? [{ at: keyOf(points), roll, play, best: byLoss(plays[first + place])[0] }]
+            : [];
     });
-    const estimates = picks.estimates.flatMap(([points, kind, told], place) => {
-        const answer = answers[place];
-        return answer && !answer.refusal ? [measured(points, kind, BigInt(told), answer)] : [];
+    const estimates = (told, first) => told.flatMap(([points, kind, text], place) => {
+        const answer = answers[first + place];
+        return answer && !answer.refusal ? [measured(points, kind, BigInt(text), answer)] : [];
     });
-    return { ...state, guesses: guesses(picks.guesses, 0), again: guesses(picks.again, picks.guesses.length), estimates };
+    return {
+        ...state, guesses: guesses(picks.guesses, 0),
+        again: guesses(picks.again, picks.guesses.length),
+        estimates: estimates(picks.estimates, 0),
+        estimatesAgain: estimates(picks.estimatesAgain, picks.estimates.length),
+    };
 }
 
 // A database begins to be built or checked.
@@ -307,13 +428,53 @@ export function loading(state) {
     return { ...state, loads: state.loads + 1, trouble: "" };
 }
 
-// It is open, and nothing is known of it yet.
-export function opened(state, { bound, positions }) {
+// Nothing is known of a database that has just been opened.
+const NOTHING_KNOWN = { answers: new Map(), rolls: new Map(), said: "" };
+
+// It is open, one that was built in so many milliseconds, or a file of one's own.
+export function opened(state, { bound, positions, took = Infinity }, isOwn = false) {
     return {
-        ...state, loads: state.loads - 1, database: { bound, positions }, bound: bound === 58 ? 58 : 44,
-        answers: new Map(), rolls: new Map(), said: "",
+        ...state, ...NOTHING_KNOWN, loads: state.loads - 1,
+        database: { bound, positions, took, isOwn },
     };
 }
+
+// The database of 58 pips begins to be built beside the open one.
+export const widening = (state) => ({ ...state, isWidening: true });
+
+// It isn't wanted any more.
+export const dropped = (state) => ({ ...state, isWidening: false });
+
+// It is open in the place of the former one. Of two that were built, what the former one said
+// stays: each has what the definitions say, and of tied plays the first. A file may have recorded
+// other plays, so nothing of it stays.
+export function widened(state, { bound, positions }) {
+    const { isOwn, bound: former } = state.database;
+    const next = {
+        ...state, isWidening: false, database: { bound, positions, took: Infinity, isOwn: false },
+    };
+    if (!isOwn) {
+        return {
+            ...next, answers: new Map([...state.answers].filter(([, { refusal }]) => !refusal)),
+        };
+    }
+    const notice =
+        `Your file goes to ${former} pips, so the database of ${bound} pips was built in its place.`;
+    return { ...next, ...NOTHING_KNOWN, notice };
+}
+
+// It couldn't be built, and the open one goes on. What nobody has asked for fails in silence.
+export function notWidened(state, why) {
+    const next = { ...state, isWidening: false, notWide: why, isGivenUp: needsMore(state) };
+    if (!next.isGivenUp) return next;
+    const { bound } = state.database;
+    const trouble = `The database of ${GREATEST} pips couldn\u2019t be built: ${why}. `
+        + `That of ${bound} pips goes on.`;
+    return { ...next, trouble };
+}
+
+// It is tried again.
+export const triedAgain = (state) => ({ ...state, notWide: "", isGivenUp: false, trouble: "" });
 
 // It was refused, or something went wrong: what was open stays so.
 export function refused(state, words) {
@@ -326,11 +487,15 @@ export function ended(state, words) {
 }
 
 // Nothing chosen or typed that belongs to a former position or roll.
-const AFRESH = { shown: null, typed: null, digits: null, steps: [], picked: null, estimateFault: "" };
+const AFRESH = {
+    shown: null, typed: null, digits: null, steps: [], picked: null, estimateFault: "",
+};
 
 // Another position on the board.
 export function setPoints(state, points) {
-    const next = { ...state, ...AFRESH, points, roll: null, stops: { ...state.stops, board: null } };
+    const next = {
+        ...state, ...AFRESH, points, roll: null, stops: { ...state.stops, board: null },
+    };
     return { ...next, said: spoken(next) };
 }
 
@@ -342,17 +507,20 @@ export function setCount(state, point, count) {
     return keyOf(points) === keyOf(state.points) ? state : setPoints(state, points);
 }
 
-export const addCheckers = (state, point, count) => setCount(state, point, state.points[point - 1] + count);
+export const addCheckers = (state, point, count) =>
+    setCount(state, point, state.points[point - 1] + count);
 
 // What the keys make of a count with at most so many checkers.
 function steered(key, count, most) {
     return {
-        ArrowUp: count + 1, "+": count + 1, ArrowDown: count - 1, "-": count - 1, Delete: 0, Backspace: 0,
+        ArrowUp: count + 1, "+": count + 1, ArrowDown: count - 1, "-": count - 1, Delete: 0,
+        Backspace: 0,
         Home: 0, End: most, PageUp: count + 5, PageDown: count - 5,
     }[key];
 }
 
-// A key on a point, or null where the key says nothing there. Two digits soon after each other are a number.
+// A key on a point, or null where the key says nothing there. Two digits soon after each other are
+// a number.
 export function pressed(state, point, key, now) {
     const count = state.points[point - 1];
     if (!/^\d$/.test(key)) {
@@ -366,8 +534,8 @@ export function pressed(state, point, key, now) {
     return { ...setCount(state, point, Number(text)), digits: { point, text, at: now } };
 }
 
-// A position that was typed, with its roll where it has one. What is refused stays in the field, with the reason, and the
-// board stays.
+// A position that was typed, with its roll where it has one. What is refused stays in the field,
+// with the reason, and the board stays.
 export function typePosition(state, text) {
     const { points, roll, fault } = readTyped(text);
     if (fault) return { ...state, typed: { text, fault } };
@@ -376,26 +544,37 @@ export function typePosition(state, text) {
 
 // A roll, or none.
 export function chooseRoll(state, roll) {
-    return { ...state, roll, shown: null, steps: [], picked: null, stops: { ...state.stops, plays: null }, said: "" };
+    const next = {
+        ...state, roll, shown: null, steps: [], picked: null,
+        stops: { ...state.stops, plays: null }, said: "",
+    };
+    return roll && hides(next)
+        ? { ...next, said: `Which play of ${roll.join("-")} is best?` } : next;
 }
 
-// A play of the chosen roll: a guess where it is to be guessed, and else one to look at. A roll is guessed once.
+// A play of the chosen roll: a guess where it is to be guessed, and else one to look at. A roll is
+// guessed once.
 export function choosePlay(state, text) {
     const chosen = chosenOf(state);
     const play = chosen?.plays.find((one) => one.text === text);
     if (!play) return state;
     if (!hides(state)) return { ...state, shown: text };
-    const guess = { at: keyOf(state.points), roll: state.roll, play, best: byLoss(chosen.plays)[0] };
+    const guess = {
+        at: keyOf(state.points), roll: state.roll, play, best: byLoss(chosen.plays)[0],
+    };
     const list = isAgain(state) ? "again" : "guesses";
-    const next = { ...state, shown: text, steps: [], picked: null, [list]: [...state[list], guess], said: "" };
+    const next = {
+        ...state, shown: text, steps: [], picked: null, [list]: [...state[list], guess], said: "",
+    };
     const verdict = verdictOf(next);
     return verdict.isWhole ? { ...next, said: `${verdict.first} ${verdict.all}` } : next;
 }
 
 const nameOf = (place) => (place === 0 ? "off" : `point ${place}`);
 
-// A point of the board, or the place of those that are off, 0, in a play that is made there: the checker that was picked
-// goes there where it can, and else one that can move from there is picked, or put back.
+// A point of the board, or the place of those that are off, 0, in a play that is made there: the
+// checker that was picked goes there where it can, and else one that can move from there is picked,
+// or put back.
 export function touch(state, place) {
     const making = makingOf(state);
     if (!making) return state;
@@ -404,17 +583,24 @@ export function touch(state, place) {
         const next = { ...state, picked: null, steps: [...state.steps, made] };
         const { play } = makingOf(next);
         const from = nameOf(made[0].move[0]);
-        return { ...next, said: play ? `${play.text} is made: Enter plays it, Backspace undoes.` : `From ${from} to ${nameOf(place)}.` };
+        return {
+            ...next, said: play
+                ? `${play.text} is made: Enter plays it, Backspace undoes.`
+                : `From ${from} to ${nameOf(place)}.`,
+        };
     }
     const picked = making.ways.has(place) && state.picked !== place ? place : null;
     const to = picked === null ? [] : [...making.ways.get(picked).keys()].map(nameOf);
-    return { ...state, picked, said: picked === null ? "" : `Point ${place}: to ${to.join(", ")}.` };
+    return {
+        ...state, picked, said: picked === null ? "" : `Point ${place}: to ${to.join(", ")}.`,
+    };
 }
 
 // Without what was moved last, or with the checker put back that was picked.
 export function undo(state) {
     if (state.picked !== null) return { ...state, picked: null, said: "" };
-    return state.steps.length === 0 ? state : { ...state, steps: state.steps.slice(0, -1), said: "Undone." };
+    return state.steps.length === 0
+        ? state : { ...state, steps: state.steps.slice(0, -1), said: "Undone." };
 }
 
 // The position after the play that is shown.
@@ -427,14 +613,18 @@ export function playOn(state) {
 export function askNext(state, place) {
     const question = questionOf({ ...state, place });
     if (!question) return { ...state, ...AFRESH, roll: null, place, said: "The drill is over." };
-    const next = { ...setPoints(state, question.points), roll: question.roll, guess: state.drill.ask === "play", place };
+    const next = {
+        ...setPoints(state, question.points), roll: question.roll,
+        guess: state.drill.ask === "play", place,
+    };
     return { ...next, said: askedIn(next) };
 }
 
 // What a question of a drill asks, in words.
 export function askedIn(state) {
     const { questions, place, drill } = state;
-    const which = isAgain(state) ? `Once more, ${place - questions.length + 1} of ${missedOf(state).length}.`
+    const which = isAgain(state)
+        ? `Once more, ${place - questions.length + 1} of ${missedOf(state).length}.`
         : `Question ${place + 1} of ${questions.length}.`;
     const { roll } = questionOf(state);
     return `${which} ${roll ? `Which play of ${roll.join("-")} is best?` : `What is the ${WANTED[drill.ask]}?`}`;
@@ -443,14 +633,15 @@ export function askedIn(state) {
 // A drill by its words, which are in the links of all who are asked the same.
 export const drillKey = ({ theme, seed, ask, level = "any" }) => [theme, seed, ask, level].join();
 
-// The state without its drill, whose run is kept, and with another one or none; one that was begun goes on. A lesson ends.
+// The state without its drill, whose run is kept, and with another one or none; one that was begun
+// goes on. A lesson ends.
 function changeDrill(state, drill) {
-    const { questions, guesses, again, estimates, picks } = state;
     const runs = new Map(state.runs);
-    if (state.drill) runs.set(drillKey(state.drill), { questions, guesses, again, estimates, picks });
+    if (state.drill) runs.set(drillKey(state.drill), runOf(state));
     const run = (drill && runs.get(drillKey(drill))) || NO_RUN;
     return {
-        ...state, ...AFRESH, ...run, drill, runs, lesson: null, text: "", given: null, place: 0, seedFault: "",
+        ...state, ...AFRESH, ...run, drill, runs, lesson: null, text: "", given: null, place: 0,
+        seedFault: "",
         decimals: new Map(), estimate: null, notice: "",
     };
 }
@@ -464,12 +655,17 @@ export function beginDrill(state, drill) {
 export function chooseDrill(state, { theme, ask, level, seed }, another) {
     const read = seed.trim() === "" ? another : readSeed(seed);
     if (read === null) {
-        return { ...state, seedFault: "A seed is a whole number from 1 to 999999999. Without one each drill is another." };
+        return {
+            ...state, seedFault: "A seed is a whole number from 1 to 999999999. Without one each drill is another.",
+        };
     }
     const { isPlayed, words } = themeOf(theme);
     const isPossible = ask !== "play" || isPlayed;
-    const next = beginDrill(state, drillOf({ theme, seed: read, ask: isPossible ? ask : "effective", level }));
-    return isPossible ? next : { ...next, notice: `${words}: nothing is to be decided there, so the EPC is asked.` };
+    const next = beginDrill(state, drillOf({
+        theme, seed: read, ask: isPossible ? ask : "effective", level,
+    }));
+    const notice = `${words}: nothing is to be decided there, so the EPC is asked.`;
+    return isPossible ? next : { ...next, notice };
 }
 
 // No drill and no lesson.
@@ -483,7 +679,8 @@ export function goToStep(state, step) {
     const next = lessonOf(state)?.steps[step - 1];
     if (!next) return state;
     return {
-        ...setPoints(state, next.points), roll: next.roll, guess: Boolean(next.roll), step, isAnswered: false,
+        ...setPoints(state, next.points), roll: next.roll, guess: Boolean(next.roll), step,
+        isAnswered: false,
         said: `Step ${step} of ${lessonOf(state).steps.length}. ${next.text} ${next.ask}`.trim(),
     };
 }
@@ -496,7 +693,9 @@ export function openAnswer(state) {
 export function giveLesson(state, text) {
     const { lessons, fault } = readLessons(text);
     if (fault) return { ...state, trouble: `The lesson can't be read. ${fault}` };
-    const next = { ...changeDrill(state, null), given: lessons[0], text: writeLesson(lessons[0]), trouble: "" };
+    const next = {
+        ...changeDrill(state, null), given: lessons[0], text: writeLesson(lessons[0]), trouble: "",
+    };
     return goToStep(next, 1);
 }
 
@@ -509,19 +708,30 @@ export function setEstimate(state, kind) {
 // How far something told of a position is off.
 function measured(points, kind, told, answer) {
     const exact = thousandthsOf(answer, kind);
-    return { at: keyOf(points), kind, told, exact, error: told > exact ? told - exact : exact - told };
+    return {
+        at: keyOf(points), kind, told, exact, error: told > exact ? told - exact : exact - told,
+    };
 }
 
-// An estimate of the board's position, which is taken once. What is no number is no estimate, and the page says so.
+// An estimate of the board's position, which is taken once. What is no number is no estimate, and
+// the page says so.
 export function giveEstimate(state, text) {
     const told = readEstimate(text);
     const answer = answerOf(state);
-    if (!hidesNumbers(state) || !estimated(state) || !answer) return state;
+    if (!hidesNumbers(state) || !estimated(state)) return state;
     if (told === null) {
-        return { ...state, estimateFault: "An estimate is a number with at most three decimals, such as 51 or 51.5." };
+        return {
+            ...state, estimateFault: "An estimate is a number with at most three decimals, such as 51 or 51.5.",
+        };
+    }
+    if (!answer || answer.refusal) {
+        return {
+            ...state, estimateFault: "The number is still being computed: compare in a moment.",
+        };
     }
     const estimate = measured(state.points, estimated(state), told, answer);
-    const next = { ...state, estimateFault: "", estimates: [...state.estimates, estimate] };
+    const list = isAgain(state) ? "estimatesAgain" : "estimates";
+    const next = { ...state, estimateFault: "", [list]: [...state[list], estimate] };
     return { ...next, said: [toldOf(estimate), spoken(next)].join(" ") };
 }
 
@@ -531,11 +741,13 @@ export const toldOf = ({ told, error }) =>
 
 // The mean of all errors of what is estimated now, in thousandths, or null where there are none.
 export function meanError(state) {
-    const errors = state.estimates.filter(({ kind }) => kind === estimated(state)).map(({ error }) => error);
+    const errors = state.estimates.filter(({ kind }) => kind === estimated(state))
+        .map(({ error }) => error);
     return errors.length > 0 ? meanOf(errors) : null;
 }
 
-// Whether plays are to be guessed from now on. Where they aren't any more, what was guessed is over: it would be told.
+// Whether plays are to be guessed from now on. Where they aren't any more, what was guessed is
+// over: it would be told.
 export function setGuess(state, guess) {
     const next = { ...state, guess, shown: null, steps: [], picked: null, said: "" };
     if (guess) return next;
@@ -550,30 +762,40 @@ export function setGuess(state, guess) {
 
 // No guess was made yet.
 export function resetGuesses(state) {
-    return { ...state, guesses: [], decimals: new Map(), shown: null, said: "The guesses begin anew." };
+    return {
+        ...state, guesses: [], decimals: new Map(), shown: null, said: "The guesses begin anew.",
+    };
 }
 
 // Keeps the board's position.
 export function keep(state) {
     if (isKept(state) || isFull(state)) return state;
-    return { ...state, kept: [...state.kept, { points: state.points, caption: "" }], said: "The position is kept." };
+    return {
+        ...state, kept: [...state.kept, { points: state.points, caption: "" }],
+        said: "The position is kept.",
+    };
 }
 
 export function remove(state, key) {
     const kept = state.kept.filter(({ points }) => keyOf(points) !== key);
-    return kept.length === state.kept.length ? state : { ...state, kept, said: "The position is removed." };
+    return kept.length === state.kept.length
+        ? state : { ...state, kept, said: "The position is removed." };
 }
 
 export function setCaption(state, key, caption) {
-    return { ...state, kept: state.kept.map((entry) => (keyOf(entry.points) === key ? { ...entry, caption } : entry)) };
+    return {
+        ...state, kept: state.kept.map((entry) =>
+            (keyOf(entry.points) === key ? { ...entry, caption } : entry)),
+    };
 }
 
-// The kept positions in the order in which they are shown: by effective pip count, what isn't known last; as they were
-// kept while a roll is to be guessed, since the order would tell.
+// The kept positions in the order in which they are shown: by effective pip count, what isn't known
+// last; as they were kept while a roll is to be guessed, since the order would tell.
 export function orderOf(state) {
     if (hides(state)) return state.kept;
     const known = ({ points }) => answerOf(state, points)?.effective?.thousandths ?? null;
-    return state.kept.map((entry, place) => ({ entry, place, count: known(entry) })).sort((one, other) => {
+    return state.kept.map((entry, place) => ({ entry, place, count: known(entry) }))
+        .sort((one, other) => {
         if (one.count === null || other.count === null) {
             return (one.count === null) - (other.count === null) || one.place - other.place;
         }
@@ -583,30 +805,38 @@ export function orderOf(state) {
 
 // Where Tab stops within a group.
 export function stopAt(state, group, key) {
-    return state.stops[group] === key ? state : { ...state, stops: { ...state.stops, [group]: key } };
+    return state.stops[group] === key
+        ? state : { ...state, stops: { ...state.stops, [group]: key } };
 }
 
 // What another address states. Its database is for whoever loads it.
 export function visit(state, link) {
-    const { points, kept, title, roll, guess, drill, estimate, lesson, text, step, place, isPlaced } = link;
+    const { points, kept, title, roll, guess, bound, drill, estimate, lesson, text, step, place,
+        isPlaced } = link;
     const isSame = JSON.stringify(drill) === JSON.stringify(state.drill);
     const begun = isSame ? state : changeDrill(state, drill);
-    const stated = { ...begun, ...AFRESH, points, kept, title, roll, guess, place, isPlaced };
+    const stated = {
+        ...begun, ...AFRESH, points, kept, title, roll, guess, bound, place, isPlaced,
+    };
     const next = placed({ ...stated, estimate, lesson, text, step }, link);
     if (drill && !isPlaced && next.questions) return askNext(next, place);
     const asked = questionOf(next) && isTraining(next) ? askedIn(next) : "";
     return { ...next, said: [next.notice, asked, spoken(next)].filter(Boolean).join(" ") };
 }
 
-// What was chosen in each drill, as it is kept while the page is loaded anew: texts and counts, and no number of the module.
+// What was chosen in each drill, as it is kept while the page is loaded anew: texts and counts, and
+// no number of the module.
 export function picksOf(state) {
     const runs = new Map(state.runs);
     if (state.drill) runs.set(drillKey(state.drill), state);
     const pointsOf = (at) => at.split(",").map(Number);
-    const picked = (guesses) => guesses.map(({ at, roll, play }) => [pointsOf(at), roll, play.text]);
-    return Object.fromEntries([...runs].slice(-MOST_RUNS).map(([key, { guesses, again, estimates, picks }]) => [key, picks || {
-        guesses: picked(guesses), again: picked(again),
-        estimates: estimates.map(({ at, kind, told }) => [pointsOf(at), kind, String(told)]),
+    const picked = (guesses) =>
+        guesses.map(({ at, roll, play }) => [pointsOf(at), roll, play.text]);
+    const told = (estimates) =>
+        estimates.map(({ at, kind, told: estimate }) => [pointsOf(at), kind, String(estimate)]);
+    return Object.fromEntries([...runs].slice(-MOST_RUNS).map(([key, run]) => [key, run.picks || {
+        guesses: picked(run.guesses), again: picked(run.again),
+        estimates: told(run.estimates), estimatesAgain: told(run.estimatesAgain),
     }]).filter(([, run]) => run.guesses.length + run.estimates.length > 0));
 }
 
@@ -625,25 +855,36 @@ const draftOf = (state, steps) => ({ ...state, draft: { ...state.draft, steps },
 
 // A step for a position, whose key no other has.
 const stepFor = (steps, points, text = "") =>
-    ({ key: 1 + Math.max(0, ...steps.map(({ key }) => key)), points, roll: "", text, ask: "", answer: "" });
+    ({
+        key: 1 + Math.max(0, ...steps.map(({ key }) => key)), points, roll: "", text, ask: "",
+        answer: "",
+    });
 
-// A lesson begins to be made: of the positions that are kept, with their captions, or else of the board's.
+// A lesson begins to be made: of the positions that are kept, with their captions, or else of the
+// board's.
 export function beginDraft(state) {
     const positions = state.kept.length > 0 ? state.kept : [{ points: state.points, caption: "" }];
-    const steps = positions.reduce((made, { points, caption }) => [...made, stepFor(made, points, caption)], []);
+    const steps = positions.reduce((made, { points, caption }) =>
+        [...made, stepFor(made, points, caption)], []);
     return { ...state, draft: { title: state.title, steps }, draftTold: "" };
 }
 
 export const closeDraft = (state) => ({ ...state, draft: null, draftTold: "" });
 
-export const titleDraft = (state, title) => ({ ...state, draft: { ...state.draft, title: onOneLine(title) }, draftTold: "" });
+export const titleDraft = (state, title) => ({
+    ...state, draft: { ...state.draft, title: onOneLine(title) }, draftTold: "",
+});
 
-export const addDraft = (state) => draftOf(state, [...state.draft.steps, stepFor(state.draft.steps, state.points)]);
+export const addDraft = (state) =>
+    draftOf(state, [...state.draft.steps, stepFor(state.draft.steps, state.points)]);
 
-export const removeDraft = (state, place) => draftOf(state, state.draft.steps.filter((_, other) => other !== place));
+export const removeDraft = (state, place) =>
+    draftOf(state, state.draft.steps.filter((_, other) => other !== place));
 
 export const writeDraft = (state, place, word, text) =>
-    draftOf(state, state.draft.steps.map((step, other) => (other === place ? { ...step, [word]: onOneLine(text) } : step)));
+    draftOf(state,
+        state.draft.steps.map((step, other) =>
+            (other === place ? { ...step, [word]: onOneLine(text) } : step)));
 
 // A step at another place.
 export function moveDraft(state, from, to) {
@@ -658,7 +899,12 @@ export const tellDraft = (state, words) => ({ ...state, draftTold: words });
 export function draftText({ draft: { title, steps } }) {
     if (title === "") return { text: "", fault: "A lesson has a title." };
     const wrong = steps.findIndex(({ roll }) => roll !== "" && !/^[1-6]{2}$/.test(roll));
-    if (wrong >= 0) return { text: "", fault: `Step ${wrong + 1}: a roll is two digits from 1 to 6.` };
-    const text = writeLesson({ title, steps: steps.map((step) => ({ ...step, roll: step.roll === "" ? null : [...step.roll] })) });
+    if (wrong >= 0) {
+        return { text: "", fault: `Step ${wrong + 1}: a roll is two digits from 1 to 6.` };
+    }
+    const text = writeLesson({
+        title, steps: steps.map((step) =>
+            ({ ...step, roll: step.roll === "" ? null : [...step.roll] })),
+    });
     return { text, fault: readLessons(text).fault };
 }

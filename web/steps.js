@@ -1,10 +1,11 @@
-// A play as it is made on the board, one checker after the other. Which plays there are the module says: a step can be made
-// where one of them can still come of it.
+// A play as it is made on the board, one checker after the other. Which plays there are the module
+// says: a step can be made where one of them can still come of it.
 import { sumOf } from "./points.js";
 
 const diceOf = ([one, other]) => (one === other ? Array(4).fill(one) : [one, other]);
 
-// Where a die takes a checker of a point: to another one, off, which is 0, or nowhere, which is null.
+// Where a die takes a checker of a point: to another one, off, which is 0, or nowhere, which is
+// null.
 function landing(points, from, die) {
     if (points[from - 1] === 0) return null;
     if (from > die) return from - die;
@@ -34,15 +35,17 @@ export const isWhole = ({ points, dice }) => dice.length === 0 || sumOf(points) 
 // Whether the dice that are left can lead to one of some positions.
 function leads(points, dice, ends) {
     if (isWhole({ points, dice })) return ends.has(points.join());
-    return steps(points, dice, ALL).some(({ move, die }) => leads(after(points, move), without(dice, die), ends));
+    return steps(points, dice, ALL)
+        .some(({ move, die }) => leads(after(points, move), without(dice, die), ends));
 }
 
 // Where the steps that were made lead: the points, and the dice that are left.
 export const reachedBy = (points, roll, made) => made.reduce(
-    (at, { move, die }) => ({ points: after(at.points, move), dice: without(at.dice, die) }), { points, dice: diceOf(roll) });
+    (at, { move, die }) => ({ points: after(at.points, move), dice: without(at.dice, die) }),
+    { points, dice: diceOf(roll) });
 
-// Where each checker can go, if one of the positions `ends` shall come of it: by its point, the places with the steps that
-// lead there, the fewest. One checker may use several dice.
+// Where each checker can go, if one of the positions `ends` shall come of it: by its point, the
+// places with the steps that lead there, the fewest. One checker may use several dice.
 export function ways({ points, dice }, ends) {
     const found = new Map();
     for (const from of ALL) {
@@ -50,7 +53,9 @@ export function ways({ points, dice }, ends) {
         const going = [{ at: from, points, dice, made: [] }];
         for (const one of going) {
             for (const step of steps(one.points, one.dice, [one.at])) {
-                const next = { points: after(one.points, step.move), dice: without(one.dice, step.die) };
+                const next = {
+                    points: after(one.points, step.move), dice: without(one.dice, step.die),
+                };
                 const [, to] = step.move;
                 if (places.has(to) || !leads(next.points, next.dice, ends)) continue;
                 places.set(to, [...one.made, step]);

@@ -34,8 +34,8 @@ export function percent(thousandths) {
     return `${digits.slice(0, -1)}.${digits.slice(-1)} %`;
 }
 
-// The moves of a play as players write them: those of one checker joined, the same ones counted, the highest first. So
-// 4/3 3/2 2/1 1/off is 4/off, and 4/off four times is 4/off(4).
+// The moves of a play as players write them: those of one checker joined, the same ones counted,
+// the highest first. So 4/3 3/2 2/1 1/off is 4/off, and 4/off four times is 4/off(4).
 export function notation(moves) {
     const ways = [];
     for (const [from, to] of [...moves].sort(([one], [other]) => other - one)) {

@@ -1,5 +1,5 @@
-// Drills and lessons: what is asked, drawn by a seed that stands in the link, and lessons that say their text. Texts are
-// texts, and nothing here computes a number of a position.
+// Drills and lessons: what is asked, drawn by a seed that stands in the link, and lessons that say
+// their text. Texts are texts, and nothing here computes a number of a position.
 import { MOST_CHECKERS, readPoints, sumOf } from "./points.js";
 
 export const QUESTIONS = 20; // of a drill
@@ -9,7 +9,8 @@ const LONGEST_TEXT = 1200;
 const MODULUS = 2147483647;
 const MOST_TRIES = 20000; // until a drill has its questions
 
-// The positions of at most so many pips, in the order of their ranks: by pips, and then as words in a dictionary.
+// The positions of at most so many pips, in the order of their ranks: by pips, and then as words in
+// a dictionary.
 export function positions(most = MOST_PIPS) {
     const found = [];
     const fill = (points, pips, checkers) => {
@@ -31,10 +32,11 @@ const isWithin = (low, high) => (points) =>
 
 // The empty points with checkers on both sides of them, by their places.
 const gapsOf = (points) => points.flatMap((count, place) =>
-    (count === 0 && sumOf(points.slice(0, place)) > 0 && sumOf(points.slice(place)) > 0 ? [place] : []));
+    (count === 0 && sumOf(points.slice(0, place)) > 0 && sumOf(points.slice(place)) > 0
+        ? [place] : []));
 
-// The themes: the name in a link, the words, the positions, whether a roll can have something to decide there, and what
-// else of the plays has to hold.
+// The themes: the name in a link, the words, the positions, whether a roll can have something to
+// decide there, and what else of the plays has to hold.
 export const THEMES = [
     { name: "all", words: "All positions", has: (points) => sumOf(points) > 1, isPlayed: true },
     {
@@ -42,22 +44,30 @@ export const THEMES = [
         has: (points) => isWithin(1, 3)(points) && points.some((count) => count > 3),
     },
     {
-        name: "gaps", words: "Gaps", isPlayed: true, has: (points) => gapsOf(points).length > 0 && sumOf(points) > 4,
+        name: "gaps", words: "Gaps", isPlayed: true,
+        has: (points) => gapsOf(points).length > 0 && sumOf(points) > 4,
         isAsked: ([best], points) => gapsOf(points).some((place) => best.to[place] > 0),
     },
     {
         name: "middle", words: "Five to nine checkers", isPlayed: true,
         has: (points) => sumOf(points) > 4 && sumOf(points) < 10,
     },
-    { name: "high", words: "6-5-4 shapes", has: (points) => isWithin(4, 6)(points) && sumOf(points) > 2, isPlayed: true },
-    { name: "ace", words: "Ace point alone", has: (points) => points[0] === sumOf(points) && points[0] > 0, isPlayed: false },
+    {
+        name: "high", words: "6-5-4 shapes", isPlayed: true,
+        has: (points) => isWithin(4, 6)(points) && sumOf(points) > 2,
+    },
+    {
+        name: "ace", words: "Ace point alone", isPlayed: false,
+        has: (points) => points[0] === sumOf(points) && points[0] > 0,
+    },
     {
         name: "few", words: "Two to four checkers", isPlayed: true,
         has: (points) => sumOf(points) > 1 && sumOf(points) < 5,
     },
     {
         name: "fewer", words: "Bear off fewer", isPlayed: true, has: (points) => sumOf(points) > 1,
-        isAsked: (plays) => plays.every(({ to, isBest }) => !isBest || sumOf(to) > leastLeft(plays)),
+        isAsked: (plays) =>
+            plays.every(({ to, isBest }) => !isBest || sumOf(to) > leastLeft(plays)),
     },
 ];
 
@@ -68,33 +78,44 @@ export const ASKED = { play: "Play", pips: "Pip count", effective: "EPC", wastag
 export const ESTIMATED = ["pips", "effective", "wastage"];
 export const WANTED = { pips: "pip count", effective: "EPC", wastage: "wastage" };
 
+// From how many thousandths on an estimate is far off, and asked once more: a pip count is right or
+// wrong.
+export const FAR = { pips: 1n, effective: 1000n, wastage: 1000n };
+
 // How few checkers a play can leave.
 const leastLeft = (plays) => Math.min(...plays.map(({ to }) => sumOf(to)));
 
 const fillsOf = ({ to }) => to.filter((count) => count > 0).length;
 
-// The plays that a novice chooses from: those that bear off the most checkers, and of these those that fill the most points.
+// The plays that a novice chooses from: those that bear off the most checkers, and of these those
+// that fill the most points.
 export function naturalOf(plays) {
     const most = plays.filter(({ to }) => sumOf(to) === leastLeft(plays));
     const filled = Math.max(...most.map(fillsOf));
     return most.filter((play) => fillsOf(play) === filled);
 }
 
-// Thousandths of a roll that the next best play loses, at most in a close decision and at least in a clear one.
+// Thousandths of a roll that the next best play loses, at most in a close decision and at least in
+// a clear one.
 const CLOSE = 20n;
 const CLEAR = 80n;
 
-// How hard a drill is: the name in a link, the words, and which plays it asks, the best first, after so many questions of
-// a theme. In a hard one each other question is one whose natural plays all lose something; the rest can be close instead.
+// How hard a drill is: the name in a link, the words, and which plays it asks, the best first,
+// after so many questions of a theme. In a hard one each other question is one whose natural plays
+// all lose something; the rest can be close instead.
 export const LEVELS = [
     { name: "any", words: "Any", isAsked: () => true },
     {
         name: "easy", words: "Easy",
-        isAsked: (plays, count, { name }) => plays[1].loss >= CLEAR && (name === "fewer" || naturalOf(plays).some(({ isBest }) => isBest)),
+        isAsked: (plays, count, { name }) =>
+            plays[1].loss >= CLEAR
+                && (name === "fewer" || naturalOf(plays).some(({ isBest }) => isBest)),
     },
     {
         name: "hard", words: "Hard",
-        isAsked: (plays, count) => naturalOf(plays).every(({ isBest }) => !isBest) || (count % 2 === 1 && plays[1].loss <= CLOSE),
+        isAsked: (plays, count) =>
+            naturalOf(plays).every(({ isBest }) => !isBest)
+                || (count % 2 === 1 && plays[1].loss <= CLOSE),
     },
 ];
 
@@ -103,7 +124,8 @@ export const drillOf = ({ theme, seed, ask, level }) =>
     ({ theme, seed, ask, ...(ask === "play" && level !== "any" ? { level } : {}) });
 
 // A seed as it is typed, or null.
-export const readSeed = (text) => (/^\s*\d{1,9}\s*$/.test(text || "") && Number(text) > 0 ? Number(text) : null);
+export const readSeed = (text) =>
+    (/^\s*\d{1,9}\s*$/.test(text || "") && Number(text) > 0 ? Number(text) : null);
 
 // The drill of these words of a link, or null.
 export function readDrill({ theme, seed, ask, level }) {
@@ -112,10 +134,14 @@ export function readDrill({ theme, seed, ask, level }) {
     if (!known || read === null) return null;
     const kind = Object.hasOwn(ASKED, ask) ? ask : "play";
     if (kind === "play" && !known.isPlayed) return null;
-    return drillOf({ theme, seed: read, ask: kind, level: LEVELS.some(({ name }) => name === level) ? level : "any" });
+    return drillOf({
+        theme, seed: read, ask: kind,
+        level: LEVELS.some(({ name }) => name === level) ? level : "any",
+    });
 }
 
-// Numbers that look random: each is 48271 times the one before it, modulo 2^31 - 1; the first comes from the seed.
+// Numbers that look random: each is 48271 times the one before it, modulo 2^31 - 1; the first comes
+// from the seed.
 export function* numbersFrom(seed) {
     for (let number = seed % MODULUS; ;) {
         number = (48271 * number) % MODULUS;
@@ -123,8 +149,9 @@ export function* numbersFrom(seed) {
     }
 }
 
-// The questions of a drill: `playsOf` says the plays of a roll, the best first. A roll is asked only where there is
-// something to decide: more than one play, and the next best loses something; and where its theme and its level ask it.
+// The questions of a drill: `playsOf` says the plays of a roll, the best first. A roll is asked
+// only where there is something to decide: more than one play, and the next best loses something;
+// and where its theme and its level ask it.
 export function drawQuestions({ theme, seed, ask, level = "any" }, rolls, playsOf) {
     const asked = themeOf(theme);
     const { has, isAsked = () => true } = asked;
@@ -132,7 +159,8 @@ export function drawQuestions({ theme, seed, ask, level = "any" }, rolls, playsO
     const themed = positions().filter(has);
     const numbers = numbersFrom(seed);
     const drawn = new Map();
-    for (let tries = 0; drawn.size < Math.min(QUESTIONS, themed.length) && tries < MOST_TRIES; tries += 1) {
+    const most = Math.min(QUESTIONS, themed.length);
+    for (let tries = 0; drawn.size < most && tries < MOST_TRIES; tries += 1) {
         const points = themed[numbers.next().value % themed.length];
         const roll = rolls[numbers.next().value % rolls.length];
         if (ask !== "play") {
@@ -140,7 +168,8 @@ export function drawQuestions({ theme, seed, ask, level = "any" }, rolls, playsO
             continue;
         }
         const plays = playsOf(points, roll);
-        if (plays.length > 1 && !plays[1].isBest && isAsked(plays, points) && asks(plays, drawn.size, asked)) drawn.set(points.join(), { points, roll });
+        const decides = plays.length > 1 && !plays[1].isBest && isAsked(plays, points);
+        if (decides && asks(plays, drawn.size, asked)) drawn.set(points.join(), { points, roll });
     }
     return [...drawn.values()];
 }
@@ -148,8 +177,9 @@ export function drawQuestions({ theme, seed, ask, level = "any" }, rolls, playsO
 const LINE = /^(lesson|step|roll|text|ask|answer):[ \t]*(.*)$/;
 const clean = (text) => text.replace(/\s+/g, " ").trim().slice(0, LONGEST_TEXT);
 
-// The lessons that a text has: lines with a word, a colon and what it says. A line without such a word goes on with the
-// one before it, an empty line ends it. Why it is refused, where it is: the first line that can't be read.
+// The lessons that a text has: lines with a word, a colon and what it says. A line without such a
+// word goes on with the one before it, an empty line ends it. Why it is refused, where it is: the
+// first line that can't be read.
 export function readLessons(text) {
     const lessons = [];
     let [step, last, fault] = [null, null, ""];
@@ -166,15 +196,17 @@ export function readLessons(text) {
             const points = readPoints(value.replaceAll(" ", ""));
             if (!points) refuse("a step is six counts with commas between them");
             else if (lessons.length === 0) refuse("a lesson begins with its title");
-            else if (lessons.at(-1).steps.length >= MOST_STEPS) refuse(`a lesson has at most ${MOST_STEPS} steps`);
-            else {
+            else if (lessons.at(-1).steps.length >= MOST_STEPS) {
+                refuse(`a lesson has at most ${MOST_STEPS} steps`);
+            } else {
                 step = { points, roll: null, text: "", ask: "", answer: "" };
                 lessons.at(-1).steps.push(step);
             }
         } else if (!word || !step) refuse(word ? "a step comes first" : "no such word");
         else if (word === "roll") {
-            if (/^[1-6]{2}$/.test(value)) step.roll = [...value].map(Number).sort((one, other) => other - one);
-            else refuse("a roll is two digits from 1 to 6");
+            if (/^[1-6]{2}$/.test(value)) {
+                step.roll = [...value].map(Number).sort((one, other) => other - one);
+            } else refuse("a roll is two digits from 1 to 6");
         } else {
             step[word] = clean(value);
             last = word;
@@ -195,7 +227,8 @@ export function writeLesson({ title, steps }) {
 
 // What was estimated, in thousandths, or null where it is no number of at most three decimals.
 export function readEstimate(text) {
-    const [, sign, whole, part] = /^\s*([-\u2212]?)(\d{1,3})(?:[.,](\d{1,3}))?\s*$/.exec(text) || [];
+    const [, sign, whole, part] = /^\s*([-\u2212]?)(\d{1,3})(?:[.,](\d{1,3}))?\s*$/.exec(text)
+        || [];
     if (whole === undefined) return null;
     const thousandths = BigInt(whole) * 1000n + BigInt((part || "").padEnd(3, "0"));
     return sign ? -thousandths : thousandths;
@@ -209,7 +242,8 @@ export function thousandthsOf({ standing, effective }, kind) {
 
 // The mean of so many thousandths, to the nearest.
 export const meanOf = (errors) =>
-    (2n * errors.reduce((sum, error) => sum + error, 0n) + BigInt(errors.length)) / (2n * BigInt(errors.length));
+    (2n * errors.reduce((sum, error) => sum + error, 0n) + BigInt(errors.length))
+        / (2n * BigInt(errors.length));
 
 // A position as text: its counts, and a small board of letters.
 export function asText(points) {

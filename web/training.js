@@ -5,53 +5,73 @@ import { COMING, dicePicture } from "./panels.js";
 import { h } from "./tree.js";
 import { ASKED, ESTIMATED, LEVELS, meanOf, MOST_PIPS, themeOf, THEMES, WANTED } from "./trainer.js";
 import {
-    answeredOf, askedIn, drillErrors, drillGuesses, estimated, estimateOf, isAgain, isTraining, lengthOf, lessonOf, meanError,
-    missedOf, mistakesOf, questionOf, scoreOf, stepOf, toldOf,
+    answeredOf, askedIn, drillErrors, drillGuesses, estimated, estimateOf, hasBegun, isAgain, isFar,
+    isTraining, lengthOf, lessonOf, meanError, missedOf, mistakesOf, questionOf, scoreOf, stepOf,
+    toldOf,
 } from "./state.js";
 import { sumOfFractions } from "./fractions.js";
 
-const button = (key, text, click, more = {}) => h("button", { type: "button", "data-key": key, click, ...more }, text);
+const button = (key, text, click, more = {}) =>
+    h("button", { type: "button", "data-key": key, click, ...more }, text);
 
 const link = (words) => `#${new URLSearchParams(words).toString().replaceAll("%2C", ",")}`;
 
 // The heading of what is on, with how it ends.
-const head = (act, title) => h("div", { class: "top-line" }, h("h2", {}, title), button("end training", "End", () => act.end()));
+const head = (act, title) =>
+    h("div", { class: "top-line" }, h("h2", {}, title),
+        button("end training", "End", () => act.end()));
 
-// A way to look at a question's position with all that the page has; Back leads to the question again.
+// A way to look at a question's position with all that the page has; Back leads to the question
+// again.
 const lookAround = (state) => isTraining(state)
-    && [" ", h("a", { href: link({ at: state.points.join() }), "data-key": "look around" }, "Look around"), "."];
+    && [" ", h("a", { href: link({ at: state.points.join() }), "data-key": "look around" },
+        "Look around"), "."];
 
 function lessonPanel(state, act) {
     const lesson = lessonOf(state);
     const { text, ask, answer, roll } = stepOf(state);
     return h("div", { class: "coach" },
         head(act, lesson.title),
-        h("p", { class: "how" }, `Step ${state.step} of ${lesson.steps.length}.`, lookAround(state)),
+        h("p", { class: "how" }, `Step ${state.step} of ${lesson.steps.length}.`,
+            lookAround(state)),
         text && h("p", { class: "says" }, text),
         (ask || roll) && h("p", { class: "asks" }, ask, roll && [" ", dicePicture(roll)]),
         answer && state.isAnswered && h("p", { class: "answers" }, answer),
-        !isTraining(state) && h("p", { class: "steering" }, button("back to it", "Back to the step", () => act.step(state.step))));
+        !isTraining(state)
+            && h("p", { class: "steering" },
+                button("back to it", "Back to the step", () => act.step(state.step))));
 }
 
 // A drill's score, once all was asked.
 function score(state) {
     const count = answeredOf(state);
+    const missed = missedOf(state).length;
+    const askedAgain = (what, right, how) => missed > 0 && h("p", { class: "says" },
+        `${missed === 1 ? "One was" : `${missed} were`} ${what}; asked once more, `
+            + `${right} ${right === 1 ? "was" : "were"} ${how}.`);
     if (state.drill.ask !== "play") {
         const errors = drillErrors(state);
         const mean = errors.length > 0 ? ` The mean error is ${decimal(meanOf(errors))} pips.` : "";
-        return h("p", { class: "says score" }, `${count} of ${state.questions.length} were estimated.${mean}`);
+        const near = state.estimatesAgain.filter((estimate) => !isFar(estimate)).length;
+        return [
+            h("p", { class: "says score" },
+                `${count} of ${state.questions.length} were estimated.${mean}`),
+            state.drill.ask === "pips"
+                ? askedAgain("wrong", near, "right")
+                : askedAgain("a pip or more off", near, "nearer"),
+        ];
     }
     const [rolls, pips] = scoreOf(state);
     const told = (fraction) => state.decimals.get(fraction) ?? (count === 0 ? "0.000" : COMING);
     const mistakes = mistakesOf(state);
-    const missed = missedOf(state).length;
-    const right = state.again.filter(({ play }) => play.isBest).length;
     return [
-        h("p", { class: "says score" }, `${count} of ${state.questions.length} were played. They lost ${told(rolls)} rolls, or `
+        h("p", { class: "says score" },
+            `${count} of ${state.questions.length} were played. They lost ${told(rolls)} rolls, or `
             + `${told(pips)} pips of EPC. Exactly: ${rolls} of a roll.`),
-        missed > 0 && h("p", { class: "says" }, `${missed === 1 ? "One was missed" : `${missed} were missed`}; `
-            + `asked once more, ${right} ${right === 1 ? "was" : "were"} right.`),
-        mistakes && h("p", {}, h("a", { href: link({ text: mistakes }), "data-key": "mistakes" }, "The mistakes as a lesson")),
+        askedAgain("missed", state.again.filter(({ play }) => play.isBest).length, "right"),
+        mistakes && h("p", {},
+            h("a", { href: link({ text: mistakes }), "data-key": "mistakes" },
+                "The mistakes as a lesson")),
     ];
 }
 
@@ -59,7 +79,9 @@ function score(state) {
 function soFar(state) {
     const count = answeredOf(state);
     if (count === 0) return "";
-    if (state.drill.ask !== "play") return ` ${count} estimated, mean error ${decimal(meanOf(drillErrors(state)))} pips.`;
+    if (state.drill.ask !== "play") {
+        return ` ${count} estimated, mean error ${decimal(meanOf(drillErrors(state)))} pips.`;
+    }
     const lost = sumOfFractions(drillGuesses(state).map(({ play }) => play.exact));
     return ` ${count} played, ${state.decimals.get(lost) ?? COMING} rolls lost.`;
 }
@@ -67,15 +89,19 @@ function soFar(state) {
 function drillPanel(state, act) {
     const { drill, questions, place } = state;
     const question = questionOf(state);
-    const level = drill.level ? `, ${LEVELS.find(({ name }) => name === drill.level).words.toLowerCase()}` : "";
+    const level = drill.level
+        ? `, ${LEVELS.find(({ name }) => name === drill.level).words.toLowerCase()}` : "";
     return h("div", { class: "coach" },
         head(act, `Drill: ${themeOf(drill.theme).words}, ${ASKED[drill.ask]}${level}`),
-        !questions ? h("p", {}, COMING)
-            : questions.length === 0 ? h("p", {}, state.database?.bound < MOST_PIPS ? `A drill needs a database of ${MOST_PIPS} pips.`
-                : "No roll of this theme is of this level.")
-            : question ? h("p", { class: "asks" }, askedIn(state), question.roll && [" ", dicePicture(question.roll)])
+        !questions ? h("p", {},
+            state.database?.bound < MOST_PIPS
+                ? `A drill needs ${MOST_PIPS} pips, more than your file has.` : COMING)
+            : questions.length === 0 ? h("p", {}, "No roll of this theme is of this level.")
+            : question ? h("p", { class: "asks" }, askedIn(state),
+                question.roll && [" ", dicePicture(question.roll)])
             : score(state),
-        h("p", { class: "how" }, `Seed ${drill.seed}.${question ? soFar(state) : ""}`, lookAround(state)),
+        h("p", { class: "how" }, `Seed ${drill.seed}.${question ? soFar(state) : ""}`,
+            lookAround(state)),
         question && !isTraining(state) && h("p", { class: "steering" },
             button("back to it", "Back to the question", () => act.question(place))));
 }
@@ -86,7 +112,8 @@ export const coach = (state, act) =>
 
 // What follows the last step of a lesson: the next one of the page, or its end.
 const afterLesson = ({ lesson, lessons }, isOpen, act) => (lesson && lesson < lessons.length
-    ? h("a", { href: link({ lesson: lesson + 1 }), "data-key": "next lesson", class: isOpen ? "button" : "button first" }, "Next lesson")
+    ? h("a", { href: link({ lesson: lesson + 1 }), "data-key": "next lesson",
+        class: isOpen ? "button" : "button first" }, "Next lesson")
     : button("finish", "End of the lesson", () => act.end(), { class: isOpen ? null : "first" }));
 
 // Where the thumb is, while one trains: the play that is made, what it lost, and the ways on.
@@ -95,24 +122,34 @@ export function steering(state, making, verdict, act) {
     const step = stepOf(state);
     const { place, questions } = state;
     const count = step ? lessonOf(state).steps.length : lengthOf(state);
-    const isOpen = Boolean(making || (!step && estimated(state) && !estimateOf(state)) || (step?.answer && !state.isAnswered));
+    const isOpen = Boolean(making || (!step && estimated(state) && !estimateOf(state))
+        || (step?.answer && !state.isAnswered));
     const last = step ? state.step === count : place + 1 >= count && !isOpen;
-    const begun = state.steps.length > 0 || state.picked !== null;
+    const begun = hasBegun(state);
+    const before = (isThere, what, click) => isThere && button(`previous ${what}`, "Previous", click);
     return [
         making && h("p", { class: "hint" }, making.play ? `${making.play.text}?`
-            : begun ? "Where to? A ring marks each place." : "Move a checker, or choose from the list."),
+            : begun ? "Where to? A ring marks each place."
+            : "Move a checker, or choose from the list."),
         verdict && h("p", { class: verdict.isBest ? "verdict good" : "verdict" }, verdict.first,
             verdict.isBest ? null : ` In EPC: ${state.decimals.get(verdict.pips) ?? COMING} pips.`),
         h("p", { class: "steering" },
-            making?.play && button("made", `Play ${making.play.text}`, () => act.play(making.play.text), { class: "first" }),
+            making?.play && button("made", `Play ${making.play.text}`,
+                () => act.play(making.play.text), { class: "first" }),
             making && begun && button("undo", "Undo", () => act.undo()),
-            step?.answer && !state.isAnswered && button("answer", "Show the answer", () => act.answer(), { class: making ? null : "first" }),
-            step ? state.step > 1 && button("previous step", "Previous", () => act.step(state.step - 1))
-                : place > 0 && questions && button("previous question", "Previous", () => act.question(place - 1)),
-            step ? (last ? afterLesson(state, isOpen, act) : button("next step", "Next", () => act.step(state.step + 1), { class: isOpen ? null : "first" }))
-                : questionOf(state) && button("next question", isOpen ? "Skip" : last ? "Score" : "Next", () => act.question(place + 1),
-                    { class: isOpen ? null : "first" }),
-            !step && questions?.length > 0 && place >= count && button("another drill", "Another drill", () => act.another(), { class: "first" })),
+            step?.answer && !state.isAnswered && button("answer", "Show the answer",
+                () => act.answer(), { class: making ? null : "first" }),
+            step ? before(state.step > 1, "step", () => act.step(state.step - 1))
+                : before(place > 0 && questions, "question", () => act.question(place - 1)),
+            !step ? questionOf(state) && button("next question",
+                isOpen ? "Skip" : last ? "Score" : "Next",
+                () => act.question(place + 1), { class: isOpen ? null : "first" })
+                : last ? afterLesson(state, isOpen, act)
+                : button("next step", "Next",
+                    () => act.step(state.step + 1), { class: isOpen ? null : "first" }),
+            !step && questions?.length > 0 && place >= count
+                && button("another drill", "Another drill", () => act.another(),
+                    { class: "first" })),
     ];
 }
 
@@ -122,11 +159,15 @@ export function printed(state) {
     if (!lesson) return [];
     return [
         h("h2", {}, lesson.title),
-        h("ol", { class: "steps-printed" }, lesson.steps.map(({ points, roll, text, ask }) => h("li", {},
-            lookedAt(points, []),
-            h("p", {}, text, " ", (ask || roll) && h("b", {}, ask), roll && [" ", dicePicture(roll)])))),
-        lesson.steps.some(({ answer }) => answer) && [h("h3", {}, "Answers"), h("ol", {}, lesson.steps.map(({ answer }) =>
-            h("li", {}, answer || "\u2013")))],
+        h("ol", { class: "steps-printed" }, lesson.steps.map(({ points, roll, text, ask }) =>
+            h("li", {},
+                lookedAt(points, []),
+                h("p", {}, text, " ", (ask || roll) && h("b", {}, ask),
+                    roll && [" ", dicePicture(roll)])))),
+        lesson.steps.some(({ answer }) => answer) && [
+            h("h3", {}, "Answers"),
+            h("ol", {}, lesson.steps.map(({ answer }) => h("li", {}, answer || "\u2013"))),
+        ],
     ];
 }
 
@@ -137,7 +178,8 @@ export const estimateField = (state, act) => [
     h("div", { class: "estimate" },
         h("label", {}, `Your estimate of the ${NAMES[estimated(state)]} `, h("input", {
             type: "text", "data-key": "estimate", inputmode: "decimal", autocomplete: "off",
-            "aria-invalid": String(Boolean(state.estimateFault)), "aria-describedby": "estimate-why",
+            "aria-invalid": String(Boolean(state.estimateFault)),
+            "aria-describedby": "estimate-why",
             keydown: ({ key, target }) => { if (key === "Enter") act.guessNumber(target.value); },
         })), " pips ",
         button("tell", "Compare", () => act.guessNumber())),
@@ -145,27 +187,33 @@ export const estimateField = (state, act) => [
 ];
 
 // Beside a field, why what was typed there can't be taken; it is heard once it comes.
-const fault = (id, words) => h("div", { role: "alert", id }, words && h("p", { class: "trouble" }, words));
+const fault = (id, words) =>
+    h("div", { role: "alert", id }, words && h("p", { class: "trouble" }, words));
 
 // How far an estimate was off, and all of them.
 export function estimateTold(state) {
     const estimate = estimated(state) && estimateOf(state);
     if (!estimate) return null;
-    return h("p", { class: "verdict" }, `${toldOf(estimate)} The mean error so far is ${decimal(meanError(state))} pips.`);
+    return h("p", { class: "verdict" },
+        `${toldOf(estimate)} The mean error so far is ${decimal(meanError(state))} pips.`);
 }
 
-// The ace-stack rule, where it speaks of a position: without doubles a stack takes half as many rolls as it has checkers,
-// rounded up, and each is worth 7 pips, with one more for all (Walter Trice, Backgammon Boot Camp, 2004). What it is off
-// over the 15 stacks is compared with the program.
+// The ace-stack rule, where it speaks of a position: without doubles a stack takes half as many
+// rolls as it has checkers, rounded up, and each is worth 7 pips, with one more for all (Walter
+// Trice, Backgammon Boot Camp, 2004). What it is off over the 15 stacks is compared with the
+// program.
 const OVER_ALL = { most: "0.167", mean: "0.027" };
 
 export function thumb(points, answer) {
     const [count] = points;
-    if (!answer || answer.refusal || count < 1 || points.slice(1).some((other) => other > 0)) return null;
+    if (!answer || answer.refusal || count < 1 || points.slice(1).some((other) => other > 0)) {
+        return null;
+    }
     const rule = 7 * Math.ceil(count / 2) + 1;
     const exact = answer.effective.thousandths;
     const off = 1000n * BigInt(rule) - exact;
-    return h("p", { class: "hint thumb" }, `Trice's ace-stack rule, 7n + 1 for n rolls without a double: ${rule} EPC, `
+    return h("p", { class: "hint thumb" },
+        `Trice's ace-stack rule, 7n + 1 for n rolls without a double: ${rule} EPC, `
         + `${decimal(off < 0n ? -off : off)} off here; over the 15 stacks at most ${OVER_ALL.most}, `
         + `and ${OVER_ALL.mean} on average.`);
 }
@@ -177,7 +225,8 @@ const choice = (key, name, options) => h("label", {}, `${name} `, h("select", { 
 export const training = (state, act) => [
     h("h3", {}, "Lessons"),
     h("ol", { class: "lessons" }, state.lessons.map(({ title }, place) =>
-        h("li", {}, h("a", { href: link({ lesson: place + 1 }), "data-key": `lesson ${place + 1}` }, title)))),
+        h("li", {}, h("a", { href: link({ lesson: place + 1 }), "data-key": `lesson ${place + 1}` },
+            title)))),
     h("p", {}, button("draft begin", "Make a lesson of your own", () => act.beginDraft())),
     h("h3", {}, "A drill of twenty"),
     h("p", { class: "choices" },
@@ -185,17 +234,19 @@ export const training = (state, act) => [
         choice("asked", "Asked", Object.entries(ASKED)),
         choice("level", "Level", LEVELS.map(({ name, words }) => [name, words])),
         h("label", {}, "Seed ", h("input", {
-            type: "text", "data-key": "seed", inputmode: "numeric", autocomplete: "off", placeholder: "another",
+            type: "text", "data-key": "seed", inputmode: "numeric", autocomplete: "off",
+            placeholder: "another",
             "aria-invalid": String(Boolean(state.seedFault)), "aria-describedby": "seed-why",
             keydown: ({ key }) => { if (key === "Enter") act.drill(); },
         })),
         button("begin drill", "Begin", () => act.drill())),
     fault("seed-why", state.seedFault),
     h("h3", {}, "Estimate first"),
-    h("p", { class: "choices" }, h("label", {}, "Hide the numbers until you have estimated ", h("select", {
-        "data-key": "estimated", value: state.estimate || "", change: ({ target }) => act.estimate(target.value),
-    }, [["", "nothing"], ...ESTIMATED.map((kind) => [kind, `the ${NAMES[kind]}`])].map(([value, text]) =>
-        h("option", { value, selected: value === (state.estimate || "") }, text))))),
-    h("p", { class: "how" }, "Scored by proved numbers. Nothing is said of winning chances: the play of least mean isn't always "
-        + "the one that wins most often."),
+    h("p", { class: "choices" },
+        h("label", {}, "Hide the numbers until you have estimated ", h("select", {
+            "data-key": "estimated", value: state.estimate || "",
+            change: ({ target }) => act.estimate(target.value),
+        }, ["", ...ESTIMATED].map((kind) =>
+            h("option", { value: kind, selected: kind === (state.estimate || "") },
+                kind ? `the ${NAMES[kind]}` : "nothing"))))),
 ];

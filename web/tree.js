@@ -1,8 +1,9 @@
-// What the page draws, as plain trees: a tag, its attributes, and children that are trees or texts. Nothing here reads
-// markup, so a caption stays a text.
+// What the page draws, as plain trees: a tag, its attributes, and children that are trees or texts.
+// Nothing here reads markup, so a caption stays a text.
 
 const SVG = "http://www.w3.org/2000/svg";
-const SVG_TAGS = new Set(["svg", "g", "path", "circle", "rect", "text", "line", "polygon", "title", "defs", "marker"]);
+const SVG_TAGS = new Set(
+    ["svg", "g", "path", "circle", "rect", "text", "line", "polygon", "title", "defs", "marker"]);
 
 const isThere = (child) => child !== null && child !== undefined && child !== false;
 
@@ -15,7 +16,8 @@ const given = new WeakMap();
 
 const isSet = (value) => isThere(value) && typeof value !== "function";
 
-// The events for which an element has a listener, once and for good: it does what the element's last tree says.
+// The events for which an element has a listener, once and for good: it does what the element's
+// last tree says.
 const listening = new WeakMap();
 
 function listen(element, name) {
@@ -29,8 +31,8 @@ function listen(element, name) {
     });
 }
 
-// Gives an element the attributes of a tree, and takes those that only its last tree had. An attribute that is a
-// function listens; one that is false or null is left out.
+// Gives an element the attributes of a tree, and takes those that only its last tree had. An
+// attribute that is a function listens; one that is false or null is left out.
 function dress(element, attributes) {
     const former = given.get(element);
     given.set(element, attributes);
@@ -41,7 +43,8 @@ function dress(element, attributes) {
             if (isSet(old)) element.removeAttribute(name);
         } else if (value !== old) {
             element.setAttribute(name, value === true ? "" : String(value));
-            if (name === "value") element.value = value; // what is seen in a field, once it was edited
+            // What is seen in a field, once it was edited
+            if (name === "value") element.value = value;
         }
     }
 }
@@ -60,7 +63,9 @@ export function build(document, tree) {
 // Whether a node can become what a tree says.
 function fits(node, tree) {
     const attributes = given.get(node);
-    if (typeof tree !== "object" || !attributes) return typeof tree !== "object" && !attributes && node.nodeType === 3;
+    if (typeof tree !== "object" || !attributes) {
+        return typeof tree !== "object" && !attributes && node.nodeType === 3;
+    }
     return node.localName === tree.tag && attributes["data-key"] === tree.attributes["data-key"];
 }
 
@@ -78,24 +83,30 @@ function fill(document, parent, trees) {
     const former = [...parent.childNodes];
     const nodes = trees.map((tree) => {
         const place = former.findIndex((node) => fits(node, tree));
-        return place < 0 ? build(document, tree) : change(document, former.splice(place, 1)[0], tree);
+        return place < 0
+            ? build(document, tree) : change(document, former.splice(place, 1)[0], tree);
     });
     for (const node of former) parent.removeChild(node);
     nodes.forEach((node, place) => {
-        if (parent.childNodes[place] !== node) parent.insertBefore(node, parent.childNodes[place] || null);
+        if (parent.childNodes[place] !== node) {
+            parent.insertBefore(node, parent.childNodes[place] || null);
+        }
     });
 }
 
-// Makes what stands in an element that of trees. An element that its tree still has stays: so do the focus, a caret, a
-// list that was scrolled, and a button between its press and its release.
+// Makes what stands in an element that of trees. An element that its tree still has stays: so do
+// the focus, a caret, a list that was scrolled, and a button between its press and its release.
 export function draw(document, parent, ...trees) {
     const active = document.activeElement;
     fill(document, parent, trees.flat(Infinity).filter(isThere));
-    if (active && active !== document.activeElement && parent.contains(active)) active.focus({ preventScroll: true });
+    if (active && active !== document.activeElement && parent.contains(active)) {
+        active.focus({ preventScroll: true });
+    }
 }
 
 // The text of a tree, as a reader sees it: for tests.
 export function textOf(tree) {
     if (Array.isArray(tree)) return tree.map(textOf).join(" ");
-    return typeof tree === "object" && tree !== null ? tree.children.map(textOf).join(" ") : String(tree ?? "");
+    return typeof tree === "object" && tree !== null
+        ? tree.children.map(textOf).join(" ") : String(tree ?? "");
 }

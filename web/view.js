@@ -1,14 +1,18 @@
-// What the page shows of a state: trees for its parts, its texts, and what is hidden. Each is what this state says, and
-// nothing of a former one.
+// What the page shows of a state: trees for its parts, its texts, and what is hidden. Each is what
+// this state says, and nothing of a former one.
 import { writeLink } from "./link.js";
+import { pipsOf } from "./points.js";
 import { h } from "./tree.js";
 import { board, played, watched } from "./board.js";
 import { editor } from "./editor.js";
 import { chances, COMING, kept, numbers, plays, rolls, verdict } from "./panels.js";
-import { coach, estimateField, estimateTold, printed, steering, thumb, training } from "./training.js";
 import {
-    answerOf, asksNumber, chosenOf, drillKey, hides, hidesNumbers, isComing, isFull, isKept, isTraining, lessonOf, lostPips,
-    makingOf, orderOf, rollsOf, shownPlay, verdictOf,
+    coach, estimateField, estimateTold, printed, steering, thumb, training,
+} from "./training.js";
+import {
+    answerOf, asksNumber, chosenOf, drillKey, hasBegun, hides, hidesNumbers, isAwaited, isComing,
+    isFull, isKept, isTraining, lessonOf, lostPips, makingOf, needsMore, orderOf, rollsOf,
+    shownPlay, verdictOf,
 } from "./state.js";
 
 // What stands in the place of numbers that a lesson asks for.
@@ -17,13 +21,16 @@ const asked = h("p", { class: "hint" }, "The numbers come with the answer.");
 // The same, while the questions of a drill are drawn.
 const drawing = h("p", { class: "hint" }, COMING);
 
-// The lesson or drill that one trains, and which question or step of it is on, as texts, or "" where one doesn't train.
+// The lesson or drill that one trains, and which question or step of it is on, as texts, or ""
+// where one doesn't train.
 const trainedOf = (state) => (!isTraining(state) ? ["", ""]
-    : state.drill ? [drillKey(state.drill), String(state.place)] : [String(state.lesson || state.text), String(state.step)]);
+    : state.drill ? [drillKey(state.drill), String(state.place)]
+    : [String(state.lesson || state.text), String(state.step)]);
 
 export function view(state, act) {
     const { points, roll, guess, stops, database, typed } = state;
-    const answer = answerOf(state);
+    const waits = isAwaited(state);
+    const answer = waits ? undefined : answerOf(state);
     const list = rollsOf(state);
     const shown = shownPlay(state);
     const told = verdictOf(state);
@@ -37,24 +44,32 @@ export function view(state, act) {
     const hasRolls = answer ? !answer.refusal && answer.standing.checkers > 0 : isComing(state);
     return {
         trees: {
-            board: making ? played(making, state.picked, stops.board, act) : trains ? watched(points, moves) : board(points, moves, act),
+            board: making ? played(making, {
+                picked: state.picked, stop: stops.board, begun: hasBegun(state), isAlone: !trains,
+            }, act)
+                : trains ? watched(points, moves) : board(points, moves, act),
             coach: coach(state, act),
             steering: steering(state, making, told, act),
             printed: printed(state),
             draft: editor(state, act),
             training: training(state, act),
-            numbers: asksNumber(state) ? asked : state.drill && !state.questions ? drawing : isEstimated ? estimateField(state, act)
-                : [numbers(answer, isComing(state)), thumb(points, answer), estimateTold(state)],
+            numbers: asksNumber(state) ? asked
+                : state.drill && !state.questions ? drawing
+                : isEstimated ? estimateField(state, act)
+                : [numbers(answer, isComing(state), waits && pipsOf(points)), thumb(points, answer),
+                    estimateTold(state)],
             chances: answer && hasChances ? chances(answer.distribution) : [],
             grid: rolls(list, roll, (dice) => hides(state, dice), stops.rolls, act),
             plays: [
                 plays({
-                    points, dice: roll, list: chosen, shown, lost: state.decimals.get(lostPips(state)),
+                    points, dice: roll, list: chosen, shown,
+                    lost: state.decimals.get(lostPips(state)),
                     isHidden: hides(state), isTrained: trains, stop: stops.plays,
                 }, act),
                 told && !trains && verdict(told, act),
             ],
-            kept: kept(orderOf(state), (at) => answerOf(state, at), isHidden, act),
+            kept: kept(orderOf(state),
+                (at) => (isAwaited(state, at) ? undefined : answerOf(state, at)), isHidden, act),
         },
         texts: {
             lesson: state.title,
@@ -64,7 +79,8 @@ export function view(state, act) {
             said: state.said,
             open: database ? `${database.bound} pips` : "\u2026",
             known: database ? database.positions.toLocaleString("en") : "\u2026",
-            keep: isKept(state) ? "Kept below" : isFull(state) ? "Ten are kept" : "Keep this position",
+            keep: isKept(state)
+                ? "Kept below" : isFull(state) ? "Ten are kept" : "Keep this position",
             why: typed ? typed.fault : "",
             sorting: isHidden ? "Their numbers are hidden while you guess." : "Sorted by EPC.",
         },
@@ -76,7 +92,7 @@ export function view(state, act) {
             editing: !state.draft || trains,
             lesson: !state.title,
             trouble: !state.trouble,
-            wider: !(answer?.status === 4 && answer.bound < 58 && answer.standing.pips <= 58) || state.loads > 0,
+            wider: !state.isGivenUp || !needsMore(state),
             chances: !hasChances,
             rolls: !hasRolls,
             keeping: state.kept.length === 0,
@@ -91,6 +107,7 @@ export function view(state, act) {
         isCompact: state.isCompact,
         whole: state.isCompact ? writeLink({ ...state, isCompact: false }) : "#",
         isTraining: trains,
+        isPlaying: Boolean(making) && !trains, // a play is to be guessed on the free board
         hasRoll: Boolean(roll),
         trained: trainedOf(state),
     };

@@ -36,14 +36,15 @@ export function rollsOf(database, points) {
 
 // The questions of a drill; none where the database has fewer pips than they can have.
 export function drawn(database, drill) {
-    return database.bound < MOST_PIPS ? [] : drawQuestions(drill, ROLLS, (points, roll) => choicesOf(database, points, roll));
+    return database.bound < MOST_PIPS
+        ? [] : drawQuestions(drill, ROLLS, (points, roll) => choicesOf(database, points, roll));
 }
 
 // The plays of rolls that were guessed before, and the numbers of positions that were estimated.
-export function again(database, { guesses, again: more, estimates }) {
+export function again(database, { guesses, again: more, estimates, estimatesAgain }) {
     return {
         plays: [...guesses, ...more].map(([points, roll]) => playsOf(database, points, roll)),
-        answers: estimates.map(([points]) => answer(database, points)),
+        answers: [...estimates, ...estimatesAgain].map(([points]) => answer(database, points)),
     };
 }
 
@@ -61,13 +62,21 @@ export class Desk {
         this.database = null;
     }
 
-    // Builds the database of a bound, checks it like any other, and opens it.
+    // Builds the database of a bound, checks it like any other, and opens it; `took` is for how
+    // many milliseconds.
     async build(bound) {
         const usual = bound > 44 ? 800 : 400;
-        this.tell({ from: 0.1, until: 0.55, usual, text: `Building the database of ${bound} pips\u2026` });
-        return this.become(await Database.build(bound, this.module, (bytes) => {
-            this.tell({ from: 0.55, until: 1, usual, text: `Checking all of its ${(bytes / 1e6).toFixed(0)} MB\u2026` });
+        const begun = performance.now();
+        this.tell({
+            from: 0.1, until: 0.55, usual, text: `Building the database of ${bound} pips\u2026`,
+        });
+        const opened = this.become(await Database.build(bound, this.module, (bytes) => {
+            this.tell({
+                from: 0.55, until: 1, usual,
+                text: `Checking all of its ${(bytes / 1e6).toFixed(0)} MB\u2026`,
+            });
         }));
+        return { ...opened, took: performance.now() - begun };
     }
 
     // Checks a file and opens it; where it is refused the database that was open stays so.
@@ -82,10 +91,8 @@ export class Desk {
         return { bound: database.bound, positions: database.positionCount };
     }
 
-    async take({ kind, bound, file, points, fraction, drill, picks }) {
+    async take({ kind, file, points, fraction, drill, picks }) {
         switch (kind) {
-            case "build":
-                return this.build(bound);
             case "open":
                 this.tell({ from: 0.1, until: 1, usual: 400, text: "Checking the file\u2026" });
                 return this.open(file);
@@ -105,8 +112,8 @@ export class Desk {
     }
 }
 
-// Answers the messages of a page, one after the other. The first one has the module, and a bound to build: so nothing
-// waits for the page, which draws meanwhile.
+// Answers the messages of a page, one after the other. The first one has the module, and a bound to
+// build: so nothing waits for the page, which draws meanwhile.
 export function serve(scope) {
     let desk = null;
     let last = Promise.resolve();
@@ -121,7 +128,9 @@ export function serve(scope) {
             if (!desk) throw new Error("the module didn't start");
             scope.postMessage({ number, reply: await desk.take(question) });
         } catch (error) {
-            const failure = { message: error.message, status: error.status || 0, line: error.line || "" };
+            const failure = {
+                message: error.message, status: error.status || 0, line: error.line || "",
+            };
             scope.postMessage({ number, failure });
         }
     };

@@ -89,7 +89,7 @@ const look = (isStart) => `(() => {
         if (style.outlineStyle === "none" || parseFloat(style.outlineWidth) < 2) faults.push("no ring around " + selector);
         else enough("the ring around " + selector, parsed(style.outlineColor)?.rgb, ground(element.parentElement), 3);
     }
-    const third = document.querySelector('[data-key="point 3"]');
+    const third = [...document.querySelectorAll('[data-key="point 3"]')].find(isSeen);
     third?.focus({ focusVisible: true, preventScroll: true });
     if (third) enough("the ring around a point", paint('[data-key="point 3"] .ground', "stroke"), paint("#board .felt", "fill"), 3);
     if (before && before !== document.body) before.focus({ preventScroll: true });

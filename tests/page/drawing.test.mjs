@@ -87,7 +87,7 @@ part("what stands in a picture", async () => {
         [1, "10,10"], [2, "15,15 5,5"], [3, "10,10 15,15 5,5"], [4, "15,15 15,5 5,15 5,5"], [5, "10,10 15,15 15,5 5,15 5,5"], [6, "15,10 15,15 15,5 5,10 5,15 5,5"],
     ]) equal(`the spots of a ${value}`, spots(value), places);
     const points = [3, 0, 7, 2, 0, 1];
-    for (const view of [board(points, [], act), watched(points, []), lookedAt(points, []), played({ points, ways: new Map(), play: null }, null, null, act)]) {
+    for (const view of [board(points, [], act), watched(points, []), lookedAt(points, []), played({ points, ways: new Map(), play: null }, { picked: null, stop: null }, act)]) {
         const drawn = classed(build(document, view), "circle", "checker");
         for (const [place, count] of points.entries()) {
             const stack = drawn.filter((checker) => Number(checker.getAttribute("cx")) === 550 - 100 * place).map((checker) => Number(checker.getAttribute("cy")));
@@ -104,7 +104,7 @@ part("what stands in a picture", async () => {
     equal("a move and one off", ends([[6, 3], [4, 0]]), [["50 180 350 300", "250 240 650 180"], ["50 180", "250 240"], ["350 300"]]);
     equal("two of a point", ends([[6, 4], [6, 4]]), [["50 180 250 180", "50 240 250 120"], ["50 180", "50 240"], ["250 180", "250 120"]]);
     equal("one that goes on", ends([[6, 5], [5, 0]]), [["50 180 150 300", "150 300 650 180"], ["50 180", "150 300"], ["150 300"]]);
-    const marks = build(document, played({ points: [0, 0, 0, 2, 0, 3], ways: new Map([[6, new Map([[3, []], [0, []]])]]), play: null }, 6, null, act));
+    const marks = build(document, played({ points: [0, 0, 0, 2, 0, 3], ways: new Map([[6, new Map([[3, []], [0, []]])]]), play: null }, { picked: 6, stop: null }, act));
     equal("rings where a checker can go", [classed(marks, "circle", "spot").map((ring) => `${ring.getAttribute("cx")} ${ring.getAttribute("cy")}`), classed(marks, "rect", "spot").length, classed(marks, "circle", "mark").map((ring) => `${ring.getAttribute("cx")} ${ring.getAttribute("cy")}`)], [["350 300"], 1, ["50 180"]]);
     equal("the places under a board's width", [0, 0.1, 0.15, 0.5, 0.85, 0.9, 1, -0.1, 1.1].map(placeUnder), [6, 6, 5, 3, 1, 0, 0, null, null]);
     const small = [...all(build(document, miniature([2, 0, 0, 0, 0, 7])), "circle")].map((disc) => `${disc.getAttribute("cx")} ${Number(disc.getAttribute("cy")).toFixed(2)}`);
@@ -148,8 +148,9 @@ part("panels", async () => {
     equal("numbers that come", figures(numbers(undefined, true)), Array(6).fill("\u2026"));
     equal("numbers that don't", figures(numbers(undefined, false)), ["\u2013", "\u2013", "\u2013", "\u2013"]);
     const over = (pips, bound) => textOf(numbers({ refusal: "Over.", status: 4, bound, standing: { pips } }));
-    equal("over 44", [over(50, 44).includes("50 pips. Over."), over(50, 44).includes("58 pips has it")], [true, true]);
-    equal("over 58", [over(60, 58), over(60, 44)], ["60 pips. Over. It goes to 58 pips.", "60 pips. Over. It goes to 44 pips."]);
+    equal("over 44", [over(50, 44), over(58, 8)], ["50 pips. Over. It goes to 44 pips.", "58 pips. Over. It goes to 8 pips."]);
+    equal("over 58", [over(59, 58), over(60, 44)], ["59 pips. Over. The greatest has 58 pips.", "60 pips. Over. The greatest has 58 pips."]);
+    equal("numbers that 58 pips bring", [figures(numbers(undefined, true, 55)), textOf(numbers(undefined, true, 55)).includes("58 pips is being built")], [["55", ...Array(5).fill("\u2026")], true]);
     const entries = [{ points: [0, 0, 0, 0, 0, 1], caption }, { points: [2, 0, 0, 0, 0, 0], caption: "" }];
     const rows = build(document, kept(entries, ([first]) => (first === 0 ? answer : undefined), false, {}));
     equal("captions", all(rows, "input").map((input) => input.getAttribute("value")), [caption, ""]);

@@ -27,16 +27,18 @@ const equal = (name, is, wanted) => same(`in ${browserName}: ${name}`, is, wante
 const FOCUS = 'document.activeElement.getAttribute("data-key") || document.activeElement.id';
 const wait = (milliseconds) => new Promise((keep) => setTimeout(keep, milliseconds));
 
-// The program's reply to a line.
+const pipsOf = (position) => position.split(",").reduce((sum, count, place) => sum + count * (place + 1), 0);
+
+// The program's reply to a line about a position, over 58 pips where that has more than 44.
 function ask(line) {
     if (!asked.has(line)) {
-        const reply = execFileSync(program, ["query", join(folder, "race.db")], { input: `${line}\n`, encoding: "utf8" });
+        const [, position = ""] = line.split(" ");
+        const file = pipsOf(position) > 44 ? "large.db" : "race.db";
+        const reply = execFileSync(program, ["query", join(folder, file)], { input: `${line}\n`, encoding: "utf8" });
         asked.set(line, reply.trim());
     }
     return asked.get(line);
 }
-
-const pipsOf = (position) => position.split(",").reduce((sum, count, place) => sum + count * (place + 1), 0);
 const READY = 'document.body.dataset.ready && document.querySelector("#numbers .figures")';
 const KNOWN = '!document.querySelector(".figures").textContent.includes("\\u2026")';
 
@@ -80,7 +82,7 @@ async function compareWatched(page, name, least) {
     let told = 0;
     for (const [position, figures] of pairs) {
         const right = [String(pipsOf(position))];
-        if (pipsOf(position) <= 44 && figures.length === 4 && figures[1] !== "\u2026") {
+        if (pipsOf(position) <= 58 && figures.length === 4 && figures[1] !== "\u2026") {
             const [, mean, , , effective] = ask(`mean ${position}`).split(" ");
             const [above, below] = mean.split("/").map(BigInt);
             const thousandths = (2000n * above + below) / (2n * below);
@@ -318,6 +320,178 @@ async function driveSum(browser) {
     equal("then the kept numbers are there", await page.value('document.querySelector(".kept").textContent.includes("\u2026")'), false);
 }
 
+// A machine on which the first build takes so many milliseconds, as the page is told. The second worker begins `late`
+// milliseconds after it was asked; before the scripts of the first `bad` of such workers stands `prefix`. What the page asks
+// of the workers is kept.
+const machine = (took, { late = 0, bad = 0, prefix = "" } = {}) => `(() => {
+    const Real = window.Worker;
+    const address = URL.createObjectURL;
+    window.workers = [];
+    URL.createObjectURL = (file) => address(workers.length > 0 && workers.length <= ${bad} ? new Blob([${JSON.stringify(prefix)}, file]) : file);
+    window.Worker = class extends Real {
+        constructor(where) {
+            super(where);
+            this.isSecond = workers.length > 0;
+            this.asked = [];
+            workers.push(this);
+            this.addEventListener("message", ({ data }) => { if (data.reply?.took !== undefined) data.reply.took = ${took}; });
+        }
+
+        postMessage(message, lent) {
+            this.asked.push(message.question.kind + " " + (message.question.bound || ""));
+            if (this.isSecond && message.question.kind === "start") setTimeout(() => super.postMessage(message, lent), ${late});
+            else super.postMessage(message, lent);
+        }
+
+        terminate() {
+            this.isEnded = true;
+            super.terminate();
+        }
+    };
+})();
+`;
+const SLOW = machine(60000);
+const WORKERS = "workers.map(({ asked, isEnded }) => [asked[0], Boolean(isEnded)])";
+
+// Sets a position in the field.
+async function giveCounts(page, position) {
+    await page.click("#counts");
+    await page.value('document.getElementById("counts").select()');
+    await page.value(`document.execCommand("insertText", false, ${JSON.stringify(position)})`);
+    await page.key("Enter");
+}
+
+// The database of 58 pips: unasked and unseen on a fast machine, where something needs it on a slow one, and where it
+// can't be had the first one goes on. Each number on the way is the program's.
+async function driveWider(browser) {
+    const [near, far] = ["2,2,2,2,2,1", "0,0,0,3,5,3"];
+    const SHOWS = '[document.getElementById("open").textContent, document.getElementById("bar").hidden, document.getElementById("trouble").hidden, document.getElementById("wider").hidden]';
+    const isOpen = (page, bound) => page.until(`document.getElementById("open").textContent === "${bound} pips"`, 60000);
+
+    // a fast machine, whose second build takes its time so that it is met
+    const fast = await browser.open(`${address}#at=2,2,2,2,2,2&roll=31`, { before: machine(500, { late: 1200 }) + WATCH });
+    await fast.until(`${READY} && ${KNOWN} && document.querySelector(".plays")`);
+    equal("fast: the first number comes of 44 pips", await fast.value(SHOWS), ["44 pips", true, true, true]);
+    await fast.until("workers.length === 2", 5000);
+    equal("fast: what is asked", await fast.value(WORKERS), [["start 44", false], ["start 58", false]]);
+    await giveCounts(fast, near);
+    await compare(fast, "fast: while 58 pips are built", near);
+    equal("fast: nothing is said of it", await fast.value(SHOWS), ["44 pips", true, true, true]);
+    await fast.value('window.before = document.querySelector("main").innerHTML');
+    await isOpen(fast, 58);
+    equal("fast: nothing changes with it", await fast.value('document.querySelector("main").innerHTML === before'), true);
+    equal("fast: one worker is left", (await fast.value(WORKERS)).map(([, isEnded]) => isEnded), [true, false]);
+    await giveCounts(fast, far);
+    await compare(fast, "fast: 55 pips", far);
+    await compareRolls(fast, far);
+    equal("fast: the address", await fast.value("location.hash.includes('pips')"), false);
+    await compareWatched(fast, "fast", 2);
+
+    // a slow one: nothing is built that nothing needs
+    const slow = await browser.open(address, { before: machine(5000, { late: 2500 }) + WATCH });
+    await slow.until(`${READY} && ${KNOWN} && document.querySelector(".rolls .next")`);
+    await wait(500);
+    equal("slow: not unasked", await slow.value(WORKERS), [["start 44", false]]);
+    await giveCounts(slow, far);
+    await slow.until("workers.length === 2 && !document.getElementById('bar').hidden");
+    equal("slow: it says so", await slow.value(`[document.querySelector("#numbers .hint").textContent, document.getElementById("said").textContent, ${SHOWS}].flat()`),
+        ["The database of 58 pips is being built for it.", "55 pips: the database of 58 pips is being built.", "44 pips", false, true, true]);
+    equal("slow: nothing is known yet", (await slow.value(SHOWN)).figures, ["55", "\u2026", "\u2026", "\u2026"]);
+    await giveCounts(slow, near);
+    await compare(slow, "slow: the first answers meanwhile", near);
+    equal("slow: and nothing waits", await slow.value(SHOWS), ["44 pips", true, true, true]);
+    await giveCounts(slow, far);
+    await slow.until("!document.getElementById('bar').hidden");
+    await slow.value('document.getElementById("keep").click()');
+    await isOpen(slow, 58);
+    await compare(slow, "slow: 55 pips", far);
+    await slow.until('!document.querySelector(".kept").textContent.includes("\u2026")');
+    equal("slow: done", await slow.value(SHOWS), ["58 pips", true, true, true]);
+    await compareWatched(slow, "slow", 2);
+
+    // what needs it from the first: one build alone
+    const linked = await browser.open(`${address}#at=${far}`, { before: machine(5000) + WATCH });
+    await linked.until(`${READY} && ${KNOWN}`);
+    await compare(linked, "a link to 55 pips", far);
+    equal("a link to 55 pips builds once", await linked.value(WORKERS), [["start 58", false]]);
+
+    // no memory for it: unasked it is silent, and where it is needed it is said; then it is tried again by its button
+    const noMemory = 'WebAssembly.instantiate = async () => { throw new RangeError("could not allocate memory"); }; WebAssembly.Instance = class { constructor() { throw new RangeError("could not allocate memory"); } };';
+    for (const [what, prefix] of [["no memory", noMemory], ["a worker that dies", "setTimeout(() => { throw new Error('gone'); }, 0); self.onmessage = () => {}; Object.defineProperty(self, 'onmessage', { set() {} });"]]) {
+        const page = await browser.open(address, { before: machine(500, { bad: 2, prefix }) + WATCH });
+        await page.until(`${READY} && ${KNOWN} && document.querySelector(".rolls .next")`);
+        await page.until("workers.length === 2 && workers[1].isEnded", 5000).catch(() => wrong(`${what}: the second worker isn't let go`));
+        equal(`${what}: in silence`, [await page.value(SHOWS), await page.value(WORKERS)], [["44 pips", true, true, true], [["start 44", false], ["start 58", true]]]);
+        await giveCounts(page, near);
+        await compare(page, `${what}: the first answers`, near);
+        await giveCounts(page, far);
+        await page.until("!document.getElementById('trouble').hidden");
+        const told = await page.value('document.getElementById("trouble").textContent');
+        (told.startsWith("The database of 58 pips couldn\u2019t be built: ") && told.endsWith(" That of 44 pips goes on.")) || wrong(`${what}: it says ${told}`);
+        equal(`${what}: where it is needed`, await page.value(SHOWS), ["44 pips", true, false, false]);
+        await giveCounts(page, near);
+        await compare(page, `${what}: the first still answers`, near);
+        await giveCounts(page, far);
+        await page.until("!document.getElementById('wider').hidden");
+        await page.click("#wider");
+        equal(`${what}: the focus stays`, await page.value(FOCUS), "numbers");
+        await isOpen(page, 58);
+        await compare(page, `${what}: tried again`, far);
+        equal(`${what}: and there`, await page.value(SHOWS), ["58 pips", true, true, true]);
+        await compareWatched(page, what, 2);
+    }
+}
+
+// On the free board a roll is guessed by moving checkers, by mouse, by dragging, by keys and by touch: what it loses is the
+// program's.
+async function driveGuessed(browser) {
+    const isChromium = browser.name === "Chromium";
+    const position = "0,1,0,1,0,1";
+    for (const way of ["mouse", "drag", "keys", ...(isChromium ? ["touch"] : [])]) {
+        const isSmall = way === "touch";
+        const page = await browser.open(`${address}#at=${position}&guess=1`, isSmall ? { width: 360, height: 780, mobile: true } : {});
+        await page.until(`${READY} && document.querySelector(".rolls button")`);
+        if (isSmall) {
+            // with few plays, and with more than the sheet has room for
+            for (const [at, roll] of [[position, "52"], ["2,2,2,2,2,2", "31"]]) {
+                const linked = await browser.open(`${address}#at=${at}&guess=1&roll=${roll}`, { width: 360, height: 780, mobile: true });
+                await linked.until('document.querySelector("#board .source") && document.querySelector(".plays")');
+                equal(`a link to a guess of ${roll}: in sight`, await linked.value(OUT_OF_SIGHT(["#board svg", "#board .guessing button", "#plays h3"])), []);
+                await linked.close();
+            }
+        }
+        let sum = [0n, 1n];
+        for (const [place, roll] of ["52", "31", "22"].entries()) {
+            const tile = `[data-key="roll ${roll}"]`;
+            if (isSmall) {
+                await page.aim(tile);
+                await page.tap(tile);
+            } else await page.click(tile);
+            await page.until('document.querySelector("#board .source") && document.querySelector(".plays")');
+            if (isSmall) equal(`${way} ${roll}: in sight`, await page.value(OUT_OF_SIGHT(["#board svg", "#board .guessing button", "#plays h3"])), []);
+            const plays = ask(`moves ${position} ${roll}`).split(" ").slice(1).map((word) => word.split(":"));
+            const [to, loss] = plays[(place + 1) % plays.length];
+            if (way === "keys") await page.value('document.querySelector(\'#board [tabindex="0"].to-play\').focus()');
+            else await page.aim("#board svg");
+            await WAYS[way](page, movesTo(position, roll, to));
+            await page.until('document.querySelector("#plays .verdict") && !document.querySelector("#plays .verdict").textContent.includes("\u2026")');
+            equal(`${way} ${roll}: what it loses`, await page.value('document.querySelector(".plays [aria-pressed=true] .cost").title'), `${loss} of a roll`);
+            equal(`${way} ${roll}: the focus`, (await page.value(FOCUS)).split(" ")[0], "play");
+            equal(`${way} ${roll}: the board`, [(await page.value(SHOWN)).values, await page.value('document.querySelectorAll("#board [role=spinbutton]").length')], [position, 6]);
+            if (isSmall) equal(`${way} ${roll}: its verdict is in sight`, await page.value(OUT_OF_SIGHT(["#plays .verdict p"])), []);
+            const [above, below] = loss.split("/").map(BigInt);
+            sum = [sum[0] * below + above * sum[1], sum[1] * below];
+            if (isSmall) await page.tap('[data-key="close"]');
+        }
+        const told = (await page.value('document.getElementById("said").textContent + document.querySelector("#plays").textContent'));
+        if (!isSmall) {
+            const exact = told.match(/Exactly: (\d+)\/(\d+)/).slice(1).map(BigInt);
+            equal(`${way}: what three lost`, exact[0] * sum[1] === sum[0] * exact[1], true);
+        }
+        equal(`${way}: nothing went wrong`, page.troubles(), []);
+    }
+}
+
 // Drops a file on the page, or chooses it at its foot.
 const put = (page, bytes, how = "drop") => page.value(`(() => {
     const bytes = Uint8Array.from(atob(${JSON.stringify(Buffer.from(bytes).toString("base64"))}), (letter) => letter.charCodeAt(0));
@@ -360,7 +534,7 @@ async function driveFiles(page) {
 async function driveMoments(browser) {
     const race = readFileSync(join(folder, "race.db"));
     race[race.length - 1] ^= 1;
-    const page = await browser.open(`${address}#p=2,2,2,2,2,2`, { before: WATCH });
+    const page = await browser.open(`${address}#p=2,2,2,2,2,2`, { before: SLOW + WATCH });
     await page.until(`${READY} && ${KNOWN}`);
     await page.value(`window.dropped = (bytes) => {
         const transfer = new DataTransfer();
@@ -381,11 +555,11 @@ async function driveMoments(browser) {
     await page.until('![...document.querySelectorAll(".kept td[data-head]")].some((cell) => cell.textContent === "\u2026")');
     await compareWatched(page, "while a file is checked", 3);
 
-    const wider = await browser.open(`${address}#at=0,0,0,3,5,3`, { before: WATCH });
-    await wider.until('document.body.dataset.ready && document.querySelector(".refusal")');
-    equal("more pips than the database", await wider.value('document.querySelector(".refusal").textContent.includes("55 pips.")'), true);
+    const wider = await browser.open(`${address}#at=2,2,2,2,2,2`, { before: machine(60000, { late: 300 }) + WATCH });
+    await wider.until(`${READY} && ${KNOWN}`);
+    await wider.value('location.hash = "#at=0,0,0,3,5,3"');
+    await wider.until("workers.length === 2");
     await wider.value(`(async () => {
-        document.getElementById("wider").click();
         for (const count of [1, 2, 3]) {
             await new Promise((keep) => setTimeout(keep, 40));
             document.querySelector('[data-key="Remove 6"]').click();
@@ -398,7 +572,6 @@ async function driveMoments(browser) {
     await compare(wider, "after 58 pips were built", "2,0,0,3,5,0");
     await wider.until('document.querySelectorAll(".kept td[data-head]").length === 4 && !document.querySelector(".kept").textContent.includes("\u2026")');
     await compareWatched(wider, "while 58 pips are built", 2);
-    await wider.until('location.hash.includes("pips=58")', 3000).catch(() => wrong("the address doesn't say 58"));
 }
 
 // Each of three kept positions has its numbers.
@@ -1134,7 +1307,156 @@ async function driveAudit(browser) {
     console.log(`page: ${compared} contrasts and ${labels} names were compared`);
 }
 
+// What is wrong in what an open page draws, read back from it: texts that are cut off, lie over each other or under
+// something else, things to press that do, and shapes of a board that leave it or its points. What is fixed to the window
+// may lie over what is scrolled under it.
+const LAID_OUT = `(() => {
+    const [faults, counts] = [[], { texts: 0, things: 0, shapes: 0 }];
+    const named = (element) => (element.dataset?.key || element.id || element.getAttribute("class") || element.tagName.toLowerCase());
+    const isDrawn = (element) => {
+        if (element.closest(".heard, dialog:not([open]), script, style, noscript, option")) return false;
+        for (let at = element; at; at = at.parentElement) if (getComputedStyle(at).clipPath !== "none") return false;
+        const { width, height } = element.getBoundingClientRect();
+        return width > 1 && height > 1 && element.checkVisibility({ visibilityProperty: true });
+    };
+    const isFixed = (element) => {
+        for (let at = element; at; at = at.parentElement) if (["fixed", "sticky"].includes(getComputedStyle(at).position)) return true;
+        return false;
+    };
+    const meets = (one, other, by = 1) => one.left < other.right - by && other.left < one.right - by && one.top < other.bottom - by && other.top < one.bottom - by;
+    // where something is looked at: not under what is fixed, or scrolled away in a part of the page
+    const isSeen = (element, { left, top, right, bottom }, isTold = true) => {
+        const [x, y] = [(left + right) / 2, (top + bottom) / 2];
+        if (x < 0 || y < 0 || x >= innerWidth || y >= innerHeight) return false;
+        for (let at = element.parentElement; at; at = at.parentElement) {
+            const box = at.getBoundingClientRect();
+            if (["auto", "scroll"].includes(getComputedStyle(at).overflowY) && (y < box.top || y > box.bottom)) return false;
+        }
+        const over = document.elementFromPoint(x, y);
+        if (!over || over.contains(element) || element.contains(over) || element.closest("svg")?.contains(over) || element.closest("label")?.contains(over)) return true;
+        if (isTold && !isFixed(over)) faults.push(named(element) + " lies under " + named(over));
+        return false;
+    };
+
+    // the letters of each line, without the room above and below them
+    const letters = [];
+    const walker = document.createTreeWalker(document.body, NodeFilter.SHOW_TEXT);
+    for (let node = walker.nextNode(); node; node = walker.nextNode()) {
+        const element = node.parentElement;
+        if (!node.data.trim() || !isDrawn(element)) continue;
+        const range = document.createRange();
+        for (const { index, 0: word } of element.closest("svg") ? [] : node.data.matchAll(/[A-Za-z]{2,}/g)) {
+            range.setStart(node, index);
+            range.setEnd(node, index + word.length);
+            if (new Set([...range.getClientRects()].map(({ top }) => Math.round(top))).size > 1) faults.push('"' + word + '" is broken');
+        }
+        range.selectNodeContents(node);
+        for (const { left, top, right, bottom } of element.closest("svg") ? [element.getBoundingClientRect()] : range.getClientRects()) {
+            if (right - left < 1) continue;
+            const inset = 0.24 * (bottom - top);
+            const box = { left, top: top + inset, right, bottom: bottom - inset };
+            const text = node.data.trim().slice(0, 30);
+            counts.texts += 1;
+            if (left < -1 || right > document.documentElement.clientWidth + 1) faults.push('"' + text + '" leaves the window');
+            for (let at = element; at && at !== document.body; at = at.parentElement) {
+                const { overflowX, overflowY } = getComputedStyle(at);
+                const around = at.getBoundingClientRect();
+                const isHolder = at.matches("button, a.button, .figure, label, select, th, td:not(.bar)");
+                if ((isHolder || overflowX !== "visible") && (left < around.left - 1 || right > around.right + 1)) faults.push('"' + text + '" is cut off by ' + named(at));
+                if ((isHolder || ["hidden", "clip"].includes(overflowY)) && (box.top < around.top - 1 || box.bottom > around.bottom + 1)) faults.push('"' + text + '" is cut off above or below by ' + named(at));
+            }
+            if (isSeen(element, box)) letters.push({ node, text, box });
+        }
+    }
+    for (const [place, one] of letters.entries()) {
+        for (const other of letters.slice(place + 1)) {
+            if (one.node !== other.node && meets(one.box, other.box)) faults.push('"' + one.text + '" lies over "' + other.text + '"');
+        }
+    }
+
+    // what one presses: whole in the window's width, and none over another
+    const things = [...document.querySelectorAll("button, input, select, textarea, summary, main a, [role=spinbutton], .to-play [role=button]")].filter(isDrawn);
+    counts.things = things.length;
+    const boxes = things.map((thing) => ({ thing, box: thing.getBoundingClientRect() }));
+    for (const { thing, box } of boxes) if (box.left < -1 || box.right > document.documentElement.clientWidth + 1) faults.push(named(thing) + " leaves the window");
+    const seen = boxes.filter(({ thing, box }) => isSeen(thing, box, false));
+    for (const [place, { thing, box }] of seen.entries()) {
+        for (const other of seen.slice(place + 1)) {
+            const isApart = thing.contains(other.thing) || other.thing.contains(thing) || isFixed(thing) !== isFixed(other.thing);
+            if (!isApart && meets(box, other.box)) faults.push(named(thing) + " lies over " + named(other.thing));
+        }
+    }
+
+    // no text under a field, such as the name of the field
+    for (const { node, text, box } of letters) {
+        for (const other of seen) {
+            if (other.thing.matches("input, select, textarea") && !other.thing.contains(node) && !isFixed(other.thing) && meets(box, other.box)) faults.push('"' + text + '" lies under ' + named(other.thing));
+        }
+    }
+
+    // what a board has: within it, and each checker within its point
+    for (const board of [...document.querySelectorAll("svg")].filter(isDrawn)) {
+        const around = board.getBoundingClientRect();
+        for (const shape of board.querySelectorAll("circle:not(.dragged), rect, text, polygon, .way")) {
+            const box = shape.getBoundingClientRect();
+            counts.shapes += 1;
+            if (box.left < around.left - 1 || box.right > around.right + 1 || box.top < around.top - 1 || box.bottom > around.bottom + 1) faults.push((shape.getAttribute("class") || shape.tagName) + " leaves " + named(board));
+        }
+        const wedges = [...board.querySelectorAll(".wedge")].map((wedge) => wedge.getBoundingClientRect());
+        for (const checker of wedges.length > 0 ? board.querySelectorAll("circle.checker") : []) {
+            const box = checker.getBoundingClientRect();
+            if (!wedges.some(({ left, right }) => box.left >= left - 1 && box.right <= right + 1)) faults.push("a checker stands between the points of " + named(board));
+        }
+        for (const tally of board.querySelectorAll(".tally")) {
+            const box = tally.getBoundingClientRect();
+            if (![...board.querySelectorAll(".checker")].some((checker) => {
+                const { left, top, right, bottom } = checker.getBoundingClientRect();
+                return box.left >= left - 1 && box.right <= right + 1 && box.top >= top - 1 && box.bottom <= bottom + 1;
+            })) faults.push("a tally isn't on a checker of " + named(board));
+        }
+    }
+    return { faults: [...new Set(faults)], counts };
+})()`;
+
+// What is pictured: the name, the address, what is waited for, what is done then, and what is waited for after that.
+const PICTURED = [
+    ["start", TEACHING, ".plays .cost", ""],
+    ["lesson", "#lesson=3", "#board .source", ""],
+    ["drill", "#drill=all&seed=31&ask=play&level=hard", "#board .source", `document.querySelector(".plays button:last-child").click()`, "#steering .verdict"],
+    ["estimate", "#drill=all&seed=31&ask=effective", ".estimate input", `document.querySelector(".estimate input").value = "40"; document.querySelector('[data-key="tell"]').click()`, "#numbers .verdict"],
+    ["guess", "#at=2,2,2,2,2,2&roll=31&guess=1", "#board .source", `document.querySelector("#board .source").dispatchEvent(new MouseEvent("click", { bubbles: true }))`, "#board .target"],
+    ["editor", "#at=0,0,0,1,0,1&t=Two checkers&p=0,0,0,1,0,1&c=Four and six&p=3,0,0,0,0,0&c=Three on the ace point", '[data-key="draft begin"]', `document.querySelector('[data-key="draft begin"]').click()`, "#draft label"],
+    ["print", "#lesson=3", "#printed h2", "print"],
+    ["embedded", "#view=board&at=7,4,2,0,0,0", ".figures", ""],
+];
+
+// Pictures of what the page is used for, on a telephone and on a desk: nothing in them is cut off, lies over something else,
+// or is too faint to read. The start is looked at in more widths and colours.
 async function takePictures(browser) {
+    const all = { texts: 0, things: 0, shapes: 0, contrasts: 0 };
+    const look = async (page, name) => {
+        const { faults, counts } = await page.value(LAID_OUT);
+        for (const fault of faults.slice(0, 12)) wrong(`${name}: ${fault}`);
+        for (const [what, count] of Object.entries(counts)) all[what] += count;
+        if (pictures) writeFileSync(join(pictures, `${name.replaceAll(" ", "-")}.png`), await page.picture(false));
+    };
+    for (const [what, hash, there, act, then = "body"] of PICTURED) {
+        for (const [width, height] of [[360, 780], [1180, 800]]) {
+            const name = `${what} ${width}`;
+            const page = await browser.open(address + encodeURI(decodeURI(hash)), { width, height, mobile: width < 900 });
+            await page.until(`document.body.dataset.ready && document.querySelector(${JSON.stringify(there)})`);
+            if (act === "print") await page.send("Emulation.setEmulatedMedia", { media: "print" });
+            else if (act) await page.value(act);
+            await page.until(`document.querySelector(${JSON.stringify(then)}) && !(document.querySelector("#numbers, #steering").textContent.includes("\u2026"))`);
+            await wait(200);
+            await look(page, name);
+            equal(`${name}: nothing stands out`, await page.value("document.documentElement.scrollWidth"), width);
+            const { faults, compared } = await audit(page, false);
+            for (const fault of faults) wrong(`${name}: ${fault}`);
+            all.contrasts += compared;
+            await page.close();
+        }
+    }
     for (const [width, height] of [[360, 780], [768, 1024], [1180, 800], [1920, 1080]]) {
         for (const colours of ["light", "dark", "forced"]) {
             const page = await browser.open(address + TEACHING, { width, height, colours, mobile: width < 900 });
@@ -1142,26 +1464,28 @@ async function takePictures(browser) {
             equal(`nothing stands out at ${width}, ${colours}`, await page.value("document.documentElement.scrollWidth"), width);
             if (pictures) writeFileSync(join(pictures, `${width}-${colours}.png`), await page.picture(false));
             if (pictures) writeFileSync(join(pictures, `${width}-${colours}-whole.png`), await page.picture(true));
+            await page.close();
         }
     }
+    console.log(`page: ${all.texts} texts, ${all.things} things to press and ${all.shapes} shapes were in their places, and ${all.contrasts} contrasts enough`);
 }
 
 // The parts in which Chromium alone is driven, since a script runs first there and media are set.
 const OWN = {
     times: async (browser) => driveTimes(await driveBoard(browser)),
     files: async (browser) => {
-        const page = await browser.open(`${address}#at=0,0,0,4,4,1`);
+        const page = await browser.open(`${address}#at=0,0,0,4,4,1`, { before: SLOW });
         await page.until(`${READY} && ${KNOWN}`);
         await driveGuess(page);
         await driveFiles(page);
     },
-    moments: driveMoments, older: driveOlder, hosted: driveHosted, touch: driveTouch, print: drivePrint,
+    wider: driveWider, moments: driveMoments, older: driveOlder, hosted: driveHosted, touch: driveTouch, print: drivePrint,
     audit: driveAudit, pictures: takePictures, drill: driveDrill, sight: driveSight, lessons: driveLessons, still: driveStill, opened: driveOpened, clicks: driveClicks,
 };
 
 // Those in which each browser is.
 const ALL = {
-    board: driveBoard, pasted: drivePasted, played: drivePlayed, keyboard: driveKeyboard, sum: driveSum, lesson: driveLesson, history: driveHistory, copy: driveCopy, saved: driveSaved,
+    board: driveBoard, pasted: drivePasted, played: drivePlayed, guessed: driveGuessed, keyboard: driveKeyboard, sum: driveSum, lesson: driveLesson, history: driveHistory, copy: driveCopy, saved: driveSaved,
 };
 
 function drive(browser) {

@@ -46,7 +46,11 @@ export function isJoined(text) {
 // What is wrong in the part that runs; it goes on, so that all of it is told.
 let faults = [];
 
-export const wrong = (text) => faults.push(text);
+// Whoever only asks whether something is wrong needs no more than one.
+export function wrong(text) {
+    if (process.env.FIRST_FAULT) process.exit(1);
+    faults.push(text);
+}
 
 // What is kept of a value that is compared: objects as JSON has them.
 const plain = (value) =>
@@ -70,8 +74,7 @@ export function part(name, body, options = {}) {
         } catch (error) {
             thrown = error;
         }
-        // whoever only asks whether something is wrong needs no more
-        if (process.env.FIRST_FAULT && (thrown || faults.length > 0)) process.exit(1);
+        if (process.env.FIRST_FAULT && thrown) process.exit(1);
         const told = faults.slice(0, 20).join("\n");
         if (faults.length > 0) assert.fail(`${told}\n${faults.length} wrong${thrown ? `, and ${thrown.stack}` : ""}`);
         if (thrown) throw thrown;

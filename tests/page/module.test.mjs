@@ -194,11 +194,11 @@ function compareLevels(database) {
 
 // What was chosen before the page was loaded anew is told again by the module.
 async function compareAgain(desk) {
-    const picks = { guesses: [[[0, 0, 0, 1, 0, 1], [5, 2], "6/off"]], again: [[[1, 1, 1, 1, 0, 0], [4, 1], "x"]], estimates: [[[0, 0, 0, 0, 0, 1], "pips", "6000"]] };
+    const picks = { guesses: [[[0, 0, 0, 1, 0, 1], [5, 2], "6/off"]], again: [[[1, 1, 1, 1, 0, 0], [4, 1], "x"]], estimates: [[[0, 0, 0, 0, 0, 1], "pips", "6000"]], estimatesAgain: [[[1, 0, 0, 0, 0, 0], "pips", "1000"]] };
     const { plays, answers } = await desk.take({ kind: "again", picks });
     equal("plays", plays.map((list) => list.length > 1), [true, true]);
     equal("of the first", plays[0].find(({ text }) => text === "6/off").exact, "1/18");
-    equal("numbers", answers.map(({ mean }) => mean.exact), ["5/4"]);
+    equal("numbers, and those of what was asked once more", answers.map(({ mean }) => mean.exact), ["5/4", "1/1"]);
 }
 
 function compareRounded(database) {

@@ -138,11 +138,16 @@ export class Window {
 // The worker of the page; what it is asked waits until the test answers.
 export class Worker {
     static last = null;
+    static made = 0; // how many there were
 
     constructor() {
         this.asked = [];
+        this.isEnded = false;
         Worker.last = this;
+        Worker.made += 1;
     }
+
+    terminate() { this.isEnded = true; }
 
     postMessage({ number, question }) { this.asked.push({ number, question }); }
 
@@ -256,9 +261,9 @@ export function legalFrom(points) {
 }
 
 // What was chosen before the page was loaded anew.
-export const playedBefore = ({ guesses, again, estimates }, plays) => ({
+export const playedBefore = ({ guesses, again, estimates, estimatesAgain }, plays) => ({
     plays: [...guesses, ...again].map(([points, roll]) => plays(points).find(({ dice }) => dice.join() === roll.join()).plays),
-    answers: estimates.map(([points]) => answerTo(points)),
+    answers: [...estimates, ...estimatesAgain].map(([points]) => answerTo(points)),
 });
 
 // A drill whose rolls all have a play that loses something, and none as good as the best, which fills a point and bears off

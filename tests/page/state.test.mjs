@@ -7,7 +7,7 @@ import { readCounts, readLink, readTyped, writeLink } from "../../web/link.js";
 import { ROLLS } from "../../web/rolls.js";
 import { moved } from "../../web/panels.js";
 import { asSvg } from "../../web/picture.js";
-import { begin, giveEstimate, pressed, received, wanted } from "../../web/state.js";
+import { begin, giveEstimate, isFar, pressed, received, wanted } from "../../web/state.js";
 import { drawQuestions, LEVELS, meanOf, numbersFrom, positions, readEstimate, readLessons, THEMES, writeLesson } from "../../web/trainer.js";
 import { drawn } from "../../web/worker.js";
 import { thumb } from "../../web/training.js";
@@ -29,8 +29,7 @@ class Used {
         before(this.window, this.document);
         this.session = start(this.document, this.window, { worker: "", wide: "", narrow: "", lessons });
         this.worker = Worker.last;
-        this.worker.plays = plays;
-        this.worker.used = this;
+        if (this.worker) [this.worker.plays, this.worker.used] = [plays, this];
     }
 
     // One with its database open and everything answered.
@@ -40,10 +39,19 @@ class Used {
         return used;
     }
 
-    async ready(bound = 44) {
-        await this.worker.answer({ bound, positions: bound === 44 ? 26313 : 35327 });
+    async ready(bound = 44, took = undefined) {
+        await this.worker.answer({ bound, positions: bound === 44 ? 26313 : 35327, took });
         await this.worker.answerAll(bound);
+        this.bound = bound;
         this.check("once all is known");
+    }
+
+    // Once the second worker has built the database of 58 pips.
+    async widened() {
+        const first = this.worker;
+        this.worker = Worker.last;
+        [this.worker.plays, this.worker.used] = [first.plays, this];
+        await this.ready(58, 900);
     }
 
     at(name) { return this.document.getElementById(name); }
@@ -61,7 +69,7 @@ class Used {
     async clicked(key, more) {
         this.click(key, more);
         this.check(`after ${key}`);
-        await this.worker.answerAll();
+        await this.worker.answerAll(this.bound);
         this.check(`after ${key} was answered`);
     }
 
@@ -101,7 +109,7 @@ class Used {
             if ([...row.querySelectorAll("td")].length === 7) belongs("the kept", this.row(key), key.split(",").map(Number));
         }
         const said = this.text("said");
-        if (/^\d+ pips/.test(said) && !said.includes(`effective pip count ${answerTo(points, 999).effective.text},`)) wrong(`${when}, said ${said}`);
+        if (/^\d+ pips,/.test(said) && !said.includes(`effective pip count ${answerTo(points, 999).effective.text},`)) wrong(`${when}, said ${said}`);
         const answer = this.session.state.answers.get(points.join());
         if (!answer && this.at("chances").childNodes.length > 0) wrong(`${when}, chances of another position`);
         if (!answer && this.at("numbers").textContent.includes("more pips")) wrong(`${when}, a refusal of another position`);
@@ -137,30 +145,6 @@ async function moments() {
     const own = answerTo([2, 2, 2, 2, 2, 1]);
     equal("the kept one has its own numbers", used.row("2,2,2,2,2,1"), ["36", own.mean.text, own.effective.text, own.wastage.text]);
     equal("and the board has", used.figures, ["36", own.mean.text, own.effective.text, own.wastage.text]);
-
-    part = "while the database of 58 pips is built";
-    used = await Used.open("#at=0,0,0,3,5,3");
-    equal("more pips", used.text("numbers").includes("55 pips"), true);
-    equal("58 is offered", used.at("wider").hidden, false);
-    used.click("wider");
-    await settled();
-    equal("the bar", used.at("bar").hidden, false);
-    used.click("Remove 6");
-    used.check("changed");
-    equal("49 pips are not known", used.figures, ["\u2026", "\u2026", "\u2026", "\u2026"]);
-    used.click("Remove 6");
-    used.click("Remove 6");
-    used.check("changed again");
-    await used.ready(58);
-    equal("37 pips", used.figures[0], "37");
-    used.window.pass(1000);
-    equal("the link", used.window.location.hash.includes("pips=58"), true);
-    equal("open", [used.text("open"), used.text("known")], ["58 pips", "35,327"]);
-
-    used = await Used.open("#at=0,0,0,3,5,3&p=0,0,0,0,5,5");
-    used.click("wider");
-    await used.ready(58);
-    equal("what was refused is answered then", [used.figures[0], used.row("0,0,0,0,5,5")[0]], ["55", "55"]);
 
     part = "two changes in one tick";
     used = await Used.open();
@@ -269,6 +253,293 @@ async function moments() {
     equal("it is dropped", received({ ...asked, database: { bound: 8 } }, asked.database, wanted(asked), answerTo([2, 2, 2, 2, 2, 2])).answers.size, 0);
     const one = received(asked, asked.database, wanted(asked), answerTo([2, 2, 2, 2, 2, 2]));
     equal("its own is kept", one.answers.size, 1);
+}
+
+// The database of 58 pips: it is built beside the open one, where that is quick and where something needs it, and nobody
+// is asked.
+async function wider() {
+    const FAR_OFF = "#at=0,0,0,3,5,3"; // 55 pips
+    const open = async (hash, took, more) => {
+        const used = new Used(hash, more);
+        await used.ready(44, took);
+        return used;
+    };
+    const isBuilt = (used) => (Worker.last === used.worker || Worker.last.isEnded ? "none"
+        : Worker.last.asked.map(({ question }) => [question.kind, question.bound].join(" ")).join());
+    const numbersOf = (points) => {
+        const { standing, mean, effective, wastage } = answerTo(points, 58);
+        return [String(standing.pips), mean.text, effective.text, wastage.text];
+    };
+    const wide = [0, 0, 0, 3, 5, 3];
+
+    part = "58 pips on a fast machine";
+    let used = await open("#at=2,2,2,2,2,2&roll=31", 800);
+    let [first, said, plays] = [used.worker, used.text("said"), used.plays()];
+    equal("unasked", [isBuilt(used), Worker.last.asked[0].question.module.isPacked, used.worker.isEnded], ["start 58", true, false]);
+    equal("in silence", [used.at("bar").hidden, used.at("trouble").hidden, used.figures, used.plays(), used.text("open")], [true, true, numbersOf([2, 2, 2, 2, 2, 2]), plays, "44 pips"]);
+    Worker.last.onmessage({ data: { step: { from: 0.1, until: 0.5, usual: 400, text: "Building" } } });
+    equal("also while it is built", used.at("bar").hidden, true);
+    await used.clicked("Remove 6");
+    equal("the first answers meanwhile", [used.figures, used.worker.isEnded], [numbersOf([2, 2, 2, 2, 2, 1]), false]);
+    await used.clicked("Add 6");
+    used.click("roll 31");
+    await used.worker.answerAll();
+    said = used.text("said");
+    const tree = used.at("rolls").innerHTML;
+    await used.widened();
+    equal("it takes the place of the first", [first.isEnded, used.worker.isEnded, used.text("open"), used.text("known")], [true, false, "58 pips", "35,327"]);
+    equal("and nothing changes", [used.figures, used.plays(), used.text("said"), used.at("rolls").innerHTML === tree, used.window.location.hash.includes("pips")], [numbersOf([2, 2, 2, 2, 2, 2]), plays, said, true, false]);
+    await used.clicked("Remove 6");
+    equal("it answers from then on", [used.figures, first.asked.length, Worker.last === used.worker], [numbersOf([2, 2, 2, 2, 2, 1]), 0, true]);
+
+    part = "how fast";
+    for (const [took, built] of [[1, "start 58"], [905, "start 58"], [912, "none"], [1500, "none"], [60000, "none"], [undefined, "none"]]) {
+        equal(`after ${took} ms`, isBuilt(await open("", took)), built);
+    }
+
+    part = "58 pips on a slow machine";
+    used = await open("", 3000);
+    equal("not unasked", isBuilt(used), "none");
+    const type = async (counts) => {
+        used.at("counts").value = counts;
+        tell(used.at("counts"), "change");
+        await used.worker.answerAll();
+    };
+    await type("0,0,0,0,9,3");
+    equal("63 pips are in no database", [isBuilt(used), used.text("numbers").includes("63 pips."), used.text("numbers").includes("The greatest has 58 pips.")], ["none", true, true]);
+    await type("2,2,2,2,2,1");
+    equal("36 pips don't need it", [isBuilt(used), used.figures], ["none", numbersOf([2, 2, 2, 2, 2, 1])]);
+    await type("2,2,2,2,4,2");
+    equal("52 pips need it", [isBuilt(used), used.figures, used.text("numbers").includes("The database of 58 pips is being built for it."), used.text("said"), used.at("bar").hidden],
+        ["start 58", ["52", "\u2026", "\u2026", "\u2026"], true, "52 pips: the database of 58 pips is being built.", false]);
+    equal("what comes has its room", [used.at("rolls").hidden, used.at("chances").hidden, used.at("wider").hidden, used.text("roll 31").includes("\u2026")], [false, false, true, true]);
+    Worker.last.onmessage({ data: { step: { from: 0.1, until: 0.5, usual: 400, text: "Building it" } } });
+    equal("the bar says what it is at", used.text("step"), "Building it");
+    await used.clicked("clear");
+    await used.clicked("Add 1");
+    equal("the first answers meanwhile, and nothing waits", [used.figures, used.at("bar").hidden], [numbersOf([1, 0, 0, 0, 0, 0]), true]);
+    used.at("counts").value = "0,0,0,3,5,3";
+    tell(used.at("counts"), "change");
+    await used.worker.answerAll();
+    equal("back to what waits", [used.figures[0], used.at("bar").hidden, used.text("step")], ["55", false, "Building it"]);
+    await used.clicked("keep");
+    equal("so does the table", used.row("0,0,0,3,5,3"), Array(4).fill("\u2026"));
+    used.click("roll 31");
+    await used.widened();
+    equal("then it is answered", [used.figures, used.row("0,0,0,3,5,3"), used.at("bar").hidden, used.plays().length > 0, used.text("said")],
+        [numbersOf(wide), numbersOf(wide), true, true, `55 pips, mean ${answerTo(wide, 58).mean.text} rolls, effective pip count ${answerTo(wide, 58).effective.text}, wastage ${answerTo(wide, 58).wastage.text}.`]);
+
+    part = "what needs 58 pips";
+    const lessons = "lesson: One\nstep: 1,0,0,0,0,0\nstep: 0,0,0,3,5,3\nask: What?\nanswer: That.\nlesson: Two\nstep: 1,0,0,0,0,0";
+    for (const [hash, built] of [["#pips=58", "start 58"], ["#p=0,0,0,3,5,3&at=1,0,0,0,0,0", "start 58"], ["#lesson=1", "start 58"], ["#lesson=2", "none"], [`#text=${encodeURIComponent("lesson: L\nstep: 1,0,0,0,0,0\nstep: 0,0,0,0,9,0")}`, "start 58"],
+        ["#at=0,0,0,0,0,15", "none"], ["#view=board&p=0,0,0,3,5,3&at=1,0,0,0,0,0", "start 58"], ["#drill=all&seed=3&ask=play", "none"]]) {
+        used = await open(hash, 5000, { lessons });
+        equal(`${hash}, slow`, isBuilt(used), built);
+        equal(`${hash}: is it said`, [used.at("bar").hidden, used.at("trouble").hidden], [built === "none", true]);
+    }
+    equal("a board in another page builds nothing unasked", isBuilt(await open("#view=board&at=1,0,0,0,0,0", 10)), "none");
+    used = await open("#lesson=1", 5000, { lessons });
+    await used.widened();
+    await used.clicked("next step");
+    equal("the step that needs it", [used.board, isBuilt(used)], [wide, "none"]);
+    await used.clicked("answer");
+    equal("has its numbers", used.figures, numbersOf(wide));
+    used = await Used.open("", { lessons });
+    const before = Worker.made;
+    await used.clicked("Add 6");
+    equal("48 pips need it, once", isBuilt(used), "start 58");
+    await used.clicked("Add 1");
+    equal("49 too, and it goes on", [isBuilt(used), Worker.made - before], ["start 58", 1]);
+    equal("its numbers aren't there", used.figures, ["49", "\u2026", "\u2026", "\u2026"]);
+
+    part = "an estimate that waits for 58 pips";
+    used = await open("#at=1,0,0,0,0,0&estimate=pips", 5000);
+    used.at("counts").value = "0,0,0,3,5,3";
+    tell(used.at("counts"), "change");
+    await used.worker.answerAll();
+    equal("its pip count isn't told", [used.figures, used.text("said"), used.text("numbers").includes("55")], [[], "", false]);
+    used.find("estimate").value = "55";
+    used.click("tell");
+    equal("it can't be compared yet", [used.text("numbers").includes("The number is still being computed: compare in a moment."), used.session.state.estimates.length, used.focus()], [true, 0, "estimate"]);
+    await used.widened();
+    equal("then it is hidden as any", used.figures, []);
+    used.find("estimate").value = "55";
+    await used.clicked("tell");
+    equal("and compared", [used.text("numbers").includes("You said 55.000: 0.000 pips off."), used.figures], [true, numbersOf(wide)]);
+
+    part = "58 pips that can't be had, unasked";
+    const failures = {
+        "a build that fails": () => Worker.last.refuse({ message: "no memory", status: 0, line: "" }),
+        "a worker that dies": async () => {
+            Worker.last.onerror({ message: "no memory" });
+            await settled();
+        },
+    };
+    for (const [how, fail] of Object.entries(failures)) {
+        used = await open("#at=1,0,0,0,0,0", 100);
+        const second = Worker.last;
+        await fail();
+        equal(`${how}: in silence`, [used.at("trouble").hidden, used.at("wider").hidden, used.at("bar").hidden, used.text("open"), second.isEnded, used.worker.isEnded], [true, true, true, "44 pips", true, false]);
+        await used.clicked("Add 2");
+        equal(`${how}: the first answers`, [used.figures, Worker.last === second], [numbersOf([1, 1, 0, 0, 0, 0]), true]);
+        used.at("counts").value = "0,0,0,3,5,3";
+        tell(used.at("counts"), "change");
+        await used.worker.answerAll();
+        equal(`${how}: tried again where it is needed`, [isBuilt(used), used.figures[0], used.at("bar").hidden], ["start 58", "55", false]);
+        await fail();
+        equal(`${how}: and said`, [used.text("trouble"), used.at("trouble").hidden, used.at("wider").hidden, used.at("bar").hidden, used.figures, used.text("numbers")],
+            ["The database of 58 pips couldn\u2019t be built: no memory. That of 44 pips goes on.", false, false, true, [], "55 pips. The position has more pips than the database.It goes to 44 pips."]);
+        equal(`${how}: not once more by itself`, [isBuilt(used), used.worker.isEnded], ["none", false]);
+        await used.clicked("Remove 6");
+        equal(`${how}: nor for another one`, [isBuilt(used), used.text("numbers").startsWith("49 pips.")], ["none", true]);
+        await used.clicked("clear");
+        equal(`${how}: the first still answers`, [used.figures[0], used.at("wider").hidden], ["0", true]);
+        used.window.type(FAR_OFF);
+        await used.worker.answerAll();
+        used.click("wider");
+        await used.worker.answerAll();
+        equal(`${how}: tried once more by its button`, [isBuilt(used), used.focus(), used.at("trouble").hidden, used.at("wider").hidden, used.figures[0]], ["start 58", "numbers", true, true, "55"]);
+        await used.widened();
+        equal(`${how}: and then it is there`, [used.figures, used.text("open"), used.at("trouble").hidden], [numbersOf(wide), "58 pips", true]);
+    }
+    part = "a second worker that can't be made";
+    let made = 0;
+    used = await open("#at=1,0,0,0,0,0", 5000);
+    const real = globalThis.Worker;
+    globalThis.Worker = class { constructor() { made += 1; throw new Error("too many workers"); } };
+    used.at("counts").value = "0,0,0,3,5,3";
+    tell(used.at("counts"), "change");
+    await used.worker.answerAll();
+    globalThis.Worker = real;
+    equal("is told", [made, used.text("trouble"), used.at("wider").hidden], [1, "The database of 58 pips couldn\u2019t be built: too many workers. That of 44 pips goes on.", false]);
+
+    part = "what is asked when 58 pips come";
+    used = await open("#at=1,0,0,0,0,0", 100);
+    used.click("Add 2");
+    const late = used.worker;
+    equal("it was asked of the first", late.asked.length, 1);
+    await used.widened();
+    equal("it is asked of the second", [used.figures, late.isEnded], [numbersOf([1, 1, 0, 0, 0, 0]), true]);
+
+    part = "a file while 58 pips are built";
+    const file = { arrayBuffer: async () => new ArrayBuffer(8) };
+    const drop = async () => {
+        tell(used.document, "drop", { dataTransfer: { files: [file] } });
+        await settled();
+    };
+    used = await open("#at=1,0,0,0,0,0", 100);
+    let second = Worker.last;
+    await drop();
+    equal("ends that", [second.isEnded, used.worker.asked.map(({ question }) => question.kind), used.at("bar").hidden], [true, ["open"], false]);
+    await used.worker.refuse({ message: "refused", status: 25, line: "record 3 mean" });
+    equal("refused, it is begun anew", [used.text("trouble").startsWith("The file was refused"), isBuilt(used), Worker.last !== second], [true, "start 58", true]);
+    second = Worker.last;
+    await drop();
+    await used.worker.answer({ bound: 8, positions: 64 });
+    equal("nothing of the former database stays", [used.figures, used.plays(), used.worker.asked.map(({ question }) => question.kind)], [Array(4).fill("\u2026"), [], ["ask"]]);
+    await used.worker.answerAll(8);
+    equal("a file of one's own stays", [used.text("open"), isBuilt(used), second.isEnded], ["8 pips", "none", true]);
+    equal("and answers", used.figures, numbersOf([1, 0, 0, 0, 0, 0]));
+    used.click("Add 6");
+    await settled();
+    await used.worker.answer(answerTo([1, 0, 0, 0, 0, 1], 8));
+    equal("7 pips are in it", isBuilt(used), "none");
+    await used.worker.answerAll(8);
+    used.click("Add 5");
+    await settled();
+    await used.worker.answerAll(8);
+    equal("12 pips aren't", [isBuilt(used), used.figures[0], used.at("notice").hidden], ["start 58", "12", true]);
+    used.worker.asked.length = 0;
+    const older = used.session.state.answers.size;
+    await used.widened();
+    equal("which is said", [used.text("notice"), used.figures, used.text("open"), older > 0], ["Your file goes to 8 pips, so the database of 58 pips was built in its place.", numbersOf([1, 0, 0, 0, 1, 1]), "58 pips", true]);
+
+    part = "a file's own plays go with it";
+    used = await open("#at=1,0,0,0,0,0&roll=21&p=0,0,0,3,5,3", 5000);
+    await drop();
+    await used.worker.answer({ bound: 8, positions: 64 });
+    await used.worker.answerAll(8);
+    equal("known", [used.figures[0], used.plays().length > 0, isBuilt(used)], ["1", true, "start 58"]);
+    second = Worker.last;
+    await second.answer({ bound: 58, positions: 35327, took: 900 });
+    equal("nothing of them stays", [used.figures, used.plays(), second.asked.length], [Array(4).fill("\u2026"), [], 1]);
+
+    part = "a drill over a file of few pips";
+    used = await open("#at=1,0,0,0,0,0", 5000);
+    await drop();
+    await used.worker.answer({ bound: 8, positions: 64 });
+    await used.worker.answerAll(8);
+    used.window.type("#at=1,0,0,0,0,0&drill=all&seed=3&ask=play");
+    await used.worker.answerAll(8);
+    equal("needs more", [isBuilt(used), used.text("coach").includes("A drill needs 44 pips, more than your file has."), used.session.state.questions], ["start 58", true, null]);
+    await used.widened();
+    equal("and has it", [used.text("coach").includes("Question 1 of 20."), used.session.state.questions.length], [true, 20]);
+
+    part = "the first worker dies while 58 pips are built";
+    used = await open("#at=1,0,0,0,0,0", 100);
+    second = Worker.last;
+    used.click("Add 2");
+    used.worker.onerror({ message: "out of memory" });
+    await settled();
+    equal("both end", [used.text("trouble"), second.isEnded, used.at("bar").hidden, used.figures[0]], ["Nothing more can be computed here: out of memory. Load the page anew.", true, true, "\u2013"]);
+}
+
+// On the free board a play that is to be guessed is made by moving checkers, too.
+async function guessed() {
+    part = "a guess on the board";
+    let used = await Used.open("#at=0,0,0,1,0,1&guess=1", { plays: legalFrom });
+    const isEditor = () => used.find("point 6").getAttribute("role") === "spinbutton" && used.find("Add 6") !== null;
+    equal("without a roll the board is set up", isEditor(), true);
+    used.at("board").scrolled = 0;
+    used.click("roll 52");
+    await used.worker.answerAll();
+    equal("with one a play is made on it", [used.find("point 6").getAttribute("role"), used.find("Add 6"), used.find("off") !== null, used.text("set up"), used.at("board").scrolled], ["button", null, true, "Set up", 1]);
+    equal("it is said", [used.text("said"), used.at("board").querySelector(".hint").textContent], ["Which play of 5-2 is best?", "Move a checker, or choose from the list."]);
+    equal("and no other board is there to play on", used.at("plays").querySelectorAll("svg.small").length, 0);
+    used.click("point 6");
+    equal("picked", [used.session.state.picked, used.at("board").querySelector(".hint").textContent, used.find("undo") !== null, used.find("set up")], [6, "Where to? A ring marks each place.", true, null]);
+    used.click("point 1");
+    used.click("undo");
+    equal("undone", [used.board, used.session.state.steps], [[0, 0, 0, 1, 0, 1], []]);
+    for (const place of ["point 6", "point 1", "point 4", "point 2"]) used.click(place);
+    equal("made", [used.text("made"), used.session.state.guesses.length, used.find("play 6/1 4/2").textContent], ["Play 6/1 4/2", 0, "6/1 4/2 "]);
+    used.at("plays").scrolled = 0;
+    used.click("made");
+    await used.worker.answerAll();
+    equal("guessed", [used.session.state.guesses.map(({ play }) => play.text), used.focus(), used.at("plays").scrolled, used.text("said").startsWith("6/1 4/2 is best.")], [["6/1 4/2"], "play 6/1 4/2", 1, true]);
+    equal("its verdict is there", used.at("plays").querySelector(".verdict").textContent.startsWith("6/1 4/2 is best."), true);
+    equal("and the board is set up again", [isEditor(), used.at("board").querySelectorAll(".arc").length, used.find("made")], [true, 2, null]);
+    await used.clicked("reset");
+    equal("counted anew, it is made again", used.find("point 6").getAttribute("role"), "button");
+    const press = (key) => tell(used.document.activeElement, "keydown", { key });
+    used.find("point 6").focus();
+    for (const key of ["Enter", ...Array(6).fill("ArrowRight"), "Enter", "Enter"]) press(key);
+    await used.worker.answerAll();
+    equal("by keys", [used.session.state.guesses.map(({ play }) => play.text), used.focus()], [["6/off"], "play 6/off"]);
+    used.click("roll 61");
+    await used.worker.answerAll();
+    used.find("point 6").focus();
+    press("Enter");
+    press("Escape");
+    equal("Escape puts a checker back", [used.session.state.picked, used.session.state.roll], [null, [6, 1]]);
+    press("Escape");
+    equal("and then leaves the roll", [used.session.state.roll, isEditor(), used.focus()], [null, true, "roll 61"]);
+    used.click("roll 61");
+    await used.worker.answerAll();
+    used.click("set up");
+    equal("so does the button", [used.session.state.roll, isEditor(), used.focus()], [null, true, "roll 61"]);
+    await used.clicked("Add 1");
+    equal("and a point is set", used.board, [1, 0, 0, 1, 0, 1]);
+    used = await Used.open("#at=0,0,0,1,0,1&roll=52&guess=1&view=board", { plays: legalFrom });
+    equal("a board in another page is none to play on", isEditor(), true);
+    used = await Used.open("#at=0,0,0,1,0,1&roll=52", { plays: legalFrom });
+    equal("nor is one where nothing is guessed", [isEditor(), used.at("plays").querySelectorAll("svg.small").length], [true, 1]);
+    used = await Used.open("#at=0,2,0,1,0,1&roll=31", { plays: legalFrom });
+    const [, second, third] = used.plays();
+    for (const [play, lost] of [[second, "1/18 of a roll, 0.454 pips of EPC."], [third, "2/18 of a roll, 0.907 pips of EPC."]]) {
+        await used.clicked(play);
+        equal(`what ${play} loses`, used.at("plays").querySelector(".loss").textContent.split(" loses ")[1], lost);
+    }
 }
 
 async function clicks() {
@@ -526,12 +797,13 @@ async function guesses() {
     await used.clicked("Add 2");
     await used.clicked("roll 52");
     equal("in another position it is", [used.text("plays").includes("Which play"), used.find("roll 52").textContent.includes("/")], [true, false]);
+    used.click("set up");
     await used.clicked("Remove 2");
     equal("and here it isn't", used.find("roll 52").textContent.includes("/"), true);
     said = [];
     await used.clicked("roll 62");
     await used.clicked("play 6/off 2/1");
-    equal("one as good", said.filter(Boolean), ["6/off 2/1 is best, as is 6/off 2/0. 4 guesses have lost 0.167 of a roll."]);
+    equal("one as good", said.filter(Boolean), ["Which play of 6-2 is best?", "6/off 2/1 is best, as is 6/off 2/0. 4 guesses have lost 0.167 of a roll."]);
     await used.clicked("reset");
     equal("begun anew", [used.session.state.guesses.length, used.text("plays").includes("Which play is best?"), used.focus()], [0, true, "roll 62"]);
     await used.clicked("play 6/1 2/2");
@@ -542,7 +814,7 @@ async function guesses() {
         used.click(`play ${roll[0]}/1 ${roll[1]}/2`);
     }
     await used.worker.answerAll();
-    equal("two at once", said.filter(Boolean), ["4/1 1/2 loses 0.056 of a roll; best is 4/off 1/0. 3 guesses have lost 0.167 of a roll."]);
+    equal("two at once", said.filter(Boolean), ["Which play of 3-1 is best?", "Which play of 4-1 is best?", "4/1 1/2 loses 0.056 of a roll; best is 4/off 1/0. 3 guesses have lost 0.167 of a roll."]);
     tell(used.at("guess"), "change", { target: { checked: false } });
     used.window.pass(1000);
     equal("not guessing", [used.text("plays").includes("guess"), used.find("roll 31").textContent.includes("/"), used.window.location.hash.includes("guess")], [false, true, false]);
@@ -635,6 +907,13 @@ async function addresses() {
     soon.window.go(-1);
     equal("is undone", soon.board[0], 1);
 
+    part = "an address that a reader typed";
+    const typed = await Used.open("#at=1,0,0,0,0,0");
+    typed.window.pass(1000);
+    typed.window.type("#roll=21&at=1,0,0,0,0,1");
+    typed.window.pass(1000);
+    equal("is a step, and its order is none", typed.window.entries, ["#at=1,0,0,0,0,0", "#at=1,0,0,0,0,1&roll=21"]);
+
     part = "an address that is set before the page is told of it";
     const kept = await Used.open("#at=1,0,0,0,0,0");
     const set = (hash) => kept.window.history.pushState(null, "", hash);
@@ -668,10 +947,10 @@ async function addresses() {
     open.window.pass(1000);
     open.window.type("#at=0,0,0,3,5,3&pips=58&p=1,1,0,0,0,0&c=first");
     open.check("set");
-    await settled();
-    equal("it is built once", open.worker.asked.map(({ question }) => [question.kind, question.bound].join(" ")), ["build 58"]);
+    await open.worker.answerAll();
+    equal("it is built once", Worker.last.asked.map(({ question }) => [question.kind, question.bound].join(" ")), ["start 58"]);
     equal("the bar", open.at("bar").hidden, false);
-    await open.ready(58);
+    await open.widened();
     equal("55 pips", [open.figures[0], open.rows.length], ["55", 1]);
     open.window.pass(1000);
     open.window.type("#at=0,0,0,1,0,0");
@@ -679,7 +958,7 @@ async function addresses() {
     equal("58 pips stay", open.worker.asked.map(({ question }) => question.kind), ["ask"]);
     await open.worker.answerAll(58);
     open.window.pass(1000);
-    equal("a link", [open.board.join(), open.window.location.hash], ["0,0,0,1,0,0", "#at=0,0,0,1,0,0&pips=58"]);
+    equal("a link", [open.board.join(), open.window.location.hash], ["0,0,0,1,0,0", "#at=0,0,0,1,0,0"]);
     equal("which is one entry", open.window.entries.length, 3);
     open.window.type("#at=0,0,0,1,0,0&pips=58&t=<b>T</b>");
     equal("the title is text", [open.text("lesson"), [...open.at("lesson").querySelectorAll("*")].length, open.at("lesson").hidden], ["<b>T</b>", 0, false]);
@@ -689,7 +968,7 @@ async function addresses() {
     same.window.pass(1000);
     same.window.type("#at=2,2,2,2,2,2&pips=58");
     await settled();
-    equal("58 pips for the position that is there, once", same.worker.asked.map(({ question }) => question.kind), ["build"]);
+    equal("58 pips for the position that is there, once", [same.worker.asked.length, Worker.last.asked.map(({ question }) => question.kind)], [0, ["start"]]);
 
     part = "a browser that takes no more addresses";
     const full = await Used.open("", { before: (window) => { window.history.pushState = () => { throw new Error("too many"); }; } });
@@ -737,9 +1016,12 @@ async function older() {
     equal("and is set", [used.board[0], used.figures[0]], [3, "\u2013"]);
     used = new Used("", { before: (window) => { window.Worker = undefined; } });
     equal("no workers", used.text("trouble").startsWith("Nothing can be computed here: this browser runs no workers"), true);
-    used = new Used("#pips=58");
-    await settled();
-    equal("what is asked first", [used.worker.asked[0].question.kind, used.worker.asked[0].question.bound, used.worker.asked[0].question.module.isPacked], ["start", 58, true]);
+    for (const [hash, bound] of [["", 44], ["#pips=58", 44], ["#at=0,0,0,3,5,3", 58], ["#at=0,0,0,0,8,3", 58], ["#at=0,0,0,0,7,4", 44], ["#at=0,0,0,0,10,0", 58], ["#at=0,0,0,0,4,4", 44], ["#at=0,0,0,0,9,0", 58], ["#at=0,0,0,11,0,0", 44], ["#p=0,0,0,0,0,8&at=1,0,0,0,0,0", 44]]) {
+        used = new Used(hash);
+        // it is at work before the page is drawn
+        const [{ question }] = used.worker.asked;
+        equal(`what is asked first of ${hash}`, [question.kind, question.bound, question.module.isPacked], ["start", bound, true]);
+    }
     equal("the rolls", ROLLS.length, 21);
     equal("all rolls are answered", rollsFrom([1, 0, 0, 0, 0, 0]).length, 21);
     equal("pips", pipsOf([1, 1, 1, 1, 1, 1]), 21);
@@ -865,8 +1147,54 @@ async function drills() {
         errors.push(exact > 7000n ? exact - 7000n : 7000n - exact);
         equal(`the mean of ${errors.length}`, used.text("numbers").includes(`: ${inPips(errors.at(-1))} pips off. The mean error so far is ${meanOfAll(errors)} pips.`), true);
     }
+    equal("on to what is asked once more", used.text("next question"), "Next");
     await used.clicked("next question");
-    equal("the score of estimates", used.text("coach").includes(`15 of 15 were estimated. The mean error is ${meanOfAll(errors)} pips.`), true);
+    const [{ points: again }] = used.session.state.questions;
+    equal("once more", [used.board, used.figures, used.text("coach").includes("Once more, 1 of 15. What is the EPC?"), used.find("estimate") !== null], [again, [], true, true]);
+    await compare(5000n);
+    equal("which counts for nothing", used.text("coach").includes(`15 estimated, mean error ${meanOfAll(errors)} pips.`), true);
+    used.window.type("#drill=ace&seed=3&ask=effective&question=31");
+    await used.worker.answerAll();
+    equal("the score of estimates", [used.text("coach").includes(`15 of 15 were estimated. The mean error is ${meanOfAll(errors)} pips.`), used.text("coach").includes("15 were a pip or more off; asked once more, 0 were nearer.")], [true, true]);
+    equal("how far is far", [["effective", 1000n], ["effective", 999n], ["wastage", 1000n], ["wastage", 999n], ["pips", 1n], ["pips", 0n]].map(([kind, error]) => isFar({ kind, error })), [true, false, true, false, true, false]);
+
+    part = "a drill of pip counts, some wrong";
+    const fewer = "#drill=few&seed=9&ask=pips";
+    used = await Used.open(fewer);
+    const { questions: counted } = used.session.state;
+    const count = async (pips) => {
+        used.find("estimate").value = String(pips);
+        await used.clicked("tell");
+        await used.clicked("next question");
+    };
+    for (const [place, { points }] of counted.slice(0, 4).entries()) await count(pipsOf(points) + (place % 2));
+    const reload = async () => {
+        used.window.pass(1000);
+        used = await Used.open(used.window.location.hash, { before: (window) => { window.stored = used.window.stored; } });
+    };
+    used.window.type(`${fewer}&question=21`);
+    await used.worker.answerAll();
+    const comesBack = (place) => [used.board, used.text("coach").includes(`Once more, ${place} of 2. What is the pip count?`), used.find("estimate") !== null];
+    equal("what was wrong comes back alone", comesBack(1), [counted[1].points, true, true]);
+    await reload();
+    equal("after a reload too", comesBack(1), [counted[1].points, true, true]);
+    await count(pipsOf(counted[1].points));
+    await reload();
+    equal("the second, after a reload", comesBack(2), [counted[3].points, true, true]);
+    await used.clicked("previous question");
+    equal("what was right once more stays answered", [used.find("estimate"), used.text("numbers").includes(": 0.000 pips off.")], [null, true]);
+    await used.clicked("next question");
+    await count(1);
+    equal("their score", [used.text("coach").includes("4 of 20 were estimated. The mean error is 0.500 pips."), used.text("coach").includes("2 were wrong; asked once more, 1 was right.")], [true, true]);
+    used.window.pass(1000);
+    used.window.go(-1);
+    await used.worker.answerAll();
+    equal("Back", [used.find("estimate"), used.session.state.estimatesAgain.length], [null, 2]);
+    used = await Used.open(fewer);
+    await count(pipsOf(counted[0].points));
+    used.window.type(`${fewer}&question=21`);
+    await used.worker.answerAll();
+    equal("where none was wrong nothing comes back", [used.text("coach").includes("1 of 20 were estimated. The mean error is 0.000 pips."), used.text("coach").includes("nce more")], [true, false]);
 
     part = "estimates";
     used = await Used.open("#at=1,0,0,0,0,0&p=1,0,0,0,0,0&estimate=wastage");
@@ -1006,7 +1334,7 @@ async function making() {
     used.click("point 6");
     used.click("point 4");
     equal("moved", [used.board, used.text("said"), told()], [[0, 0, 0, 2, 0, 0], "From point 6 to point 4.", ["-", "-", "can move", "-", "-", "-", "-"]]);
-    equal("undo comes", [used.find("undo") !== null, used.find("made")], [true, null]);
+    equal("undo comes", [used.find("undo") !== null, used.find("made"), used.at("board").querySelector(".guessing")], [true, null, null]);
     used.click("point 4");
     used.click("off");
     equal("whole", [used.board, used.text("made"), used.text("said"), points()[6].getAttribute("data-count")], [[0, 0, 0, 1, 0, 0], "Play 6/off", "6/off is made: Enter plays it, Backspace undoes.", "14"]);
@@ -1376,7 +1704,7 @@ for (const [name, body] of [
     ["what is drawn and what a lesson's text says", trained], ["drills", drills], ["lessons", lessons],
     ["the steps of plays", steps], ["plays on the board", making], ["runs that go on", runs], ["nothing in silence", silence], ["paper", paper],
     ["a lesson of one's own", editing],
-    ["pictures", pictures], ["the wrong moments", moments], ["clicks", clicks], ["keys", keys],
+    ["pictures", pictures], ["the wrong moments", moments], ["58 pips", wider], ["a guess on the board", guessed], ["clicks", clicks], ["keys", keys],
     ["typed counts", typed], ["positions as players have them", pasted], ["plays", plays], ["guesses", guesses], ["keeping", keeping],
     ["addresses", addresses], ["browsers that can't", older],
 ]) test(name, body);
