@@ -421,9 +421,12 @@ class TestLongestFiles:
 
 
 class TestLongestList:
-    def test_words(self, built, ask):
-        """The longest list of moves of all positions and rolls: 108 results, counted outside."""
-        done = ask(["query", built(58)], "moves 3,3,2,2,2,3 11")
+    @pytest.mark.parametrize("words", [["query"], ["query", "--cache", "9"]], ids=" ".join)
+    def test_words(self, built, ask, words):
+        """The longest list of moves of all positions and rolls: 108 results, counted outside. In
+        memory it lies in a room of its own, and over pages it takes memory. A program that is
+        made without proof takes minutes for pages."""
+        done = ask([*words, built(58)], "moves 3,3,2,2,2,3 11", timeout=900)
         expect_that(len(set(done.output.split())) == 109, done, "109 different words")
 
 
