@@ -15,10 +15,10 @@ pub fn better<M: RankedMeans>(one: u16, other: u16, means: &M) -> u16
     }
     let here = means.mean(one);
     let there = means.mean(other);
-    if here < there {
+    if M::is_less(here, there) {
         return one;
     }
-    if there < here || other < one {
+    if M::is_less(there, here) || other < one {
         other
     } else {
         one

@@ -119,11 +119,20 @@ pub(crate) struct MeansOf<'a, K> {
 }
 
 impl<'a, K: Keeper> least_plays::RankedMeans for MeansOf<'a, K> {
+    type Mean = u128;
+
     ghost mean = { λ means. slice_index (K.means means.records.now) };
 
     ghost count = { λ means. length (K.means means.records.now) };
 
+    ghost number = { λ mean. mean };
+
     fn mean(&self, rank: u16) -> u128 {
         self.records.mean(rank).numerator()
+    }
+
+    #[inline(always)]
+    fn is_less(one: u128, other: u128) -> bool {
+        one < other
     }
 }

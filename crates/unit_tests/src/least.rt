@@ -12,12 +12,21 @@ struct Table {
 }
 
 impl RankedMeans for Table {
+    type Mean = u16;
+
     ghost mean = { λ table. slice_index table.means };
 
     ghost count = { λ table. 64 };
 
-    fn mean(&self, rank: u16) -> u128 {
-        u128::from(self.means[usize::from(rank)])
+    ghost number = { λ mean. mean };
+
+    fn mean(&self, rank: u16) -> u16 {
+        self.means[usize::from(rank)]
+    }
+
+    #[inline(always)]
+    fn is_less(one: u16, other: u16) -> bool {
+        one < other
     }
 }
 
