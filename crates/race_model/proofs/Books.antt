@@ -4,3 +4,4 @@ pub mod FromRight
 pub mod Files
 pub mod Endings
 pub mod Boards
+pub mod Bounded
