@@ -14,9 +14,9 @@ fn damaged(mut file: [u8; 98], place: usize, byte: u8) -> [u8; 98] {
     file
 }
 
-/// The fault of the header of a file.
-fn fault_of(file: &[u8]) -> Option<HeaderFault> {
-    parse_board_header(file).err()
+/// The fault of the header of the first bytes of a file.
+fn fault_of(file: &[u8; 98], bytes: usize) -> Option<HeaderFault> {
+    parse_board_header(&file[..bytes.min(98)]).err()
 }
 
 /// One byte to be changed, and the fault that this makes, from the fault that is looked for last
@@ -33,14 +33,14 @@ const DAMAGES: [(usize, u8, HeaderFault); 6] = [
 #[test]
 fn each_fault_alone_and_with_every_later_one(rt: HostRuntime) {
     let mut file = FINISHED;
-    assert_eq!(rt; fault_of(&file), None);
+    assert_eq!(rt; fault_of(&file, 98), None);
     for (place, byte, fault) in DAMAGES {
         file = damaged(file, place, byte);
-        assert_eq!(rt; fault_of(&damaged(FINISHED, place, byte)), Some(fault));
-        assert_eq!(rt; fault_of(&file[..97]), Some(fault));
+        assert_eq!(rt; fault_of(&damaged(FINISHED, place, byte), 98), Some(fault));
+        assert_eq!(rt; fault_of(&file, 97), Some(fault));
     }
-    assert_eq!(rt; fault_of(&file[..31]), Some(HeaderFault::TooShort));
-    assert_eq!(rt; fault_of(&FINISHED[..97]), Some(HeaderFault::BadLength));
+    assert_eq!(rt; fault_of(&file, 31), Some(HeaderFault::TooShort));
+    assert_eq!(rt; fault_of(&FINISHED, 97), Some(HeaderFault::BadLength));
 }
 
 /// A bound, how many positions it has, and how many bytes its file has.
@@ -75,6 +75,12 @@ fn sizes_of_files(rt: HostRuntime) {
     assert_eq!(rt; BoardHeader::new(91), None);
 }
 
+/// Whether so many bytes, at most 594, are a record of a position of so many pips.
+fn is_record(bytes: usize, pips: u8) -> bool {
+    let room = [0; 594];
+    BoardRecord::new(&room[..bytes.min(594)], pips.min(90)).is_some()
+}
+
 #[test]
 fn places_in_a_record(rt: HostRuntime) {
     let places: [(u8, usize); 7] = [
@@ -92,7 +98,7 @@ fn places_in_a_record(rt: HostRuntime) {
     let lengths: [(u8, usize); 4] = [(0, 66), (44, 266), (58, 330), (90, 594)];
     for (pips, bytes) in lengths {
         assert_eq!(rt; board_length(pips), bytes, "{pips} pips");
-        assert!(rt; BoardRecord::new(&[0; 594][..bytes], pips).is_some());
-        assert!(rt; BoardRecord::new(&[0; 594][..bytes - 1], pips).is_none());
+        assert!(rt; is_record(bytes, pips));
+        assert!(rt; !is_record(bytes - 1, pips));
     }
 }

@@ -35,7 +35,7 @@ weighted-none g none =
     sum_by-zero (λ v. weight v * g v) all_rolls (λ v. ap (λ n. weight v * n) (none v) ∙ omega arith)
 
 -- .. of multiples of one number
-weighted-multiples : (g h : Throw → ℕ) (m : ℕ) → ((v : Throw) → g v ≡ h v * m) →
+pub weighted-multiples : (g h : Throw → ℕ) (m : ℕ) → ((v : Throw) → g v ≡ h v * m) →
     weighted g ≡ weighted h * m
 weighted-multiples g h m each =
     sum_by-equal (λ v. weight v * g v) (λ v. m * (weight v * h v)) all_rolls

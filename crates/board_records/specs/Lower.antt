@@ -1,0 +1,52 @@
+-- The records of a board file below a rank. Source: this project's profile.
+use Rattle.std.specs.Prelude.{◌≡◌, ℕ, ◌<◌, ◌≤◌, List, length, slice_index, slice_index_or}
+use Rattle.race_model.specs.Positions.{Board, IsPosition, pips}
+use Rattle.race_model.specs.Dice.{roll_at}
+use Rattle.race_model.specs.Plays.{Legal}
+use Rattle.race_model.specs.Ranks.{rank, at_rank}
+use Rattle.race_model.specs.BoardFiles.{board_length, board_place, board_record, mean_parts, value_of_parts}
+use Rattle.race_model.specs.RightBoards.{IsLocalOnBoard}
+use Rattle.board_records.specs.declared.lower.RankedPlace.{RankedPlace}
+
+-- bytes that begin as a board file does, and how many of its records they hold
+pub record Lower : Type 0 where
+  pub bytes : List ℕ
+  pub count : ℕ
+
+-- the records of the ranks below one meet their equations
+abbrev pub AreLocalTo : List ℕ → ℕ → Type 0
+AreLocalTo f n = (z : Board) → IsPosition z → rank z < n → IsLocalOnBoard f z
+
+-- the bytes hold the records of so many ranks, which meet their equations, and begin where it is
+-- said
+pub record AreRecords (bytes : List ℕ) (offsets : List ℕ) : Type 0 where
+  pub few : length offsets ≤ 54264
+  pub long : board_place (length offsets) ≤ length bytes
+  pub begin : (r : ℕ) → r < length offsets → slice_index offsets r ≡ board_place r
+  pub local : AreLocalTo bytes (length offsets)
+
+-- the mean that is recorded for a rank
+abbrev pub board_mean : List ℕ → ℕ → ℕ
+board_mean f r = value_of_parts (mean_parts (board_record f r))
+
+-- 21 ranks below one, by the index of the roll
+abbrev pub AreBelow : List ℕ → ℕ → Type 0
+AreBelow plays count = (i : ℕ) → i < 21 → slice_index plays i < count
+
+-- .. each that of a result of its roll
+abbrev pub AreResults : Board → List ℕ → Type 0
+AreResults x plays =
+    (i : ℕ) → i < 21 → (y : Board) × Legal x (roll_at i) y × (rank y ≡ slice_index plays i)
+
+-- where the record of a rank below one stands
+pub record IsPlaced (count : ℕ) (placed : RankedPlace) : Type 0 where
+  pub below : placed.rank < count
+  pub offset : placed.place.offset ≡ board_place placed.rank
+  pub length : placed.place.length ≡ board_length (pips (at_rank placed.rank))
+  pub pips : placed.place.pips ≡ pips (at_rank placed.rank)
+
+-- .. and those of the ranks that 21 rolls lead to
+abbrev pub ArePlaced : ℕ → List ℕ → List RankedPlace → Type 0
+ArePlaced count plays places = (i : ℕ) (other : RankedPlace) → i < 21 →
+    IsPlaced count (slice_index_or places i other)
+    × ((slice_index_or places i other).rank ≡ slice_index plays i)
