@@ -1,7 +1,6 @@
 -- Sums of what the plays of a position lead to, where the records of lower rank meet their
 -- equations.
 use Rattle.std.proofs.Common.{◌≡◌, ℕ, zero, suc, ◌+◌, ◌-◌, ◌*◌, ◌^◌, ◌<◌, ◌≤◌, List, sym, ap, ◌∙◌, arith}
-use Rattle.std.specs.Prelude.{slice_index}
 use Rattle.std.proofs.Math.Nat.{pow-suc}
 use Rattle.race_model.specs.Positions.{Board, IsPosition, IsFinished, pips}
 use Rattle.race_model.specs.Dice.{Throw, roll_at, roll_index}
@@ -19,16 +18,16 @@ use Rattle.race_model.proofs.Books.Bounded.{mean-at_most, mean-multiple, weighte
 use Rattle.board_records.specs.Lower.{AreLocalTo, AreBelow, AreResults, board_mean}
 use Rattle.board_records.proofs.Known.{meets-below, count-most}
 
-module _ (f : List ℕ) (n : ℕ) (few : n ≤ 54264) (local : AreLocalTo f n) (plays : List ℕ)
+module _ (f : List ℕ) (n : ℕ) (few : n ≤ 54264) (local : AreLocalTo f n) (plays : ℕ → ℕ)
     (below : AreBelow plays n) where
   -- counts add up to at most all sequences of one throw more
   pub counts-most : (k : ℕ) → k ≤ 33 →
-      weighted (λ v. count_at f (slice_index plays (roll_index v)) k) ≤ 36 ^ suc k
+      weighted (λ v. count_at f (plays (roll_index v)) k) ≤ 36 ^ suc k
   counts-most k le =
       omega (
         arith,
-        weighted-at_most (λ v. count_at f (slice_index plays (roll_index v)) k) (36 ^ k)
-            (λ v. count-most f n few local (slice_index plays (roll_index v))
+        weighted-at_most (λ v. count_at f (plays (roll_index v)) k) (36 ^ k)
+            (λ v. count-most f n few local (plays (roll_index v))
             (below (roll_index v) (roll_index-range v)) k le),
         pow-suc 36 k,
       )
@@ -37,7 +36,7 @@ module _ (f : List ℕ) (n : ℕ) (few : n ≤ 54264) (local : AreLocalTo f n) (
   module _ (x : Board) (at : IsPosition x) (unfinished : ¬ IsFinished x)
       (results : AreResults x plays) where
     abbrev means : Throw → ℕ
-    means v = board_mean f (slice_index plays (roll_index v))
+    means v = board_mean f (plays (roll_index v))
 
     -- what a roll leads to
     abbrev after : Throw → Board
@@ -46,7 +45,7 @@ module _ (f : List ℕ) (n : ℕ) (few : n ≤ 54264) (local : AreLocalTo f n) (
     legal : (v : Throw) → Legal x (roll_at (roll_index v)) (after v)
     legal v = (results (roll_index v) (roll_index-range v)).1
 
-    ranked : (v : Throw) → rank (after v) ≡ slice_index plays (roll_index v)
+    ranked : (v : Throw) → rank (after v) ≡ plays (roll_index v)
     ranked v = (results (roll_index v) (roll_index-range v)).2
 
     after-is : (v : Throw) → IsPosition (after v)
@@ -85,6 +84,6 @@ module _ (f : List ℕ) (n : ℕ) (few : n ≤ 54264) (local : AreLocalTo f n) (
 
     pub mean-exists : (mean : ℕ) × (mean ≤ 33 * 36 ^ 33)
         × (36 * mean ≡ 36 * 36 ^ 33
-        + weighted (λ v. board_mean f (slice_index plays (roll_index v))))
+        + weighted (λ v. board_mean f (plays (roll_index v))))
     mean-exists = by (most_rolls (pips x)) (most_rolls-board (pips x) (pips-range x at))
         (ends_in_most x at)

@@ -30,13 +30,13 @@ abbrev pub board_mean : List ℕ → ℕ → ℕ
 board_mean f r = value_of_parts (mean_parts (board_record f r))
 
 -- 21 ranks below one, by the index of the roll
-abbrev pub AreBelow : List ℕ → ℕ → Type 0
-AreBelow plays count = (i : ℕ) → i < 21 → slice_index plays i < count
+abbrev pub AreBelow : (ℕ → ℕ) → ℕ → Type 0
+AreBelow plays count = (i : ℕ) → i < 21 → plays i < count
 
 -- .. each that of a result of its roll
-abbrev pub AreResults : Board → List ℕ → Type 0
+abbrev pub AreResults : Board → (ℕ → ℕ) → Type 0
 AreResults x plays =
-    (i : ℕ) → i < 21 → (y : Board) × Legal x (roll_at i) y × (rank y ≡ slice_index plays i)
+    (i : ℕ) → i < 21 → (y : Board) × Legal x (roll_at i) y × (rank y ≡ plays i)
 
 -- where the record of a rank below one stands
 pub record IsPlaced (count : ℕ) (placed : RankedPlace) : Type 0 where
@@ -46,7 +46,7 @@ pub record IsPlaced (count : ℕ) (placed : RankedPlace) : Type 0 where
   pub pips : placed.place.pips ≡ pips (at_rank placed.rank)
 
 -- .. and those of the ranks that 21 rolls lead to
-abbrev pub ArePlaced : ℕ → List ℕ → List RankedPlace → Type 0
+abbrev pub ArePlaced : ℕ → (ℕ → ℕ) → List RankedPlace → Type 0
 ArePlaced count plays places = (i : ℕ) (other : RankedPlace) → i < 21 →
     IsPlaced count (slice_index_or places i other)
-    × ((slice_index_or places i other).rank ≡ slice_index plays i)
+    × ((slice_index_or places i other).rank ≡ plays i)

@@ -98,8 +98,8 @@ impl<'a> LowerRecords<'a> {
 
     /// Where the records of the ranks of 21 plays stand.
     pub fn places(&self, plays: &[u16; 21]) -> [RankedPlace; 21]
-        requires { AreBelow plays.now self.now.count }
-        ensures { ArePlaced self.now.count plays.now result }
+        requires { AreBelow (slice_index plays.now) self.now.count }
+        ensures { ArePlaced self.now.count (slice_index plays.now) result }
     {
         let mut places = [self.place(plays[0]); 21];
         for index in 0..21 {

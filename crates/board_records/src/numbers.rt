@@ -18,8 +18,8 @@ use home_board::Position;
 pub fn mean_of(lower: &LowerRecords<'_>, position: &Position, plays: &[u16; 21]) -> BoardMean
     requires position { IsPosition position.now }
     requires unfinished { ¬ IsFinished position.now }
-    requires below { AreBelow plays.now lower.now.count }
-    requires results { AreResults position.now plays.now }
+    requires below { AreBelow (slice_index plays.now) lower.now.count }
+    requires results { AreResults position.now (slice_index plays.now) }
     ensures { 36 * result ≡ 36 * 36 ^ 33
         + weighted (λ v. board_mean lower.now.bytes (slice_index plays.now (roll_index v))) }
 {
@@ -29,7 +29,7 @@ pub fn mean_of(lower: &LowerRecords<'_>, position: &Position, plays: &[u16; 21])
 
 /// The sum of the means of what 21 plays lead to.
 fn sum_of_means(lower: &LowerRecords<'_>, plays: &[u16; 21]) -> LongSum
-    requires below { AreBelow plays.now lower.now.count }
+    requires below { AreBelow (slice_index plays.now) lower.now.count }
     ensures { result.sum
         ≡ weighted (λ v. board_mean lower.now.bytes (slice_index plays.now (roll_index v))) }
 {
@@ -44,11 +44,11 @@ fn sum_of_means(lower: &LowerRecords<'_>, plays: &[u16; 21]) -> LongSum
 /// counts of what they lead to at k throws, added up. To 11 throws the upper part is 0, to 22 it
 /// has one word, and from 12 throws on the lower part is less than 36 ^ 11.
 pub fn count_of(lower: &LowerRecords<'_>, places: &[RankedPlace; 21], k: u8) -> Parts
-    ghost plays: { List ℕ }
+    ghost plays: { ℕ → ℕ }
     requires few { k < 33 }
     requires places { ArePlaced lower.now.count plays places.now }
     ensures value { result.upper * 36 ^ 11 + result.lower
-        ≡ weighted (λ v. count_at lower.now.bytes (slice_index plays (roll_index v)) k) }
+        ≡ weighted (λ v. count_at lower.now.bytes (plays (roll_index v)) k) }
     ensures one { k < 11 → result.upper ≡ 0 }
     ensures word { k < 22 → result.upper < 2 ^ 64 }
     ensures lower { 11 ≤ k → result.lower < 36 ^ 11 }
@@ -118,11 +118,11 @@ fn told(lower: &LowerRecords<'_>, placed: &RankedPlace, k: u8) -> Parts
 
 /// The sum of the counts of at most 11 throws.
 fn sum_of_short(lower: &LowerRecords<'_>, places: &[RankedPlace; 21], k: u8) -> ShortSum
-    ghost plays: { List ℕ }
+    ghost plays: { ℕ → ℕ }
     requires few { k ≤ 11 }
     requires places { ArePlaced lower.now.count plays places.now }
     ensures { result.sum
-        ≡ weighted (λ v. count_at lower.now.bytes (slice_index plays (roll_index v)) k) }
+        ≡ weighted (λ v. count_at lower.now.bytes (plays (roll_index v)) k) }
 {
     let mut counts = [ShortCount::NONE; 21];
     for index in 0..21 {
@@ -133,12 +133,12 @@ fn sum_of_short(lower: &LowerRecords<'_>, places: &[RankedPlace; 21], k: u8) -> 
 
 /// .. of 12 to 22 throws.
 fn sum_of_middle(lower: &LowerRecords<'_>, places: &[RankedPlace; 21], k: u8) -> MiddleSum
-    ghost plays: { List ℕ }
+    ghost plays: { ℕ → ℕ }
     requires many { 12 ≤ k }
     requires few { k ≤ 22 }
     requires places { ArePlaced lower.now.count plays places.now }
     ensures { result.sum
-        ≡ weighted (λ v. count_at lower.now.bytes (slice_index plays (roll_index v)) k) }
+        ≡ weighted (λ v. count_at lower.now.bytes (plays (roll_index v)) k) }
 {
     let mut counts = [MiddleCount::NONE; 21];
     for index in 0..21 {
@@ -149,12 +149,12 @@ fn sum_of_middle(lower: &LowerRecords<'_>, places: &[RankedPlace; 21], k: u8) ->
 
 /// .. of 23 to 32 throws.
 fn sum_of_long(lower: &LowerRecords<'_>, places: &[RankedPlace; 21], k: u8) -> LongSum
-    ghost plays: { List ℕ }
+    ghost plays: { ℕ → ℕ }
     requires many { 23 ≤ k }
     requires few { k ≤ 33 }
     requires places { ArePlaced lower.now.count plays places.now }
     ensures { result.sum
-        ≡ weighted (λ v. count_at lower.now.bytes (slice_index plays (roll_index v)) k) }
+        ≡ weighted (λ v. count_at lower.now.bytes (plays (roll_index v)) k) }
 {
     let mut counts = [LongCount::NONE; 21];
     for index in 0..21 {

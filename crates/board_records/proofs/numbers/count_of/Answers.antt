@@ -1,7 +1,6 @@
 -- The sum of the counts of one throw fewer has room.
 use Rattle.std.proofs.Common.{ℕ, suc, ◌^◌, ◌<◌, ◌≤◌, subst, arith}
 use Rattle.std.proofs.Math.Nat.{pow-le-pow_right}
-use Rattle.std.specs.Prelude.{slice_index}
 use Rattle.race_model.specs.Dice.{roll_index}
 use Rattle.race_model.specs.LocalEquations.{weighted}
 use Rattle.race_model.specs.BoardFiles.{count_at}
@@ -13,7 +12,7 @@ use Rattle.board_records.proofs.numbers.count_of.Goals as goal
 -- the sum is at most all sequences of one throw more, and of as many as that
 module _ (g : Over) (c : After-count-count g) where
   room : (m : ℕ) → c.args.k < m →
-      weighted (λ v. count_at c.args.lower.now.bytes (slice_index g.plays (roll_index v)) c.args.k)
+      weighted (λ v. count_at c.args.lower.now.bytes (g.plays (roll_index v)) c.args.k)
       ≤ 36 ^ m
   room m le =
       let known = c.count-count.ensures in

@@ -1,5 +1,6 @@
 -- There is such a mean.
 use Rattle.std.proofs.Common.{◌+◌, ◌*◌, ◌^◌, ap, sym, ◌∙◌}
+use Rattle.std.specs.Prelude.{slice_index}
 use Rattle.board_records.proofs.Sums.{mean-exists}
 use Rattle.board_records.proofs.numbers.mean_of.Goals as goal
 
@@ -7,7 +8,7 @@ pub unwrap-requires : goal.unwrap-requires
 unwrap-requires c =
     let known = c.count-count.ensures in
     let some = mean-exists c.args.lower.now.bytes c.args.lower.now.count known.few known.local
-    c.args.plays.now c.requires.below c.args.position.now c.requires.position
+    (slice_index c.args.plays.now) c.requires.below c.args.position.now c.requires.position
     c.requires.unfinished c.requires.results in
     c.mean.ensures.some.1
     (some.0, some.1, some.2 ∙ ap (λ n. 36 * 36 ^ 33 + n) (sym c.sum_of_means.ensures))

@@ -8,5 +8,5 @@ abbrev pub invariant-loop-index : goal.invariant-loop-index
 invariant-loop-index g l = record {
   len : length l.counts ≡ 21;
   are : (i : ℕ) → i < l.index →
-      slice_index l.counts i ≡ count_at l.lower.bytes (slice_index g.plays i) l.k;
+      slice_index l.counts i ≡ count_at l.lower.bytes (g.plays i) l.k;
 }

@@ -1,6 +1,5 @@
 -- The count of one play more, and the sum of all.
 use Rattle.std.proofs.Common.{◌≡◌, ap, length-set, refl, ◌∙◌, arith}
-use Rattle.std.specs.Prelude.{slice_index}
 use Rattle.race_model.specs.BoardFiles.{count_at}
 use Rattle.race_model.proofs.Numbers.Members.{set_next}
 use Rattle.board_records.proofs.Weighted.{weighted-listed}
@@ -14,7 +13,7 @@ loop-index-preserved g c =
       len = length-set c.loop-index.counts i c.short.result ∙ kept.len;
       are =
           set_next
-          (λ j count. count ≡ count_at c.args.lower.now.bytes (slice_index g.plays j) c.args.k)
+          (λ j count. count ≡ count_at c.args.lower.now.bytes (g.plays j) c.args.k)
           c.loop-index.counts i i c.short.result 0 refl
           (omega (arith, kept.len, c.loop-index-test.true)) kept.are
           (c.short.ensures
@@ -26,5 +25,5 @@ pub returns : goal.returns
 returns g c =
     c.sum_of.ensures.sum
     ∙ weighted-listed c.loop-index.counts
-    (λ i. count_at c.args.lower.now.bytes (slice_index g.plays i) c.args.k)
+    (λ i. count_at c.args.lower.now.bytes (g.plays i) c.args.k)
     (λ i lt. c.loop-index.invariant.are i (omega (arith, lt, c.loop-index-test.false)))

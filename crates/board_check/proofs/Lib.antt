@@ -1,0 +1,3 @@
+pub mod PlayTests
+pub mod NumberTests
+pub mod RecordTests

@@ -1,0 +1,172 @@
+-- What the tests of a record tell, where each record of lower rank was accepted.
+use Rattle.std.proofs.Common.{◌≡◌, ⊎_elim, ℕ, zero, suc, ◌+◌, ◌-◌, ◌*◌, ◌^◌, ◌<◌, ◌≤◌, List, refl, sym, ap, subst, ◌∙◌, arith}
+use Rattle.std.proofs.lemmas.Bool.{cases_lt}
+use Rattle.std.specs.Prelude.{slice_index}
+use Rattle.race_model.specs.Positions.{Board, IsPosition, IsFinished, pips}
+use Rattle.race_model.specs.Dice.{Throw, IsRoll, roll_at, roll_index, weight, all_rolls}
+use Rattle.race_model.specs.Ranks.{rank, at_rank, count_to}
+use Rattle.race_model.specs.Files.{bound_of}
+use Rattle.race_model.specs.Horizon.{most_rolls}
+use Rattle.race_model.specs.LocalEquations.{weighted}
+use Rattle.race_model.specs.FirstFault.{Test, play_test, least_test, mean_test, spread_test, rank_of, place_of, IsEarlier}
+use Rattle.race_model.specs.Books.{IsPlayedIn, IsBestIn, HasMeanIn}
+use Rattle.race_model.specs.Endings.{HasCountIn}
+use Rattle.race_model.specs.BoardFiles.{board_book, board_record, board_play_of, mean_parts, count_parts, count_at, value_of_parts}
+use Rattle.race_model.specs.BoardHeaders.{IsBoardFile}
+use Rattle.race_model.specs.RightBoards.{IsLocalOnBoard, IsLocalBoard, IsMeanWritten, IsCountWritten}
+use Rattle.race_model.specs.RightBoards.{HoldsOnBoard, AsksOnBoard, IsFirstBoardFault}
+use Rattle.race_model.proofs.Dice.Throws.{index_of_roll, roll_of_index}
+use Rattle.race_model.proofs.Ranks.RankOrder.{rank_bound, at_rank-rank, at_rank_position}
+use Rattle.race_model.proofs.Ranks.PositionTotals.{rank-at_rank, count_to-most}
+use Rattle.board_records.specs.Lower.{AreLocalTo}
+use Rattle.board_check.specs.Tested.{Holds, MeanHolds, CountHolds}
+use Rattle.board_check.specs.Faults.{IsFirst, IsFirstInRecord, IsFirstFaultAt, IsPlayFault, IsNumberFault, of_record_at}
+use Rattle.board_check.specs.declared.fault.RecordFault.{RecordFault}
+use Rattle.board_check.specs.declared.fault.RecordFault.TheVariants.{Play, NotLeast, Mean, Spread}
+
+module _ (f : List ℕ) (r : ℕ) (lt : r < count_to (bound_of f)) where
+  -- a refused play is the first fault of the record
+  pub first-play : (fault : RecordFault) → IsPlayFault f (at_rank r) fault → IsFirstFaultAt f r fault
+  first-play (Play roll) first =
+      record { of_rank = refl; is_asked = (lt, first.is_roll); fails = first.refused; earlier = earlier }
+    where
+      earlier : (u : Test) → rank_of u ≡ r → place_of u < 2 * roll → AsksOnBoard f u → HoldsOnBoard f u
+      earlier (play_test q i) same before asks =
+          subst (λ q. IsPlayedIn (board_book f) (at_rank q) (roll_at i)) (sym same)
+          (first.earlier i (omega arith)).0
+      earlier (least_test q i) same before asks =
+          subst (λ q. IsBestIn (board_book f) (at_rank q) (roll_at i)) (sym same)
+          (first.earlier i (omega arith)).1
+      earlier (mean_test q) same before asks = absurd (omega (arith, first.is_roll))
+      earlier (spread_test q k) same before asks = absurd (omega (arith, first.is_roll))
+  first-play (NotLeast roll) first =
+      record { of_rank = refl; is_asked = (lt, first.is_roll); fails = first.refused.1; earlier = earlier }
+    where
+      earlier : (u : Test) → rank_of u ≡ r → place_of u < 2 * roll + 1 → AsksOnBoard f u →
+          HoldsOnBoard f u
+      earlier (play_test q i) same before asks =
+          subst (λ q. IsPlayedIn (board_book f) (at_rank q) (roll_at i)) (sym same)
+          (⊎_elim
+          (λ less. (first.earlier i less).0)
+          (λ more.
+          let is : i ≡ roll = omega arith in
+          subst (λ i. IsPlayedIn (board_book f) (at_rank r) (roll_at i)) (sym is) first.refused.0)
+          (cases_lt i roll))
+      earlier (least_test q i) same before asks =
+          subst (λ q. IsBestIn (board_book f) (at_rank q) (roll_at i)) (sym same)
+          (first.earlier i (omega arith)).1
+      earlier (mean_test q) same before asks = absurd (omega (arith, first.is_roll))
+      earlier (spread_test q k) same before asks = absurd (omega (arith, first.is_roll))
+  first-play Mean first = absurd first.refused
+  first-play (Spread k) first = absurd first.refused
+
+  -- where all plays hold ..
+  module _ (held : (i : ℕ) → i < 21 → Holds f (at_rank r) i) where
+    -- the first wrong number is the first fault
+    pub first-number : (fault : RecordFault) → IsNumberFault f (at_rank r) fault →
+        IsFirstFaultAt f r fault
+    first-number (Play roll) never = absurd never
+    first-number (NotLeast roll) never = absurd never
+    first-number Mean fails =
+        record { of_rank = refl; is_asked = lt; fails = fails; earlier = earlier }
+      where
+        earlier : (u : Test) → rank_of u ≡ r → place_of u < 42 → AsksOnBoard f u → HoldsOnBoard f u
+        earlier (play_test q i) same before asks =
+            subst (λ q. IsPlayedIn (board_book f) (at_rank q) (roll_at i)) (sym same)
+            (held i asks.1).0
+        earlier (least_test q i) same before asks =
+            subst (λ q. IsBestIn (board_book f) (at_rank q) (roll_at i)) (sym same)
+            (held i asks.1).1
+        earlier (mean_test q) same before asks = absurd (omega arith)
+        earlier (spread_test q k) same before asks = absurd (omega arith)
+    first-number (Spread k) first =
+        record { of_rank = refl; is_asked = (lt, first.0); fails = first.1; earlier = earlier }
+      where
+        earlier : (u : Test) → rank_of u ≡ r → place_of u < 43 + k → AsksOnBoard f u → HoldsOnBoard f u
+        earlier (play_test q i) same before asks =
+            subst (λ q. IsPlayedIn (board_book f) (at_rank q) (roll_at i)) (sym same)
+            (held i asks.1).0
+        earlier (least_test q i) same before asks =
+            subst (λ q. IsBestIn (board_book f) (at_rank q) (roll_at i)) (sym same)
+            (held i asks.1).1
+        earlier (mean_test q) same before asks =
+            subst (λ q. MeanHolds f (at_rank q)) (sym same) first.2
+        earlier (spread_test q j) same before asks =
+            subst (λ q. CountHolds f (at_rank q) j) (sym same) (first.3 j (omega arith))
+
+    -- where the numbers hold too, all equations do
+    pub local-at : MeanHolds f (at_rank r) → ((k : ℕ) → k ≤ 33 → CountHolds f (at_rank r) k) →
+        IsLocalOnBoard f (at_rank r)
+    local-at mean counts = record {
+      written = record { mean = mean.0; counts = λ k le. (counts k le).0 };
+      played = λ v is.
+          let i = index_of_roll v is in
+          subst (λ v. IsPlayedIn (board_book f) (at_rank r) v) i.1 (held (roll_index v) i.0).0;
+      best = λ v is.
+          let i = index_of_roll v is in
+          subst (λ v. IsBestIn (board_book f) (at_rank r) v) i.1 (held (roll_index v) i.0).1;
+      mean_is = mean.1;
+      counts = λ k le. (counts k le).1;
+    }
+
+-- where the equations of a position hold, the questions about its record are answered yes
+local-answers : (f : List ℕ) (u : Test) → IsLocalOnBoard f (at_rank (rank_of u)) → AsksOnBoard f u →
+    HoldsOnBoard f u
+local-answers f (play_test r roll) local asks = local.played _ (roll_of_index roll asks.1).0
+local-answers f (least_test r roll) local asks = local.best _ (roll_of_index roll asks.1).0
+local-answers f (mean_test r) local asks = (local.written.mean, local.mean_is)
+local-answers f (spread_test r k) local asks = (local.written.counts k asks.1, local.counts k asks.1)
+
+-- what is asked is asked of a rank that has a record
+asked-rank : (f : List ℕ) (u : Test) → AsksOnBoard f u → rank_of u < count_to (bound_of f)
+asked-rank f (play_test r roll) asks = asks.0
+asked-rank f (least_test r roll) asks = asks.0
+asked-rank f (mean_test r) asks = asks
+asked-rank f (spread_test r k) asks = asks.0
+
+-- the first fault of a record is the first of the file where the records of lower rank are accepted
+first-of_file : (f : List ℕ) (r : ℕ) (t : Test) → AreLocalTo f r → IsFirstInRecord f r t →
+    IsFirstBoardFault f t
+first-of_file f r t accepted first = record {
+  is_asked = first.is_asked;
+  fails = first.fails;
+  earlier = λ u asks before. ⊎_elim
+      (λ lower.
+      let there = rank-at_rank (rank_of u)
+      (omega (arith, asked-rank f u asks, count_to-most (bound_of f))) in
+      let low : rank (at_rank (rank_of u)) < r = omega (arith, first.of_rank) in
+      local-answers f u (accepted (at_rank (rank_of u)) (at_rank_position (rank_of u)) low) asks)
+      (λ here. first.earlier u (here.0 ∙ first.of_rank) here.1 asks)
+      before;
+}
+
+-- the same in the checker's words
+pub fault-of_file : (f : List ℕ) (r : ℕ) (fault : RecordFault) → IsBoardFile f → AreLocalTo f r →
+    IsFirstFaultAt f r fault → IsFirst f (of_record_at r fault)
+fault-of_file f r (Play roll) file accepted first =
+    (file, first-of_file f r (play_test r roll) accepted first)
+fault-of_file f r (NotLeast roll) file accepted first =
+    (file, first-of_file f r (least_test r roll) accepted first)
+fault-of_file f r Mean file accepted first = (file, first-of_file f r (mean_test r) accepted first)
+fault-of_file f r (Spread k) file accepted first =
+    (file, first-of_file f r (spread_test r k) accepted first)
+
+-- one record more is accepted
+pub accepted-more : (f : List ℕ) (r : ℕ) → AreLocalTo f r → IsLocalOnBoard f (at_rank r) →
+    AreLocalTo f (r + 1)
+accepted-more f r accepted here z at low = ⊎_elim
+    (λ less. accepted z at less)
+    (λ more.
+    let is : rank z ≡ r = omega arith in
+    let same : at_rank r ≡ z = ap at_rank (sym is) ∙ at_rank-rank z at in
+    subst (IsLocalOnBoard f) same here)
+    (cases_lt (rank z) r)
+
+-- where all are accepted the file is locally right
+pub accepted-all : (f : List ℕ) (r : ℕ) → IsBoardFile f → count_to (bound_of f) ≤ r → AreLocalTo f r
+    → IsLocalBoard f
+accepted-all f r file all accepted = record {
+  file = file;
+  at_each = λ x at low. let lt = (rank_bound x (bound_of f) at).1 low in accepted x at
+      (omega arith);
+}

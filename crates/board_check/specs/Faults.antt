@@ -1,0 +1,75 @@
+-- What a refusal means: the first fault, in the order of the check. Source: this project's profile.
+use Rattle.std.specs.Prelude.{◌≡◌, ℕ, ◌<◌, ◌≤◌, List}
+use Rattle.race_model.specs.Positions.{Board}
+use Rattle.race_model.specs.Dice.{roll_at}
+use Rattle.race_model.specs.FirstFault.{Test, play_test, least_test, mean_test, spread_test, rank_of, place_of}
+use Rattle.race_model.specs.Books.{IsPlayedIn, IsBestIn}
+use Rattle.race_model.specs.BoardFiles.{board_book}
+use Rattle.race_model.specs.BoardHeaders.{IsBoardFile, IsFirstBoardHeaderFault}
+use Rattle.race_model.specs.RightBoards.{HoldsOnBoard, AsksOnBoard, IsFirstBoardFault}
+use Rattle.db_layout.specs.HeaderFaults.{test_of}
+use Rattle.board_check.specs.Tested.{Holds, MeanHolds, CountHolds}
+use Rattle.board_check.specs.declared.fault.BoardFault.{BoardFault}
+use Rattle.board_check.specs.declared.fault.BoardFault.TheVariants.{Header, Play, NotLeast, Mean, Spread}
+use Rattle.board_check.specs.declared.fault.RecordFault.{RecordFault}
+use Rattle.board_check.specs.declared.fault.RecordFault.TheVariants.{Play as PlayOf, NotLeast as NotLeastOf}
+use Rattle.board_check.specs.declared.fault.RecordFault.TheVariants.{Mean as MeanOf, Spread as SpreadOf}
+
+-- the fault is the first of the file
+abbrev pub IsFirst : List ℕ → BoardFault → Type 0
+IsFirst f (Header fault) = IsFirstBoardHeaderFault f (test_of fault)
+IsFirst f (Play rank roll) = IsBoardFile f × IsFirstBoardFault f (play_test rank roll)
+IsFirst f (NotLeast rank roll) = IsBoardFile f × IsFirstBoardFault f (least_test rank roll)
+IsFirst f (Mean rank) = IsBoardFile f × IsFirstBoardFault f (mean_test rank)
+IsFirst f (Spread rank k) = IsBoardFile f × IsFirstBoardFault f (spread_test rank k)
+
+-- a fault of the record of a rank, as a fault of the file
+abbrev pub of_record_at : ℕ → RecordFault → BoardFault
+of_record_at rank (PlayOf roll) = Play rank roll
+of_record_at rank (NotLeastOf roll) = NotLeast rank roll
+of_record_at rank MeanOf = Mean rank
+of_record_at rank (SpreadOf k) = Spread rank k
+
+-- of the questions about the record of a rank, this is the first whose answer is no
+pub record IsFirstInRecord (f : List ℕ) (rank : ℕ) (t : Test) : Type 0 where
+  pub of_rank : rank_of t ≡ rank
+  pub is_asked : AsksOnBoard f t
+  pub fails : ¬ HoldsOnBoard f t
+  pub earlier : (u : Test) → rank_of u ≡ rank → place_of u < place_of t → AsksOnBoard f u →
+      HoldsOnBoard f u
+
+-- the fault is the first of the record of a rank
+abbrev pub IsFirstFaultAt : List ℕ → ℕ → RecordFault → Type 0
+IsFirstFaultAt f rank (PlayOf roll) = IsFirstInRecord f rank (play_test rank roll)
+IsFirstFaultAt f rank (NotLeastOf roll) = IsFirstInRecord f rank (least_test rank roll)
+IsFirstFaultAt f rank MeanOf = IsFirstInRecord f rank (mean_test rank)
+IsFirstFaultAt f rank (SpreadOf k) = IsFirstInRecord f rank (spread_test rank k)
+
+-- the play of a roll is refused
+abbrev pub IsRefusedPlay : List ℕ → Board → RecordFault → Type 0
+IsRefusedPlay f x (PlayOf roll) = ¬ IsPlayedIn (board_book f) x (roll_at roll)
+IsRefusedPlay f x (NotLeastOf roll) =
+    IsPlayedIn (board_book f) x (roll_at roll) × (¬ IsBestIn (board_book f) x (roll_at roll))
+IsRefusedPlay f x MeanOf = ⊥
+IsRefusedPlay f x (SpreadOf k) = ⊥
+
+-- the roll of a refused play
+abbrev pub roll_of : RecordFault → ℕ
+roll_of (PlayOf roll) = roll
+roll_of (NotLeastOf roll) = roll
+roll_of MeanOf = 0
+roll_of (SpreadOf k) = 0
+
+-- .. and those of the rolls before it hold
+pub record IsPlayFault (f : List ℕ) (x : Board) (fault : RecordFault) : Type 0 where
+  pub is_roll : roll_of fault < 21
+  pub refused : IsRefusedPlay f x fault
+  pub earlier : (i : ℕ) → i < roll_of fault → Holds f x i
+
+-- of the numbers of a position this is the first that is wrong
+abbrev pub IsNumberFault : List ℕ → Board → RecordFault → Type 0
+IsNumberFault f x (PlayOf roll) = ⊥
+IsNumberFault f x (NotLeastOf roll) = ⊥
+IsNumberFault f x MeanOf = ¬ MeanHolds f x
+IsNumberFault f x (SpreadOf k) =
+    (k ≤ 33) × (¬ CountHolds f x k) × MeanHolds f x × ((j : ℕ) → j < k → CountHolds f x j)

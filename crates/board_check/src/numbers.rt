@@ -1,0 +1,136 @@
+//! The mean and the counts of a record, tested by what its plays lead to.
+ghost use Rattle.std.specs.Prelude.{◌≡◌, ℕ, ◌+◌, ◌<◌, ◌≤◌, ◌↔◌, List, slice_index, IsTrue, IfSome, IfNone, IfErr, OnOk};
+ghost use Rattle.race_model.specs.Positions.{IsPosition, IsFinished, pips};
+ghost use Rattle.race_model.specs.Ranks.{rank as rank_of};
+ghost use Rattle.race_model.specs.Horizon.{most_rolls};
+ghost use Rattle.race_model.specs.BoardFiles.{board_record, board_play_of};
+ghost use Rattle.board_records.specs.Lower.{AreBelow, AreResults, ArePlaced};
+ghost use Rattle.board_check.specs.Tested.{IsMeanOf, IsCountOf, Holds, MeanHolds, CountHolds};
+ghost use Rattle.board_check.specs.Faults.{IsNumberFault};
+
+use crate::fault::RecordFault;
+use board_layout::{BoardRecord, Parts};
+use board_records::{LowerRecords, RankedPlace, count_of, mean_of};
+use db_layout::most_rolls;
+use home_board::Position;
+use legal_plays::Roll;
+
+/// What stands in a record for the rolls 0 to 20.
+pub fn plays_in(record: &BoardRecord<'_>) -> [u16; 21]
+    ensures { (i : ℕ) → i < 21 → slice_index result i ≡ board_play_of record.now.bytes i }
+{
+    let mut plays = [0; 21];
+    for index in 0..21 {
+        let roll = Roll::from_index(index).unwrap();
+        plays[usize::from(index)] = record.play(roll);
+    }
+    plays
+}
+
+/// Whether the mean of a record is one roll and that of what the plays lead to.
+fn has_mean(
+    lower: &LowerRecords<'_>,
+    record: &BoardRecord<'_>,
+    position: &Position,
+    plays: &[u16; 21],
+) -> bool
+    requires position { IsPosition position.now }
+    requires unfinished { ¬ IsFinished position.now }
+    requires below { AreBelow (slice_index plays.now) lower.now.count }
+    requires results { AreResults position.now (slice_index plays.now) }
+    ensures { IsTrue result ↔ IsMeanOf lower.now.bytes (slice_index plays.now) record.now.bytes }
+{
+    let mean = mean_of(lower, position, plays);
+    let stored = record.mean();
+    stored.upper == mean.upper() && stored.lower == mean.lower()
+}
+
+/// Whether the count of k throws of a record is that of what the plays lead to, for k from 1 on.
+fn has_count(
+    lower: &LowerRecords<'_>,
+    record: &BoardRecord<'_>,
+    places: &[RankedPlace; 21],
+    k: u8,
+) -> bool
+    ghost plays: { ℕ → ℕ }
+    requires some { 1 ≤ k }
+    requires few { k ≤ most_rolls record.now.pips }
+    requires most { k ≤ 33 }
+    requires places { ArePlaced lower.now.count plays places.now }
+    ensures { IsTrue result ↔ IsCountOf lower.now.bytes plays record.now.bytes k }
+{
+    are_equal(&record.count(k), &count_of(lower, places, k - 1))
+}
+
+/// Whether two numbers have the same parts.
+#[inline(always)]
+fn are_equal(one: &Parts, other: &Parts) -> bool
+    ensures { IsTrue result ↔
+        ((one.now.upper ≡ other.now.upper) × (one.now.lower ≡ other.now.lower)) }
+{
+    one.upper == other.upper && one.lower == other.lower
+}
+
+/// The least number of throws whose count is not that of what the plays lead to; none where all are.
+fn wrong_count(
+    lower: &LowerRecords<'_>,
+    record: &BoardRecord<'_>,
+    places: &[RankedPlace; 21],
+    rolls: u8,
+) -> Option<u8>
+    ghost plays: { ℕ → ℕ }
+    requires rolls { rolls ≡ most_rolls record.now.pips }
+    requires most { rolls ≤ 33 }
+    requires places { ArePlaced lower.now.count plays places.now }
+    ensures right { IfNone result ((k : ℕ) → 1 ≤ k → k ≤ rolls →
+        IsCountOf lower.now.bytes plays record.now.bytes k) }
+    ensures some { IfSome result (λ k. 1 ≤ k) }
+    ensures few { IfSome result (λ k. k ≤ rolls) }
+    ensures wrong { IfSome result
+        (λ k. ¬ IsCountOf lower.now.bytes plays record.now.bytes k) }
+    ensures earlier { IfSome result (λ k. (j : ℕ) → 1 ≤ j → j < k →
+        IsCountOf lower.now.bytes plays record.now.bytes j) }
+{
+    for below in 0..rolls {
+        if !has_count(lower, record, places, below + 1) {
+            return Some(below + 1);
+        }
+    }
+    None
+}
+
+/// Tests the mean of a record, and then its counts by their number of throws, where what it records
+/// for the rolls holds.
+pub fn check_numbers(
+    lower: &LowerRecords<'_>,
+    record: &BoardRecord<'_>,
+    position: &Position,
+    plays: &[u16; 21],
+) -> Result<(), RecordFault>
+    requires position { IsPosition position.now }
+    requires next { rank_of position.now ≡ lower.now.count }
+    requires pips { record.now.pips ≡ pips position.now }
+    requires bytes { record.now.bytes ≡ board_record lower.now.bytes (rank_of position.now) }
+    requires plays { (i : ℕ) → i < 21 → slice_index plays.now i ≡ board_play_of record.now.bytes i }
+    requires held { (i : ℕ) → i < 21 → Holds lower.now.bytes position.now i }
+    ensures mean { OnOk result (MeanHolds lower.now.bytes position.now) }
+    ensures counts { OnOk result ((k : ℕ) → k ≤ 33 → CountHolds lower.now.bytes position.now k) }
+    ensures fault { IfErr result (IsNumberFault lower.now.bytes position.now) }
+{
+    let _count = lower.count();
+    if position.is_finished() {
+        return if record.mean() == (Parts { upper: 0, lower: 0 }) {
+            Ok(())
+        } else {
+            Err(RecordFault::Mean)
+        };
+    }
+    if !has_mean(lower, record, position, plays) {
+        return Err(RecordFault::Mean);
+    }
+    let places = lower.places(plays);
+    match wrong_count(lower, record, &places, most_rolls(position.pips())) {
+        Some(k) => Err(RecordFault::Spread { k }),
+        None => Ok(()),
+    }
+}
