@@ -1,3 +1,4 @@
 pub mod PlayTests
 pub mod NumberTests
+pub mod PositionTests
 pub mod RecordTests

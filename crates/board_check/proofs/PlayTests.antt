@@ -1,5 +1,5 @@
 -- What is known of the recorded play of a throw from the best of its results.
-use Rattle.std.proofs.Common.{◌≡◌, ℕ, ◌<◌, ◌≤◌, List, sym, ap, subst, ⊎_elim, ◌∙◌, arith}
+use Rattle.std.proofs.Common.{◌≡◌, ℕ, ◌<◌, ◌≤◌, sym, ap, subst, ⊎_elim, ◌∙◌, arith}
 use Rattle.race_model.specs.Positions.{Board, IsPosition, IsFinished}
 use Rattle.race_model.specs.Dice.{Throw}
 use Rattle.race_model.specs.Plays.{Legal}

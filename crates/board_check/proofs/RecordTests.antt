@@ -1,26 +1,27 @@
 -- What the tests of a record tell, where each record of lower rank was accepted.
-use Rattle.std.proofs.Common.{◌≡◌, ⊎_elim, ℕ, zero, suc, ◌+◌, ◌-◌, ◌*◌, ◌^◌, ◌<◌, ◌≤◌, List, refl, sym, ap, subst, ◌∙◌, arith}
+use Rattle.std.proofs.Common.{◌≡◌, ⊎_elim, ℕ, ◌+◌, ◌*◌, ◌<◌, ◌≤◌, List, refl, sym, ap, subst, ◌∙◌, arith}
 use Rattle.std.proofs.lemmas.Bool.{cases_lt}
-use Rattle.std.specs.Prelude.{slice_index}
-use Rattle.race_model.specs.Positions.{Board, IsPosition, IsFinished, pips}
-use Rattle.race_model.specs.Dice.{Throw, IsRoll, roll_at, roll_index, weight, all_rolls}
+use Rattle.race_model.specs.Positions.{Board}
+use Rattle.race_model.specs.Dice.{roll_at, roll_index}
 use Rattle.race_model.specs.Ranks.{rank, at_rank, count_to}
 use Rattle.race_model.specs.Files.{bound_of}
-use Rattle.race_model.specs.Horizon.{most_rolls}
-use Rattle.race_model.specs.LocalEquations.{weighted}
-use Rattle.race_model.specs.FirstFault.{Test, play_test, least_test, mean_test, spread_test, rank_of, place_of, IsEarlier}
-use Rattle.race_model.specs.Books.{IsPlayedIn, IsBestIn, HasMeanIn}
-use Rattle.race_model.specs.Endings.{HasCountIn}
-use Rattle.race_model.specs.BoardFiles.{board_book, board_record, board_play_of, mean_parts, count_parts, count_at, value_of_parts}
+use Rattle.race_model.specs.FirstFault.{Test, play_test, least_test, mean_test, spread_test, rank_of, place_of}
+use Rattle.race_model.specs.Books.{IsPlayedIn, IsBestIn}
+use Rattle.race_model.specs.BoardFiles.{board_book}
 use Rattle.race_model.specs.BoardHeaders.{IsBoardFile}
-use Rattle.race_model.specs.RightBoards.{IsLocalOnBoard, IsLocalBoard, IsMeanWritten, IsCountWritten}
+use Rattle.race_model.specs.RightBoards.{IsLocalOnBoard, IsLocalBoard}
 use Rattle.race_model.specs.RightBoards.{HoldsOnBoard, AsksOnBoard, IsFirstBoardFault}
 use Rattle.race_model.proofs.Dice.Throws.{index_of_roll, roll_of_index}
+use Rattle.race_model.proofs.FirstFaults.Questions.{within_bound}
 use Rattle.race_model.proofs.Ranks.RankOrder.{rank_bound, at_rank-rank, at_rank_position}
 use Rattle.race_model.proofs.Ranks.PositionTotals.{rank-at_rank, count_to-most}
 use Rattle.board_records.specs.Lower.{AreLocalTo}
+use Rattle.db_layout.specs.HeaderFaults.{test_of}
 use Rattle.board_check.specs.Tested.{Holds, MeanHolds, CountHolds}
 use Rattle.board_check.specs.Faults.{IsFirst, IsFirstInRecord, IsFirstFaultAt, IsPlayFault, IsNumberFault, of_record_at}
+use Rattle.board_check.specs.declared.fault.BoardFault.{BoardFault}
+use Rattle.board_check.specs.declared.fault.BoardFault.TheVariants.{Header, Play as PlayAt, NotLeast as NotLeastAt}
+use Rattle.board_check.specs.declared.fault.BoardFault.TheVariants.{Mean as MeanAt, Spread as SpreadAt}
 use Rattle.board_check.specs.declared.fault.RecordFault.{RecordFault}
 use Rattle.board_check.specs.declared.fault.RecordFault.TheVariants.{Play, NotLeast, Mean, Spread}
 
@@ -94,20 +95,20 @@ module _ (f : List ℕ) (r : ℕ) (lt : r < count_to (bound_of f)) where
         earlier (spread_test q j) same before asks =
             subst (λ q. CountHolds f (at_rank q) j) (sym same) (first.3 j (omega arith))
 
-    -- where the numbers hold too, all equations do
-    pub local-at : MeanHolds f (at_rank r) → ((k : ℕ) → k ≤ 33 → CountHolds f (at_rank r) k) →
-        IsLocalOnBoard f (at_rank r)
-    local-at mean counts = record {
-      written = record { mean = mean.0; counts = λ k le. (counts k le).0 };
-      played = λ v is.
-          let i = index_of_roll v is in
-          subst (λ v. IsPlayedIn (board_book f) (at_rank r) v) i.1 (held (roll_index v) i.0).0;
-      best = λ v is.
-          let i = index_of_roll v is in
-          subst (λ v. IsBestIn (board_book f) (at_rank r) v) i.1 (held (roll_index v) i.0).1;
-      mean_is = mean.1;
-      counts = λ k le. (counts k le).1;
-    }
+-- where the plays and the numbers of a position hold, all equations do
+pub local-at : (f : List ℕ) (x : Board) → ((i : ℕ) → i < 21 → Holds f x i) → MeanHolds f x →
+    ((k : ℕ) → k ≤ 33 → CountHolds f x k) → IsLocalOnBoard f x
+local-at f x held mean counts = record {
+  written = record { mean = mean.0; counts = λ k le. (counts k le).0 };
+  played = λ v is.
+      let i = index_of_roll v is in
+      subst (λ v. IsPlayedIn (board_book f) x v) i.1 (held (roll_index v) i.0).0;
+  best = λ v is.
+      let i = index_of_roll v is in
+      subst (λ v. IsBestIn (board_book f) x v) i.1 (held (roll_index v) i.0).1;
+  mean_is = mean.1;
+  counts = λ k le. (counts k le).1;
+}
 
 -- where the equations of a position hold, the questions about its record are answered yes
 local-answers : (f : List ℕ) (u : Test) → IsLocalOnBoard f (at_rank (rank_of u)) → AsksOnBoard f u →
@@ -170,3 +171,17 @@ accepted-all f r file all accepted = record {
   at_each = λ x at low. let lt = (rank_bound x (bound_of f) at).1 low in accepted x at
       (omega arith);
 }
+
+-- a fault of the file refutes its equations
+refutes : (f : List ℕ) (t : Test) → IsFirstBoardFault f t → ¬ IsLocalBoard f
+refutes f t first local =
+    let place = within_bound (bound_of f) (rank_of t) (asked-rank f t first.is_asked) in
+    first.fails
+    (local-answers f t (local.at_each (at_rank (rank_of t)) place.0 place.1) first.is_asked)
+
+pub none-of_local : (f : List ℕ) (fault : BoardFault) → IsFirst f fault → ¬ IsLocalBoard f
+none-of_local f (Header fault) first local = first.fails (local.file (test_of fault))
+none-of_local f (PlayAt rank roll) first local = refutes f (play_test rank roll) first.1 local
+none-of_local f (NotLeastAt rank roll) first local = refutes f (least_test rank roll) first.1 local
+none-of_local f (MeanAt rank) first local = refutes f (mean_test rank) first.1 local
+none-of_local f (SpreadAt rank k) first local = refutes f (spread_test rank k) first.1 local

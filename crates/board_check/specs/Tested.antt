@@ -1,5 +1,5 @@
 -- What is tested of the record of a position, by what its plays lead to.
-use Rattle.std.specs.Prelude.{◌≡◌, ℕ, ◌+◌, ◌-◌, ◌*◌, ◌^◌, ◌<◌, ◌≤◌, List, slice_index}
+use Rattle.std.specs.Prelude.{◌≡◌, ℕ, ◌+◌, ◌-◌, ◌*◌, ◌^◌, ◌<◌, List}
 use Rattle.race_model.specs.Positions.{Board}
 use Rattle.race_model.specs.Dice.{Throw, roll_at, roll_index}
 use Rattle.race_model.specs.Plays.{Legal}
@@ -28,9 +28,9 @@ pub record IsMeanOf (f : List ℕ) (plays : ℕ → ℕ) (bytes : List ℕ) : Ty
 -- .. and so is the count of k throws, for k from 1 on, by those of one throw fewer
 pub record IsCountOf (f : List ℕ) (plays : ℕ → ℕ) (bytes : List ℕ) (k : ℕ) : Type 0
   where
-  pub written : 11 < k → (count_parts bytes k).lower < 36 ^ 11
-  pub equal : value_of_parts (count_parts bytes k)
-      ≡ weighted (λ v. count_at f (plays (roll_index v)) (k - 1))
+    pub written : 11 < k → (count_parts bytes k).lower < 36 ^ 11
+    pub equal : value_of_parts (count_parts bytes k)
+        ≡ weighted (λ v. count_at f (plays (roll_index v)) (k - 1))
 
 -- the mean of a position is written, and its equation holds
 abbrev pub MeanHolds : List ℕ → Board → Type 0

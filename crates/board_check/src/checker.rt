@@ -38,8 +38,10 @@ pub fn check_board(bytes: &[u8]) -> Result<BoardHeader, BoardFault>
         Ok(header) => header,
         Err(fault) => return Err(BoardFault::Header(fault)),
     };
-    check_records(bytes, header)?;
-    Ok(header)
+    match check_records(bytes, header) {
+        Ok(()) => Ok(header),
+        Err(fault) => Err(fault),
+    }
 }
 
 /// Tests the records of a file with this header.
@@ -113,6 +115,11 @@ fn check_record(
     let position = ranks.unrank(rank).unwrap();
     let best = plays.advance(ranks, &position, lower);
     let recorded = plays_in(record);
-    check_plays(lower, ranks, &position, &recorded, &best)?;
-    check_numbers(lower, record, &position, &recorded)
+    if let Err(fault) = check_plays(lower, ranks, &position, &recorded, &best) {
+        return Err(fault);
+    }
+    match check_numbers(lower, record, &position, &recorded) {
+        Ok(()) => Ok(()),
+        Err(fault) => Err(fault),
+    }
 }

@@ -119,11 +119,10 @@ pub fn check_numbers(
 {
     let _count = lower.count();
     if position.is_finished() {
-        return if record.mean() == (Parts { upper: 0, lower: 0 }) {
-            Ok(())
-        } else {
-            Err(RecordFault::Mean)
-        };
+        if are_equal(&record.mean(), &Parts { upper: 0, lower: 0 }) {
+            return Ok(());
+        }
+        return Err(RecordFault::Mean);
     }
     if !has_mean(lower, record, position, plays) {
         return Err(RecordFault::Mean);

@@ -1,4 +1,4 @@
-use Rattle.std.proofs.Common.{◌≡◌, ◌+◌, ◌-◌, ◌*◌, ◌^◌, ◌<◌, ◌≤◌, sym, ◌∙◌}
+use Rattle.std.proofs.Common.{sym, ◌∙◌}
 use Rattle.board_check.proofs.NumberTests.{count-same, count-parts}
 use Rattle.board_check.proofs.numbers.has_count.Goals as goal
 

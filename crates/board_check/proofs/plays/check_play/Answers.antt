@@ -1,6 +1,6 @@
 -- What is recorded is the best result, or another number: it is right where it is the rank of a
 -- result whose mean is no greater than that of the best.
-use Rattle.std.proofs.Common.{◌≡◌, ⊎_elim, ℕ, ◌<◌, ◌≤◌, true, false, sym, ap, subst, ◌∙◌, arith, rules}
+use Rattle.std.proofs.Common.{◌≡◌, ⊎_elim, ◌<◌, true, false, sym, subst, ◌∙◌, arith, rules}
 use Rattle.std.proofs.lemmas.Bool.{false≢true, cases_lt}
 use Rattle.race_model.specs.Dice.{Throw, roll_at}
 use Rattle.race_model.specs.BoardFiles.{board_book}
