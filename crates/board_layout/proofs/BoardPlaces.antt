@@ -5,7 +5,8 @@ use Rattle.race_model.specs.Ranks.{at_rank}
 use Rattle.race_model.specs.BoardFiles.{board_length, board_place}
 use Rattle.race_model.proofs.Ranks.RankOrder.{at_rank_position, pips-range}
 use Rattle.race_model.proofs.Strategies.Horizons.{most_rolls-board}
-use Rattle.race_model.proofs.RightFiles.Places.{board_place-by, place_by-at_most, place_by-rises}
+use Rattle.race_model.proofs.RightFiles.Places.{board_place-by, place_by-at_most}
+use Rattle.race_model.proofs.RightFiles.Places.{place_by-next, place_by-rises}
 
 -- no record is longer than that of 90 pips
 pub board_length-most : (p : ℕ) → p ≤ 90 → board_length p ≤ 594
@@ -21,6 +22,21 @@ board_place-most r =
           (λ k below.
           board_length-most (pips (at_rank k)) (pips-range (at_rank k) (at_rank_position k))),
     )
+
+-- a record begins where the one before it ends
+pub board_place-next : (r : ℕ) →
+    board_place (r + 1) ≡ board_place r + board_length (pips (at_rank r))
+board_place-next r =
+    omega (
+      arith,
+      ap board_place (next r),
+      board_place-by r,
+      board_place-by (suc r),
+      place_by-next board_length r,
+    )
+  where
+    next : (r : ℕ) → r + 1 ≡ suc r
+    next r = omega arith
 
 -- a record ends before any of higher rank begins
 pub board_place-rises : (r n : ℕ) → r < n →

@@ -1,2 +1,4 @@
 pub mod KnownStarts
 pub mod BoardPlaces
+pub mod Prefixes
+pub mod SameRecords

@@ -1,0 +1,12 @@
+use Rattle.std.proofs.Common.{◌≡◌, ℕ, ◌<◌}
+use Rattle.std.specs.Prelude.{slice_index}
+use Rattle.race_model.specs.BoardFiles.{board_play_of}
+use Rattle.board_layout.specs.Stored.{KeepsBefore}
+use Rattle.board_layout.proofs.writing.put_plays.Given as goal
+
+-- the plays so far
+abbrev pub invariant-loop-roll : goal.invariant-loop-roll
+invariant-loop-roll l = record {
+  before : KeepsBefore 24 l.initial.bytes l.bytes;
+  plays : (i : ℕ) → i < l.roll → board_play_of l.bytes i ≡ slice_index l.plays i;
+}
