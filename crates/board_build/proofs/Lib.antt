@@ -1,0 +1,5 @@
+pub mod Results
+pub mod Counts
+pub mod NextRecords
+pub mod Parts
+pub mod Files

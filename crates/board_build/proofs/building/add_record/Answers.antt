@@ -1,0 +1,118 @@
+-- The room is cut where the record begins, and put together again with it.
+use Rattle.std.proofs.Common.{length, sym, ◌∙◌, arith, rules}
+use Rattle.board_layout.proofs.BoardPlaces.{board_place-next}
+use Rattle.board_records.specs.Lower.{AreRecords}
+use Rattle.board_build.proofs.Parts.{IsCut, length-front, front-built, front-knows, back-long}
+use Rattle.board_build.proofs.Parts.{length-part, rest-same, new-knows, new-built}
+use Rattle.board_build.proofs.building.add_record.Goals as goal
+
+pub split_at_mut-written-requires : goal.split_at_mut-written-requires
+split_at_mut-written-requires g c =
+    omega (arith, c.requires.offset, c.requires.long, board_place-next (length c.args.offsets.now))
+
+pub slice_bounds-put_next-end : goal.slice_bounds-put_next-end
+slice_bounds-put_next-end g c =
+    let cut : IsCut c.args.room.now (length c.args.offsets.now) c.args.place.now.offset
+    c.args.place.now.length c.split_at_mut-written.result.0.now
+    c.split_at_mut-written.result.1.now =
+    record {
+      at = c.requires.offset;
+      of = c.requires.length;
+      long = c.requires.long;
+      front_is = c.split_at_mut-written.ensures.front;
+      back_is = c.split_at_mut-written.ensures.back;
+    } in
+    back-long cut
+
+pub slice_bounds-put_next-end-2 : goal.slice_bounds-put_next-end-2
+slice_bounds-put_next-end-2 g c =
+    let cut : IsCut c.args.room.now (length c.args.offsets.now) c.args.place.now.offset
+    c.args.place.now.length c.split_at_mut-written.result.0.now
+    c.split_at_mut-written.result.1.now =
+    record {
+      at = c.requires.offset;
+      of = c.requires.length;
+      long = c.requires.long;
+      front_is = c.split_at_mut-written.ensures.front;
+      back_is = c.split_at_mut-written.ensures.back;
+    } in
+    sym (length-part cut)
+
+pub put_next-requires : goal.put_next-requires
+put_next-requires g c =
+    let cut : IsCut c.args.room.now (length c.args.offsets.now) c.args.place.now.offset
+    c.args.place.now.length c.split_at_mut-written.result.0.now
+    c.split_at_mut-written.result.1.now =
+    record {
+      at = c.requires.offset;
+      of = c.requires.length;
+      long = c.requires.long;
+      front_is = c.split_at_mut-written.ensures.front;
+      back_is = c.split_at_mut-written.ensures.back;
+    } in
+    let records : AreRecords c.split_at_mut-written.result.0.now c.args.offsets.now =
+    record {
+      few = omega (arith, c.requires.few);
+      long = omega (arith, length-front cut);
+      begin = c.requires.begin;
+      local = (front-built cut c.requires.built).local;
+    } in (
+      search rules,
+      (
+        c.requires.rows,
+        (
+          c.requires.few,
+          (
+            records,
+            (
+              length-part cut ∙ c.requires.length,
+              front-knows cut c.args.least.now c.requires.known,
+            ),
+          ),
+        ),
+      ),
+    )
+
+pub returns-clause-rest : goal.returns-clause-rest
+returns-clause-rest g c =
+    let cut : IsCut c.args.room.now (length c.args.offsets.now) c.args.place.now.offset
+    c.args.place.now.length c.split_at_mut-written.result.0.now
+    c.split_at_mut-written.result.1.now =
+    record {
+      at = c.requires.offset;
+      of = c.requires.length;
+      long = c.requires.long;
+      front_is = c.split_at_mut-written.ensures.front;
+      back_is = c.split_at_mut-written.ensures.back;
+    } in
+    rest-same cut c.requires.few c.put_next.new.bytes c.put_next.ensures.len
+
+pub returns-clause-built : goal.returns-clause-built
+returns-clause-built g c =
+    let cut : IsCut c.args.room.now (length c.args.offsets.now) c.args.place.now.offset
+    c.args.place.now.length c.split_at_mut-written.result.0.now
+    c.split_at_mut-written.result.1.now =
+    record {
+      at = c.requires.offset;
+      of = c.requires.length;
+      long = c.requires.long;
+      front_is = c.split_at_mut-written.ensures.front;
+      back_is = c.split_at_mut-written.ensures.back;
+    } in
+    new-built cut c.requires.few c.put_next.new.bytes c.put_next.ensures.len c.put_next.result
+    c.put_next.ensures.best c.put_next.ensures.says c.requires.built
+
+pub returns-clause-known : goal.returns-clause-known
+returns-clause-known g c =
+    let cut : IsCut c.args.room.now (length c.args.offsets.now) c.args.place.now.offset
+    c.args.place.now.length c.split_at_mut-written.result.0.now
+    c.split_at_mut-written.result.1.now =
+    record {
+      at = c.requires.offset;
+      of = c.requires.length;
+      long = c.requires.long;
+      front_is = c.split_at_mut-written.ensures.front;
+      back_is = c.split_at_mut-written.ensures.back;
+    } in
+    new-knows cut c.requires.few c.put_next.new.bytes c.put_next.ensures.len c.put_next.new.least
+    c.put_next.ensures.known

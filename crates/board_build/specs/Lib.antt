@@ -1,0 +1,2 @@
+pub mod NextRecord
+pub mod BuiltBoards
