@@ -17,7 +17,7 @@ ranks_of places = map (λ (placed : RankedPlace). placed.rank) places
 
 -- .. are those of the plays
 module _ (count : ℕ) (plays : List ℕ) (places : List RankedPlace)
-    (placed : ArePlaced count plays places) where
+    (placed : ArePlaced count (slice_index plays) places) where
   pub ranks-are : (i : ℕ) → i < 21 → slice_index (ranks_of places) i ≡ slice_index plays i
   ranks-are i inside =
       get_or-map (λ (placed : RankedPlace). placed.rank) places i none ∙ (placed i none inside).1
@@ -25,7 +25,7 @@ module _ (count : ℕ) (plays : List ℕ) (places : List RankedPlace)
       none : RankedPlace
       none = record { rank = 0; place = record { offset = 0; length = 0; pips = 0 } }
 
-  pub ranks-placed : ArePlaced count (ranks_of places) places
+  pub ranks-placed : ArePlaced count (slice_index (ranks_of places)) places
   ranks-placed i other inside =
       ((placed i other inside).0, (placed i other inside).1 ∙ sym (ranks-are i inside))
 

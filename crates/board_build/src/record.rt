@@ -1,5 +1,5 @@
 //! The record of a position, written by the records of lower rank.
-ghost use Rattle.std.specs.Prelude.{◌≡◌, ◌≤◌, length};
+ghost use Rattle.std.specs.Prelude.{◌≡◌, ◌≤◌, length, slice_index};
 ghost use Rattle.race_model.specs.Positions.{pips};
 ghost use Rattle.race_model.specs.Ranks.{rank};
 ghost use Rattle.race_model.specs.BoardFiles.{board_length};
@@ -40,7 +40,7 @@ pub fn put_record(
 fn put_counts(bytes: &mut [u8], lower: &LowerRecords<'_>, pips: u8, plays: &[u16; 21])
     requires low { pips ≤ 90 }
     requires long { length bytes.old ≡ board_length pips }
-    requires below { AreBelow plays.now lower.now.count }
+    requires below { AreBelow (slice_index plays.now) lower.now.count }
     ensures before { KeepsBefore 66 bytes.old bytes.new }
     ensures counts { AreCountsBy lower.now.bytes pips plays.now bytes.new }
 {

@@ -9,7 +9,7 @@ use Rattle.board_build.proofs.record.put_counts.Given as goal
 
 -- the ranks whose places they are
 abbrev pub ghost-count_of : goal.ghost-count_of
-ghost-count_of a = ranks_of a.places.now
+ghost-count_of a = slice_index (ranks_of a.places.now)
 
 -- the counts so far
 abbrev pub invariant-loop-k : goal.invariant-loop-k
