@@ -1,6 +1,7 @@
 -- Books: what a database says, apart from its bytes.
 pub mod FromLocal
 pub mod FromRight
+pub mod Losses
 pub mod Files
 pub mod Endings
 pub mod Boards

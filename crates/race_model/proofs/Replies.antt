@@ -3,3 +3,4 @@ pub mod Lines
 pub mod InputLines
 pub mod OneReply
 pub mod EqualReplies
+pub mod BookReplies

@@ -27,6 +27,7 @@ pub mod FirstPlays
 pub mod Queries
 pub mod InputLines
 pub mod Replies
+pub mod BookReplies
 pub mod Levels
 pub mod SameNumbers
 pub mod Samples

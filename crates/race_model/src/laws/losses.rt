@@ -1,5 +1,5 @@
 //! Laws of losses: what a play costs, by the means of a right file.
-ghost use Rattle.std.specs.Prelude.{◌≡◌, ℕ, ◌≤◌, ◌↔◌, List};
+ghost use Rattle.std.specs.Prelude.{◌≡◌, ℕ, suc, ◌≤◌, ◌↔◌, List};
 ghost use Rattle.race_model.specs.Positions.{Board, IsPosition, IsFinished, pips};
 ghost use Rattle.race_model.specs.Dice.{Throw};
 ghost use Rattle.race_model.specs.Plays.{Legal};
@@ -7,6 +7,8 @@ ghost use Rattle.race_model.specs.Files.{bound_of, mean, mean_at, play};
 ghost use Rattle.race_model.specs.Strategies.{Strategy, Fits, total, IsLeast};
 ghost use Rattle.race_model.specs.RightFiles.{IsRight};
 ghost use Rattle.race_model.specs.Losses.{IsLoss, loss, BeginsWith};
+ghost use Rattle.race_model.specs.Books.{Book, mean_in, play_in, IsRightBook};
+ghost use Rattle.race_model.specs.BookReplies.{loss_in, IsLossIn};
 
 /// What a play costs, in a right file: the mean after the result less the mean after the recorded
 /// play, which is never greater, is the loss, the least mean after that result less the least such
@@ -23,4 +25,15 @@ pub fn law_loss()
         IsPosition x → pips x ≤ bound_of f → ¬ IsFinished x → (v : Throw) (y : Board) →
         Legal x v y →
         (loss f x v y ≡ 0) ↔ ((s : Strategy) × Fits s x × IsLeast x (total s) × BeginsWith s v y) }
+{}
+
+/// The same in a right book over 33 throws, to any bound: the mean after the recorded play is never
+/// greater than that after a result, and the difference is the loss.
+pub fn law_book_loss()
+    ensures least { (b : Book) → b.further ≡ 32 → IsRightBook b → (x : Board) →
+        IsPosition x → pips x ≤ b.bound → (v : Throw) (y : Board) → Legal x v y →
+        b.means (play_in b x v) ≤ mean_in b y }
+    ensures loss { (b : Book) → b.further ≡ 32 → IsRightBook b → (x : Board) →
+        IsPosition x → pips x ≤ b.bound → (v : Throw) (y : Board) → Legal x v y →
+        IsLossIn (suc b.further) x v y (loss_in b x v y) }
 {}
