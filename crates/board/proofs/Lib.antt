@@ -1,0 +1,4 @@
+pub mod Sizes
+pub mod Counts
+pub mod Known
+pub mod LossOrder

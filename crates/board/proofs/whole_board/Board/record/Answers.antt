@@ -1,0 +1,26 @@
+use Rattle.std.proofs.Common.{◌≡◌, ℕ, IfSome, ap, subst₂, ◌∙◌, arith}
+use Rattle.race_model.specs.Positions.{Board, pips}
+use Rattle.race_model.specs.Ranks.{at_rank}
+use Rattle.race_model.specs.Files.{bound_of}
+use Rattle.race_model.specs.BoardFiles.{board_record}
+use Rattle.race_model.proofs.Ranks.RankOrder.{rank_within, at_rank-rank, count_to-rises}
+use Rattle.board_layout.specs.Stored.{Stored}
+use Rattle.board.proofs.whole_board.Board.record.Goals as goal
+
+pub record_ranked-requires : goal.record_ranked-requires
+record_ranked-requires c =
+    let x = c.args.position.now in
+    omega (
+      arith,
+      c.rank.ensures.value,
+      (rank_within x c.pips-pips.ensures.position).1,
+      count_to-rises (pips x) (bound_of c.args.self.now) c.requires,
+    )
+
+pub returns-clause-record : goal.returns-clause-record
+returns-clause-record c =
+    subst₂
+    (λ (y : Board) (r : ℕ). IfSome c.record_ranked.result (λ (seen : Stored).
+    seen ≡ record { pips = pips y; bytes = board_record c.args.self.now r }))
+    (ap at_rank c.rank.ensures.value ∙ at_rank-rank c.args.position.now c.pips-pips.ensures.position)
+    c.rank.ensures.value c.record_ranked.ensures.record
