@@ -1,0 +1,19 @@
+use Rattle.std.proofs.Common.{◌/◌, ◌%◌, ◌+◌, ◌∷◌, [], ◌∙◌}
+use Rattle.std.specs.Prelude.{decimal}
+use Rattle.epc_query.proofs.Decimals.{three_digits}
+use Rattle.epc_query.proofs.Texts.{digits_added}
+use Rattle.board_query.proofs.text.push_thousandths.Goals as goal
+
+pub returns-clause-bytes : goal.returns-clause-bytes
+returns-clause-bytes c =
+    let n = c.args.number in
+    c.push_last_digits.ensures.bytes
+    ∙ rw (
+      c.push_str.ensures.bytes,
+      c.push_number.ensures.bytes,
+      c.of.ensures,
+      c.from.ensures,
+      three_digits n,
+    )
+    (digits_added c.args.text.now.bytes (decimal (n / 1000))
+    ((48 + n / 100 % 10) ∷ (48 + n / 10 % 10) ∷ (48 + n % 10) ∷ []))

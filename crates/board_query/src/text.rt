@@ -1,0 +1,247 @@
+//! The texts of replies about the whole board.
+ghost use Rattle.std.specs.Prelude.{◌≡◌, ℕ, ◌+◌, ◌-◌, ◌*◌, ◌^◌, ◌≤◌, ◌<◌, List, ◌++◌, drop, flat_map};
+ghost use Rattle.std.specs.Prelude.{◌↔◌, IsTrue, length, decimal, codes, slice_index};
+ghost use Rattle.arrayvec.specs.ArrayString.{array_string_len};
+ghost use Rattle.race_model.specs.FirstPlays.{move_text};
+ghost use Rattle.race_model.specs.Replies.{fraction_text, thousandths_text, refusal_text};
+ghost use Rattle.race_model.specs.BookReplies.{IsShareTextOver, IsMeanReplyOver};
+ghost use Rattle.race_model.specs.BookReplies.{IsSharePartOver, IsDistReplyOver, IsChoicePartOver};
+ghost use Rattle.fixed_fraction.specs.Board.{board_whole};
+ghost use Rattle.epc_query.specs.Texts.{position_text, why};
+ghost use Rattle.board_query.specs.Lists.{IsListText};
+ghost use Rattle.legal_plays.specs.MoveLists.{moves_of};
+
+use arrayvec::ArrayString;
+use board::BoardChoice;
+use epc_query::Refusal;
+use fixed_fraction::{BoardMean, LongCount, Wide, WideFraction, board_mean_and_epc, board_share};
+use home_board::{Position, write_position};
+use itoa::Buffer;
+use legal_plays::{Play, write_play};
+
+/// Room for the text of any reply: a list of 127 results has at most 16,642 bytes.
+pub type BoardText = ArrayString<16896>;
+
+/// 10 ^ 18.
+const DIGITS: u64 = 1_000_000_000_000_000_000;
+
+/// Adds a number in decimal, of at most 58 digits.
+fn push_number(text: &mut BoardText, number: Wide)
+    requires { array_string_len text.old + 58 ≤ 16896 }
+    ensures bytes { text.new.bytes ≡ text.old.bytes ++ decimal number }
+    ensures len { array_string_len text.new ≤ array_string_len text.old + 58 }
+{
+    let (first, second, third) = number.digits();
+    if first > 0 {
+        text.push_str(Buffer::new().format(first));
+        push_last_digits(text, DIGITS, second);
+        push_last_digits(text, DIGITS, third);
+    } else if second > 0 {
+        text.push_str(Buffer::new().format(second));
+        push_last_digits(text, DIGITS, third);
+    } else {
+        text.push_str(Buffer::new().format(third));
+    }
+}
+
+/// Adds the last digits of a number, given as their value, with the zeros in front: as many as a
+/// power of ten has zeros, 18 at most.
+fn push_last_digits(text: &mut BoardText, power: u64, rest: u64)
+    requires short { power ≤ 10 ^ 18 }
+    requires few { rest < power }
+    requires room { array_string_len text.old + 18 ≤ 16896 }
+    ensures bytes { text.new.bytes ≡ text.old.bytes ++ drop 1 (decimal (power + rest)) }
+    ensures len { array_string_len text.new ≤ array_string_len text.old + 18 }
+{
+    let mut buffer = Buffer::new();
+    let digits = buffer.format(power + rest);
+    text.push_str(&digits[1..]);
+}
+
+/// Adds a fraction, as 5/4.
+fn push_fraction(text: &mut BoardText, fraction: WideFraction)
+    requires { array_string_len text.old + 117 ≤ 16896 }
+    ensures bytes { text.new.bytes
+        ≡ text.old.bytes ++ fraction_text fraction.numerator fraction.denominator }
+    ensures len { array_string_len text.new ≤ array_string_len text.old + 117 }
+{
+    push_number(text, fraction.numerator());
+    text.push_str("/");
+    push_number(text, fraction.denominator());
+}
+
+/// Adds a number of thousandths, as 10.208.
+fn push_thousandths(text: &mut BoardText, number: u64)
+    requires { array_string_len text.old + 77 ≤ 16896 }
+    ensures bytes { text.new.bytes ≡ text.old.bytes ++ thousandths_text number }
+    ensures len { array_string_len text.new ≤ array_string_len text.old + 77 }
+{
+    push_number(text, Wide::of(u128::from(number / 1000)));
+    text.push_str(".");
+    push_last_digits(text, 1000, number % 1000);
+}
+
+/// Adds the text of a position.
+fn push_position(text: &mut BoardText, position: &Position)
+    requires { array_string_len text.old + 12 ≤ 16896 }
+    ensures bytes { text.new.bytes ≡ text.old.bytes ++ position_text position.now }
+    ensures len { array_string_len text.new ≤ array_string_len text.old + 12 }
+{
+    let _checkers = position.checkers();
+    text.push_str(write_position(position).as_str());
+}
+
+/// Makes a text that of a mean, and of its effective pip count.
+pub fn put_board_mean(text: &mut BoardText, mean: BoardMean)
+    ensures text { IsMeanReplyOver board_whole mean text.new.bytes }
+    ensures len { array_string_len text.new ≤ 4200 }
+{
+    let (rolls, pips) = board_mean_and_epc(mean);
+    text.clear();
+    text.push_str("mean ");
+    push_fraction(text, rolls);
+    text.push_str(" epc ");
+    push_fraction(text, pips);
+    text.push_str(" ");
+    push_thousandths(text, mean.effective_thousandths());
+}
+
+/// Whether no sequence is counted.
+fn is_none(count: LongCount) -> bool
+    ensures { IsTrue result ↔ (count ≡ 0) }
+{
+    count.upper() == 0 && count.lower() == 0
+}
+
+/// Adds the share of exactly `k` rolls, unless it is zero.
+fn push_share(text: &mut BoardText, count: LongCount, k: u8)
+    requires few { k ≤ 33 }
+    requires within { count ≤ 36 ^ k }
+    requires room { array_string_len text.old + 122 ≤ 16896 }
+    ensures part { (part : List ℕ) × IsSharePartOver board_whole (count * 36 ^ (33 - k)) k part
+        × (text.new.bytes ≡ text.old.bytes ++ part) }
+    ensures len { array_string_len text.new ≤ array_string_len text.old + 122 }
+{
+    if is_none(count) {
+        return;
+    }
+    text.push_str(" ");
+    text.push_str(Buffer::new().format(k));
+    text.push_str(":");
+    push_fraction(text, board_share(count, k));
+}
+
+/// Makes a text that of the shares of 0 to 33 rolls, by the counts of as many throws.
+pub fn put_board_dist(text: &mut BoardText, counts: &[LongCount; 34])
+    requires { (k : ℕ) → k ≤ 33 → slice_index counts.now k ≤ 36 ^ k }
+    ensures text { IsDistReplyOver board_whole 33
+        (λ k. slice_index counts.now k * 36 ^ (33 - k)) text.new.bytes }
+    ensures len { array_string_len text.new ≤ 4200 }
+{
+    text.clear();
+    text.push_str("dist");
+    for k in 0..34 {
+        push_share(text, counts[usize::from(k)], k);
+    }
+}
+
+/// Makes a text that of a loss.
+pub fn put_board_loss(text: &mut BoardText, loss: BoardMean)
+    ensures text { (fraction : List ℕ) × IsShareTextOver board_whole loss fraction
+        × (text.new.bytes ≡ codes "loss " ++ fraction) }
+    ensures len { array_string_len text.new ≤ 4200 }
+{
+    text.clear();
+    text.push_str("loss ");
+    push_loss(text, loss);
+}
+
+/// Adds a loss.
+fn push_loss(text: &mut BoardText, loss: BoardMean)
+    requires { array_string_len text.old + 117 ≤ 16896 }
+    ensures part { (fraction : List ℕ) × IsShareTextOver board_whole loss fraction
+        × (text.new.bytes ≡ text.old.bytes ++ fraction) }
+    ensures len { array_string_len text.new ≤ array_string_len text.old + 117 }
+{
+    push_fraction(text, board_mean_and_epc(loss).0);
+}
+
+/// Adds a result and its loss, as they stand in a list of moves after what is before them.
+fn push_choice(text: &mut BoardText, choice: &BoardChoice)
+    requires { array_string_len text.old + 131 ≤ 16896 }
+    ensures part { (part : List ℕ) × IsChoicePartOver board_whole choice.now.to choice.now.loss part
+        × (text.new.bytes ≡ text.old.bytes ++ part) }
+    ensures len { array_string_len text.new ≤ array_string_len text.old + 131 }
+{
+    let _checkers = choice.to.checkers();
+    text.push_str(" ");
+    push_position(text, &choice.to);
+    text.push_str(":");
+    push_loss(text, choice.loss);
+}
+
+/// Makes a text the list of moves of up to 127 results with their losses, in their order.
+pub fn put_board_moves(text: &mut BoardText, choices: &[BoardChoice])
+    requires { length choices.now ≤ 127 }
+    ensures text { IsListText choices.now text.new.bytes }
+    ensures len { array_string_len text.new ≤ 16642 }
+{
+    text.clear();
+    text.push_str("moves");
+    for choice in choices {
+        push_choice(text, choice);
+    }
+}
+
+/// Adds the moves of a play, each after a space.
+fn push_play(text: &mut BoardText, play: &Play)
+    requires { array_string_len text.old + 24 ≤ 16896 }
+    ensures bytes { text.new.bytes
+        ≡ text.old.bytes ++ flat_map (λ m. codes " " ++ move_text m) (moves_of play.now.items) }
+    ensures len { array_string_len text.new ≤ array_string_len text.old + 24 }
+{
+    if play.is_empty() {
+        return;
+    }
+    text.push_str(" ");
+    text.push_str(write_play(play).as_str());
+}
+
+/// Makes a text that of a play and the position that it leads to.
+pub fn put_board_play(text: &mut BoardText, play: &Play, to: &Position)
+    ensures text { text.new.bytes ≡ codes "play"
+        ++ flat_map (λ m. codes " " ++ move_text m)
+        (moves_of play.now.items) ++ codes " to " ++ position_text to.now }
+    ensures len { array_string_len text.new ≤ 4200 }
+{
+    text.clear();
+    text.push_str("play");
+    push_play(text, play);
+    text.push_str(" to ");
+    push_position(text, to);
+}
+
+/// Makes a text that of a rank.
+pub fn put_board_rank(text: &mut BoardText, rank: u16)
+    ensures text { text.new.bytes ≡ codes "rank " ++ decimal rank }
+    ensures len { array_string_len text.new ≤ 4200 }
+{
+    text.clear();
+    text.push_str("rank ");
+    push_number(text, Wide::of(u128::from(rank)));
+}
+
+/// Makes a text that of a refusal.
+pub fn put_board_refusal(text: &mut BoardText, refusal: Refusal)
+    ensures text { text.new.bytes ≡ refusal_text (why refusal) }
+    ensures len { array_string_len text.new ≤ 4200 }
+{
+    text.clear();
+    text.push_str(match refusal {
+        Refusal::BadLine => "error bad-line",
+        Refusal::TooMany => "error too-many",
+        Refusal::OverBound => "error over-bound",
+        Refusal::Finished => "error finished",
+        Refusal::NotLegal => "error not-legal",
+    });
+}
