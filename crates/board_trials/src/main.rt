@@ -1,0 +1,134 @@
+//! A program that builds board files, checks them and answers lines from them, as its words say:
+//!
+//! - `build BOUND FILE`: it builds the file of a pip bound, and writes it;
+//! - `check FILE`: it prints the bound of a right file, or the first fault of another one;
+//! - `query FILE`: it checks a file, and answers each line of the input;
+//! - `damage FILE FIRST STEP`: for each STEPth rank from FIRST on it changes one byte of the record,
+//!   checks the file, and prints how many were refused, and how many not;
+//! - none: it builds the file of 15 pips, and answers each line of the input.
+//!
+//! `tests/test_boards.py` compares what it prints with what was counted outside. It rests on
+//! `board_build`, `board_check` and `board_query`; nothing stands on it.
+#![tactic(auto)]
+
+use board::Board;
+use board_build::{BoardBuildFault, build_board};
+use board_check::{BoardFault, check_board};
+use board_layout::BoardHeader;
+use board_query::{BoardText, answer};
+use ranking::RankTable;
+use std::alloc::{AllocError, Global};
+use std::{env, fs, io};
+
+/// The pip bound of the file that is built where no word is given.
+const DEFAULT_BOUND: u8 = 15;
+
+fn main(rt: HostRuntime) -> io::Result<()> {
+    let mut words = env::args(&rt)?.skip(1);
+    let Some(word) = words.next() else {
+        let file = built(rt.alloc(), DEFAULT_BOUND)?;
+        return query(&rt, file.as_slice());
+    };
+    let Some(first) = words.next() else {
+        return println!(rt; "wrong words");
+    };
+    match word.as_str() {
+        "build" => {
+            let Some(path) = words.next() else {
+                return println!(rt; "wrong words");
+            };
+            let file = built(rt.alloc(), first.as_str().parse().unwrap_or(u8::MAX))?;
+            fs::write(&rt, path.as_str(), file.as_slice())
+        }
+        "check" => {
+            let file = fs::read(&rt, first.as_str())?;
+            report(&rt, file.as_slice())
+        }
+        "query" => {
+            let file = fs::read(&rt, first.as_str())?;
+            query(&rt, file.as_slice())
+        }
+        "damage" => {
+            let mut file = fs::read(&rt, first.as_str())?;
+            let from = number(words.next());
+            let step = number(words.next());
+            damage(&rt, file.as_mut_slice(), from, step)
+        }
+        _ => println!(rt; "wrong words"),
+    }
+}
+
+/// The number that a word states, 0 where it states none.
+fn number(word: Option<String>) -> u16 {
+    match word {
+        Some(word) => word.as_str().parse().unwrap_or(0),
+        None => 0,
+    }
+}
+
+/// The board file of a bound; no byte where the bound is over 90.
+fn built(alloc: Global, bound: u8) -> Result<Vec<u8>, AllocError> {
+    let bytes = match BoardHeader::new(bound) {
+        Some(header) => header.end(),
+        None => 0,
+    };
+    let mut room = vec![in alloc; 0; bytes]?;
+    match build_board(bound, room.as_mut_slice()) {
+        Ok(_) | Err(BoardBuildFault::Room) | Err(BoardBuildFault::OverBound) => Ok(room),
+    }
+}
+
+/// Prints the bound of a right file, or the first fault.
+fn report(rt: &impl Print, file: &[u8]) -> io::Result<()> {
+    match check_board(file) {
+        Ok(header) => println!(rt; "bound {}", header.bound),
+        Err(BoardFault::Header(fault)) => println!(rt; "{fault}"),
+        Err(BoardFault::Play { rank, roll }) => println!(rt; "play {rank} {roll}"),
+        Err(BoardFault::NotLeast { rank, roll }) => println!(rt; "least {rank} {roll}"),
+        Err(BoardFault::Mean { rank }) => println!(rt; "mean {rank}"),
+        Err(BoardFault::Spread { rank, k }) => println!(rt; "spread {rank} {k}"),
+    }
+}
+
+/// Answers each line of the input from a file.
+fn query(rt: &(impl Print + Input + AllocGlobal), file: &[u8]) -> io::Result<()> {
+    let Ok(header) = check_board(file) else {
+        return println!(rt; "no board file");
+    };
+    let ranks = RankTable::new();
+    let board = Board::accepted(file, header, &ranks);
+    let mut text = BoardText::new();
+    for line in rt.lines(rt.alloc()) {
+        let line = line?;
+        match answer(&board, line.as_str().as_bytes(), &mut text) {
+            Some(()) => println!(rt; "{}", text.as_str())?,
+            None => println!(rt; "none")?,
+        }
+    }
+    Ok(())
+}
+
+/// Changes a byte of each STEPth record from one on, and counts the files that are refused.
+fn damage(rt: &impl Print, file: &mut [u8], from: u16, step: u16) -> io::Result<()> {
+    let Ok(header) = check_board(file) else {
+        return println!(rt; "no board file");
+    };
+    let mut refused = 0u32;
+    let mut accepted = 0u32;
+    for rank in from..header.count {
+        if step == 0 || (rank - from) % step != 0 {
+            continue;
+        }
+        let place = header.find(rank);
+        let at = place.offset + usize::from(rank) % place.length;
+        if at < file.len() {
+            file[at] ^= 1 << (rank % 8);
+            match check_board(file) {
+                Ok(_) => accepted += 1,
+                Err(_) => refused += 1,
+            }
+            file[at] ^= 1 << (rank % 8);
+        }
+    }
+    println!(rt; "refused {refused} accepted {accepted}")
+}
