@@ -7,6 +7,7 @@ pub mod PlayNumbers
 pub mod KeptMeans
 pub mod NumberTests
 pub mod RecordTests
+pub mod Sevens
 pub mod FileTests
 pub mod Upgrades
 pub mod Databases

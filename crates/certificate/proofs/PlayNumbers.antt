@@ -1,19 +1,24 @@
 -- What the record of a play can hold, where each record of lower rank was accepted.
-use Rattle.std.proofs.Common.{◌≡◌, ℕ, zero, suc, ◌+◌, ◌*◌, ◌<◌, ◌≤◌, List, get_or, sum, take, sym, ap}
-use Rattle.std.proofs.Common.{subst, ◌∙◌, arith}
+use Rattle.std.proofs.Common.{◌≡◌, ⊎_elim, ℕ, zero, suc, ◌+◌, ◌*◌, ◌%◌, ◌^◌, ◌<◌, ◌≤◌, List}
+use Rattle.std.proofs.Common.{get_or, sum, sym, ap, subst, ◌∙◌, arith}
+use Rattle.std.proofs.lemmas.Bool.{cases_lt}
 use Rattle.race_model.specs.Positions.{Board, IsPosition, IsFinished, checkers, pips}
-use Rattle.race_model.specs.Dice.{Throw}
+use Rattle.race_model.specs.Dice.{Throw, roll_at}
 use Rattle.race_model.specs.Ranks.{rank}
-use Rattle.race_model.specs.Files.{record_at, mean_of, share_of, mean_at, play, spread, spread_at}
+use Rattle.race_model.specs.Files.{record_at, mean_at, play, spread, spread_at}
 use Rattle.race_model.specs.Horizon.{most_rolls}
 use Rattle.race_model.specs.Strategies.{EndsIn}
-use Rattle.race_model.specs.LocalEquations.{recorded, whole, IsPlayed, IsLocalAt}
+use Rattle.race_model.specs.LocalEquations.{recorded, whole, weighted, IsPlayed, IsLocalAt}
 use Rattle.race_model.proofs.Plays.Results.{legal_position, legal_pips}
 use Rattle.race_model.proofs.Strategies.Horizons.{ends_in_22, ends_in_most}
 use Rattle.race_model.proofs.RightFiles.Bounded.{recorded_lower, mean_at_most}
+use Rattle.fixed_fraction.specs.Totals.{Totals}
 use Rattle.fixed_fraction.proofs.Shares.{share_at_most_sum}
-use Rattle.certificate.specs.RecordNumbers.{shares_of, recorded_mean, recorded_share}
-use Rattle.certificate.proofs.RecordBytes.{mean-of_record, share-of_record, get_or-first_shares, sum-first_shares}
+use Rattle.certificate.specs.RecordNumbers.{shares_of, recorded_mean, recorded_share, AreSumsOf}
+use Rattle.certificate.specs.Sevens.{AreSevenAdded}
+use Rattle.certificate.proofs.RecordBytes.{share-of_record, get_or-shares_of}
+use Rattle.certificate.proofs.Sevens.{first_seven, next_seven, last_seven, first_ranks, next_ranks, last_ranks}
+use Rattle.certificate.proofs.Sevens.{weighted-sevens, sevens-added}
 use Rattle.certificate.proofs.Lower.{count_of-beyond, count_of-before, throw_takes, shares_whole}
 
 module _ (f : List ℕ) (x : Board) (at : IsPosition x) (short : pips x ≤ 58)
@@ -58,53 +63,92 @@ module _ (f : List ℕ) (x : Board) (at : IsPosition x) (short : pips x ≤ 58)
           after_is after_meets k (omega arith) (omega arith)
 
   -- .. or at so few that not all checkers can be off
-  pub play-before : (k : ℕ) → 4 * k + 4 < checkers x → k < 23 → spread_at f (play f x v) k ≡ 0
+  play-before : (k : ℕ) → 4 * k + 4 < checkers x → k < 23 → spread_at f (play f x v) k ≡ 0
   play-before k less few =
       subst (λ r. spread_at f r k ≡ 0) played.ranked
       (count_of-before f (recorded f x v) after_is after_meets k
       (omega (arith, throw_takes x v (recorded f x v) played.legal, less)) (omega arith))
 
-  -- so what was lent of it can be added, by its first shares
-  module _ (bytes : List ℕ) (p : ℕ) (lent : bytes ≡ record_at f p) (is : p ≡ play f x v) where
-    same : bytes ≡ record_at f (play f x v)
-    same = lent ∙ ap (record_at f) is
+  -- each of which is at most the whole
+  pub play-small : (k : ℕ) → k < 23 → spread_at f (play f x v) k ≤ whole
+  play-small k lt =
+      let bytes = record_at f (play f x v) in
+      omega (
+        arith,
+        get_or-shares_of bytes k lt,
+        share-of_record f (play f x v) k,
+        share_at_most_sum (shares_of bytes) k,
+        play-total,
+      )
 
-    beyond : (k : ℕ) → most_rolls (pips x) ≤ k → k < 23 → share_of bytes k ≡ 0
-    beyond k le lt =
-        ap (λ b. share_of b k) same ∙ share-of_record f (play f x v) k ∙ play-beyond k le lt
+-- what is recorded for the 21 rolls of an unfinished position, by the recorded ranks
+module _ (f : List ℕ) (x : Board) (at : IsPosition x) (short : pips x ≤ 58)
+    (lower : (z : Board) → IsPosition z → rank z < rank x → IsLocalAt f z)
+    (unfinished : ¬ IsFinished x) (recorded : List ℕ)
+    (read : (i : ℕ) → i < 21 → get_or recorded i 0 ≡ play f x (roll_at i))
+    (played : (i : ℕ) → i < 21 → IsPlayed f x (roll_at i)) where
+  -- sums modulo 2 ^ 128 of the means are exact
+  sums-of_means : (n o p q : ℕ) → n ≡ 0
+      → o ≡ (n + first_seven (λ i. mean_at f (get_or recorded i 0))) % 2 ^ 128
+      → p ≡ (o + next_seven (λ i. mean_at f (get_or recorded i 0))) % 2 ^ 128
+      → q ≡ (p + last_seven (λ i. mean_at f (get_or recorded i 0))) % 2 ^ 128
+      → q ≡ weighted (recorded_mean f x)
+  unfolding whole
+  sums-of_means n o p q =
+      sevens-added (λ i. mean_at f (get_or recorded i 0)) (recorded_mean f x) (22 * whole) n o p q
+      (λ i lt. ap (mean_at f) (read i lt))
+      (λ i lt. subst (λ r. mean_at f r ≤ 22 * whole) (sym (read i lt))
+      (play-mean f x at short lower unfinished (roll_at i) (played i lt)))
+      (omega arith)
 
-    pub lent-before : (k : ℕ) → 4 * k + 4 < checkers x → k < 23 → share_of bytes k ≡ 0
-    lent-before k less lt =
-        ap (λ b. share_of b k) same ∙ share-of_record f (play f x v) k ∙ play-before k less lt
+  -- .. and so are those of the shares of exactly k rolls
+  sums-of_shares : (k n o p q : ℕ) → k < 23 → n ≡ 0
+      → o ≡ (n + first_seven (λ i. spread_at f (get_or recorded i 0) k)) % 2 ^ 128
+      → p ≡ (o + next_seven (λ i. spread_at f (get_or recorded i 0) k)) % 2 ^ 128
+      → q ≡ (p + last_seven (λ i. spread_at f (get_or recorded i 0) k)) % 2 ^ 128
+      → q ≡ weighted (λ v. recorded_share f x v k)
+  unfolding whole
+  sums-of_shares k n o p q few =
+      sevens-added (λ i. spread_at f (get_or recorded i 0) k) (λ v. recorded_share f x v k) whole
+      n o p q (λ i lt. ap (λ r. spread_at f r k) (read i lt))
+      (λ i lt. subst (λ r. spread_at f r k ≤ whole) (sym (read i lt))
+      (play-small f x at short lower unfinished (roll_at i) (played i lt) k few))
+      (omega arith)
 
-    pub play-lent : (mean_of bytes ≤ 22 * whole)
-        × (sum (take (most_rolls (pips x)) (shares_of bytes)) ≡ whole)
-    play-lent = (
-      subst (λ b. mean_of b ≤ 22 * whole) (sym same)
-          (subst (λ m. m ≤ 22 * whole) (sym (mean-of_record f (play f x v))) play-mean),
-      sum-first_shares bytes (most_rolls (pips x)) beyond
-          ∙ (ap (λ b. sum (shares_of b)) same ∙ play-total),
-    )
+  -- where no roll has a share, there is none of all
+  sums-of_none : (k n : ℕ) → n ≡ 0 → ((i : ℕ) → i < 21 → spread_at f (play f x (roll_at i)) k ≡ 0)
+      → n ≡ weighted (λ v. recorded_share f x v k)
+  sums-of_none k n start none =
+      start ∙ weighted-sevens (λ i. 0) (λ v. recorded_share f x v k) (λ i lt. sym (none i lt))
 
-    -- each of which is at most the whole
-    pub play-small : (k : ℕ) → k < 23 → share_of bytes k ≤ whole
-    play-small k lt =
-        let n = most_rolls (pips x) in
-        omega (
-          arith,
-          get_or-first_shares bytes n beyond k lt,
-          share_at_most_sum (take n (shares_of bytes)) k,
-          play-lent.1,
-        )
-
-    -- the shares that were lent are those that are recorded for the throw
-    pub lent-share : (k : ℕ) → k < 23
-        → get_or (take (most_rolls (pips x)) (shares_of bytes)) k 0 ≡ recorded_share f x v k
-    lent-share k lt =
-        get_or-first_shares bytes (most_rolls (pips x)) beyond k lt
-        ∙ (ap (λ b. share_of b k) same ∙ share-of_record f (play f x v) k)
-
--- the mean that was lent of a play is the one that is recorded for the throw
-pub lent-mean : (f bytes : List ℕ) (x : Board) (v : Throw) (p : ℕ) → bytes ≡ record_at f p
-    → p ≡ play f x v → mean_of bytes ≡ recorded_mean f x v
-lent-mean f bytes x v p lent is = ap mean_of lent ∙ (mean-of_record f p ∙ ap (mean_at f) is)
+  -- the sums of a position that has shares from one number of rolls on and before another
+  pub sums-are : (first end : ℕ) (before one two three : Totals) → end ≡ most_rolls (pips x)
+      → first ≤ end
+      → ((k : ℕ) → k < first → 4 * k + 4 < checkers x)
+      → before.mean ≡ 0 → ((k : ℕ) → k < 23 → get_or before.shares k 0 ≡ 0)
+      → AreSevenAdded (λ i. mean_at f (get_or (first_ranks recorded) i 0))
+      (λ i. spread_at f (get_or (first_ranks recorded) i 0)) first end before one
+      → AreSevenAdded (λ i. mean_at f (get_or (next_ranks recorded) i 0))
+      (λ i. spread_at f (get_or (next_ranks recorded) i 0)) first end one two
+      → AreSevenAdded (λ i. mean_at f (get_or (last_ranks recorded) i 0))
+      (λ i. spread_at f (get_or (last_ranks recorded) i 0)) first end two three
+      → AreSumsOf f x three
+  sums-are first end before one two three end_is order few start blank a b d = record {
+    means = sums-of_means before.mean one.mean two.mean three.mean start a.means b.means d.means;
+    each = λ k lt. ⊎_elim
+        (λ less. sums-of_none k (get_or three.shares k 0)
+        (d.shares.low k less ∙ b.shares.low k less ∙ a.shares.low k less ∙ blank k lt)
+        (λ i le. play-before f x at short lower unfinished (roll_at i) (played i le) k
+        (few k less) lt))
+        (λ from. ⊎_elim
+        (λ under. sums-of_shares k (get_or before.shares k 0) (get_or one.shares k 0)
+        (get_or two.shares k 0) (get_or three.shares k 0) lt (blank k lt)
+        (a.shares.inside k from under) (b.shares.inside k from under)
+        (d.shares.inside k from under))
+        (λ past. sums-of_none k (get_or three.shares k 0)
+        (d.shares.high k past ∙ b.shares.high k past ∙ a.shares.high k past ∙ blank k lt)
+        (λ i le. play-beyond f x at short lower unfinished (roll_at i) (played i le) k
+        (omega (arith, end_is, past)) lt))
+        (cases_lt k end))
+        (cases_lt k first);
+  }

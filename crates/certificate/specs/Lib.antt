@@ -8,3 +8,5 @@ pub mod KeptMeans
 pub mod LowerRecords
 pub mod Upgrades
 pub mod Databases
+pub mod Sevens
+pub mod StoredSevens

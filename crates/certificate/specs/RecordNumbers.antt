@@ -1,12 +1,12 @@
 -- The numbers of a record, and the mean and spread equations over sums of what is recorded for the
 -- rolls.
-use Rattle.std.specs.Prelude.{◌≡◌, ℕ, zero, suc, ◌+◌, ◌*◌, ◌^◌, ◌<◌, ◌≤◌, List, length, map, slice_index}
+use Rattle.std.specs.Prelude.{◌≡◌, ℕ, zero, suc, ◌+◌, ◌*◌, ◌<◌, ◌≤◌, List, map, slice_index}
 use Rattle.std.specs.List.{range_with_len}
 use Rattle.race_model.specs.Positions.{Board, IsFinished}
-use Rattle.race_model.specs.Dice.{Throw, weight}
+use Rattle.race_model.specs.Dice.{Throw}
 use Rattle.race_model.specs.Files.{mean_of, play_of, share_of, mean_at, spread_at, play}
 use Rattle.race_model.specs.LocalEquations.{whole, weighted}
-use Rattle.fixed_fraction.specs.Totals.{Totals, IsAdded}
+use Rattle.fixed_fraction.specs.Totals.{Totals}
 
 -- the plays of the rolls 0 to 20 in the bytes of a record
 unfoldable pub plays_of : List ℕ → List ℕ
@@ -15,17 +15,6 @@ plays_of bytes = map (play_of bytes) (range_with_len 0 21)
 -- the shares of 0 to 22 rolls in the bytes of a record
 unfoldable pub shares_of : List ℕ → List ℕ
 shares_of bytes = map (share_of bytes) (range_with_len 0 23)
-
--- what no share that is added is more than
-unfoldable pub share_room : ℕ
-share_room = 2 ^ 114
-
--- sums of means of at most 22 rolls and of shares of at most that, with a weight of at most 36
-pub record AreBounded (totals : Totals) : Type 0 where
-  pub len : length totals.shares ≡ 23
-  pub light : totals.weight ≤ 36
-  pub mean : totals.mean ≤ totals.weight * (22 * whole)
-  pub shares : (k : ℕ) → k < 23 → slice_index totals.shares k ≤ totals.weight * share_room
 
 -- the mean of a record is that of these sums
 pub record IsMeanOf (x : Board) (mean : ℕ) (sums : Totals) : Type 0 where
@@ -65,10 +54,3 @@ pub record AreSumsOf (f : List ℕ) (x : Board) (sums : Totals) : Type 0 where
   pub means : sums.mean ≡ weighted (recorded_mean f x)
   pub each : (k : ℕ) → k < 23 →
       slice_index sums.shares k ≡ weighted (λ v. recorded_share f x v k)
-
--- what is recorded for a throw was added with its weight: the mean, and the share of each of 0 to
--- 22 rolls
-pub record IsAddedPlay (f : List ℕ) (x : Board) (v : Throw) (before after : Totals) : Type 0 where
-  pub shares : List ℕ
-  pub are : (k : ℕ) → k < 23 → slice_index shares k ≡ recorded_share f x v k
-  pub added : IsAdded before (weight v) (recorded_mean f x v) shares after

@@ -84,13 +84,27 @@ fn check_with_room<T: Table, const ROOM: usize, const ROWS: usize>(
 {
     let mut lower: LowerRecords<ROOM, ROWS> = LowerRecords::new();
     let mut own = Record::new();
-    let mut room = Record::new();
+    let mut rooms = seven_rooms();
     for rank in 0..header.count {
         if let Err(fault) = check_record(
-            table, ranks, header, rank, &mut lower, &mut own, &mut room,
+            table, ranks, header, rank, &mut lower, &mut own, &mut rooms,
         ) {
             return Err(fault_at(rank, fault));
         }
     }
     Ok(header)
+}
+
+/// A room for each record of seven that are lent at once.
+#[inline(always)]
+fn seven_rooms() -> [Record; 7] {
+    [
+        Record::new(),
+        Record::new(),
+        Record::new(),
+        Record::new(),
+        Record::new(),
+        Record::new(),
+        Record::new(),
+    ]
 }

@@ -1,35 +1,33 @@
 //! The check of one record, with records of lower rank that were accepted.
-ghost use Rattle.std.specs.Prelude.{◌≡◌, ℕ, ◌+◌, ◌*◌, ◌<◌, ◌≤◌, List, slice_index, Some, Err, sum, take};
-ghost use Rattle.std.specs.Prelude.{IsErrAnd, IfOk, IfErr, OnOk, OnErr};
+ghost use Rattle.std.specs.Prelude.{◌≡◌, ℕ, ◌+◌, ◌*◌, ◌<◌, ◌≤◌, List, [], slice_index, slice_index_or, Some, Err};
+ghost use Rattle.std.specs.Prelude.{IsErr, IsErrAnd, IfOk, IfErr, OnOk};
 ghost use Rattle.race_model.specs.Positions.{Board, IsPosition, IsFinished, checkers, pips};
-ghost use Rattle.race_model.specs.Dice.{roll_at, weight};
+ghost use Rattle.race_model.specs.Dice.{roll_at};
 ghost use Rattle.race_model.specs.Ranks.{rank as rank_of, at_rank};
-ghost use Rattle.race_model.specs.Files.{mean_of, share_of, mean_at, play};
+ghost use Rattle.race_model.specs.Files.{record_at, mean_at, spread_at, play};
 ghost use Rattle.race_model.specs.Plays.{Legal};
 ghost use Rattle.race_model.specs.BestPlays.{IsBestPlay};
-ghost use Rattle.race_model.specs.LocalEquations.{whole, IsPlayed, IsBest, IsLocalAt};
+ghost use Rattle.race_model.specs.LocalEquations.{IsPlayed, IsBest, IsLocalAt};
 ghost use Rattle.least_plays.specs.Known.{HasRows};
-ghost use Rattle.fixed_fraction.specs.Totals.{IsAdded};
 ghost use Rattle.db_reader.specs.Telling.{WhereTold};
 ghost use Rattle.db_reader.specs.TableStays.{TableStays};
 ghost use Rattle.db_reader.specs.Reads.{HasHeader, HasRecord};
-ghost use Rattle.certificate.specs.PlayFaults.{Applies, FirstOfPlays};
+ghost use Rattle.certificate.specs.PlayFaults.{FirstOfPlays};
 ghost use Rattle.certificate.specs.KeptMeans.{HasRoom};
 ghost use Rattle.certificate.specs.LowerRecords.{IsLower};
-ghost use Rattle.certificate.specs.RecordNumbers.{shares_of, AreSumsOf, IsAddedPlay};
+ghost use Rattle.certificate.specs.RecordNumbers.{AreSumsOf};
+ghost use Rattle.certificate.specs.Sevens.{AreSevenAdded};
 ghost use Rattle.race_model.specs.Horizon.{most_rolls};
 ghost use Rattle.certificate.specs.RecordFaults.{IsFirstFaultAt, of_record};
 
 use crate::equations::check_numbers;
 use crate::kept::LowerRecords;
-use crate::numbers::{mean_in, plays_in};
+use crate::numbers::plays_in;
 use crate::plays::{PlayFault, check_recorded};
 use crate::record_sums::RecordSums;
 use db_layout::{Header, RecordView, most_rolls};
 use db_reader::{ReadFault, Record, Table};
-use fixed_fraction::law_sums;
 use home_board::Position;
-use legal_plays::Roll;
 use race_model::laws;
 use ranking::Ranks;
 
@@ -72,30 +70,6 @@ pub enum RecordFault {
     Read,
 }
 
-/// Adds the mean of a record, and its shares of fewer than so many rolls, with the weight of a
-/// roll, where the mean is one that an accepted record can hold.
-fn add_numbers(
-    sums: &mut RecordSums,
-    roll: Roll,
-    view: &RecordView<'_>,
-    first: u8,
-    rolls: u8,
-) -> Result<(), ReadFault>
-    requires light { sums.old.weight + weight roll ≤ 36 }
-    requires few { rolls ≤ 23 }
-    requires order { first ≤ rolls }
-    ensures weights { OnOk result (sums.new.weight ≡ sums.old.weight + weight roll) }
-    ensures added { OnOk result (((k : ℕ) → k < rolls → share_of view.now k ≤ whole) →
-        ((k : ℕ) → k < first → share_of view.now k ≡ 0) →
-        IsAdded sums.old (weight roll) (mean_of view.now) (take rolls (shares_of view.now))
-        sums.new) }
-    ensures refused { OnErr result (¬ (mean_of view.now ≤ 22 * whole)) }
-{
-    let mean = mean_in(view).ok_or(ReadFault)?;
-    sums.add(roll.weight(), mean, view, first, rolls);
-    Ok(())
-}
-
 /// A position of at most 58 pips whose record is tested, and the numbers of rolls at which a play
 /// from it can have a share: from one on, since a roll takes at most four checkers off, and before
 /// another, the most that the position itself can need.
@@ -126,107 +100,162 @@ impl<'a> Subject<'a> {
     }
 }
 
-/// Tests what is recorded for a roll, as `check_recorded` does, and adds its numbers with the
-/// weight of the roll; none for the finished position, which has no lower records.
-#[inline(always)]
-fn add_play<T: Table>(
-    table: &mut T,
-    ranks: &Ranks,
-    subject: &Subject<'_>,
-    roll: Roll,
-    recorded: u16,
-    best: u16,
-    sums: &mut RecordSums,
-    room: &mut Record,
-) -> Result<(), PlayFault>
-    requires recorded { WhereTold (T.tells table.old)
-        (λ file. recorded ≡ play file subject.now.position.now roll) }
-    requires records { (y : Board) → Legal subject.now.position.now roll y →
-        HasRecord (T.accepted table.old) (rank_of y) }
-    requires lower { WhereTold (T.tells table.old) (λ file. (z : Board) → IsPosition z →
-        rank_of z < rank_of subject.now.position.now → IsLocalAt file z) }
-    requires result_best { (y : Board) × (Legal subject.now.position.now roll y)
-        × (rank_of y ≡ best) }
-    requires best { WhereTold (T.tells table.old)
-        (λ file. IsBestPlay (mean_at file) subject.now.position.now roll best) }
-    requires light { sums.old.weight + weight roll ≤ 36 }
-    ensures light { OnOk result (sums.new.weight ≤ sums.old.weight + weight roll) }
-    ensures others { (bytes : List ℕ) (other : ℕ) →
-        T.ready table.old bytes other → T.ready table.new bytes other }
-    ensures right { WhereTold (T.tells table.old) (λ file. OnOk result
-        (IsPlayed file subject.now.position.now roll
-        × IsBest file subject.now.position.now roll)) }
-    ensures added { WhereTold (T.tells table.old) (λ file. OnOk result
-        (¬ IsFinished subject.now.position.now →
-        IsAddedPlay file subject.now.position.now roll sums.old sums.new)) }
-    ensures fault { WhereTold (T.tells table.old)
-        (λ file. IfErr result (Applies file subject.now.position.now roll)) }
-    ensures stays { TableStays ⟦<T as Table>⟧ table.old table.new (result ≡ Err PlayFault.Read) }
-{
-    check_recorded(table, ranks, subject.position, roll, recorded, best, room)?;
-    if subject.position.is_finished() {
-        return Ok(());
-    }
-    let view = table.lend(recorded, room);
-    match add_numbers(sums, roll, &view, subject.first, subject.end) {
-        Ok(()) => Ok(()),
-        Err(ReadFault) => Err(PlayFault::Read),
-    }
-}
-
-/// The sums of what is recorded for the 21 rolls, where each is the rank of a result with the
-/// least recorded mean; of the finished position, which has no lower records, the sums of
-/// nothing.
-fn sum_plays<T: Table>(
+/// Whether what is recorded for each of the 21 rolls is the rank of a result with the least
+/// recorded mean: else the first that isn't.
+fn check_plays<T: Table>(
     table: &mut T,
     ranks: &Ranks,
     position: &Position,
     best: &[u16; 21],
     recorded: &[u16; 21],
     room: &mut Record,
-) -> Result<RecordSums, RefusedPlay>
-    requires short { pips position.now ≤ 58 }
+) -> Result<(), RefusedPlay>
     requires recorded { WhereTold (T.tells table.old) (λ file. (i : ℕ) → i < 21 →
         slice_index recorded.now i ≡ play file position.now (roll_at i)) }
     requires records { (y : Board) → IsPosition y → pips y ≤ pips position.now →
         HasRecord (T.accepted table.old) (rank_of y) }
-    requires lower { WhereTold (T.tells table.old)
-        (λ file. (z : Board) → IsPosition z → rank_of z < rank_of position.now →
-        IsLocalAt file z) }
+    requires position { IsPosition position.now }
     requires results { (i : ℕ) → i < 21 →
         (y : Board) × (Legal position.now (roll_at i) y) × (rank_of y ≡ slice_index best.now i) }
     requires best { WhereTold (T.tells table.old) (λ file. (i : ℕ) → i < 21 →
         IsBestPlay (mean_at file) position.now (roll_at i) (slice_index best.now i)) }
     ensures others { (bytes : List ℕ) (other : ℕ) →
         T.ready table.old bytes other → T.ready table.new bytes other }
+    ensures have { OnOk result ((i : ℕ) → i < 21 →
+        HasRecord (T.accepted table.old) (slice_index recorded.now i)) }
     ensures right { WhereTold (T.tells table.old) (λ file. OnOk result ((i : ℕ) → i < 21 →
         IsPlayed file position.now (roll_at i) × IsBest file position.now (roll_at i))) }
-    ensures totals { WhereTold (T.tells table.old) (λ file. IfOk result (λ sums.
-        ¬ IsFinished position.now → AreSumsOf file position.now sums)) }
     ensures fault { WhereTold (T.tells table.old) (λ file. IfErr result
         (λ refused. FirstOfPlays file position.now refused.roll refused.fault)) }
     ensures stays { TableStays ⟦<T as Table>⟧ table.old table.new
         (IsErrAnd result (λ refused. refused.fault ≡ PlayFault.Read)) }
 {
-    law_sums();
-    let subject = Subject::of(position);
-    let mut sums = RecordSums::new();
     for index in 0..21 {
-        let roll = Roll::from_index(index).unwrap();
         let place = usize::from(index);
         let (recorded, best) = (recorded[place], best[place]);
-        if let Err(fault) = add_play(
-            table, ranks, &subject, roll, recorded, best, &mut sums, room,
-        ) {
+        if let Err(fault) = check_recorded(table, ranks, position, index, recorded, best, room) {
             return Err(RefusedPlay { roll: index, fault });
         }
     }
+    Ok(())
+}
+
+/// Makes the records of seven ranks ready to be lent, each with a room of its own.
+#[inline(always)]
+fn load_seven<T: Table>(
+    table: &mut T,
+    numbers: &[u16; 7],
+    rooms: &mut [Record; 7],
+) -> Result<(), ReadFault>
+    requires have { (i : ℕ) → i < 7 →
+        HasRecord (T.accepted table.old) (slice_index numbers.now i) }
+    ensures ready { OnOk result ((i : ℕ) → i < 7 →
+        T.ready table.new (slice_index_or rooms.new i []) (slice_index numbers.now i)) }
+    ensures others { (bytes : List ℕ) (other : ℕ) →
+        T.ready table.old bytes other → T.ready table.new bytes other }
+    ensures stays { TableStays ⟦<T as Table>⟧ table.old table.new (IsErr result) }
+{
+    for i in 0..7 {
+        table.load(numbers[i], &mut rooms[i])?;
+    }
+    Ok(())
+}
+
+/// The records of seven ranks, which were loaded with these rooms.
+#[inline(always)]
+fn lend_seven<'a, T: Table>(
+    table: &'a T,
+    numbers: &[u16; 7],
+    rooms: &'a [Record; 7],
+) -> [RecordView<'a>; 7]
+    requires ready { (i : ℕ) → i < 7 →
+        T.ready table.now (slice_index_or rooms.now i []) (slice_index numbers.now i) }
+    ensures { WhereTold (T.tells table.now) (λ file. (i : ℕ) → i < 7 →
+        slice_index_or result i [] ≡ record_at file (slice_index numbers.now i)) }
+{
+    [
+        table.lend(numbers[0], &rooms[0]),
+        table.lend(numbers[1], &rooms[1]),
+        table.lend(numbers[2], &rooms[2]),
+        table.lend(numbers[3], &rooms[3]),
+        table.lend(numbers[4], &rooms[4]),
+        table.lend(numbers[5], &rooms[5]),
+        table.lend(numbers[6], &rooms[6]),
+    ]
+}
+
+/// Adds what is recorded for seven rolls, of which the first two are doubles and the others none,
+/// by these ranks: the means, and the shares of `first` to one before `end` rolls.
+fn add_seven<T: Table>(
+    table: &mut T,
+    numbers: &[u16; 7],
+    rooms: &mut [Record; 7],
+    first: u8,
+    end: u8,
+    sums: &mut RecordSums,
+) -> Result<(), ReadFault>
+    requires have { (i : ℕ) → i < 7 →
+        HasRecord (T.accepted table.old) (slice_index numbers.now i) }
+    requires few { end ≤ 23 }
+    requires order { first ≤ end }
+    ensures others { (bytes : List ℕ) (other : ℕ) →
+        T.ready table.old bytes other → T.ready table.new bytes other }
+    ensures added { WhereTold (T.tells table.old) (λ file. OnOk result
+        (AreSevenAdded (λ i. mean_at file (slice_index numbers.now i))
+        (λ i. spread_at file (slice_index numbers.now i)) first end sums.old sums.new)) }
+    ensures stays { TableStays ⟦<T as Table>⟧ table.old table.new (IsErr result) }
+{
+    load_seven(table, numbers, rooms)?;
+    let lent = lend_seven(table, numbers, rooms);
+    sums.add(&lent, first, end);
+    Ok(())
+}
+
+/// The sums of what is recorded for the 21 rolls, where each is a result of its roll; of the
+/// finished position, which has no lower records, the sums of nothing. The records of seven rolls
+/// are lent at once, each from a room of its own.
+fn sum_plays<T: Table>(
+    table: &mut T,
+    position: &Position,
+    recorded: &[u16; 21],
+    rooms: &mut [Record; 7],
+) -> Result<RecordSums, ReadFault>
+    requires short { pips position.now ≤ 58 }
+    requires recorded { WhereTold (T.tells table.old) (λ file. (i : ℕ) → i < 21 →
+        slice_index recorded.now i ≡ play file position.now (roll_at i)) }
+    requires have { (i : ℕ) → i < 21 →
+        HasRecord (T.accepted table.old) (slice_index recorded.now i) }
+    requires lower { WhereTold (T.tells table.old)
+        (λ file. (z : Board) → IsPosition z → rank_of z < rank_of position.now →
+        IsLocalAt file z) }
+    requires played { WhereTold (T.tells table.old)
+        (λ file. (i : ℕ) → i < 21 → IsPlayed file position.now (roll_at i)) }
+    ensures others { (bytes : List ℕ) (other : ℕ) →
+        T.ready table.old bytes other → T.ready table.new bytes other }
+    ensures totals { WhereTold (T.tells table.old) (λ file. IfOk result (λ sums.
+        ¬ IsFinished position.now → AreSumsOf file position.now sums)) }
+    ensures stays { TableStays ⟦<T as Table>⟧ table.old table.new (IsErr result) }
+{
+    let mut sums = RecordSums::new();
+    if position.is_finished() {
+        return Ok(sums);
+    }
+    let subject = Subject::of(position);
+    let (first, end) = (subject.first, subject.end);
+    let of = recorded;
+    let numbers = [of[0], of[2], of[1], of[3], of[4], of[6], of[7]];
+    add_seven(table, &numbers, rooms, first, end, &mut sums)?;
+    let numbers = [of[5], of[9], of[8], of[10], of[11], of[12], of[13]];
+    add_seven(table, &numbers, rooms, first, end, &mut sums)?;
+    let numbers = [of[14], of[20], of[15], of[16], of[17], of[18], of[19]];
+    add_seven(table, &numbers, rooms, first, end, &mut sums)?;
     Ok(sums)
 }
 
 /// Tests the record of a rank of a table in which each record of lower rank was accepted, and
 /// keeps of it what the records of higher rank are tested by, where there is room for the
-/// means of so many ranks.
+/// means of so many ranks. The records of seven rolls are lent at once, each from a room of its
+/// own.
 // a function of its own, since a browser makes a function fast only between two calls of it
 #[inline(never)]
 pub fn check_record<T: Table, const ROOM: usize, const ROWS: usize>(
@@ -236,7 +265,7 @@ pub fn check_record<T: Table, const ROOM: usize, const ROWS: usize>(
     rank: u16,
     lower: &mut LowerRecords<ROOM, ROWS>,
     own: &mut Record,
-    room: &mut Record,
+    rooms: &mut [Record; 7],
 ) -> Result<(), RecordFault>
     requires header { T.accepted table.old ≡ Some header }
     requires rank { rank < header.count }
@@ -265,12 +294,17 @@ pub fn check_record<T: Table, const ROOM: usize, const ROWS: usize>(
     let position = ranks.unrank(rank).unwrap();
     let best = lower.best_plays(ranks, &position);
     let recorded = plays_in(&table.lend(rank, own));
-    let sums = match sum_plays(table, ranks, &position, &best, &recorded, room) {
+    if let Err(refused) = check_plays(table, ranks, &position, &best, &recorded, &mut rooms[0]) {
+        return Err(refused.of_record());
+    }
+    let sums = match sum_plays(table, &position, &recorded, rooms) {
         Ok(sums) => sums,
-        Err(refused) => return Err(refused.of_record()),
+        Err(_) => return Err(RecordFault::Read),
     };
     let view = table.lend(rank, own);
-    check_numbers(&position, &view, &sums)?;
+    if let Err(fault) = check_numbers(&position, &view, &sums) {
+        return Err(fault);
+    }
     lower.accept(rank, view.mean());
     Ok(())
 }

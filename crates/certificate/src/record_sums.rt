@@ -1,73 +1,66 @@
-//! The sums of what is recorded for the rolls, added up as the records are read, so that no share
-//! is copied.
-ghost use Rattle.std.specs.Prelude.{◌≡◌, ℕ, ◌+◌, ◌*◌, ◌<◌, ◌≤◌, ◌↔◌, IsTrue, replicate, slice_index, take};
+//! The sums of what is recorded for the rolls, added up for seven rolls at once: the shares of one
+//! number of rolls after the other, so that no share is copied, and few sums are written.
+ghost use Rattle.std.specs.Prelude.{◌≡◌, ℕ, ◌+◌, ◌*◌, ◌%◌, ◌^◌, ◌<◌, ◌≤◌, ◌↔◌, IsTrue, [], replicate};
+ghost use Rattle.std.specs.Prelude.{slice_index, slice_index_or};
 ghost use Rattle.race_model.specs.LocalEquations.{whole};
-ghost use Rattle.fixed_fraction.specs.Totals.{IsAdded};
-ghost use Rattle.race_model.specs.Files.{share_of};
-ghost use Rattle.certificate.specs.RecordNumbers.{shares_of, share_room};
+ghost use Rattle.race_model.specs.Files.{mean_of, share_of};
+ghost use Rattle.certificate.specs.Sevens.{of_seven, AreSharesAdded, AreSevenAdded};
+ghost use Rattle.certificate.specs.StoredSevens.{IsStored, stored_sum};
 
-use db_layout::RecordView;
-use fixed_fraction::{MOST, Scaled, WHOLE};
+use db_layout::{RecordView, StoredShares};
+use fixed_fraction::{MOST, WHOLE};
 use std::marker::Model;
-
-/// What no share that is added is more than: 2 ^ 114, the least power of two over the whole.
-const SHARE_ROOM: u128 = 1 << 114;
 
 /// The means and the shares of the records that some rolls lead to, added up with the weights of
 /// these rolls: 1 for a double, else 2 (the rules of backgammon: 36 throws count equally). Of all
 /// 21 rolls the weights add up to 36, so that the record of a position is one roll and a 36th of
-/// these sums, its shares moved on by one roll.
+/// these sums, its shares moved on by one roll. Each sum is kept modulo 2 ^ 128, which none of
+/// accepted records comes to, so that none is tested.
 #[derive(Drop)]
 pub struct RecordSums {
-    weight: u8,
     mean: u128,
     shares: [u128; 23],
 }
 
-// Clauses see the sums of the weights, of the means, and of the shares of 0 to 22 rolls.
+// Clauses see the sums of the means, and of the shares of 0 to 22 rolls.
 impl Model for RecordSums {
+    ghost use Rattle.std.specs.Prelude.{◌≡◌, length};
     ghost use Rattle.fixed_fraction.specs.Totals.{Totals};
-    ghost use Rattle.certificate.specs.RecordNumbers.{AreBounded};
 
     ghost Value = { Totals };
 
-    ghost view = { λ sums.
-        record { weight = sums.weight; mean = sums.mean; shares = sums.shares } };
+    ghost view = { λ sums. record { weight = 36; mean = sums.mean; shares = sums.shares } };
 
-    ghost invariant = { λ sums.
-        AreBounded (record { weight = sums.weight; mean = sums.mean; shares = sums.shares }) };
+    ghost invariant = { λ sums. length sums.shares ≡ 23 };
 }
 
 impl RecordSums {
     /// The sums of no roll.
     pub fn new() -> Self
-        ensures { result ≡ record { weight = 0; mean = 0; shares = replicate 23 0 } }
+        ensures { result ≡ record { weight = 36; mean = 0; shares = replicate 23 0 } }
     {
         RecordSums {
-            weight: 0,
             mean: 0,
             shares: [0; 23],
         }
     }
 
-    /// Adds a mean, and the shares of a record of fewer than so many rolls, with the weight of a
-    /// roll. A share of 2 ^ 114 or more, which no accepted record has, is cut, so that no sum
-    /// leaves 128 bits whatever is read: all weights together are at most 36.
-    #[tactic(auto, unfolding(race_model::specs::LocalEquations::whole, crate::specs::RecordNumbers::share_room))]
-    pub fn add(&mut self, weight: u8, mean: Scaled, view: &RecordView<'_>, first: u8, rolls: u8)
-        requires light { self.old.weight + weight ≤ 36 }
-        requires few { rolls ≤ 23 }
-        requires order { first ≤ rolls }
-        ensures weight { self.new.weight ≡ self.old.weight + weight }
-        ensures added { ((k : ℕ) → k < rolls → share_of view.now k ≤ whole) →
-            ((k : ℕ) → k < first → share_of view.now k ≡ 0) →
-            IsAdded self.old weight mean (take rolls (shares_of view.now)) self.new }
+    /// Adds the means of the records of seven rolls, of which the first two are doubles and the
+    /// others none, and their shares of `first` to one before `end` rolls.
+    #[inline(always)]
+    pub fn add(&mut self, lent: &[RecordView<'_>; 7], first: u8, end: u8)
+        requires few { end ≤ 23 }
+        requires order { first ≤ end }
+        ensures { AreSevenAdded (λ i. mean_of (slice_index_or lent.now i []))
+            (λ i. share_of (slice_index_or lent.now i [])) first end self.old self.new }
     {
-        // a copy, whose parts stay known while sums are written
-        let view = view.copied();
-        self.weight += weight;
-        self.mean += u128::from(weight) * mean.numerator();
-        add_shares(&mut self.shares, weight, &view, first, rolls);
+        let mean = self.mean.wrapping_add(sum_of_means(lent));
+        self.mean = mean;
+        let seven = Seven::of(lent);
+        let (from, to) = seven.range(first, end);
+        add_told(&mut self.shares, lent, first, from);
+        add_stored(&mut self.shares, &seven, from, to);
+        add_told(&mut self.shares, lent, to, end);
     }
 
     /// Whether a number is one roll and a 36th of the means, and no more than 22 rolls. It is
@@ -77,70 +70,185 @@ impl RecordSums {
         ensures { IsTrue result ↔
             ((number ≤ 22 * whole) × (36 * number ≡ 36 * whole + self.now.mean)) }
     {
-        number <= MOST && 36 * number == 36 * WHOLE + self.mean
+        number <= MOST && number >= WHOLE && 36 * (number - WHOLE) == self.mean
     }
 
     /// Whether a number is a 36th of the shares of exactly `k` rolls, and so the share of one
     /// roll more; none is from 23 rolls on. It is compared without a division.
-    #[tactic(auto, unfolding(race_model::specs::LocalEquations::whole, crate::specs::RecordNumbers::share_room))]
     pub fn is_later_share(&self, k: u8, number: u128) -> bool
         requires { k ≤ 22 }
         ensures { IsTrue result ↔ (36 * number ≡ slice_index self.now.shares k) }
     {
-        number <= SHARE_ROOM && 36 * number == self.shares[usize::from(k)]
+        let sum = self.shares[usize::from(k)];
+        number <= u128::MAX / 36 && 36 * number == sum
     }
 }
 
-/// Adds the shares of a record of fewer than so many rolls with a weight, each cut to 114 bits. The
-/// weights 1 and 2, which most are, are told to the compiler, since they need no product.
-fn add_shares(shares: &mut [u128; 23], weight: u8, view: &RecordView<'_>, first: u8, rolls: u8)
-    requires small { (k : ℕ) → k < 23 → slice_index shares.old k ≤ 36 * share_room }
-    requires light { weight ≤ 36 }
-    requires few { rolls ≤ 23 }
-    requires order { first ≤ rolls }
-    ensures added { ((k : ℕ) → k < rolls → share_of view.now k ≤ whole) →
-        ((k : ℕ) → k < first → share_of view.now k ≡ 0) → (k : ℕ) → k < 23 →
-        slice_index shares.new k
-        ≡ slice_index shares.old k + weight * slice_index (take rolls (shares_of view.now)) k }
-    ensures bounded { (k : ℕ) → k < 23 →
-        slice_index shares.new k ≤ slice_index shares.old k + weight * share_room }
-{
-    match weight {
-        1 => add_weighed(shares, 1, view, first, rolls),
-        2 => add_weighed(shares, 2, view, first, rolls),
-        _ => add_weighed(shares, weight, view, first, rolls),
+/// The stored shares of the records of seven rolls.
+#[derive(Clone, Copy)]
+struct Seven<'a> {
+    first_double: StoredShares<'a>,
+    second_double: StoredShares<'a>,
+    first_other: StoredShares<'a>,
+    second_other: StoredShares<'a>,
+    third_other: StoredShares<'a>,
+    fourth_other: StoredShares<'a>,
+    fifth_other: StoredShares<'a>,
+}
+
+impl<'a> Seven<'a> {
+    ghost use Rattle.std.specs.Prelude.{◌≡◌, ℕ, ◌%◌, ◌^◌, ◌<◌, ◌≤◌, [], slice_index_or};
+    ghost use Rattle.race_model.specs.Files.{share_of};
+    ghost use Rattle.certificate.specs.Sevens.{of_seven};
+    ghost use Rattle.certificate.specs.StoredSevens.{IsStored, stored_sum};
+
+    /// Those of these records.
+    #[inline(always)]
+    fn of(lent: &[RecordView<'a>; 7]) -> Self
+        ensures { (k : ℕ) → IsStored result k →
+            stored_sum result k ≡ of_seven (λ i. share_of (slice_index_or lent.now i []) k) }
+    {
+        Seven {
+            first_double: lent[0].stored_shares(),
+            second_double: lent[1].stored_shares(),
+            first_other: lent[2].stored_shares(),
+            second_other: lent[3].stored_shares(),
+            third_other: lent[4].stored_shares(),
+            fourth_other: lent[5].stored_shares(),
+            fifth_other: lent[6].stored_shares(),
+        }
+    }
+
+    /// Of the numbers of rolls from `first` on and before `end` those whose shares all seven store:
+    /// from one on, and before another.
+    #[inline(always)]
+    fn range(&self, first: u8, end: u8) -> (u8, u8)
+        requires { first ≤ end }
+        ensures within { (first ≤ result.0) × (result.0 ≤ result.1) × (result.1 ≤ end) }
+        ensures stored { (k : ℕ) → result.0 ≤ k → k < result.1 → IsStored self.now k }
+    {
+        let from = first
+            .max(self.first_double.first)
+            .max(self.second_double.first)
+            .max(self.first_other.first)
+            .max(self.second_other.first)
+            .max(self.third_other.first)
+            .max(self.fourth_other.first)
+            .max(self.fifth_other.first)
+            .min(end);
+        let to = end
+            .min(self.first_double.end)
+            .min(self.second_double.end)
+            .min(self.first_other.end)
+            .min(self.second_other.end)
+            .min(self.third_other.end)
+            .min(self.fourth_other.end)
+            .min(self.fifth_other.end)
+            .max(from);
+        (from, to)
+    }
+
+    /// The sum of the shares of exactly `k` rolls, which all seven store, those that are no
+    /// doubles' twice, modulo 2 ^ 128.
+    #[inline(always)]
+    fn sum(&self, k: u8) -> u128
+        requires { IsStored self.now k }
+        ensures { result ≡ stored_sum self.now k % 2 ^ 128 }
+    {
+        sum_of_seven([
+            self.first_double.at(k),
+            self.second_double.at(k),
+            self.first_other.at(k),
+            self.second_other.at(k),
+            self.third_other.at(k),
+            self.fourth_other.at(k),
+            self.fifth_other.at(k),
+        ])
     }
 }
 
-/// The same, for each weight alike.
+/// Adds the stored shares of seven records, of `from` to one before `to` rolls.
 #[inline(always)]
-#[tactic(auto, unfolding(race_model::specs::LocalEquations::whole, crate::specs::RecordNumbers::share_room))]
-fn add_weighed(shares: &mut [u128; 23], weight: u8, view: &RecordView<'_>, first: u8, rolls: u8)
-    requires small { (k : ℕ) → k < 23 → slice_index shares.old k ≤ 36 * share_room }
-    requires light { weight ≤ 36 }
-    requires few { rolls ≤ 23 }
-    requires order { first ≤ rolls }
-    ensures added { ((k : ℕ) → k < rolls → share_of view.now k ≤ whole) →
-        ((k : ℕ) → k < first → share_of view.now k ≡ 0) → (k : ℕ) → k < 23 →
-        slice_index shares.new k
-        ≡ slice_index shares.old k + weight * slice_index (take rolls (shares_of view.now)) k }
-    ensures bounded { (k : ℕ) → k < 23 →
-        slice_index shares.new k ≤ slice_index shares.old k + weight * share_room }
+fn add_stored(shares: &mut [u128; 23], seven: &Seven<'_>, from: u8, to: u8)
+    requires stored { (k : ℕ) → from ≤ k → k < to → IsStored seven.now k }
+    requires few { to ≤ 23 }
+    requires order { from ≤ to }
+    ensures { AreSharesAdded (stored_sum seven.now) from to shares.old shares.new }
 {
-    // of which there are 23: so the compiler leaves the view's own test out
-    for k in first..rolls.min(23) {
-        let told = view.spread(k);
-        let share = cut(told);
-        shares[usize::from(k)] += u128::from(weight) * share;
+    for k in from..to {
+        let place = usize::from(k);
+        shares[place] = shares[place].wrapping_add(seven.sum(k));
     }
 }
 
-/// A number of at most the whole, as it is; of any other one the lower 114 bits.
+/// Adds the shares that the records of seven rolls tell, stored or not, of `from` to one before
+/// `to` rolls.
 #[inline(always)]
-#[tactic(auto, unfolding(race_model::specs::LocalEquations::whole, crate::specs::RecordNumbers::share_room))]
-fn cut(share: u128) -> u128
-    ensures same { share ≤ whole → result ≡ share }
-    ensures room { result ≤ share_room }
+fn add_told(shares: &mut [u128; 23], lent: &[RecordView<'_>; 7], from: u8, to: u8)
+    requires few { to ≤ 23 }
+    requires order { from ≤ to }
+    ensures { AreSharesAdded (λ k. of_seven (λ i. share_of (slice_index_or lent.now i []) k))
+        from to shares.old shares.new }
 {
-    share % SHARE_ROOM
+    for k in from..to {
+        let place = usize::from(k);
+        shares[place] = shares[place].wrapping_add(sum_told(lent, k));
+    }
+}
+
+/// The sum of the shares of exactly `k` rolls that seven records tell, those that are no doubles'
+/// twice, modulo 2 ^ 128.
+#[inline(always)]
+fn sum_told(lent: &[RecordView<'_>; 7], k: u8) -> u128
+    requires { k ≤ 22 }
+    ensures { result ≡ of_seven (λ i. share_of (slice_index_or lent.now i []) k) % 2 ^ 128 }
+{
+    sum_of_seven([
+        lent[0].spread(k),
+        lent[1].spread(k),
+        lent[2].spread(k),
+        lent[3].spread(k),
+        lent[4].spread(k),
+        lent[5].spread(k),
+        lent[6].spread(k),
+    ])
+}
+
+/// The same of their means.
+#[inline(always)]
+fn sum_of_means(lent: &[RecordView<'_>; 7]) -> u128
+    ensures { result ≡ of_seven (λ i. mean_of (slice_index_or lent.now i [])) % 2 ^ 128 }
+{
+    sum_of_seven([
+        lent[0].mean(),
+        lent[1].mean(),
+        lent[2].mean(),
+        lent[3].mean(),
+        lent[4].mean(),
+        lent[5].mean(),
+        lent[6].mean(),
+    ])
+}
+
+/// The sum of seven numbers, of which all but the first two count twice, modulo 2 ^ 128.
+#[inline(always)]
+fn sum_of_seven(numbers: [u128; 7]) -> u128
+    ensures { result ≡ of_seven (slice_index numbers) % 2 ^ 128 }
+{
+    let [
+        first_double,
+        second_double,
+        first_other,
+        second_other,
+        third_other,
+        fourth_other,
+        fifth_other,
+    ] = numbers;
+    let doubles = first_double.wrapping_add(second_double);
+    let others = first_other
+        .wrapping_add(second_other)
+        .wrapping_add(third_other)
+        .wrapping_add(fourth_other)
+        .wrapping_add(fifth_other);
+    doubles.wrapping_add(others).wrapping_add(others)
 }

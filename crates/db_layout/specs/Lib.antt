@@ -1,4 +1,5 @@
 pub mod HeaderFaults
 pub mod Records
+pub mod StoredShares
 pub mod WholeFiles
 pub mod Writes

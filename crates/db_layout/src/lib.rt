@@ -8,12 +8,14 @@ pub use places::{Place, most_rolls, offset_of, record_length};
 pub use record::{
     HEADER_BYTES, RECORD_BYTES, RecordView, read_long, read_short, read_wide, read_word,
 };
+pub use stored_shares::StoredShares;
 pub use write_fault::WriteFault;
 pub use writing::{law_record, write_bytes, write_header, write_record};
 
 pub mod header;
 pub mod places;
 pub mod record;
+pub mod stored_shares;
 pub mod trial;
 pub mod write_fault;
 pub mod writing;

@@ -5,9 +5,11 @@ ghost use Rattle.race_model.specs.Versions.{version_by, first_share, record_leng
 ghost use Rattle.race_model.specs.Files.{bytes_at, told_record, mean_of, play_of, share_of};
 ghost use Rattle.race_model.specs.ToldShares.{told_share};
 ghost use Rattle.std.specs.Int.{w16, w32, w64, w128, from_be_bytes};
+ghost use Rattle.db_layout.specs.StoredShares.{stored_share};
 
 use crate::header::{COMPACT_VERSION, Header};
-use crate::places::{most_rolls, record_length};
+use crate::places::{first_share, most_rolls, record_length, share_count};
+use crate::stored_shares::StoredShares;
 use fixed_fraction::WHOLE;
 use legal_plays::Roll;
 use std::marker::Model;
@@ -73,17 +75,6 @@ impl<'a> RecordView<'a> {
         }
     }
 
-    /// The same view: of a copy of its own a function keeps the parts while it writes elsewhere.
-    pub fn copied(&self) -> RecordView<'a>
-        ensures { result ≡ self.now }
-    {
-        RecordView {
-            bytes: self.bytes,
-            version: self.version,
-            pips: self.pips,
-        }
-    }
-
     /// The numerator over 36 ^ 22 of the mean number of
     /// rolls. Any number of 128 bits may stand there.
     pub fn mean(&self) -> u128
@@ -110,6 +101,20 @@ impl<'a> RecordView<'a> {
             return 0;
         }
         tell_share(self.bytes, self.version, self.pips, k)
+    }
+
+    /// The shares that it stores.
+    pub fn stored_shares(&self) -> StoredShares<'a>
+        ensures told { (k : ℕ) → result.first ≤ k → k < result.end →
+            stored_share result k ≡ share_of self.now k }
+        ensures few { result.end ≤ 23 }
+    {
+        let first = first_share(self.version);
+        StoredShares {
+            bytes: &self.bytes[58 - 16 * usize::from(first)..],
+            first,
+            end: first + share_count(self.version, self.pips),
+        }
     }
 }
 

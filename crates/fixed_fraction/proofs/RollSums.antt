@@ -4,12 +4,12 @@ use Rattle.std.proofs.Common.{Bor, map, sum_by, sum, refl, sym, ap, subst, ◌�
 use Rattle.std.proofs.lemmas.List.{take_all, get_or-map}
 use Rattle.std.proofs.lemmas.List.Sums.{sum_by-cons, sum_by_more, sum_by-take-le}
 use Rattle.race_model.specs.Dice.{Throw, one, all_rolls, roll_at, roll_index, weight}
-use Rattle.race_model.specs.LocalEquations.{whole, weighted}
+use Rattle.race_model.specs.LocalEquations.{whole}
 use Rattle.race_model.proofs.Dice.RollSums.{length-all_rolls, sum_by-weight, roll_index-range}
 use Rattle.race_model.proofs.Dice.Throws.{roll_of_index}
 use Rattle.race_model.proofs.Numbers.Sums.{sum_by-map, sum_by-equal, sum_by-zero}
 use Rattle.fixed_fraction.specs.Shares.{weighted_share}
-use Rattle.fixed_fraction.specs.Totals.{Totals, IsAdded, AreTotals, weighted_at}
+use Rattle.fixed_fraction.specs.Totals.{weighted_at}
 use Rattle.fixed_fraction.proofs.Pulls.{part_small}
 use Rattle.fixed_fraction.proofs.Shares.{sum_upto, sum_upto-same, sum_upto-zero, sum_upto-linear}
 use Rattle.fixed_fraction.proofs.Shares.{sum_upto-weighted_share}
@@ -31,34 +31,6 @@ weights-within i lt =
 -- a sum over 21 rolls is one over all
 pub all-rolls : (g : Throw → ℕ) → sum_by g (take 21 all_rolls) ≡ sum_by g all_rolls
 all-rolls g = ap (sum_by g) (take_all 21 all_rolls (omega (arith, length-all_rolls)))
-
--- one roll more
-pub totals-next : (mean : Throw → ℕ) (share : Throw → ℕ → ℕ) (i : ℕ) (sums more : Totals)
-    (shares : List ℕ) → i < 21 → AreTotals mean share i sums
-    → ((k : ℕ) → k < 23 → get_or shares k 0 ≡ share (roll_at i) k)
-    → IsAdded sums (weight (roll_at i)) (mean (roll_at i)) shares more
-    → AreTotals mean share (i + 1) more
-totals-next mean share i sums more shares lt are same added = record {
-  weights = rw (roll-more weight i lt) (omega (arith, added.weights, are.weights));
-  means = rw (roll-more (λ v. weight v * mean v) i lt) (omega (arith, added.means, are.means));
-  each = λ k few.
-      let part = ap (λ n. weight (roll_at i) * n) (same k few) in
-      rw (roll-more (λ v. weight v * share v k) i lt)
-      (omega (arith, added.each k few, are.each k few, part));
-}
-
--- .. and all 21
-pub totals-weight : (mean : Throw → ℕ) (share : Throw → ℕ → ℕ) (sums : Totals)
-    → AreTotals mean share 21 sums → sums.weight ≡ 36
-totals-weight mean share sums are = are.weights ∙ all-rolls weight ∙ sum_by-weight
-
-pub totals-mean : (mean : Throw → ℕ) (share : Throw → ℕ → ℕ) (sums : Totals)
-    → AreTotals mean share 21 sums → sums.mean ≡ weighted mean
-totals-mean mean share sums are = are.means ∙ all-rolls (λ v. weight v * mean v)
-
-pub totals-share : (mean : Throw → ℕ) (share : Throw → ℕ → ℕ) (sums : Totals) (k : ℕ) → k < 23
-    → AreTotals mean share 21 sums → get_or sums.shares k 0 ≡ weighted (λ v. share v k)
-totals-share mean share sums k few are = are.each k few ∙ all-rolls (λ v. weight v * share v k)
 
 -- the sum of 23 numbers, by their places
 sum-places : (xs : List ℕ) → length xs ≡ 23 → sum xs ≡ sum_upto 23 (λ k. get_or xs k 0)

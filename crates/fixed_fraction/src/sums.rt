@@ -1,10 +1,10 @@
 //! Weighted sums over the 21 rolls.
-ghost use Rattle.std.specs.Prelude.{◌≡◌, ℕ, suc, ◌+◌, ◌*◌, ◌%◌, ◌<◌, ◌≤◌, ◌↔◌, List, replicate};
-ghost use Rattle.std.specs.Prelude.{[], length, map, slice_index, slice_index_or, sum, sum_by, take};
+ghost use Rattle.std.specs.Prelude.{◌≡◌, ℕ, suc, ◌+◌, ◌*◌, ◌%◌, ◌<◌, ◌≤◌, ◌↔◌};
+ghost use Rattle.std.specs.Prelude.{[], length, map, slice_index, slice_index_or, sum};
 ghost use Rattle.std.specs.Prelude.{IsSome, IfSome};
-ghost use Rattle.race_model.specs.Dice.{Throw, all_rolls, roll_at, roll_index, weight};
+ghost use Rattle.race_model.specs.Dice.{roll_index};
 ghost use Rattle.race_model.specs.LocalEquations.{whole, weighted};
-ghost use Rattle.fixed_fraction.specs.Totals.{Totals, IsAdded, AreTotals, weighted_at};
+ghost use Rattle.fixed_fraction.specs.Totals.{weighted_at};
 
 use crate::scaled::{Scaled, WHOLE};
 use crate::spread::Spread;
@@ -160,28 +160,3 @@ fn sum_of_shares(spreads: &[&Spread; 21], k: u8) -> u128
     }
     total
 }
-
-/// How sums over the rolls are added up in the order of their indices, for any two numbers that
-/// go by the throw: there is room for each roll, and after 21 of them the sums are the weighted
-/// ones, and the weight is 36.
-pub fn law_sums()
-    ensures none { (mean : Throw → ℕ) (share : Throw → ℕ → ℕ) →
-        AreTotals mean share 0 (record { weight = 0; mean = 0; shares = replicate 23 0 }) }
-    ensures room { (mean : Throw → ℕ) (share : Throw → ℕ → ℕ) (i : ℕ) (sums : Totals) →
-        i < 21 → AreTotals mean share i sums → sums.weight + weight (roll_at i) ≤ 36 }
-    ensures within { (i w : ℕ) → i < 21 → w ≤ sum_by weight (take i all_rolls) →
-        (w + weight (roll_at i) ≤ 36)
-        × (w + weight (roll_at i) ≤ sum_by weight (take (i + 1) all_rolls)) }
-    ensures next { (mean : Throw → ℕ) (share : Throw → ℕ → ℕ) (i : ℕ) (sums more : Totals)
-        (shares : List ℕ) → i < 21 → AreTotals mean share i sums →
-        ((k : ℕ) → k < 23 → slice_index shares k ≡ share (roll_at i) k) →
-        IsAdded sums (weight (roll_at i)) (mean (roll_at i)) shares more →
-        AreTotals mean share (i + 1) more }
-    ensures weight { (mean : Throw → ℕ) (share : Throw → ℕ → ℕ) (sums : Totals) →
-        AreTotals mean share 21 sums → sums.weight ≡ 36 }
-    ensures mean { (mean : Throw → ℕ) (share : Throw → ℕ → ℕ) (sums : Totals) →
-        AreTotals mean share 21 sums → sums.mean ≡ weighted mean }
-    ensures shares { (mean : Throw → ℕ) (share : Throw → ℕ → ℕ) (sums : Totals) (k : ℕ) →
-        k < 23 → AreTotals mean share 21 sums →
-        slice_index sums.shares k ≡ weighted (λ v. share v k) }
-{}

@@ -1,20 +1,24 @@
--- What is recorded is the best result, or another number: it is right where it is the rank of a
--- result whose mean is no greater than that of the best.
-use Rattle.std.proofs.Common.{◌≡◌, ℕ, List, Some, true, false, sym, subst, ◌∙◌, arith, rules}
-use Rattle.std.proofs.lemmas.Bool.{false≢true}
-use Rattle.race_model.specs.Files.{mean_at}
+-- The best is known to be one of the results with the least recorded mean.
+use Rattle.std.proofs.Common.{◌≡◌, OnOk, IfErr, sym, ap, subst, ◌∙◌, arith}
+use Rattle.race_model.specs.Dice.{roll_at}
+use Rattle.race_model.specs.Files.{mean_at, play}
+use Rattle.race_model.specs.LocalEquations.{IsPlayed, IsBest}
+use Rattle.race_model.specs.Plays.{Legal}
 use Rattle.race_model.specs.BestPlays.{IsBestPlay}
-use Rattle.db_reader.specs.Reads.{HasRecord}
-use Rattle.certificate.specs.PlayFaults.{IsResult}
-use Rattle.certificate.proofs.PlayTests.{result-of_legal, rank-of_result, is_played, not_played, not_best, is_best}
+use Rattle.certificate.specs.PlayFaults.{Applies}
+use Rattle.certificate.proofs.PlayTests.{result-of_legal, is_played, is_best}
 use Rattle.certificate.proofs.plays.check_recorded.Given.{Over}
-use Rattle.certificate.proofs.plays.check_recorded.Goals.{In-Ok-mean_at-2}
+use Rattle.certificate.proofs.plays.check_recorded.Goals.{After-unwrap-roll}
 use Rattle.certificate.proofs.plays.check_recorded.Goals as goal
 
-pub returns-in-Ok-clause-right : goal.returns-in-Ok-clause-right
-returns-in-Ok-clause-right g c file told read =
+-- the roll is that of the index
+roll_is : (g : Over) (c : After-unwrap-roll g) → c.unwrap-roll.result ≡ roll_at c.args.index
+roll_is g c = rw c.unwrap-roll.ensures at c.from_index.ensures.value
+
+pub returns-then-recorded-best-clause-right : goal.returns-then-recorded-best-clause-right
+returns-then-recorded-best-clause-right g c file told read =
     let x = c.args.position.now in
-    let v = c.args.roll in
+    let v = roll_at c.args.index in
     let p = c.args.recorded in
     let best =
     subst (IsBestPlay (mean_at file) x v) (sym c.if-recorded-best.true)
@@ -23,58 +27,21 @@ returns-in-Ok-clause-right g c file told read =
       is_best x v file p read p best (omega arith),
     )
 
-pub returns-then-not-is_result-clause-fault : goal.returns-then-not-is_result-clause-fault
-returns-then-not-is_result-clause-fault g c file told read =
-    let no : c.is_result.result ≡ false = search rules in
-    not_played c.args.position.now c.args.roll file c.args.recorded read
-    (λ is. false≢true (sym no ∙ c.is_result.ensures.1 is))
+pub check_other-requires-clause-records : goal.check_other-requires-clause-records
+check_other-requires-clause-records g c y legal =
+    let at = (goal.at.check_other-requires-clause-records g c).After-unwrap-roll in
+    c.requires.records y (subst (λ v. Legal c.args.position.now v y) (roll_is g at) legal)
 
-pub mean_at-requires : goal.mean_at-requires
-mean_at-requires g c =
-    let y = c.requires.result_best in
-    subst (HasRecord (g.T.Table.accepted c.args.table.now)) y.2 (c.requires.records y.0 y.1)
-
-pub mean_at-requires-2 : goal.mean_at-requires-2
-mean_at-requires-2 g c =
-    let yes : c.is_result.result ≡ true = search rules in
-    rw (c.in-Ok-mean_at.ensures {u = tt}).stays.accepted
-    (rank-of_result c.args.position.now c.args.roll
-    (HasRecord (g.T.Table.accepted c.args.table.now)) c.requires.records c.args.recorded
-    (c.is_result.ensures.0 yes))
-
--- another number than the best, whose mean was read after that of the best
-module _ (g : Over) (c : In-Ok-mean_at-2 g) where
-  result : IsResult c.args.position.now c.args.roll c.args.recorded
-  result =
-      let yes : c.is_result.result ≡ true = search rules in
-      c.is_result.ensures.0 yes
-
-  means_are : (file : List ℕ) → g.T.Table.tells c.args.table.now ≡ Some file →
-      (c.in-Ok-mean_at.least ≡ mean_at file c.args.best)
-      × (c.in-Ok-mean_at-2.mean ≡ mean_at file c.args.recorded)
-  means_are file told =
-      let first = c.in-Ok-mean_at.ensures {u = tt} in
-      let second = c.in-Ok-mean_at-2.ensures {u = tt} in
-      (first.told file told, second.told file (first.stays.told ∙ told))
-
-pub returns-in-Ok-mean_at-2-clause-fault : goal.returns-in-Ok-mean_at-2-clause-fault
-returns-in-Ok-mean_at-2-clause-fault g c file told read =
+pub returns-clause-right : goal.returns-clause-right
+returns-clause-right g c file told read =
+    let at = (goal.at.returns-clause-right g c).After-unwrap-roll in
     let x = c.args.position.now in
-    let v = c.args.roll in
-    let at = (goal.at.returns-in-Ok-mean_at-2-clause-fault g c).In-Ok-mean_at-2 in
-    let means = means_are g at file told in (
-      is_played x v file c.args.recorded read (result g at),
-      not_best x v file c.args.recorded read c.args.best (c.requires.best file told)
-          (omega (arith, means, c.if-least-mean.true)),
-    )
+    subst (λ v. OnOk c.check_other.result (IsPlayed file x v × IsBest file x v)) (roll_is g at)
+    (c.check_other.ensures.right file told (read ∙ ap (play file x) (sym (roll_is g at))))
 
-pub returns-in-Ok-2-clause-right : goal.returns-in-Ok-2-clause-right
-returns-in-Ok-2-clause-right g c file told read =
+pub returns-clause-fault : goal.returns-clause-fault
+returns-clause-fault g c file told read =
+    let at = (goal.at.returns-clause-fault g c).After-unwrap-roll in
     let x = c.args.position.now in
-    let v = c.args.roll in
-    let at = (goal.at.returns-in-Ok-2-clause-right g c).In-Ok-mean_at-2 in
-    let means = means_are g at file told in (
-      is_played x v file c.args.recorded read (result g at),
-      is_best x v file c.args.recorded read c.args.best (c.requires.best file told)
-          (omega (arith, means, c.if-least-mean.false)),
-    )
+    subst (λ v. IfErr c.check_other.result (Applies file x v)) (roll_is g at)
+    (c.check_other.ensures.fault file told (read ∙ ap (play file x) (sym (roll_is g at))))
