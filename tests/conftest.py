@@ -27,6 +27,10 @@ def pytest_addoption(parser):
         "--number-trials",
         help="the program of crates/number_trials, in place of the one that was proved here",
     )
+    parser.addoption(
+        "--board-trials",
+        help="the program of crates/board_trials, in place of the one that was proved here",
+    )
     parser.addoption("--by-hand", action="store_true", help="run what takes long, too")
 
 
@@ -125,6 +129,12 @@ def trials(request):
 def number_trials(request):
     """The program of crates/number_trials."""
     return program_of(request, "number_trials", "--number-trials")
+
+
+@pytest.fixture(scope="session")
+def board_trials(request):
+    """The program of crates/board_trials."""
+    return program_of(request, "board_trials", "--board-trials")
 
 
 @pytest.fixture(scope="session")
