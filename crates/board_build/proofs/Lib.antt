@@ -3,3 +3,5 @@ pub mod Counts
 pub mod NextRecords
 pub mod Parts
 pub mod Files
+pub mod SameBytes
+pub mod Unique

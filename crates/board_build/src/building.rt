@@ -22,11 +22,11 @@ const POSITIONS: usize = 54264;
 /// Builds the board file of a pip bound in the first bytes of a room, and says how many they are:
 /// for each position of at most so many pips the least mean number of rolls, for each roll the
 /// lowest rank of the results that reach it, and for each number of throws how many sequences of
-/// so many end the game with the last one. It takes no memory but the stack, of which it needs
-/// 0.7 MB. `OverBound` where the bound is over 90, and else `Room` where the room is smaller than
-/// the file; then the room is as it was. (What is counted is that of a one-sided database of the
-/// GNU Backgammon manual; the exact numbers, the file and the tie rule are this project's
-/// profile.)
+/// so many end the game with the last one. No other bytes are the built file of that bound
+/// (`law_built_boards`). It takes no memory but the stack, of which it needs some 0.7 MB.
+/// `OverBound` where the bound is over 90, and else `Room` where the room is smaller than the
+/// file; then the room is as it was. (What is counted is that of a one-sided database of the GNU
+/// Backgammon manual; the exact numbers, the file and the tie rule are this project's profile.)
 pub fn build_board(bound: u8, room: &mut [u8]) -> Result<usize, BoardBuildFault>
     ensures built { IfOk result (λ count. IsBuiltBoard bound (take count room.new)) }
     ensures room { IfOk result (λ count. count ≤ length room.old) }
