@@ -3,10 +3,11 @@
 //! no state. It rests on `board_layout` for the records, on `legal_plays` for plays and results, on
 //! `fixed_fraction` for exact numbers, on `ranking` for ranks, and on `race_model` for what each
 //! answer is. The crates above may use that each answer is what the definitions say of a right
-//! board file. Where somebody changes the bytes meanwhile no call reads beside them: places are
-//! found by the header that was accepted.
+//! board file. Where somebody changes the bytes meanwhile no call reads beside them: what reads
+//! them, `lent_board`, knows how many they are, and nothing of what they are.
 #![tactic(auto)]
 
+mod lent_board;
 mod lists;
 mod turns;
 mod whole_board;

@@ -13,6 +13,7 @@ ghost use Rattle.ranking.specs.Tables.{IsRankTable};
 ghost use Rattle.fixed_fraction.specs.Board.{board_whole, part};
 ghost use Rattle.board.specs.Accepted.{IsAccepted};
 
+use crate::lent_board::LentBoard;
 use board_layout::{BoardHeader, BoardRecord};
 use db_layout::most_rolls;
 use fixed_fraction::{BoardMean, LongCount, ShortCount, WideFraction, board_mean_and_epc};
@@ -88,18 +89,15 @@ impl<'a> Board<'a> {
         self.ranks
     }
 
-    /// The record of a rank.
-    fn record_ranked(&self, rank: u16) -> Option<BoardRecord<'a>>
-        requires { rank < count_to (bound_of self.now) }
-        ensures some { IsSome result }
-        ensures record { IfSome result (λ seen. seen ≡ record {
-          pips = pips_of (at_rank rank);
-          bytes = board_record self.now rank;
-        }) }
+    /// The bytes, with what places in them are found by.
+    fn lent(&self) -> LentBoard<'a>
+        ensures bytes { result.bytes.now ≡ self.now }
+        ensures count { result.header.count ≡ count_to (bound_of self.now) }
     {
-        let place = self.header.find(rank);
-        let bytes = &self.bytes[place.offset..place.offset + place.length];
-        BoardRecord::new(bytes, place.pips)
+        LentBoard {
+            bytes: self.bytes,
+            header: self.header,
+        }
     }
 
     /// The record of a position of at most the bound.
@@ -113,7 +111,7 @@ impl<'a> Board<'a> {
         ensures position { IsPosition position.now }
     {
         let _pips = position.pips();
-        self.record_ranked(self.ranks.rank(position))
+        self.lent().record_at(self.ranks.rank(position))
     }
 
     /// The least mean number of rolls of a position of at most the bound over all strategies, also

@@ -1,4 +1,4 @@
-use Rattle.std.proofs.Common.{◌≡◌, ℕ, IfSome, ap, subst₂, ◌∙◌, arith}
+use Rattle.std.proofs.Common.{◌≡◌, ℕ, List, IfSome, ap, subst, subst₂, ◌∙◌, arith}
 use Rattle.race_model.specs.Positions.{Board, pips}
 use Rattle.race_model.specs.Ranks.{at_rank}
 use Rattle.race_model.specs.Files.{bound_of}
@@ -7,11 +7,12 @@ use Rattle.race_model.proofs.Ranks.RankOrder.{rank_within, at_rank-rank, count_t
 use Rattle.board_layout.specs.Stored.{Stored}
 use Rattle.board.proofs.whole_board.Board.record.Goals as goal
 
-pub record_ranked-requires : goal.record_ranked-requires
-record_ranked-requires c =
+pub record_at-requires : goal.record_at-requires
+record_at-requires c =
     let x = c.args.position.now in
     omega (
       arith,
+      c.lent.ensures.count,
       c.rank.ensures.value,
       (rank_within x c.pips-pips.ensures.position).1,
       count_to-rises (pips x) (bound_of c.args.self.now) c.requires,
@@ -20,7 +21,11 @@ record_ranked-requires c =
 pub returns-clause-record : goal.returns-clause-record
 returns-clause-record c =
     subst₂
-    (λ (y : Board) (r : ℕ). IfSome c.record_ranked.result (λ (seen : Stored).
+    (λ (y : Board) (r : ℕ). IfSome c.record_at.result (λ (seen : Stored).
     seen ≡ record { pips = pips y; bytes = board_record c.args.self.now r }))
     (ap at_rank c.rank.ensures.value ∙ at_rank-rank c.args.position.now c.pips-pips.ensures.position)
-    c.rank.ensures.value c.record_ranked.ensures.record
+    c.rank.ensures.value
+    (subst
+    (λ (f : List ℕ). IfSome c.record_at.result (λ (seen : Stored).
+    seen ≡ record { pips = pips (at_rank c.rank.result); bytes = board_record f c.rank.result }))
+    c.lent.ensures.bytes c.record_at.ensures.record)

@@ -1,0 +1,38 @@
+//! Bytes that somebody lends, and the records in them. All that is known of the bytes here is how
+//! many they are: each place is found by the header that is kept beside them, so no place depends
+//! on what the bytes are.
+ghost use Rattle.std.specs.Prelude.{◌≡◌, ◌<◌, ◌≤◌, length, IsSome, IfSome};
+ghost use Rattle.race_model.specs.Positions.{pips};
+ghost use Rattle.race_model.specs.Ranks.{at_rank};
+ghost use Rattle.race_model.specs.BoardFiles.{board_place, board_record};
+
+use board_layout::{BoardHeader, BoardRecord};
+
+/// Bytes that somebody lends, at least as many as a board file with a header has. No fact is kept
+/// of what they are, and no function asks for one.
+#[derive(Drop)]
+pub struct LentBoard<'a> {
+    /// The bytes, as many as they were when they were checked, whatever they are by now.
+    pub bytes: &'a [u8],
+
+    /// The header of the board file that they were.
+    pub header: BoardHeader,
+
+    pub ghost sized: { board_place header.count ≤ length bytes.now },
+}
+
+impl<'a> LentBoard<'a> {
+    /// What stands for the record of a rank.
+    pub fn record_at(&self, rank: u16) -> Option<BoardRecord<'a>>
+        requires { rank < self.now.header.count }
+        ensures some { IsSome result }
+        ensures record { IfSome result (λ seen. seen ≡ record {
+          pips = pips (at_rank rank);
+          bytes = board_record self.now.bytes.now rank;
+        }) }
+    {
+        let place = self.header.find(rank);
+        let bytes = &self.bytes[place.offset..place.offset + place.length];
+        BoardRecord::new(bytes, place.pips)
+    }
+}
