@@ -5,7 +5,7 @@ ghost use Rattle.std.specs.Prelude.{slice_index, slice_index_or};
 ghost use Rattle.race_model.specs.LocalEquations.{whole};
 ghost use Rattle.race_model.specs.Files.{mean_of, share_of};
 ghost use Rattle.certificate.specs.Sevens.{of_seven, AreSharesAdded, AreSevenAdded};
-ghost use Rattle.certificate.specs.StoredSevens.{IsStored, stored_sum};
+ghost use Rattle.certificate.specs.StoredSevens.{HasBegun, IsStored, share_or_none, stored_sum, rest_sum};
 
 use db_layout::{RecordView, StoredShares};
 use fixed_fraction::{MOST, WHOLE};
@@ -60,7 +60,7 @@ impl RecordSums {
         let (from, to) = seven.range(first, end);
         add_told(&mut self.shares, lent, first, from);
         add_stored(&mut self.shares, &seven, from, to);
-        add_told(&mut self.shares, lent, to, end);
+        add_rest(&mut self.shares, &seven, to, end);
     }
 
     /// Whether a number is one roll and a 36th of the means, and no more than 22 rolls. It is
@@ -97,16 +97,14 @@ struct Seven<'a> {
 }
 
 impl<'a> Seven<'a> {
-    ghost use Rattle.std.specs.Prelude.{◌≡◌, ℕ, ◌%◌, ◌^◌, ◌<◌, ◌≤◌, [], slice_index_or};
-    ghost use Rattle.race_model.specs.Files.{share_of};
-    ghost use Rattle.certificate.specs.Sevens.{of_seven};
-    ghost use Rattle.certificate.specs.StoredSevens.{IsStored, stored_sum};
+    ghost use Rattle.std.specs.Prelude.{◌≡◌, ℕ, ◌%◌, ◌^◌, ◌<◌, ◌≤◌};
+    ghost use Rattle.certificate.specs.StoredSevens.{AreStoredOf, HasBegun, IsStored};
+    ghost use Rattle.certificate.specs.StoredSevens.{stored_sum, rest_sum};
 
     /// Those of these records.
     #[inline(always)]
     fn of(lent: &[RecordView<'a>; 7]) -> Self
-        ensures { (k : ℕ) → IsStored result k →
-            stored_sum result k ≡ of_seven (λ i. share_of (slice_index_or lent.now i []) k) }
+        ensures { AreStoredOf result lent.now }
     {
         Seven {
             first_double: lent[0].stored_shares(),
@@ -119,13 +117,14 @@ impl<'a> Seven<'a> {
         }
     }
 
-    /// Of the numbers of rolls from `first` on and before `end` those whose shares all seven store:
-    /// from one on, and before another.
+    /// Of the numbers of rolls from `first` on and before `end` those whose shares all seven
+    /// store: from one on, and before another.
     #[inline(always)]
     fn range(&self, first: u8, end: u8) -> (u8, u8)
         requires { first ≤ end }
         ensures within { (first ≤ result.0) × (result.0 ≤ result.1) × (result.1 ≤ end) }
         ensures stored { (k : ℕ) → result.0 ≤ k → k < result.1 → IsStored self.now k }
+        ensures begun { (k : ℕ) → result.1 ≤ k → k < end → HasBegun self.now k }
     {
         let from = first
             .max(self.first_double.first)
@@ -165,6 +164,33 @@ impl<'a> Seven<'a> {
             self.fifth_other.at(k),
         ])
     }
+
+    /// The same, where some may end before; none begins later.
+    #[inline(always)]
+    fn sum_of_rest(&self, k: u8) -> u128
+        requires { HasBegun self.now k }
+        ensures { result ≡ rest_sum self.now k % 2 ^ 128 }
+    {
+        sum_of_seven([
+            or_none(&self.first_double, k),
+            or_none(&self.second_double, k),
+            or_none(&self.first_other, k),
+            or_none(&self.second_other, k),
+            or_none(&self.third_other, k),
+            or_none(&self.fourth_other, k),
+            or_none(&self.fifth_other, k),
+        ])
+    }
+}
+
+/// A share that is stored, or none beyond these.
+#[inline(always)]
+#[tactic(auto, unfolding(crate::specs::StoredSevens::share_or_none))]
+fn or_none(shares: &StoredShares<'_>, k: u8) -> u128
+    requires { shares.now.first ≤ k }
+    ensures { result ≡ share_or_none shares.now k }
+{
+    if k < shares.end { shares.at(k) } else { 0 }
 }
 
 /// Adds the stored shares of seven records, of `from` to one before `to` rolls.
@@ -178,6 +204,21 @@ fn add_stored(shares: &mut [u128; 23], seven: &Seven<'_>, from: u8, to: u8)
     for k in from..to {
         let place = usize::from(k);
         shares[place] = shares[place].wrapping_add(seven.sum(k));
+    }
+}
+
+/// Adds the shares of seven records, some of which may store no more, of `from` to one before `to`
+/// rolls.
+#[inline(always)]
+fn add_rest(shares: &mut [u128; 23], seven: &Seven<'_>, from: u8, to: u8)
+    requires begun { (k : ℕ) → from ≤ k → k < to → HasBegun seven.now k }
+    requires few { to ≤ 23 }
+    requires order { from ≤ to }
+    ensures { AreSharesAdded (rest_sum seven.now) from to shares.old shares.new }
+{
+    for k in from..to {
+        let place = usize::from(k);
+        shares[place] = shares[place].wrapping_add(seven.sum_of_rest(k));
     }
 }
 

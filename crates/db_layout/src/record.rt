@@ -103,10 +103,12 @@ impl<'a> RecordView<'a> {
         tell_share(self.bytes, self.version, self.pips, k)
     }
 
-    /// The shares that it stores.
+    /// The shares that it stores. There are none beyond them.
     pub fn stored_shares(&self) -> StoredShares<'a>
         ensures told { (k : ℕ) → result.first ≤ k → k < result.end →
             stored_share result k ≡ share_of self.now k }
+        ensures none { (k : ℕ) → k ≤ 22 → result.first ≤ k → result.end ≤ k →
+            share_of self.now k ≡ 0 }
         ensures few { result.end ≤ 23 }
     {
         let first = first_share(self.version);

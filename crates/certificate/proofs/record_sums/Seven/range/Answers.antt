@@ -56,3 +56,30 @@ returns-clause-stored c k low high =
       fourth_other = (omega (arith, at.0, h.0, g.1), omega (arith, at.1, u.0, t.1));
       fifth_other = (omega (arith, at.0, h.1), omega (arith, at.1, u.1));
     }
+
+-- a number that is at least the greater of a lesser end and the lesser of a bound and an end, and
+-- under the end
+beyond : (most end from least to k : ℕ) → from ≡ min most end → to ≡ max least from → to ≤ k
+    → k < end → most ≤ k
+beyond most end from least to k is to_is low high = omega (arith, is, to_is, low, high)
+
+pub returns-clause-begun : goal.returns-clause-begun
+returns-clause-begun c k low high =
+    let a = over _ _ _ c.max.ensures in
+    let b = over _ _ _ c.max-2.ensures in
+    let d = over _ _ _ c.max-3.ensures in
+    let e = over _ _ _ c.max-4.ensures in
+    let f = over _ _ _ c.max-5.ensures in
+    let g = over _ _ _ c.max-6.ensures in
+    let h = over _ _ _ c.max-7.ensures in
+    let at = beyond c.max-7.result c.args.end c.min-from.result c.min-7.result c.max-to.result k
+    c.min-from.ensures c.max-to.ensures low high in
+    record {
+      first_double = omega (arith, at, h.0, g.0, f.0, e.0, d.0, b.0, a.1);
+      second_double = omega (arith, at, h.0, g.0, f.0, e.0, d.0, b.1);
+      first_other = omega (arith, at, h.0, g.0, f.0, e.0, d.1);
+      second_other = omega (arith, at, h.0, g.0, f.0, e.1);
+      third_other = omega (arith, at, h.0, g.0, f.1);
+      fourth_other = omega (arith, at, h.0, g.1);
+      fifth_other = omega (arith, at, h.1);
+    }

@@ -1,7 +1,7 @@
 -- The shares that are stored are those that the record tells.
 use Rattle.std.proofs.Common.{◌≡◌, ℕ, zero, suc, ◌+◌, ◌-◌, ◌*◌, ◌<◌, ◌≤◌, List, length, take, drop}
 use Rattle.std.proofs.Common.{refl, sym, ap, ◌∙◌, arith, take-take, cond}
-use Rattle.std.proofs.lemmas.Bool.{le-leb}
+use Rattle.std.proofs.lemmas.Bool.{le-leb, lt-leb}
 use Rattle.std.proofs.lemmas.List.{drop-drop, drop-take}
 use Rattle.std.specs.Int.{w128, from_be_bytes}
 use Rattle.race_model.specs.Horizon.{most_rolls}
@@ -21,6 +21,14 @@ told-itself full p g k from under = refl
 told-itself compact p g zero from under = absurd (omega arith)
 told-itself compact p g (suc k) from under =
     ap (λ b. cond b (g (suc k)) 0) (le-leb (suc k) (most_rolls p) (omega (arith, under)))
+
+-- .. and one beyond those that are stored is none
+told-none : (version : Version) (p : ℕ) (g : ℕ → ℕ) (k : ℕ) → k ≤ 22 → first_share version ≤ k
+    → first_share version + share_count version p ≤ k → told_share version p g k ≡ 0
+told-none full p g k few from past = absurd (omega (arith, few, past))
+told-none compact p g zero few from past = absurd (omega arith)
+told-none compact p g (suc k) few from past =
+    ap (λ b. cond b (g (suc k)) 0) (lt-leb (suc k) (most_rolls p) (omega (arith, past)))
 
 -- the bytes of a part that begins at a place
 part_bytes : (bytes : List ℕ) (n m place : ℕ) → place + 16 ≤ m
@@ -77,3 +85,14 @@ returns-clause-told c k from under =
     (most_rolls-most inside.pips c.self.invariant.1) c.self.invariant.0
     (omega (arith, first, from)) (omega (arith, first, c.share_count.ensures, under))
     ∙ ap (λ l. share_of l k) c.self.view_is
+
+pub returns-clause-none : goal.returns-clause-none
+returns-clause-none c k few from past =
+    let inside = c.self.inside in
+    let version = version_by inside.version in
+    let first = c.first_share-first.ensures in
+    sym (ap (λ l. share_of l k) c.self.view_is)
+    ∙ told_shares version inside.pips inside.bytes.now k
+    (most_rolls-most inside.pips c.self.invariant.1) c.self.invariant.0 few
+    ∙ told-none version inside.pips (λ n. share_of inside.bytes.now (n - first_share version)) k
+    few (omega (arith, first, from)) (omega (arith, first, c.share_count.ensures, past))
