@@ -1,15 +1,13 @@
 //! The reply to a line, by an accepted board file.
-ghost use Rattle.std.specs.Prelude.{◌≡◌, ℕ, ◌≤◌, ◌↔◌, List, [], ◌∷◌, ◌++◌, IsTrue, IsSome, MatchOption};
+ghost use Rattle.std.specs.Prelude.{◌≡◌, ◌≤◌, [], ◌∷◌, ◌++◌, IsSome};
 ghost use Rattle.arrayvec.specs.ArrayString.{array_string_len};
 ghost use Rattle.race_model.specs.Positions.{pips};
 ghost use Rattle.race_model.specs.Plays.{Legal};
 ghost use Rattle.race_model.specs.Files.{bound_of};
-ghost use Rattle.race_model.specs.Queries.{subject, AsksOfFinished, HasResult, IsQuery, HasTooMany};
-ghost use Rattle.race_model.specs.Queries.{IsRefused, mean_query, dist_query, play_query, loss_query, moves_query};
+ghost use Rattle.race_model.specs.Queries.{mean_query, dist_query, play_query, loss_query, moves_query};
 ghost use Rattle.race_model.specs.BookReplies.{IsAnswerIn, IsReplyIn};
 ghost use Rattle.race_model.specs.BoardFiles.{board_book};
 ghost use Rattle.epc_query.specs.Readings.{asked};
-ghost use Rattle.epc_query.specs.Texts.{why};
 ghost use Rattle.epc_query.specs.Faults.{IsAnswerable};
 
 use crate::text::{
@@ -17,66 +15,9 @@ use crate::text::{
     put_board_rank, put_board_refusal,
 };
 use board::Board;
-use epc_query::{LineFault, Query, Refusal, read_query};
+use epc_query::{LineFault, Query, Refusal, read_query, refusal};
 use home_board::Position;
-use legal_plays::{Roll, play_to};
-
-/// The position that a query is about.
-fn subject(query: &Query) -> Position
-    ensures { result ≡ subject (asked query.now) }
-{
-    match query {
-        Query::Mean(position)
-        | Query::Dist(position)
-        | Query::Play(position, _)
-        | Query::Loss(position, _, _)
-        | Query::Moves(position, _)
-        | Query::Rank(position) => *position,
-    }
-}
-
-/// Whether a play is asked of the finished position.
-fn asks_of_finished(query: &Query) -> bool
-    ensures { IsTrue result ↔ AsksOfFinished (asked query.now) }
-{
-    match query {
-        Query::Play(position, _) | Query::Loss(position, _, _) | Query::Moves(position, _) => {
-            position.is_finished()
-        }
-        Query::Mean(_) | Query::Dist(_) | Query::Rank(_) => false,
-    }
-}
-
-/// Whether the roll leads to the position whose loss is asked, where one is asked.
-fn has_result(query: &Query) -> bool
-    ensures { IsTrue result ↔ HasResult (asked query.now) }
-{
-    match query {
-        Query::Loss(position, roll, to) => play_to(position, *roll, to).is_some(),
-        Query::Mean(_) | Query::Dist(_) | Query::Play(_, _) | Query::Moves(_, _) | Query::Rank(_) =>
-            true,
-    }
-}
-
-/// Why a query is refused by a board file of a bound, whose positions have at most 15 checkers;
-/// none exactly where it is answered.
-fn refusal(query: &Query, bound: u8) -> Option<Refusal>
-    ensures { MatchOption result (IsAnswerable bound (asked query.now))
-        (λ refusal. (line : List ℕ) → IsQuery line (asked query.now)
-        → ¬ HasTooMany (asked query.now)
-        → IsRefused bound line (why refusal)) }
-{
-    if subject(query).pips() > bound {
-        return Some(Refusal::OverBound);
-    }
-    if asks_of_finished(query) {
-        return Some(Refusal::Finished);
-    }
-    if !has_result(query) {
-        return Some(Refusal::NotLegal);
-    }
-    None
-}
+use legal_plays::Roll;
 
 /// Makes a text the reply to a line by a board file; the line comes without its line feed, as the
 /// text does: what the file says, or why the line is refused. Nothing is missing unless the bytes

@@ -120,7 +120,7 @@ fn damage(rt: &impl Print, file: &mut [u8], from: u16, step: u16) -> io::Result<
             continue;
         }
         let place = header.find(rank);
-        let at = place.offset + usize::from(rank) % place.length;
+        let at = place.offset.wrapping_add(usize::from(rank) % place.length);
         if at < file.len() {
             file[at] ^= 1 << (rank % 8);
             match check_board(file) {

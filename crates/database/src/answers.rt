@@ -1,63 +1,23 @@
 //! The reply to a line.
-ghost use Rattle.std.specs.Prelude.{◌≡◌, ℕ, ◌≤◌, ◌↔◌, List, [], ◌∷◌, ◌++◌, IsTrue, Some, IsSome, MatchOption};
+ghost use Rattle.std.specs.Prelude.{◌≡◌, ℕ, ◌≤◌, List, [], ◌∷◌, ◌++◌, Some, IsSome};
 ghost use Rattle.arrayvec.specs.ArrayString.{array_string_len};
 ghost use Rattle.race_model.specs.Positions.{pips};
 ghost use Rattle.race_model.specs.Files.{version_of, bound_of};
-ghost use Rattle.race_model.specs.Queries.{subject, AsksOfFinished, HasResult, IsQuery, HasTooMany};
-ghost use Rattle.race_model.specs.Queries.{mean_query, IsRefused, IsAccepted};
+ghost use Rattle.race_model.specs.Queries.{mean_query, IsAccepted};
 ghost use Rattle.race_model.specs.Replies.{IsReply};
 ghost use Rattle.epc_query.specs.Readings.{asked};
-ghost use Rattle.epc_query.specs.Texts.{why};
 ghost use Rattle.epc_query.specs.Faults.{IsAnswerable};
 
 use crate::database::Database;
 use db_layout::WriteFault;
 use epc_query::{
     Answers, LineFault, Query, Refusal, RunFault, Text, laws, put_dist, put_loss, put_mean,
-    put_play, put_rank, put_refusal, read_mean, read_query, write_line,
+    put_play, put_rank, put_refusal, read_mean, read_query, refusal, write_line,
 };
 use fixed_fraction::mean_and_epc;
 use home_board::Position;
-use legal_plays::play_to;
 use std::alloc::Global;
 use std::io::Write;
-
-/// The position that a query is about.
-fn subject(query: &Query) -> Position
-    ensures { result ≡ subject (asked query.now) }
-{
-    match query {
-        Query::Mean(position)
-        | Query::Dist(position)
-        | Query::Play(position, _)
-        | Query::Loss(position, _, _)
-        | Query::Moves(position, _)
-        | Query::Rank(position) => *position,
-    }
-}
-
-/// Whether a play is asked of the finished position.
-fn asks_of_finished(query: &Query) -> bool
-    ensures { IsTrue result ↔ AsksOfFinished (asked query.now) }
-{
-    match query {
-        Query::Play(position, _) | Query::Loss(position, _, _) | Query::Moves(position, _) => {
-            position.is_finished()
-        }
-        Query::Mean(_) | Query::Dist(_) | Query::Rank(_) => false,
-    }
-}
-
-/// Whether the roll leads to the position whose loss is asked, where one is asked.
-fn has_result(query: &Query) -> bool
-    ensures { IsTrue result ↔ HasResult (asked query.now) }
-{
-    match query {
-        Query::Loss(position, roll, to) => play_to(position, *roll, to).is_some(),
-        Query::Mean(_) | Query::Dist(_) | Query::Play(_, _) | Query::Moves(_, _) | Query::Rank(_) =>
-            true,
-    }
-}
 
 impl<'a> Database<'a> {
     /// Makes a text the reply to a line, which comes without its line feed, as the text does: what
@@ -84,7 +44,7 @@ impl<'a> Database<'a> {
         ensures len { array_string_len text.new ≤ 12070 }
     {
         match read_query(line) {
-            Ok(query) => match self.refusal(&query) {
+            Ok(query) => match refusal(&query, self.bound()) {
                 None => self.put_answer(&query, text),
                 Some(refusal) => {
                     put_refusal(text, refusal);
@@ -115,26 +75,6 @@ impl<'a> Database<'a> {
         let (rolls, pips) = mean_and_epc(self.mean(position)?);
         put_mean(text, rolls, pips);
         Some(())
-    }
-
-    /// Why a query is refused whose positions have at most 15 checkers; none exactly where it is
-    /// answered.
-    fn refusal(&self, query: &Query) -> Option<Refusal>
-        ensures { MatchOption result (IsAnswerable (bound_of self.now) (asked query.now))
-            (λ refusal. (line : List ℕ) → IsQuery line (asked query.now)
-            → ¬ HasTooMany (asked query.now)
-            → IsRefused (bound_of self.now) line (why refusal)) }
-    {
-        if subject(query).pips() > self.bound() {
-            return Some(Refusal::OverBound);
-        }
-        if asks_of_finished(query) {
-            return Some(Refusal::Finished);
-        }
-        if !has_result(query) {
-            return Some(Refusal::NotLegal);
-        }
-        None
     }
 
     /// Makes a text that of the reply to a query that is not refused.

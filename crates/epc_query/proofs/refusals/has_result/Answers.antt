@@ -1,4 +1,4 @@
-use Rattle.database.proofs.answers.has_result.Goals as goal
+use Rattle.epc_query.proofs.refusals.has_result.Goals as goal
 
 pub returns-in-Loss : goal.returns-in-Loss
 returns-in-Loss c = rw (c.in-Loss.is, c.is_some.ensures) c.play_to.ensures.legal

@@ -2,7 +2,7 @@ use Rattle.std.proofs.Common.{◌≤◌, ap, arith}
 use Rattle.race_model.specs.Positions.{pips}
 use Rattle.race_model.specs.Queries.{subject, of_over_bound, of_finished, of_no_result}
 use Rattle.epc_query.specs.Readings.{asked}
-use Rattle.board_query.proofs.answers.refusal.Goals as goal
+use Rattle.epc_query.proofs.refusals.refusal.Goals as goal
 
 pub returns-then-pips-bound : goal.returns-then-pips-bound
 returns-then-pips-bound c = λ line is few.
