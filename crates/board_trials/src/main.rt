@@ -124,8 +124,8 @@ fn damage(rt: &impl Print, file: &mut [u8], from: u16, step: u16) -> io::Result<
         if at < file.len() {
             file[at] ^= 1 << (rank % 8);
             match check_board(file) {
-                Ok(_) => accepted += 1,
-                Err(_) => refused += 1,
+                Ok(_) => accepted = accepted.wrapping_add(1),
+                Err(_) => refused = refused.wrapping_add(1),
             }
             file[at] ^= 1 << (rank % 8);
         }
