@@ -23,6 +23,9 @@ pytestmark = pytest.mark.xdist_group("alone")
 LINES = "mean 0,0,0,0,0,1\nmoves 0,0,0,2,0,0 21\nplay 0,0,0,2,0,0 21"
 FAULT = re.compile(rb"bearoff: (memory|open|file|write)\n")
 
+# what the system's loader says where it has no room for itself or for the C library
+UNLOADED = re.compile(rb"annot|failed to map segment")
+
 # in KB: the address space that is ended with, where the system's loader has none for itself, which
 # it says by the status 127; the least with which the program is promised to be done over 8 pips
 # (docs/using.md); from where on the steps are small, and what is begun with; and the least stack
@@ -81,7 +84,7 @@ def limited(starved, built, limit, size, words):
 def outcome(starved, built, size, words, ample, limit=resource.RLIMIT_AS):
     """done, named, not started, or what else a run under a limit came to."""
     got, left = limited(starved, built, limit, size, words)
-    if (got.status, got.output) == (127, b"") and b"annot" in got.errors:
+    if (got.status, got.output) == (127, b"") and UNLOADED.search(got.errors):
         return "not started"
     if left:
         return f"leaves {', '.join(left)}"
