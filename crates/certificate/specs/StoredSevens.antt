@@ -1,4 +1,5 @@
--- The stored shares of the records of seven rolls.
+-- The stored shares of the records of seven rolls. Source: 36 throws count equally (the rules of
+-- backgammon); what a record stores is this project's profile.
 use Rattle.std.specs.Prelude.{◌≡◌, ℕ, ◌+◌, ◌*◌, ◌<◌, ◌≤◌, List, [], slice_index_or}
 use Rattle.std.specs.Prelude.{nat_lt, if◌then◌else◌}
 use Rattle.race_model.specs.Files.{share_of}
