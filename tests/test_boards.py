@@ -10,7 +10,7 @@ from pathlib import Path
 
 import pytest
 
-from running import HERE, ROOT, expect, run
+from running import HERE, expect, run
 
 PART = 36**11
 
@@ -230,39 +230,36 @@ def test_headers(board_trials, board, tmp_path):
         expect(run(board_trials, "check", path), output="bad length")
 
 
-# the fault where a part of the record of a rank of three pips, 5, is changed
+# the first fault where bits of a byte in the record of rank 5 are turned round: a byte of the upper
+# and of the lower part of its mean, of the first and the last play, and of the counts of one and two
+# throws; and in that of rank 9 the play of 3-1, which then leads to another result
 DAMAGES = [
-    (0, b"\xff", "mean 5"),
-    (15, b"\1", "mean 5"),
-    (16, b"\xff", "mean 5"),
-    (23, b"\1", "mean 5"),
-    (24, b"\xff\xff", "play 5 0"),
-    (24 + 40, b"\0\1", "play 5 20"),
-    (66, b"\xff", "spread 5 1"),
-    (73, b"\0", "spread 5 1"),
+    (5, 0, 0x80, "mean 5"),
+    (5, 15, 1, "mean 5"),
+    (5, 16, 0x80, "mean 5"),
+    (5, 23, 1, "mean 5"),
+    (5, 24, 0x80, "play 5 0"),
+    (5, 65, 4, "play 5 20"),
+    (5, 66, 0x80, "spread 5 1"),
+    (5, 73, 1, "spread 5 1"),
+    (5, 81, 1, "spread 5 2"),
+    (9, 31, 1, "least 9 3"),
 ]
 
 
-def test_damages(board_trials, board, tmp_path):
-    data = bytearray(board(3).read_bytes())
-    start = next(
-        sum(66 + 8 * most_rolls(pips) for pips in pip_counts()[:rank]) + 32 for rank in [5]
-    )
+@pytest.mark.parametrize("rank, place, bits, fault", DAMAGES)
+def test_damages(board_trials, board, tmp_path, rank, place, bits, fault):
+    data = bytearray(board(8).read_bytes())
+    start = 32 + sum(66 + 8 * most_rolls(pips) for pips in pip_counts()[:rank])
+    data[start + place] ^= bits
     path = tmp_path / "file"
-    for place, wrong, fault in DAMAGES:
-        bad = bytearray(data)
-        bad[start + place : start + place + len(wrong)] = wrong
-        if bad == data:
-            continue
-        path.write_bytes(bad)
-        expect(run(board_trials, "check", path), output=fault)
+    path.write_bytes(data)
+    expect(run(board_trials, "check", path), output=fault)
 
 
 def test_a_byte_of_each_record(board_trials, board):
     """A changed byte in each record of a small file, and in some of the whole board."""
-    expect(
-        run(board_trials, "damage", board(15), 0, 1), output="refused 498 accepted 0"
-    )
+    expect(run(board_trials, "damage", board(15), 0, 1), output="refused 498 accepted 0")
     expect(
         run(board_trials, "damage", board(90), 17, 5000, timeout=600),
         output="refused 11 accepted 0",
