@@ -1,7 +1,7 @@
 """Compares board files, every position of the home board to 90 pips, with what was counted
-outside: sizes and digests of ten bounds, the replies in tests/board_rows.txt, and all means, plays
-and shares to 58 pips with those of version 2. Each header fault and a damaged byte in a record have
-their refusals."""
+outside: sizes and digests of ten bounds, and the replies in tests/board_rows.txt; all means, plays
+and counts with those of a plain program, and to 58 pips with those of version 2. Each header fault
+and a damaged byte in a record have their refusals."""
 
 import functools
 import hashlib
@@ -38,13 +38,70 @@ def most_rolls(pips):
 
 
 @functools.cache
+def stands():
+    """All positions in the order of their ranks: how many checkers stand on the points 1 to 6."""
+    found = []
+    for spots in itertools.combinations(range(21), 6):
+        found.append(tuple(b - a - 1 for a, b in zip((-1, *spots), spots)))
+    return sorted(found, key=lambda stand: (pips_of(stand), stand))
+
+
+def pips_of(stand):
+    return sum(point * count for point, count in enumerate(stand, 1))
+
+
+@functools.cache
 def pip_counts():
     """The pip count of each rank."""
-    counts = [0] * 91
-    for spots in itertools.combinations(range(21), 6):
-        stand = [b - a - 1 for a, b in zip((-1, *spots), spots)]
-        counts[sum((point + 1) * count for point, count in enumerate(stand))] += 1
-    return [pips for pips in range(91) for _ in range(counts[pips])]
+    return [pips_of(stand) for stand in stands()]
+
+
+def steps(stand, die):
+    """Where one checker can be moved by a die: down by so many points, or off from that point, or
+    off from the highest point where none is so high. The finished position stays."""
+    if not any(stand):
+        yield stand
+    for point in range(1, 7):
+        if not stand[point - 1] or point < die and any(stand[point:]):
+            continue
+        after = list(stand)
+        after[point - 1] -= 1
+        if point > die:
+            after[point - die - 1] += 1
+        yield tuple(after)
+
+
+def plain_records():
+    """The mean, the plays and the counts of each rank, by a plain program: of all results of a roll
+    the one of least mean and, of equal means, of the lowest rank."""
+    ranks = {stand: rank for rank, stand in enumerate(stands())}
+    moved, means, counted = [], [], []
+    rolls = [(high, low) for high in range(1, 7) for low in range(1, high + 1)]
+    for rank, stand in enumerate(stands()):
+        moved.append([{ranks[after] for after in steps(stand, die)} for die in range(1, 7)])
+        means.append(0)
+        counted.append([1])
+        plays = []
+        for high, low in rolls:
+            orders = {(high, low), (low, high)} if high != low else {(high,) * 4}
+            found = set()
+            for dice in orders:
+                reached = {rank}
+                for die in dice:
+                    reached = {after for here in reached for after in moved[here][die - 1]}
+                found |= reached
+            plays.append(min(found, key=lambda result: (means[result], result)))
+        if rank:
+            weights = [1 if high == low else 2 for high, low in rolls]
+            total = sum(weight * means[play] for weight, play in zip(weights, plays))
+            assert total % 36 == 0
+            means[rank] = 36**33 + total // 36
+            longest = max(len(counted[play]) for play in plays)
+            counted[rank] = [0] + [
+                sum(w * counted[p][k] for w, p in zip(weights, plays) if k < len(counted[p]))
+                for k in range(longest)
+            ]
+        yield means[rank], plays, counted[rank]
 
 
 def numbers(data, *sizes):
@@ -124,6 +181,13 @@ def test_values(board):
         assert ended == (36**33 if pips else 0)
 
 
+def test_a_plain_program_says_the_same(board):
+    """Every mean, play and count of all positions."""
+    for found, (mean, plays, counts) in zip(records(board(90).read_bytes()), plain_records()):
+        counts = counts[1:] + [0] * (len(found[2]) + 1 - len(counts))
+        assert found == (mean, plays, counts)
+
+
 def test_version_2_says_the_same(board, built):
     """To 58 pips: a mean has the upper part that version 2 has, and a count is its share."""
     place, old = 32, built(58).read_bytes()
@@ -179,8 +243,7 @@ def test_lines(board_trials, board):
 
 def lines_of(bound):
     """Lines of each kind for some positions of at most so many pips."""
-    found = [stand for stand in itertools.product(range(4), repeat=6)]
-    found = [stand for stand in found if 0 < sum((p + 1) * n for p, n in enumerate(stand)) <= bound]
+    found = [stand for stand in itertools.product(range(4), repeat=6) if 0 < pips_of(stand) <= bound]
     for index, stand in enumerate(found):
         text = ",".join(map(str, stand))
         dice = f"{1 + index % 6}{1 + index // 6 % 6}"
