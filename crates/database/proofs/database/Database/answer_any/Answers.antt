@@ -1,21 +1,33 @@
-use Rattle.std.proofs.Common.{ap, ◌++◌, ◌∷◌, []}
-use Rattle.race_model.specs.Queries.{bad_line, too_many, no_query, of_too_many}
+use Rattle.std.proofs.Common.{ap, subst, ◌++◌, ◌∷◌, []}
+use Rattle.race_model.specs.Queries.{bad_line, too_many, no_query, of_too_many, IsRefused, IsAccepted}
 use Rattle.race_model.specs.Replies.{refused}
+use Rattle.epc_query.specs.Readings.{asked}
+use Rattle.epc_query.specs.Faults.{IsAnswerable}
 use Rattle.epc_query.specs.Texts.{why}
 use Rattle.epc_query.proofs.Stops.{accepted_query}
 use Rattle.database.proofs.database.Database.answer_any.Goals as goal
 
+pub put_answer-requires : goal.put_answer-requires
+put_answer-requires c =
+    subst (λ n. IsAnswerable n (asked c.in-Ok.query)) c.bound.ensures.bound
+    (c.in-None.ensures {u = tt})
+
 pub returns-in-None-clause-reply : goal.returns-in-None-clause-reply
 returns-in-None-clause-reply c =
+    let line = c.args.line.now in
+    let query = asked c.in-Ok.query in
     let reading = c.in-Ok.ensures {u = tt} in
-    c.put_answer.ensures.reply c.args.line.now
-    (accepted_query _ c.args.line.now _ reading.0 reading.1 (c.in-None.ensures {u = tt}))
+    c.put_answer.ensures.reply line
+    (subst (λ n. IsAccepted n line query) c.bound.ensures.bound
+    (accepted_query c.bound.result line query reading.0 reading.1 (c.in-None.ensures {u = tt})))
 
 pub returns-in-Some-clause-reply : goal.returns-in-Some-clause-reply
 returns-in-Some-clause-reply c =
+    let line = c.args.line.now in
     let reading = c.in-Ok.ensures {u = tt} in
     refused (why c.in-Some.refusal)
-    ((c.in-Some.ensures {u = tt}) c.args.line.now reading.0 reading.1)
+    (subst (λ n. IsRefused n line (why c.in-Some.refusal)) c.bound.ensures.bound
+    ((c.in-Some.ensures {u = tt}) line reading.0 reading.1))
     (ap (λ t. t ++ 10 ∷ []) c.put_refusal.ensures.text)
 
 pub returns-in-Err-BadLine-clause-reply : goal.returns-in-Err-BadLine-clause-reply
