@@ -243,7 +243,8 @@ def test_lines(board_trials, board):
 
 def lines_of(bound):
     """Lines of each kind for some positions of at most so many pips."""
-    found = [stand for stand in itertools.product(range(4), repeat=6) if 0 < pips_of(stand) <= bound]
+    stands = itertools.product(range(4), repeat=6)
+    found = [stand for stand in stands if 0 < pips_of(stand) <= bound]
     for index, stand in enumerate(found):
         text = ",".join(map(str, stand))
         dice = f"{1 + index % 6}{1 + index // 6 % 6}"
@@ -294,8 +295,8 @@ def test_headers(board_trials, board, tmp_path):
 
 
 # the first fault where bits of a byte in the record of rank 5 are turned round: a byte of the upper
-# and of the lower part of its mean, of the first and the last play, and of the counts of one and two
-# throws; and in that of rank 9 the play of 3-1, which then leads to another result
+# and of the lower part of its mean, of the first and the last play, and of the counts of one and
+# two throws; and in that of rank 9 the play of 3-1, which then leads to another result
 DAMAGES = [
     (5, 0, 0x80, "mean 5"),
     (5, 15, 1, "mean 5"),

@@ -83,8 +83,8 @@ def of_bytes(data, front):
 
 
 def sums(chance, most):
-    """Which of three numbers each roll leads to, now and then one for all rolls, whose sum is then a
-    multiple of 36; and the numbers."""
+    """Which of three numbers each roll leads to, now and then one for all rolls, whose sum is then
+    a multiple of 36; and the numbers."""
     numbers = [any_parts(chance, most) for _ in range(3)]
     return [chance.choice([0, 3**21 - 1, chance.randrange(3**21)]), *itertools.chain(*numbers)]
 
