@@ -29,6 +29,7 @@ pub mod InputLines
 pub mod Replies
 pub mod BookReplies
 pub mod Levels
+pub mod BookLevels
 pub mod SameNumbers
 pub mod Samples
 pub mod Enumerations
