@@ -61,8 +61,8 @@ impl Wide {
         self.low
     }
 
-    /// The number in three parts for its digits: so many times 10 ^ 36 and 10 ^ 18, and the rest. It
-    /// has at most 58 digits.
+    /// The number in three parts for its digits: so many times 10 ^ 36 and 10 ^ 18, and the rest.
+    /// It has at most 58 digits.
     pub fn digits(self) -> (u128, u64, u64)
         ensures value { result.0 * 10 ^ 36 + result.1 * 10 ^ 18 + result.2 ≡ self }
         ensures second { result.1 < 10 ^ 18 }

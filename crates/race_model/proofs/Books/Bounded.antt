@@ -92,7 +92,8 @@ module _ (f : Book) (counts : ℕ → ℕ → ℕ) where
       (λ unfinished.
       let branches = weighted-at_most (λ v. f.means (play_in f x v)) (n * 36 ^ suc f.further) (λ v.
       let same = ap f.means (played f counts x at meets unfinished v).ranked in
-      let small = mean-at_most n (recorded_in f x v) (after_ends f counts x at meets unfinished n ends v)
+      let small = mean-at_most n (recorded_in f x v)
+      (after_ends f counts x at meets unfinished n ends v)
       (after f counts x at meets unfinished v) (after_meets f counts x at meets unfinished v) in
       omega (arith, same, small)) in
       omega (arith, (meets x at (omega arith)).mean_is.before unfinished, branches))

@@ -74,7 +74,8 @@ returns-in_err-add_level g c =
           (Appends-nil writer),
     ) in
     record {
-      built = refused_build version bound writer writer c.from_residual.result c.in_err-add_level.field-0.0
+      built = refused_build version bound writer writer c.from_residual.result
+          c.in_err-add_level.field-0.0
           c.from_residual.ensures.1
           (subst (IsRefusedBy version bound writer writer) (sym c.in_err-add_level.ensures.memory)
           refused);
@@ -109,8 +110,8 @@ returns-in_err-write_level g c =
           c.from_residual-in_err-write_level.ensures.1 (
             bound-most c.args.header,
             level-part version all-records bound c.args.header.bounded old mid new 0 0
-                (length (g.K.Keeper.means records)) (length (g.K.Keeper.plays records)) (omega arith)
-                (omega (arith, level.level, first_of-zero)) level.made
+                (length (g.K.Keeper.means records)) (length (g.K.Keeper.plays records))
+                (omega arith) (omega (arith, level.level, first_of-zero)) level.made
                 (header-first version bound (bytes_of_rank version all-records) old mid
                 c.in_ok-write_header.ensures.all)
                 c.in_err-write_level.ensures.part,
@@ -194,9 +195,11 @@ returns-in_err-add_level-2 g c =
           is.written,
     ) in
     record {
-      built = refused_build version bound old new c.from_residual-in_err-add_level-2.result c.in_err-add_level-2.field-0.0
+      built = refused_build version bound old new c.from_residual-in_err-add_level-2.result
+          c.in_err-add_level-2.field-0.0
           c.from_residual-in_err-add_level-2.ensures.1
-          (subst (IsRefusedBy version bound old new) (sym c.in_err-add_level-2.ensures.memory) refused);
+          (subst (IsRefusedBy version bound old new) (sym c.in_err-add_level-2.ensures.memory)
+          refused);
     }
 
 pub returns-in_err-write_level-2 : goal.returns-in_err-write_level-2
@@ -215,8 +218,8 @@ returns-in_err-write_level-2 g c =
             bound-most c.args.header,
             level-part version all-records bound c.args.header.bounded old mid new
                 (c.loop-below.below + 1) (length (g.K.Keeper.means c.loop-below.records))
-                (length (g.K.Keeper.means records)) (length (g.K.Keeper.plays records)) (omega arith)
-                (omega (arith, level.level, is.made)) level.made is.written
+                (length (g.K.Keeper.means records)) (length (g.K.Keeper.plays records))
+                (omega arith) (omega (arith, level.level, is.made)) level.made is.written
                 c.in_err-write_level-2.ensures.part,
           );
     }
