@@ -234,7 +234,7 @@ module _ {n : ℕ} (mean : ℕ → ℕ) (count : ℕ) (plays : LeastPlays n) (x 
         (λ same.
         let at : number e - 1 ≡ own = omega (arith, is, ap number same) in
         let inside : own < length (six_of best)
-            = omega (arith, is, number_positive d, number_most d) in
+        = omega (arith, is, number_positive d, number_most d) in
         subst (λ n. IsBestAfter mean x (d ∷ replicate n e)
         (slice_index (set (six_of best) own (slice_index best 8)) (number e - 1)))
         (sym (dice_left-same d e (ap number same)))

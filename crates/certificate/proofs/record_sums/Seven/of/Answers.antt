@@ -22,20 +22,44 @@ returns c =
           (record { stored = c.stored_shares.ensures.told; none = c.stored_shares.ensures.none });
       second_double = stored-at lent c.stored_shares-2.result len 1 c.index-lent-1.result
           (omega arith)
-          (record { stored = c.stored_shares-2.ensures.told; none = c.stored_shares-2.ensures.none });
+          (record {
+            stored = c.stored_shares-2.ensures.told;
+            none =
+                c.stored_shares-2.ensures.none;
+          });
       first_other = stored-at lent c.stored_shares-3.result len 2 c.index-lent-2.result
           (omega arith)
-          (record { stored = c.stored_shares-3.ensures.told; none = c.stored_shares-3.ensures.none });
+          (record {
+            stored = c.stored_shares-3.ensures.told;
+            none =
+                c.stored_shares-3.ensures.none;
+          });
       second_other = stored-at lent c.stored_shares-4.result len 3 c.index-lent-3.result
           (omega arith)
-          (record { stored = c.stored_shares-4.ensures.told; none = c.stored_shares-4.ensures.none });
+          (record {
+            stored = c.stored_shares-4.ensures.told;
+            none =
+                c.stored_shares-4.ensures.none;
+          });
       third_other = stored-at lent c.stored_shares-5.result len 4 c.index-lent-4.result
           (omega arith)
-          (record { stored = c.stored_shares-5.ensures.told; none = c.stored_shares-5.ensures.none });
+          (record {
+            stored = c.stored_shares-5.ensures.told;
+            none =
+                c.stored_shares-5.ensures.none;
+          });
       fourth_other = stored-at lent c.stored_shares-6.result len 5 c.index-lent-5.result
           (omega arith)
-          (record { stored = c.stored_shares-6.ensures.told; none = c.stored_shares-6.ensures.none });
+          (record {
+            stored = c.stored_shares-6.ensures.told;
+            none =
+                c.stored_shares-6.ensures.none;
+          });
       fifth_other = stored-at lent c.stored_shares-7.result len 6 c.index-lent-6.result
           (omega arith)
-          (record { stored = c.stored_shares-7.ensures.told; none = c.stored_shares-7.ensures.none });
+          (record {
+            stored = c.stored_shares-7.ensures.told;
+            none =
+                c.stored_shares-7.ensures.none;
+          });
     }

@@ -50,8 +50,13 @@ loop-place-preserved g c =
 pub returns-clause-best : goal.returns-clause-best
 returns-clause-best g c = λ j lt.
     let all : c.loop-place.place ≡ length c.args.ranks.now =
-    omega (arith, c.loop-place.auto.place-end, c.loop-place.invariant.some, c.requires.some,
-        c.loop-place-test.false) in
+    omega (
+      arith,
+      c.loop-place.auto.place-end,
+      c.loop-place.invariant.some,
+      c.requires.some,
+      c.loop-place-test.false,
+    ) in
     subst
     (λ n. IsLeastOf (g.M.RankedMeans.mean c.args.means.now)
     (λ i. slice_index (kept_in c.args.self.now.rows (slice_index c.args.ranks.now i) c.args.die) j)
