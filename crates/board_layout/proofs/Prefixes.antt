@@ -1,8 +1,9 @@
--- What is read in the first bytes of a list is the same in each list that begins with these.
+-- What is read in the first bytes of a list is the same in each list that begins with these; and
+-- what ends alike.
 use Rattle.std.proofs.Common.{◌≡◌, ◌⊎◌, ⊎_elim, ℕ, ◌+◌, ◌-◌, ◌*◌, ◌<◌, ◌≤◌, List, take, drop}
 use Rattle.std.proofs.Common.{refl, ap, ap₂, sym, ◌∙◌, arith, take-take}
 use Rattle.std.proofs.lemmas.Bool.{le-leb, lt-leb}
-use Rattle.std.proofs.lemmas.List.{drop-take}
+use Rattle.std.proofs.lemmas.List.{drop-drop, drop-take}
 use Rattle.std.specs.Int.{w16, w64, w128, from_be_bytes}
 use Rattle.race_model.specs.Files.{bytes_at}
 use Rattle.race_model.specs.BoardFiles.{Parts, count_place, mean_parts, board_play_of, count_parts}
@@ -39,6 +40,23 @@ keeps_twice m n old mid new le first second = record {
   bytes = front-agree new mid m n le second.bytes ∙ first.bytes;
   len = second.len ∙ first.len;
 }
+
+-- what ends alike from a place on does so from a later one
+pub rest-agree : (f g : List ℕ) (m n : ℕ) → m ≤ n → drop m f ≡ drop m g → drop n f ≡ drop n g
+rest-agree f g m n le same =
+    ap (λ k. drop k f) (parts m n le)
+    ∙ sym (drop-drop (n - m) m f)
+    ∙ ap (drop (n - m)) same
+    ∙ drop-drop (n - m) m g
+    ∙ ap (λ k. drop k g) (sym (parts m n le))
+  where
+    parts : (m n : ℕ) → m ≤ n → n ≡ m + (n - m)
+    parts m n le = omega (arith, le)
+
+-- .. and what stays twice stays
+pub rest_stays : (m n : ℕ) (old mid new : List ℕ) → m ≤ n → drop m mid ≡ drop m old →
+    drop n new ≡ drop n mid → drop n new ≡ drop n old
+rest_stays m n old mid new le first second = second ∙ rest-agree mid old m n le first
 
 -- the count in the bytes of a record, to 11 throws, to 22 and to 33
 pub count-short : (bs : List ℕ) (k : ℕ) → k ≤ 11 →

@@ -1,5 +1,5 @@
 //! The header and the records of a board file, written: each number so that it reads back.
-ghost use Rattle.std.specs.Prelude.{◌≡◌, ℕ, ◌+◌, ◌*◌, ◌/◌, ◌%◌, ◌^◌, ◌<◌, ◌≤◌, length, slice_index};
+ghost use Rattle.std.specs.Prelude.{◌≡◌, ℕ, ◌+◌, ◌*◌, ◌/◌, ◌%◌, ◌^◌, ◌<◌, ◌≤◌, length, drop, slice_index};
 ghost use Rattle.std.specs.Int.{w16, w64, w128, from_be_bytes};
 ghost use Rattle.race_model.specs.Files.{bytes_at};
 ghost use Rattle.race_model.specs.BoardFiles.{board_header, count_place};
@@ -27,11 +27,11 @@ impl BoardHeader {
     }
 }
 
-/// Writes a mean where it stands in the bytes of a record. The fields of a record are written in
-/// their order: those before the one that is written stay.
+/// Writes a mean where it stands in the bytes of a record; all other bytes stay.
 pub fn put_mean(bytes: &mut [u8], mean: BoardMean)
     requires { 66 ≤ length bytes.old }
     ensures before { KeepsBefore 0 bytes.old bytes.new }
+    ensures after { drop 24 bytes.new ≡ drop 24 bytes.old }
     ensures mean { mean_parts bytes.new
         ≡ record { upper = mean / part; lower = mean % part } }
 {
@@ -40,10 +40,11 @@ pub fn put_mean(bytes: &mut [u8], mean: BoardMean)
 }
 
 /// Writes the ranks that are played to with the rolls 0 to 20 where they stand in the bytes of a
-/// record; the mean before them stays.
+/// record; all other bytes stay.
 pub fn put_plays(bytes: &mut [u8], plays: &[u16; 21])
     requires { 66 ≤ length bytes.old }
     ensures before { KeepsBefore 24 bytes.old bytes.new }
+    ensures after { drop 66 bytes.new ≡ drop 66 bytes.old }
     ensures plays { (roll : ℕ) → roll < 21 →
         board_play_of bytes.new roll ≡ slice_index plays.now roll }
 {
@@ -52,9 +53,9 @@ pub fn put_plays(bytes: &mut [u8], plays: &[u16; 21])
     }
 }
 
-/// Writes the count of sequences of k throws where it stands in the bytes of a record; the fields
-/// before it stay. To 11 throws a count is its lower part alone, and to 22 throws its upper part
-/// has 64 bits.
+/// Writes the count of sequences of k throws where it stands in the bytes of a record; all other
+/// bytes stay. To 11 throws a count is its lower part alone, and to 22 throws its upper part has
+/// 64 bits.
 pub fn put_count(bytes: &mut [u8], k: u8, count: Parts)
     requires some { 1 ≤ k }
     requires few { k ≤ 33 }
@@ -62,6 +63,7 @@ pub fn put_count(bytes: &mut [u8], k: u8, count: Parts)
     requires short { k ≤ 11 → count.upper ≡ 0 }
     requires middle { k ≤ 22 → count.upper < 2 ^ 64 }
     ensures before { KeepsBefore (count_place k) bytes.old bytes.new }
+    ensures after { drop (count_place (k + 1)) bytes.new ≡ drop (count_place (k + 1)) bytes.old }
     ensures count { count_parts bytes.new k
         ≡ record { upper = count.upper; lower = count.lower } }
 {
@@ -81,6 +83,7 @@ pub fn put_count(bytes: &mut [u8], k: u8, count: Parts)
 fn put_wide(bytes: &mut [u8], place: usize, number: u128)
     requires { place + 16 ≤ length bytes.old }
     ensures before { KeepsBefore place bytes.old bytes.new }
+    ensures after { drop (place + 16) bytes.new ≡ drop (place + 16) bytes.old }
     ensures number { from_be_bytes w128 (bytes_at bytes.new place 16) ≡ number }
 {
     bytes[place..place + 16].copy_from_slice(&number.to_be_bytes());
@@ -90,6 +93,7 @@ fn put_wide(bytes: &mut [u8], place: usize, number: u128)
 fn put_long(bytes: &mut [u8], place: usize, number: u64)
     requires { place + 8 ≤ length bytes.old }
     ensures before { KeepsBefore place bytes.old bytes.new }
+    ensures after { drop (place + 8) bytes.new ≡ drop (place + 8) bytes.old }
     ensures number { from_be_bytes w64 (bytes_at bytes.new place 8) ≡ number }
 {
     bytes[place..place + 8].copy_from_slice(&number.to_be_bytes());
@@ -99,6 +103,7 @@ fn put_long(bytes: &mut [u8], place: usize, number: u64)
 fn put_short(bytes: &mut [u8], place: usize, number: u16)
     requires { place + 2 ≤ length bytes.old }
     ensures before { KeepsBefore place bytes.old bytes.new }
+    ensures after { drop (place + 2) bytes.new ≡ drop (place + 2) bytes.old }
     ensures number { from_be_bytes w16 (bytes_at bytes.new place 2) ≡ number }
 {
     bytes[place..place + 2].copy_from_slice(&number.to_be_bytes());

@@ -1,8 +1,9 @@
-use Rattle.std.proofs.Common.{◌≡◌, ℕ, ◌+◌, ap, sym, subst, ◌∙◌, arith}
+use Rattle.std.proofs.Common.{◌≡◌, ℕ, ◌+◌, drop, ap, sym, subst, ◌∙◌, arith}
 use Rattle.std.specs.Int.{w64, w128, from_be_bytes}
 use Rattle.race_model.specs.Files.{bytes_at}
+use Rattle.race_model.specs.BoardFiles.{count_place}
 use Rattle.board_layout.specs.Stored.{KeepsBefore}
-use Rattle.board_layout.proofs.Prefixes.{same_parts, bytes_at-agree, keeps_twice}
+use Rattle.board_layout.proofs.Prefixes.{same_parts, bytes_at-agree, keeps_twice, rest_stays}
 use Rattle.board_layout.proofs.Prefixes.{count-short, count-middle, count-long}
 use Rattle.board_layout.proofs.writing.put_count.Goals as goal
 
@@ -61,3 +62,32 @@ returns-else-k-le22-clause-count c =
     ∙ c.put_wide.ensures.number))
     (subst (λ (p : ℕ). from_be_bytes w64 (bytes_at new (p + 16) 8) ≡ c.args.count.lower)
     c.count_place-place.ensures c.put_long-else-k-le22.ensures.number)
+
+pub returns-then-k-le11-clause-after : goal.returns-then-k-le11-clause-after
+returns-then-k-le11-clause-after c =
+    let new = c.put_long.new.bytes in
+    let end : c.count_place-place.result + 8 ≡ count_place (c.args.k + 1) =
+    omega (arith, c.count_place-place.ensures, c.if-k-le11.true) in
+    subst (λ (n : ℕ). drop n new ≡ drop n c.args.bytes.now) end c.put_long.ensures.after
+
+pub returns-then-k-le22-clause-after : goal.returns-then-k-le22-clause-after
+returns-then-k-le22-clause-after c =
+    let place = c.count_place-place.result in
+    let old = c.args.bytes.now in
+    let new = c.put_long-then-k-le22-2.new.bytes in
+    let end : place + 8 + 8 ≡ count_place (c.args.k + 1) =
+    omega (arith, c.count_place-place.ensures, c.if-k-le11.false, c.if-k-le22.true) in
+    subst (λ (n : ℕ). drop n new ≡ drop n old) end
+    (rest_stays (place + 8) (place + 8 + 8) old c.put_long-then-k-le22.new.bytes new (omega arith)
+    c.put_long-then-k-le22.ensures.after c.put_long-then-k-le22-2.ensures.after)
+
+pub returns-else-k-le22-clause-after : goal.returns-else-k-le22-clause-after
+returns-else-k-le22-clause-after c =
+    let place = c.count_place-place.result in
+    let old = c.args.bytes.now in
+    let new = c.put_long-else-k-le22.new.bytes in
+    let end : place + 16 + 8 ≡ count_place (c.args.k + 1) =
+    omega (arith, c.count_place-place.ensures, c.if-k-le22.false) in
+    subst (λ (n : ℕ). drop n new ≡ drop n old) end
+    (rest_stays (place + 16) (place + 16 + 8) old c.put_wide.new.bytes new (omega arith)
+    c.put_wide.ensures.after c.put_long-else-k-le22.ensures.after)

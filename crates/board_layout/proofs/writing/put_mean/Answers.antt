@@ -1,7 +1,7 @@
 use Rattle.std.proofs.Common.{ap, ◌∙◌, arith}
 use Rattle.std.specs.Int.{w128, from_be_bytes}
 use Rattle.race_model.specs.BoardFiles.{mean_parts}
-use Rattle.board_layout.proofs.Prefixes.{same_parts, bytes_at-agree}
+use Rattle.board_layout.proofs.Prefixes.{same_parts, bytes_at-agree, rest_stays}
 use Rattle.board_layout.proofs.writing.put_mean.Goals as goal
 
 pub returns-clause-mean : goal.returns-clause-mean
@@ -14,3 +14,8 @@ returns-clause-mean c =
     ∙ c.put_wide.ensures.number
     ∙ c.upper.ensures.value)
     (c.put_long.ensures.number ∙ c.lower.ensures)
+
+pub returns-clause-after : goal.returns-clause-after
+returns-clause-after c =
+    rest_stays 16 24 c.args.bytes.now c.put_wide.new.bytes c.put_long.new.bytes (omega arith)
+    c.put_wide.ensures.after c.put_long.ensures.after

@@ -2,7 +2,7 @@ use Rattle.std.proofs.Common.{◌≡◌, ⊎_elim, ◌+◌, ◌*◌, subst, ◌�
 use Rattle.std.specs.Prelude.{slice_index}
 use Rattle.std.proofs.lemmas.Bool.{cases_lt}
 use Rattle.race_model.specs.BoardFiles.{board_play_of}
-use Rattle.board_layout.proofs.Prefixes.{keeps_twice, play-agree}
+use Rattle.board_layout.proofs.Prefixes.{keeps_twice, play-agree, rest-agree}
 use Rattle.board_layout.proofs.writing.put_plays.Goals as goal
 
 pub loop-roll-preserved : goal.loop-roll-preserved
@@ -13,6 +13,10 @@ loop-roll-preserved c =
       before =
           keeps_twice 24 place c.args.bytes.now c.loop-roll.bytes c.put_short.new.bytes
           (omega arith) c.loop-roll.invariant.before c.put_short.ensures.before;
+      after =
+          rest-agree c.put_short.new.bytes c.loop-roll.bytes (place + 2) 66 (omega arith)
+          c.put_short.ensures.after
+          ∙ c.loop-roll.invariant.after;
       plays = λ i under. ⊎_elim
           (λ earlier.
           play-agree c.put_short.new.bytes c.loop-roll.bytes place c.put_short.ensures.before.bytes

@@ -1,4 +1,4 @@
-use Rattle.std.proofs.Common.{◌≡◌, ℕ, ◌<◌}
+use Rattle.std.proofs.Common.{◌≡◌, ℕ, ◌<◌, drop}
 use Rattle.std.specs.Prelude.{slice_index}
 use Rattle.race_model.specs.BoardFiles.{board_play_of}
 use Rattle.board_layout.specs.Stored.{KeepsBefore}
@@ -8,5 +8,6 @@ use Rattle.board_layout.proofs.writing.put_plays.Given as goal
 abbrev pub invariant-loop-roll : goal.invariant-loop-roll
 invariant-loop-roll l = record {
   before : KeepsBefore 24 l.initial.bytes l.bytes;
+  after : drop 66 l.bytes ≡ drop 66 l.initial.bytes;
   plays : (i : ℕ) → i < l.roll → board_play_of l.bytes i ≡ slice_index l.plays i;
 }

@@ -1,5 +1,5 @@
 use Rattle.std.proofs.Common.{◌≡◌, ℕ, ◌+◌, ◌-◌, ◌≤◌, List, length, take, drop, ap, subst, ◌∙◌, arith}
-use Rattle.std.proofs.lemmas.Slice.{between-put_mid}
+use Rattle.std.proofs.lemmas.Slice.{between-put_mid, drop-put_mid}
 use Rattle.std.specs.Int.{w128, from_be_bytes}
 use Rattle.race_model.specs.Files.{bytes_at}
 use Rattle.db_layout.proofs.Bytes.{from_be_bytes-to_be_bytes_16}
@@ -22,3 +22,9 @@ returns-clause-number c =
     ∙ c.copy_from_slice.ensures.after
     ∙ c.to_be_bytes.ensures)
     ∙ from_be_bytes-to_be_bytes_16 c.args.number c.ranges.number.fits
+
+pub returns-clause-after : goal.returns-clause-after
+returns-clause-after c =
+    drop-put_mid c.args.place (c.args.place + 16 - c.args.place) c.args.bytes.now
+    c.copy_from_slice.new.self (c.args.place + 16) (omega arith) (omega arith)
+    (omega (arith, c.copy_from_slice.ensures.len))
