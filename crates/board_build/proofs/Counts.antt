@@ -23,7 +23,7 @@ module _ (count : ℕ) (plays : List ℕ) (places : List RankedPlace)
       get_or-map (λ (placed : RankedPlace). placed.rank) places i none ∙ (placed i none inside).1
     where
       none : RankedPlace
-      none = record { rank = 0; place = record { offset = 0; length = 0; pips = 0 } }
+      none = record { rank = 0; offset = 0; rolls = 0 }
 
   pub ranks-placed : ArePlaced count (slice_index (ranks_of places)) places
   ranks-placed i other inside =

@@ -70,7 +70,7 @@ module _ (f : List ℕ) (x : Board) (at : IsPosition x) (bytes : List ℕ)
     end-counts-hold (suc k) le = (
       λ many few. absurd (omega (arith, few, ap most_rolls (sym pips-is), no-rolls)),
       (
-        λ _. told-beyond f (rank x) (suc k) (omega arith) (omega (arith, no-rolls)),
+        λ _. told-beyond f (rank x) (suc k) (omega (arith, no-rolls)),
         λ unfinished. absurd (unfinished end),
       ),
     )
@@ -197,7 +197,7 @@ module _ (f : List ℕ) (x : Board) (at : IsPosition x) (bytes : List ℕ)
       (
         λ end. absurd (unfinished end),
         λ _.
-            told-beyond f (rank x) (suc k) (omega arith) (omega (arith, beyond, ap most_rolls pips-is))
+            told-beyond f (rank x) (suc k) (omega (arith, beyond, ap most_rolls pips-is))
             ∙ sym (weighted-none (λ v. count_at f (play_in (board_book f) x v) k)
             (later (most_rolls (pips x)) (ends_in_most x at) k (omega arith) (omega arith))),
       ),

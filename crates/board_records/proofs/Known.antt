@@ -1,6 +1,6 @@
 -- What is known of the records of lower rank, where they meet their equations.
-use Rattle.std.proofs.Common.{◌≡◌, ℕ, zero, suc, cond, eq-eqb, ne_eqb, refl, ◌+◌, ◌-◌, ◌*◌, ◌^◌, ◌<◌, ◌≤◌, List, length, take, drop, subst, sym, ap, ◌∙◌, arith}
-use Rattle.std.proofs.Common.{take-take, w64}
+use Rattle.std.proofs.Common.{◌≡◌, ℕ, zero, suc, cond, eq-eqb, ne_eqb, ◌+◌, ◌-◌, ◌*◌, ◌^◌, ◌<◌, ◌≤◌, List, length}
+use Rattle.std.proofs.Common.{take, drop, take-take, w64, refl, subst, sym, ap, ap₂, ◌∙◌, arith}
 use Rattle.std.specs.Int.{w128, from_be_bytes}
 use Rattle.std.proofs.lemmas.Bool.{le-leb, lt-leb}
 use Rattle.std.proofs.lemmas.List.{drop-drop, drop-take}
@@ -8,14 +8,17 @@ use Rattle.race_model.specs.Positions.{Board, IsPosition, pips}
 use Rattle.race_model.specs.Ranks.{rank, at_rank}
 use Rattle.race_model.specs.Files.{bytes_at}
 use Rattle.race_model.specs.Horizon.{most_rolls}
-use Rattle.race_model.specs.BoardFiles.{board_book, board_length, board_place, board_record, mean_parts, count_parts, count_at, value_of_parts}
+use Rattle.race_model.specs.BoardFiles.{board_book, board_length, board_place, board_record}
+use Rattle.race_model.specs.BoardFiles.{count_place, mean_parts, count_parts, count_at, value_of_parts}
 use Rattle.race_model.specs.RightBoards.{IsLocalOnBoard}
 use Rattle.race_model.proofs.Ranks.PositionTotals.{rank-at_rank}
 use Rattle.race_model.proofs.Ranks.RankOrder.{at_rank_position, pips-range}
 use Rattle.race_model.proofs.Strategies.Horizons.{ends_in_33, most_rolls-board}
 use Rattle.race_model.proofs.Books.Bounded.{MeetsTo, mean-at_most, count-at_most}
 use Rattle.board_layout.proofs.BoardPlaces.{board_place-rises}
-use Rattle.board_records.specs.Lower.{AreLocalTo, AreRecords, board_mean}
+use Rattle.board_layout.proofs.Prefixes.{count-short}
+use Rattle.board_records.specs.Lower.{AreLocalTo, AreRecords, IsPlaced, board_mean}
+use Rattle.board_records.specs.declared.lower.RankedPlace.{RankedPlace}
 
 -- bytes among bytes
 pub bytes_at-inner : (f : List ℕ) (a n b m : ℕ) → b + m ≤ n →
@@ -107,6 +110,50 @@ module _ (bytes : List ℕ) (offset r : ℕ) (begins : offset ≡ board_place r)
   unfolding mean_parts
   mean-lower = ap (from_be_bytes w64) (front 16 8 (omega arith))
 
+  -- .. and is the same in its own bytes
+  pub mean-alone : mean_parts (bytes_at bytes offset 24) ≡ mean_parts (board_record bytes r)
+  unfolding mean_parts
+  mean-alone =
+      ap₂ (λ (xs ys : List ℕ). record {
+        upper = from_be_bytes w128 xs;
+        lower = from_be_bytes w64 ys;
+      }) (alone 0 16 (omega arith)) (alone 16 8 (omega arith))
+    where
+      alone : (b m : ℕ) → b + m ≤ 24 →
+          bytes_at (bytes_at bytes offset 24) b m ≡ bytes_at (board_record bytes r) b m
+      alone b m within =
+          bytes_at-inner bytes offset 24 b m within ∙ front b m (omega (arith, within))
+
+-- a part of the record of a rank, where it stands
+module _ (bytes : List ℕ) (count : ℕ) (placed : RankedPlace) (at : IsPlaced count placed) (b m : ℕ)
+    (within : b + m ≤ count_place (placed.rolls + 1)) where
+  -- .. is within the record
+  part-within : b + m ≤ board_length (pips (at_rank placed.rank))
+  part-within = subst (λ n. b + m ≤ count_place (n + 1)) at.rolls within
+
+  pub part-of_record : bytes_at bytes (placed.offset + b) m
+      ≡ bytes_at (board_record bytes placed.rank) b m
+  part-of_record =
+      ap (λ n. bytes_at bytes (n + b) m) at.offset
+      ∙ sym (bytes_at-inner bytes (board_place placed.rank)
+      (board_length (pips (at_rank placed.rank))) b m part-within)
+
+  -- .. and within the bytes
+  pub part-inside : (offsets : List ℕ) → AreRecords bytes offsets → length offsets ≡ count →
+      placed.offset + b + m ≤ length bytes
+  part-inside offsets are counted =
+      omega (
+        arith,
+        at.offset,
+        part-within,
+        record-inside bytes offsets are placed.rank (omega (arith, at.below, counted)),
+      )
+
+-- a position that needs no roll has no pip
+pub most_rolls-none : (p : ℕ) → most_rolls p ≡ 0 → p ≡ 0
+most_rolls-none zero none = refl
+most_rolls-none (suc p) none = absurd (omega (arith, none))
+
 -- what is told of k throws
 module _ (f : List ℕ) (r : ℕ) where
   pub told-at_end : pips (at_rank r) ≡ 0 → count_at f r 0 ≡ 1
@@ -117,10 +164,10 @@ module _ (f : List ℕ) (r : ℕ) where
   unfolding count_at
   told-at_once some = ap (λ b. cond {A = ℕ} b 1 0) (ne_eqb (pips (at_rank r)) 0 some)
 
-  pub told-beyond : (k : ℕ) → 0 < k → most_rolls (pips (at_rank r)) < k → count_at f r k ≡ 0
+  pub told-beyond : (k : ℕ) → most_rolls (pips (at_rank r)) < k → count_at f r k ≡ 0
   unfolding count_at
-  told-beyond zero some beyond = absurd (omega arith)
-  told-beyond (suc k) some beyond =
+  told-beyond zero beyond = absurd (omega (arith, beyond))
+  told-beyond (suc k) beyond =
       ap (λ b. cond b (value_of_parts (count_parts (board_record f r) (suc k))) 0)
       (lt-leb (suc k) (most_rolls (pips (at_rank r))) beyond)
 
@@ -131,6 +178,16 @@ module _ (f : List ℕ) (r : ℕ) where
   told-within (suc k) some within =
       ap (λ b. cond b (value_of_parts (count_parts (board_record f r) (suc k))) 0)
       (le-leb (suc k) (most_rolls (pips (at_rank r))) within)
+
+  -- .. to 11 throws
+  pub told-short : (k : ℕ) → 0 < k → k ≤ most_rolls (pips (at_rank r)) → k ≤ 11 →
+      count_at f r k ≡ from_be_bytes w64 (bytes_at (board_record f r) (count_place k) 8)
+  told-short k some within few =
+      told-within k some within ∙ ap value_of_parts (count-short (board_record f r) k few)
+      ∙ alone (from_be_bytes w64 (bytes_at (board_record f r) (count_place k) 8))
+    where
+      alone : (n : ℕ) → 0 * 36 ^ 11 + n ≡ n
+      alone n = omega arith
 
 -- to 11 throws a count has no upper part
 pub count-one : (bytes : List ℕ) (k : ℕ) → k ≤ 11 → (count_parts bytes k).upper ≡ 0

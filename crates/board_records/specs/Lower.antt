@@ -4,7 +4,8 @@ use Rattle.race_model.specs.Positions.{Board, IsPosition, pips}
 use Rattle.race_model.specs.Dice.{roll_at}
 use Rattle.race_model.specs.Plays.{Legal}
 use Rattle.race_model.specs.Ranks.{rank, at_rank}
-use Rattle.race_model.specs.BoardFiles.{board_length, board_place, board_record, mean_parts, value_of_parts}
+use Rattle.race_model.specs.Horizon.{most_rolls}
+use Rattle.race_model.specs.BoardFiles.{board_place, board_record, mean_parts, value_of_parts}
 use Rattle.race_model.specs.RightBoards.{IsLocalOnBoard}
 use Rattle.board_records.specs.declared.lower.RankedPlace.{RankedPlace}
 
@@ -38,12 +39,11 @@ abbrev pub AreResults : Board → (ℕ → ℕ) → Type 0
 AreResults x plays =
     (i : ℕ) → i < 21 → (y : Board) × Legal x (roll_at i) y × (rank y ≡ plays i)
 
--- where the record of a rank below one stands
+-- where the record of a rank below one begins, and how many rolls its position can need at most
 pub record IsPlaced (count : ℕ) (placed : RankedPlace) : Type 0 where
   pub below : placed.rank < count
-  pub offset : placed.place.offset ≡ board_place placed.rank
-  pub length : placed.place.length ≡ board_length (pips (at_rank placed.rank))
-  pub pips : placed.place.pips ≡ pips (at_rank placed.rank)
+  pub offset : placed.offset ≡ board_place placed.rank
+  pub rolls : placed.rolls ≡ most_rolls (pips (at_rank placed.rank))
 
 -- .. and those of the ranks that 21 rolls lead to
 abbrev pub ArePlaced : ℕ → (ℕ → ℕ) → List RankedPlace → Type 0

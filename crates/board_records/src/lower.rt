@@ -3,21 +3,25 @@ ghost use Rattle.std.specs.Prelude.{◌≡◌, ℕ, ◌+◌, ◌<◌, ◌≤◌,
 ghost use Rattle.race_model.specs.Positions.{pips};
 ghost use Rattle.race_model.specs.Ranks.{at_rank};
 ghost use Rattle.race_model.specs.Files.{bytes_at};
-ghost use Rattle.race_model.specs.BoardFiles.{board_length, board_place, board_record, count_at};
-ghost use Rattle.board_records.specs.Lower.{Lower, AreRecords, AreLocalTo, AreBelow, ArePlaced, IsPlaced, board_mean};
+ghost use Rattle.race_model.specs.BoardFiles.{board_place, board_record, count_place};
+ghost use Rattle.race_model.specs.BoardFiles.{mean_parts, value_of_parts};
+ghost use Rattle.std.specs.Int.{w64, w128, from_be_bytes};
+ghost use Rattle.board_records.specs.Lower.{Lower, AreRecords, AreLocalTo, AreBelow};
+ghost use Rattle.board_records.specs.Lower.{ArePlaced, IsPlaced, board_mean};
 
-use board_layout::{BoardPlace, BoardRecord, board_length};
-use db_layout::{read_long, read_wide};
+use crate::stored_mean::{StoredMean, is_less};
+use db_layout::{most_rolls, read_long, read_wide};
 use fixed_fraction::BoardMean;
 use least_plays::RankedMeans;
 use ranking::pips_of;
 use std::marker::Model;
 
-/// A rank, and where its record stands.
+/// A rank, where its record begins, and how many rolls its position can need at most.
 #[derive(Clone, Copy, Debug, PartialEq, Eq)]
 pub struct RankedPlace {
     pub rank: u16,
-    pub place: BoardPlace,
+    pub offset: u32,
+    pub rolls: u8,
 }
 
 /// The records of the lowest ranks of a board file, which meet their equations, and where each
@@ -65,24 +69,33 @@ impl<'a> LowerRecords<'a> {
         ensures rank { result.rank ≡ rank }
         ensures placed { IsPlaced self.now.count result }
     {
-        let offset = self.offsets[usize::from(rank)] as usize;
-        let pips = pips_of(rank);
-        let place = BoardPlace {
-            offset,
-            length: board_length(pips),
-            pips,
-        };
-        RankedPlace { rank, place }
+        RankedPlace {
+            rank,
+            offset: self.offsets[usize::from(rank)],
+            rolls: most_rolls(pips_of(rank)),
+        }
     }
 
-    /// The record that stands at a place.
-    pub fn record(&self, placed: &RankedPlace) -> BoardRecord<'a>
-        requires { IsPlaced self.now.count placed.now }
-        ensures pips { result.pips ≡ pips (at_rank placed.now.rank) }
-        ensures bytes { result.bytes ≡ board_record self.now.bytes placed.now.rank }
+    /// The number of 64 bits at a place in a record.
+    #[inline(always)]
+    pub(crate) fn word(&self, placed: &RankedPlace, place: usize) -> u64
+        requires placed { IsPlaced self.now.count placed.now }
+        requires within { place + 8 ≤ count_place (placed.now.rolls + 1) }
+        ensures { result ≡ from_be_bytes w64
+            (bytes_at (board_record self.now.bytes placed.now.rank) place 8) }
     {
-        let bytes = part_of(self.bytes, placed.place.offset, placed.place.length);
-        BoardRecord::new(bytes, placed.place.pips).unwrap()
+        read_long(self.bytes, placed.offset as usize + place)
+    }
+
+    /// .. of 128 bits.
+    #[inline(always)]
+    pub(crate) fn wide(&self, placed: &RankedPlace, place: usize) -> u128
+        requires placed { IsPlaced self.now.count placed.now }
+        requires within { place + 16 ≤ count_place (placed.now.rolls + 1) }
+        ensures { result ≡ from_be_bytes w128
+            (bytes_at (board_record self.now.bytes placed.now.rank) place 16) }
+    {
+        read_wide(self.bytes, placed.offset as usize + place)
     }
 
     /// The mean of a rank.
@@ -120,23 +133,24 @@ fn part_of(bytes: &[u8], place: usize, count: usize) -> &[u8]
 
 /// They are what the best plays go by.
 impl<'a> RankedMeans for LowerRecords<'a> {
-    type Mean = BoardMean;
+    type Mean = StoredMean<'a>;
 
     ghost mean = { λ lower. board_mean lower.bytes };
 
     ghost count = { λ lower. lower.count };
 
-    ghost number = { λ mean. mean };
+    ghost number = { λ mean. value_of_parts (mean_parts mean.bytes.now) };
 
     #[inline(always)]
-    fn mean(&self, rank: u16) -> BoardMean {
-        self.mean_at(rank)
+    fn mean(&self, rank: u16) -> StoredMean<'a> {
+        let offset = self.offsets[usize::from(rank)] as usize;
+        StoredMean {
+            bytes: part_of(self.bytes, offset, 24),
+        }
     }
 
     #[inline(always)]
-    fn is_less(one: BoardMean, other: BoardMean) -> bool
-        ensures { IsTrue result ↔ (one < other) }
-    {
-        one.is_less(other)
+    fn is_less(one: StoredMean<'a>, other: StoredMean<'a>) -> bool {
+        is_less(one, other)
     }
 }

@@ -3,15 +3,13 @@ ghost use Rattle.std.specs.Prelude.{◌≡◌, ℕ, ◌+◌, ◌*◌, ◌^◌, �
 ghost use Rattle.race_model.specs.Positions.{IsPosition, IsFinished};
 ghost use Rattle.race_model.specs.Dice.{roll_index};
 ghost use Rattle.race_model.specs.LocalEquations.{weighted};
-ghost use Rattle.race_model.specs.BoardFiles.{count_at};
+ghost use Rattle.race_model.specs.BoardFiles.{count_at, count_place};
 ghost use Rattle.board_records.specs.Lower.{AreBelow, AreResults, ArePlaced, IsPlaced, board_mean};
 
 use crate::lower::{LowerRecords, RankedPlace};
-use board_layout::Parts;
-use db_layout::most_rolls;
-use fixed_fraction::{
-    BoardMean, LongCount, LongSum, MiddleCount, MiddleSum, ShortCount, ShortSum, sum_of,
-};
+use crate::words::Word;
+use board_layout::{Parts, count_place};
+use fixed_fraction::{BoardMean, LongCount, LongSum, PART, sum_of};
 use home_board::Position;
 
 /// One roll and the mean of what 21 plays lead to, from a position that isn't finished.
@@ -55,33 +53,31 @@ pub fn count_of(lower: &LowerRecords<'_>, places: &[RankedPlace; 21], k: u8) -> 
 {
     let _count = lower.count();
     if k < 11 {
-        let count = sum_of_short(lower, places, k).count().unwrap();
         return Parts {
             upper: 0,
-            lower: count.count(),
+            lower: sum_of_short(lower, places, k),
         };
     }
     if k == 11 {
-        return parts_of_middle(sum_of_short(lower, places, k).middle());
+        return carried(0, sum_of_short(lower, places, k));
     }
-    if k < 22 {
-        return parts_of_middle(sum_of_middle(lower, places, k).count().unwrap());
-    }
-    if k == 22 {
-        return parts_of_long(sum_of_middle(lower, places, k).long());
+    if k <= 22 {
+        let sums = sums_of_middle(lower, places, k);
+        return carried(sums.upper, sums.lower);
     }
     parts_of_long(sum_of_long(lower, places, k).count().unwrap())
 }
 
-/// The parts of a count of 12 to 22 throws.
-fn parts_of_middle(count: MiddleCount) -> Parts
-    ensures value { result.upper * 36 ^ 11 + result.lower ≡ count }
-    ensures word { result.upper < 2 ^ 64 }
+/// A number in two parts, the lower one less than 36 ^ 11.
+#[inline(always)]
+fn carried(upper: u128, lower: u64) -> Parts
+    requires { upper ≤ 36 ^ 12 }
+    ensures value { result.upper * 36 ^ 11 + result.lower ≡ upper * 36 ^ 11 + lower }
     ensures lower { result.lower < 36 ^ 11 }
 {
     Parts {
-        upper: u128::from(count.upper()),
-        lower: count.lower(),
+        upper: upper + u128::from(lower / PART),
+        lower: lower % PART,
     }
 }
 
@@ -96,58 +92,46 @@ fn parts_of_long(count: LongCount) -> Parts
     }
 }
 
-/// The parts of the count of k throws that a record tells: none of no throw but for the finished
-/// position, and none of more throws than a game from there can take.
-fn told(lower: &LowerRecords<'_>, placed: &RankedPlace, k: u8) -> Parts
-    requires placed { IsPlaced lower.now.count placed.now }
-    requires few { k ≤ 33 }
-    ensures value { result.upper * 36 ^ 11 + result.lower ≡ count_at lower.now.bytes placed.now.rank k }
-    ensures one { k ≤ 11 → result.upper ≡ 0 }
-    ensures lower { 11 < k → result.lower < 36 ^ 11 }
-{
-    let _count = lower.count();
-    if k == 0 {
-        let lower = if placed.place.pips == 0 { 1 } else { 0 };
-        return Parts { upper: 0, lower };
-    }
-    if k > most_rolls(placed.place.pips) {
-        return Parts { upper: 0, lower: 0 };
-    }
-    lower.record(placed).count(k)
-}
-
 /// The sum of the counts of at most 11 throws.
-fn sum_of_short(lower: &LowerRecords<'_>, places: &[RankedPlace; 21], k: u8) -> ShortSum
+fn sum_of_short(lower: &LowerRecords<'_>, places: &[RankedPlace; 21], k: u8) -> u64
     ghost plays: { ℕ → ℕ }
     requires few { k ≤ 11 }
     requires places { ArePlaced lower.now.count plays places.now }
-    ensures { result.sum
-        ≡ weighted (λ v. count_at lower.now.bytes (plays (roll_index v)) k) }
+    ensures { result ≡ weighted (λ v. count_at lower.now.bytes (plays (roll_index v)) k) }
 {
-    let mut counts = [ShortCount::NONE; 21];
+    let place = count_place(k.max(1));
+    let mut counts = [Word::NONE; 21];
     for index in 0..21 {
-        counts[index] = short(lower, &places[index], k);
+        counts[index] = short(lower, &places[index], k, place);
     }
-    sum_of(&counts)
+    sum_of(&counts).number()
 }
 
-/// .. of 12 to 22 throws.
-fn sum_of_middle(lower: &LowerRecords<'_>, places: &[RankedPlace; 21], k: u8) -> MiddleSum
+/// The sums of the parts of the counts of 12 to 22 throws.
+fn sums_of_middle(lower: &LowerRecords<'_>, places: &[RankedPlace; 21], k: u8) -> Parts
     ghost plays: { ℕ → ℕ }
     requires many { 12 ≤ k }
     requires few { k ≤ 22 }
     requires places { ArePlaced lower.now.count plays places.now }
-    ensures { result.sum
+    ensures value { result.upper * 36 ^ 11 + result.lower
         ≡ weighted (λ v. count_at lower.now.bytes (plays (roll_index v)) k) }
+    ensures upper { result.upper ≤ 36 ^ 12 }
 {
-    let mut counts = [MiddleCount::NONE; 21];
+    let place = count_place(k);
+    let mut uppers = [Word::NONE; 21];
+    let mut lowers = [Word::NONE; 21];
     for index in 0..21 {
-        counts[index] = middle(lower, &places[index], k);
+        let count = middle(lower, &places[index], k, place);
+        uppers[index] = count.upper;
+        lowers[index] = count.lower;
     }
-    sum_of(&counts)
+    Parts {
+        upper: u128::from(sum_of(&uppers).number()),
+        lower: sum_of(&lowers).number(),
+    }
 }
 
-/// .. of 23 to 32 throws.
+/// The sum of the counts of 23 to 33 throws.
 fn sum_of_long(lower: &LowerRecords<'_>, places: &[RankedPlace; 21], k: u8) -> LongSum
     ghost plays: { ℕ → ℕ }
     requires many { 23 ≤ k }
@@ -156,44 +140,79 @@ fn sum_of_long(lower: &LowerRecords<'_>, places: &[RankedPlace; 21], k: u8) -> L
     ensures { result.sum
         ≡ weighted (λ v. count_at lower.now.bytes (plays (roll_index v)) k) }
 {
+    let place = count_place(k);
     let mut counts = [LongCount::NONE; 21];
     for index in 0..21 {
-        counts[index] = long(lower, &places[index], k);
+        counts[index] = long(lower, &places[index], k, place);
     }
     sum_of(&counts)
 }
 
-/// The count of at most 11 throws that a record tells.
-fn short(lower: &LowerRecords<'_>, placed: &RankedPlace, k: u8) -> ShortCount
+/// The count of at most 11 throws that a record tells, which begins at a place in it: one of no
+/// throw for the finished position alone, and none of more throws than a game from there can take.
+#[inline(always)]
+fn short(lower: &LowerRecords<'_>, placed: &RankedPlace, k: u8, place: usize) -> Word
     requires few { k ≤ 11 }
+    requires place { 1 ≤ k → place ≡ count_place k }
     requires placed { IsPlaced lower.now.count placed.now }
     ensures { result ≡ count_at lower.now.bytes placed.now.rank k }
 {
     let _count = lower.count();
-    let parts = told(lower, placed, k);
-    ShortCount::new(k, parts.lower).unwrap()
+    if k > placed.rolls {
+        return Word::NONE;
+    }
+    if k > 0 {
+        return Word::of(lower.word(placed, place));
+    }
+    if placed.rolls == 0 {
+        return Word::ONE;
+    }
+    Word::NONE
+}
+
+/// The words of a count of 12 to 22 throws.
+#[derive(Clone, Copy)]
+struct MiddleWords {
+    upper: Word,
+    lower: Word,
 }
 
 /// .. of 12 to 22 throws.
-fn middle(lower: &LowerRecords<'_>, placed: &RankedPlace, k: u8) -> MiddleCount
+#[inline(always)]
+fn middle(lower: &LowerRecords<'_>, placed: &RankedPlace, k: u8, place: usize) -> MiddleWords
     requires many { 12 ≤ k }
     requires few { k ≤ 22 }
+    requires place { place ≡ count_place k }
     requires placed { IsPlaced lower.now.count placed.now }
-    ensures { result ≡ count_at lower.now.bytes placed.now.rank k }
+    ensures { result.upper * 36 ^ 11 + result.lower
+        ≡ count_at lower.now.bytes placed.now.rank k }
 {
     let _count = lower.count();
-    let parts = told(lower, placed, k);
-    MiddleCount::new(k, parts.upper as u64, parts.lower).unwrap()
+    if k > placed.rolls {
+        return MiddleWords {
+            upper: Word::NONE,
+            lower: Word::NONE,
+        };
+    }
+    MiddleWords {
+        upper: Word::of(lower.word(placed, place)),
+        lower: Word::of(lower.word(placed, place + 8)),
+    }
 }
 
 /// .. of 23 to 33 throws.
-fn long(lower: &LowerRecords<'_>, placed: &RankedPlace, k: u8) -> LongCount
+#[inline(always)]
+fn long(lower: &LowerRecords<'_>, placed: &RankedPlace, k: u8, place: usize) -> LongCount
     requires many { 23 ≤ k }
     requires few { k ≤ 33 }
+    requires place { place ≡ count_place k }
     requires placed { IsPlaced lower.now.count placed.now }
     ensures { result ≡ count_at lower.now.bytes placed.now.rank k }
 {
     let _count = lower.count();
-    let parts = told(lower, placed, k);
-    LongCount::new(k, parts.upper, parts.lower).unwrap()
+    if k > placed.rolls {
+        return LongCount::NONE;
+    }
+    let upper = lower.wide(placed, place);
+    LongCount::new(k, upper, lower.word(placed, place + 16)).unwrap()
 }

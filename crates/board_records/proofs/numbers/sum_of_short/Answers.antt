@@ -23,7 +23,8 @@ loop-index-preserved g c =
 
 pub returns : goal.returns
 returns g c =
-    c.sum_of.ensures.sum
+    c.number.ensures
+    ∙ c.sum_of.ensures.sum
     ∙ weighted-listed c.loop-index.counts
     (λ i. count_at c.args.lower.now.bytes (g.plays i) c.args.k)
     (λ i lt. c.loop-index.invariant.are i (omega (arith, lt, c.loop-index-test.false)))

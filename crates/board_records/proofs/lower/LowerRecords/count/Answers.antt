@@ -7,7 +7,8 @@ pub returns-clause-count : goal.returns-clause-count
 returns-clause-count c = ap (λ (l : Lower). l.count) c.self.view_is
 
 pub returns-clause-few : goal.returns-clause-few
-returns-clause-few c = omega (arith, ap (λ (l : Lower). l.count) c.self.view_is, c.self.invariant.few)
+returns-clause-few c =
+    omega (arith, ap (λ (l : Lower). l.count) c.self.view_is, c.self.invariant.few)
 
 pub returns-clause-local : goal.returns-clause-local
 returns-clause-local c =
