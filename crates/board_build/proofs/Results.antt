@@ -15,7 +15,8 @@ module _ (mean : ℕ → ℕ) (x : Board) (plays : List ℕ) (best : AreBestPlay
   are-results i inside = (best i inside).reached
 
   -- .. whose rank is lower, if the position isn't finished
-  pub are-below : (n : ℕ) → IsPosition x → ¬ IsFinished x → rank x ≡ n → AreBelow (slice_index plays) n
+  pub are-below : (n : ℕ) → IsPosition x → ¬ IsFinished x → rank x ≡ n →
+      AreBelow (slice_index plays) n
   are-below n at unfinished is i inside =
       let z = are-results i inside in
       omega (arith, z.2, is, legal_lower x (roll_at i) z.0 at unfinished z.1)

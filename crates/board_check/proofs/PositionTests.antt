@@ -87,8 +87,11 @@ module _ (f : List ℕ) (x : Board) (at : IsPosition x) (bytes : List ℕ)
 
     pub results-are : AreResults x plays
     results-are i lt =
-        let played = (held i lt).0 in
-        (recorded_in (board_book f) x (roll_at i), played.legal, played.ranked ∙ sym (recorded i lt))
+        let played = (held i lt).0 in (
+          recorded_in (board_book f) x (roll_at i),
+          played.legal,
+          played.ranked ∙ sym (recorded i lt),
+        )
 
     pub below-are : AreBelow plays (rank x)
     below-are i lt =

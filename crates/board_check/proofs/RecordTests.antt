@@ -27,11 +27,18 @@ use Rattle.board_check.specs.declared.fault.RecordFault.TheVariants.{Play, NotLe
 
 module _ (f : List ℕ) (r : ℕ) (lt : r < count_to (bound_of f)) where
   -- a refused play is the first fault of the record
-  pub first-play : (fault : RecordFault) → IsPlayFault f (at_rank r) fault → IsFirstFaultAt f r fault
+  pub first-play : (fault : RecordFault) → IsPlayFault f (at_rank r) fault →
+      IsFirstFaultAt f r fault
   first-play (Play roll) first =
-      record { of_rank = refl; is_asked = (lt, first.is_roll); fails = first.refused; earlier = earlier }
+      record {
+        of_rank = refl;
+        is_asked = (lt, first.is_roll);
+        fails = first.refused;
+        earlier = earlier;
+      }
     where
-      earlier : (u : Test) → rank_of u ≡ r → place_of u < 2 * roll → AsksOnBoard f u → HoldsOnBoard f u
+      earlier : (u : Test) → rank_of u ≡ r → place_of u < 2 * roll → AsksOnBoard f u →
+          HoldsOnBoard f u
       earlier (play_test q i) same before asks =
           subst (λ q. IsPlayedIn (board_book f) (at_rank q) (roll_at i)) (sym same)
           (first.earlier i (omega arith)).0
@@ -41,7 +48,12 @@ module _ (f : List ℕ) (r : ℕ) (lt : r < count_to (bound_of f)) where
       earlier (mean_test q) same before asks = absurd (omega (arith, first.is_roll))
       earlier (spread_test q k) same before asks = absurd (omega (arith, first.is_roll))
   first-play (NotLeast roll) first =
-      record { of_rank = refl; is_asked = (lt, first.is_roll); fails = first.refused.1; earlier = earlier }
+      record {
+        of_rank = refl;
+        is_asked = (lt, first.is_roll);
+        fails = first.refused.1;
+        earlier = earlier;
+      }
     where
       earlier : (u : Test) → rank_of u ≡ r → place_of u < 2 * roll + 1 → AsksOnBoard f u →
           HoldsOnBoard f u
@@ -83,7 +95,8 @@ module _ (f : List ℕ) (r : ℕ) (lt : r < count_to (bound_of f)) where
     first-number (Spread k) first =
         record { of_rank = refl; is_asked = (lt, first.0); fails = first.1; earlier = earlier }
       where
-        earlier : (u : Test) → rank_of u ≡ r → place_of u < 43 + k → AsksOnBoard f u → HoldsOnBoard f u
+        earlier : (u : Test) → rank_of u ≡ r → place_of u < 43 + k → AsksOnBoard f u →
+            HoldsOnBoard f u
         earlier (play_test q i) same before asks =
             subst (λ q. IsPlayedIn (board_book f) (at_rank q) (roll_at i)) (sym same)
             (held i asks.1).0
@@ -116,7 +129,8 @@ local-answers : (f : List ℕ) (u : Test) → IsLocalOnBoard f (at_rank (rank_of
 local-answers f (play_test r roll) local asks = local.played _ (roll_of_index roll asks.1).0
 local-answers f (least_test r roll) local asks = local.best _ (roll_of_index roll asks.1).0
 local-answers f (mean_test r) local asks = (local.written.mean, local.mean_is)
-local-answers f (spread_test r k) local asks = (local.written.counts k asks.1, local.counts k asks.1)
+local-answers f (spread_test r k) local asks =
+    (local.written.counts k asks.1, local.counts k asks.1)
 
 -- what is asked is asked of a rank that has a record
 asked-rank : (f : List ℕ) (u : Test) → AsksOnBoard f u → rank_of u < count_to (bound_of f)

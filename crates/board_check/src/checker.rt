@@ -97,15 +97,15 @@ fn fault_at(rank: u16, fault: RecordFault) -> BoardFault
 #[inline(never)]
 fn check_record(
     lower: &LowerRecords<'_>,
-    record: &BoardRecord<'_>,
+    stored: &BoardRecord<'_>,
     ranks: &Ranks,
     rank: u16,
     plays: &mut LeastPlays<ROWS_TO_90>,
 ) -> Result<(), RecordFault>
     requires rank { rank ≡ lower.now.count }
     requires below { rank < 54264 }
-    requires pips { record.now.pips ≡ pips (at_rank rank) }
-    requires bytes { record.now.bytes ≡ board_record lower.now.bytes rank }
+    requires pips { stored.now.pips ≡ pips (at_rank rank) }
+    requires bytes { stored.now.bytes ≡ board_record lower.now.bytes rank }
     requires known { Knows (board_mean lower.now.bytes) plays.old rank }
     ensures known { Knows (board_mean lower.now.bytes) plays.new (rank + 1) }
     ensures local { OnOk result (IsLocalOnBoard lower.now.bytes (at_rank rank)) }
@@ -114,11 +114,11 @@ fn check_record(
 {
     let position = ranks.unrank(rank).unwrap();
     let best = plays.advance(ranks, &position, lower);
-    let recorded = plays_in(record);
+    let recorded = plays_in(stored);
     if let Err(fault) = check_plays(lower, ranks, &position, &recorded, &best) {
         return Err(fault);
     }
-    match check_numbers(lower, record, &position, &recorded) {
+    match check_numbers(lower, stored, &position, &recorded) {
         Ok(()) => Ok(()),
         Err(fault) => Err(fault),
     }

@@ -1,8 +1,9 @@
 //! Why bytes are refused.
 use db_layout::HeaderFault;
 
-/// The first fault of bytes that are no right board file, in the order of the check: its header, and
-/// then by rising rank for each roll the play and whether it is least, the mean, and the counts.
+/// The first fault of bytes that are no right board file, in the order of the check: its header,
+/// and then by rising rank for each roll the play and whether it is least, the mean, and the
+/// counts.
 #[derive(Clone, Copy, Debug, PartialEq, Eq)]
 pub enum BoardFault {
     /// The header is not that of a board file of so many bytes.

@@ -16,13 +16,13 @@ use home_board::Position;
 use legal_plays::Roll;
 
 /// What stands in a record for the rolls 0 to 20.
-pub fn plays_in(record: &BoardRecord<'_>) -> [u16; 21]
-    ensures { (i : ℕ) → i < 21 → slice_index result i ≡ board_play_of record.now.bytes i }
+pub fn plays_in(stored: &BoardRecord<'_>) -> [u16; 21]
+    ensures { (i : ℕ) → i < 21 → slice_index result i ≡ board_play_of stored.now.bytes i }
 {
     let mut plays = [0; 21];
     for index in 0..21 {
         let roll = Roll::from_index(index).unwrap();
-        plays[usize::from(index)] = record.play(roll);
+        plays[usize::from(index)] = stored.play(roll);
     }
     plays
 }
@@ -30,7 +30,7 @@ pub fn plays_in(record: &BoardRecord<'_>) -> [u16; 21]
 /// Whether the mean of a record is one roll and that of what the plays lead to.
 fn has_mean(
     lower: &LowerRecords<'_>,
-    record: &BoardRecord<'_>,
+    stored: &BoardRecord<'_>,
     position: &Position,
     plays: &[u16; 21],
 ) -> bool
@@ -38,28 +38,28 @@ fn has_mean(
     requires unfinished { ¬ IsFinished position.now }
     requires below { AreBelow (slice_index plays.now) lower.now.count }
     requires results { AreResults position.now (slice_index plays.now) }
-    ensures { IsTrue result ↔ IsMeanOf lower.now.bytes (slice_index plays.now) record.now.bytes }
+    ensures { IsTrue result ↔ IsMeanOf lower.now.bytes (slice_index plays.now) stored.now.bytes }
 {
     let mean = mean_of(lower, position, plays);
-    let stored = record.mean();
-    stored.upper == mean.upper() && stored.lower == mean.lower()
+    let found = stored.mean();
+    found.upper == mean.upper() && found.lower == mean.lower()
 }
 
 /// Whether the count of k throws of a record is that of what the plays lead to, for k from 1 on.
 fn has_count(
     lower: &LowerRecords<'_>,
-    record: &BoardRecord<'_>,
+    stored: &BoardRecord<'_>,
     places: &[RankedPlace; 21],
     k: u8,
 ) -> bool
     ghost plays: { ℕ → ℕ }
     requires some { 1 ≤ k }
-    requires few { k ≤ most_rolls record.now.pips }
+    requires few { k ≤ most_rolls stored.now.pips }
     requires most { k ≤ 33 }
     requires places { ArePlaced lower.now.count plays places.now }
-    ensures { IsTrue result ↔ IsCountOf lower.now.bytes plays record.now.bytes k }
+    ensures { IsTrue result ↔ IsCountOf lower.now.bytes plays stored.now.bytes k }
 {
-    are_equal(&record.count(k), &count_of(lower, places, k - 1))
+    are_equal(&stored.count(k), &count_of(lower, places, k - 1))
 }
 
 /// Whether two numbers have the same parts.
@@ -71,28 +71,29 @@ fn are_equal(one: &Parts, other: &Parts) -> bool
     one.upper == other.upper && one.lower == other.lower
 }
 
-/// The least number of throws whose count is not that of what the plays lead to; none where all are.
+/// The least number of throws whose count is not that of what the plays lead to; none where all
+/// are.
 fn wrong_count(
     lower: &LowerRecords<'_>,
-    record: &BoardRecord<'_>,
+    stored: &BoardRecord<'_>,
     places: &[RankedPlace; 21],
     rolls: u8,
 ) -> Option<u8>
     ghost plays: { ℕ → ℕ }
-    requires rolls { rolls ≡ most_rolls record.now.pips }
+    requires rolls { rolls ≡ most_rolls stored.now.pips }
     requires most { rolls ≤ 33 }
     requires places { ArePlaced lower.now.count plays places.now }
     ensures right { IfNone result ((k : ℕ) → 1 ≤ k → k ≤ rolls →
-        IsCountOf lower.now.bytes plays record.now.bytes k) }
+        IsCountOf lower.now.bytes plays stored.now.bytes k) }
     ensures some { IfSome result (λ k. 1 ≤ k) }
     ensures few { IfSome result (λ k. k ≤ rolls) }
     ensures wrong { IfSome result
-        (λ k. ¬ IsCountOf lower.now.bytes plays record.now.bytes k) }
+        (λ k. ¬ IsCountOf lower.now.bytes plays stored.now.bytes k) }
     ensures earlier { IfSome result (λ k. (j : ℕ) → 1 ≤ j → j < k →
-        IsCountOf lower.now.bytes plays record.now.bytes j) }
+        IsCountOf lower.now.bytes plays stored.now.bytes j) }
 {
     for below in 0..rolls {
-        if !has_count(lower, record, places, below + 1) {
+        if !has_count(lower, stored, places, below + 1) {
             return Some(below + 1);
         }
     }
@@ -103,15 +104,16 @@ fn wrong_count(
 /// for the rolls holds.
 pub fn check_numbers(
     lower: &LowerRecords<'_>,
-    record: &BoardRecord<'_>,
+    stored: &BoardRecord<'_>,
     position: &Position,
     plays: &[u16; 21],
 ) -> Result<(), RecordFault>
     requires position { IsPosition position.now }
     requires next { rank_of position.now ≡ lower.now.count }
-    requires pips { record.now.pips ≡ pips position.now }
-    requires bytes { record.now.bytes ≡ board_record lower.now.bytes (rank_of position.now) }
-    requires plays { (i : ℕ) → i < 21 → slice_index plays.now i ≡ board_play_of record.now.bytes i }
+    requires pips { stored.now.pips ≡ pips position.now }
+    requires bytes { stored.now.bytes ≡ board_record lower.now.bytes (rank_of position.now) }
+    requires plays { (i : ℕ) → i < 21 →
+        slice_index plays.now i ≡ board_play_of stored.now.bytes i }
     requires held { (i : ℕ) → i < 21 → Holds lower.now.bytes position.now i }
     ensures mean { OnOk result (MeanHolds lower.now.bytes position.now) }
     ensures counts { OnOk result ((k : ℕ) → k ≤ 33 → CountHolds lower.now.bytes position.now k) }
@@ -119,16 +121,16 @@ pub fn check_numbers(
 {
     let _count = lower.count();
     if position.is_finished() {
-        if are_equal(&record.mean(), &Parts { upper: 0, lower: 0 }) {
+        if are_equal(&stored.mean(), &Parts { upper: 0, lower: 0 }) {
             return Ok(());
         }
         return Err(RecordFault::Mean);
     }
-    if !has_mean(lower, record, position, plays) {
+    if !has_mean(lower, stored, position, plays) {
         return Err(RecordFault::Mean);
     }
     let places = lower.places(plays);
-    match wrong_count(lower, record, &places, most_rolls(position.pips())) {
+    match wrong_count(lower, stored, &places, most_rolls(position.pips())) {
         Some(k) => Err(RecordFault::Spread { k }),
         None => Ok(()),
     }

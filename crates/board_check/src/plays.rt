@@ -39,7 +39,8 @@ fn check_play(
     requires position { IsPosition position.now }
     requires next { rank_of position.now ≤ lower.now.count }
     requires roll { roll < 21 }
-    requires recorded { recorded ≡ play_in (board_book lower.now.bytes) position.now (roll_at roll) }
+    requires recorded { recorded
+        ≡ play_in (board_book lower.now.bytes) position.now (roll_at roll) }
     requires best { IsBestPlay (board_mean lower.now.bytes) position.now (roll_at roll) best }
     ensures right { OnOk result (Holds lower.now.bytes position.now roll) }
     ensures fault { IfErr result (IsRefusedPlay lower.now.bytes position.now) }

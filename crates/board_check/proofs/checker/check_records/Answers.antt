@@ -1,5 +1,6 @@
 -- The records are checked by rising rank; each is accepted or has the first fault.
-use Rattle.std.proofs.Common.{◌≡◌, ◌+◌, ◌<◌, ◌≤◌, length, take, length-take, length-set, sym, ap, subst, ◌∙◌, arith, w32}
+use Rattle.std.proofs.Common.{◌≡◌, ◌+◌, ◌<◌, ◌≤◌, length, take, length-take, length-set}
+use Rattle.std.proofs.Common.{sym, ap, subst, ◌∙◌, arith, w32}
 use Rattle.std.proofs.lemmas.List.{get_or-take}
 use Rattle.std.proofs.Math.Facts.{Fits-of_lt}
 use Rattle.race_model.specs.Positions.{pips}

@@ -13,13 +13,14 @@ use Rattle.board_check.specs.Tested.{IsCountOf, MeanHolds, CountHolds}
 use Rattle.board_check.proofs.PositionTests.{end-counts-hold}
 use Rattle.board_check.proofs.PositionTests.{results-are, below-are, mean-holds, mean-tested, count-holds, count-tested}
 use Rattle.board_check.proofs.PositionTests.{count-at_once, count-later}
-use Rattle.board_check.proofs.numbers.check_numbers.Goals.{After-is_finished, Else-is_finished, Else-not-has_mean, In-Some, In-None}
+use Rattle.board_check.proofs.numbers.check_numbers.Goals.{After-is_finished, Else-is_finished}
+use Rattle.board_check.proofs.numbers.check_numbers.Goals.{Else-not-has_mean, In-Some, In-None}
 use Rattle.board_check.proofs.numbers.check_numbers.Goals as goal
 
 pub returns-then-are_equal-clause-counts : goal.returns-then-are_equal-clause-counts
 returns-then-are_equal-clause-counts c =
     end-counts-hold c.args.lower.now.bytes c.args.position.now c.requires.position
-    c.args.record.now.bytes c.requires.bytes (c.is_finished.ensures.value.0 c.if-is_finished.true)
+    c.args.stored.now.bytes c.requires.bytes (c.is_finished.ensures.value.0 c.if-is_finished.true)
 
 -- what is known of a position that isn't finished
 module _ (c : Else-is_finished) where
@@ -27,19 +28,20 @@ module _ (c : Else-is_finished) where
   unfinished end = false≢true (sym c.if-is_finished.false ∙ c.is_finished.ensures.value.1 end)
 
   local : AreLocalTo c.args.lower.now.bytes (rank c.args.position.now)
-  local = subst (AreLocalTo c.args.lower.now.bytes) (sym c.requires.next) c.count-count.ensures.local
+  local =
+      subst (AreLocalTo c.args.lower.now.bytes) (sym c.requires.next) c.count-count.ensures.local
 
   results : AreResults c.args.position.now (slice_index c.args.plays.now)
   results =
       results-are c.args.lower.now.bytes c.args.position.now c.requires.position
-      c.args.record.now.bytes c.requires.bytes unfinished (slice_index c.args.plays.now)
+      c.args.stored.now.bytes c.requires.bytes unfinished (slice_index c.args.plays.now)
       c.requires.plays c.requires.held local
 
   below : AreBelow (slice_index c.args.plays.now) c.args.lower.now.count
   below =
       subst (AreBelow (slice_index c.args.plays.now)) c.requires.next
       (below-are c.args.lower.now.bytes c.args.position.now c.requires.position
-      c.args.record.now.bytes c.requires.bytes unfinished (slice_index c.args.plays.now)
+      c.args.stored.now.bytes c.requires.bytes unfinished (slice_index c.args.plays.now)
       c.requires.plays c.requires.held local)
 
 pub has_mean-requires-clause-below : goal.has_mean-requires-clause-below
@@ -54,7 +56,7 @@ returns-then-not-has_mean-clause-fault c holds =
     let no : c.has_mean.result ≡ false = search rules in
     false≢true (sym no ∙ c.has_mean.ensures.1
     (mean-tested c.args.lower.now.bytes c.args.position.now c.requires.position
-    c.args.record.now.bytes c.requires.bytes (unfinished here) (slice_index c.args.plays.now)
+    c.args.stored.now.bytes c.requires.bytes (unfinished here) (slice_index c.args.plays.now)
     c.requires.plays c.requires.held (local here) holds))
 
 pub places-places-requires : goal.places-places-requires
@@ -69,45 +71,45 @@ module _ (c : Else-not-has_mean) where
   mean-is =
       let yes : c.has_mean.result ≡ true = search rules in
       mean-holds c.args.lower.now.bytes c.args.position.now c.requires.position
-      c.args.record.now.bytes c.requires.bytes (unfinished other) (slice_index c.args.plays.now)
+      c.args.stored.now.bytes c.requires.bytes (unfinished other) (slice_index c.args.plays.now)
       c.requires.plays c.requires.held (local other) (c.has_mean.ensures.0 yes)
 
   abbrev stored : ℕ → ℕ
-  stored = board_play_of c.args.record.now.bytes
+  stored = board_play_of c.args.stored.now.bytes
 
   holds-at : (k : ℕ) → 1 ≤ k → k ≤ most_rolls (pips c.args.position.now) →
-      IsCountOf c.args.lower.now.bytes stored c.args.record.now.bytes k →
+      IsCountOf c.args.lower.now.bytes stored c.args.stored.now.bytes k →
       CountHolds c.args.lower.now.bytes c.args.position.now k
   holds-at =
       count-holds c.args.lower.now.bytes c.args.position.now c.requires.position
-      c.args.record.now.bytes c.requires.bytes (unfinished other) stored (λ i lt. refl)
+      c.args.stored.now.bytes c.requires.bytes (unfinished other) stored (λ i lt. refl)
       c.requires.held (local other)
 
   tested-at : (k : ℕ) → 1 ≤ k → k ≤ most_rolls (pips c.args.position.now) →
       CountHolds c.args.lower.now.bytes c.args.position.now k →
-      IsCountOf c.args.lower.now.bytes stored c.args.record.now.bytes k
+      IsCountOf c.args.lower.now.bytes stored c.args.stored.now.bytes k
   tested-at =
       count-tested c.args.lower.now.bytes c.args.position.now c.requires.position
-      c.args.record.now.bytes c.requires.bytes (unfinished other) stored (λ i lt. refl)
+      c.args.stored.now.bytes c.requires.bytes (unfinished other) stored (λ i lt. refl)
       c.requires.held (local other)
 
   at-once : CountHolds c.args.lower.now.bytes c.args.position.now 0
   at-once =
       count-at_once c.args.lower.now.bytes c.args.position.now c.requires.position
-      c.args.record.now.bytes c.requires.bytes (unfinished other) stored (λ i lt. refl)
+      c.args.stored.now.bytes c.requires.bytes (unfinished other) stored (λ i lt. refl)
       c.requires.held (local other)
 
   later-is : (k : ℕ) → most_rolls (pips c.args.position.now) < k → k ≤ 33 →
       CountHolds c.args.lower.now.bytes c.args.position.now k
   later-is =
       count-later c.args.lower.now.bytes c.args.position.now c.requires.position
-      c.args.record.now.bytes c.requires.bytes (unfinished other) stored (λ i lt. refl)
+      c.args.stored.now.bytes c.requires.bytes (unfinished other) stored (λ i lt. refl)
       c.requires.held (local other)
 
   -- all counts before one that is tested
   earlier : (k : ℕ) → k ≤ most_rolls (pips c.args.position.now) →
       ((j : ℕ) → 1 ≤ j → j < k →
-      IsCountOf c.args.lower.now.bytes stored c.args.record.now.bytes j) →
+      IsCountOf c.args.lower.now.bytes stored c.args.stored.now.bytes j) →
       (j : ℕ) → j < k → CountHolds c.args.lower.now.bytes c.args.position.now j
   earlier k few right zero lt = at-once
   earlier k few right (suc j) lt =
@@ -123,7 +125,8 @@ returns-in-Some-clause-fault c =
     let here = (goal.at.returns-in-Some-clause-fault c).Else-not-has_mean in
     let said = c.in-Some.ensures {u = tt} in
     let rolls = c.most_rolls.ensures ∙ ap most_rolls c.pips.ensures.value in
-    let few : c.in-Some.k ≤ most_rolls (pips c.args.position.now) = omega (arith, said.few, rolls) in (
+    let few : c.in-Some.k ≤ most_rolls (pips c.args.position.now) =
+    omega (arith, said.few, rolls) in (
       omega (arith, few, most here),
       λ holds. said.wrong (tested-at here c.in-Some.k said.some few holds),
       mean-is here,

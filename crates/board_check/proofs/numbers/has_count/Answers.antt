@@ -6,7 +6,7 @@ pub returns : goal.returns
 returns g c =
     let told = c.count.ensures in
     let f = c.args.lower.now.bytes in
-    let bytes = c.args.record.now.bytes in
+    let bytes = c.args.stored.now.bytes in
     let made = c.count_of.ensures in (
       λ yes.
           let same = c.are_equal.ensures.0 yes in

@@ -7,5 +7,5 @@ use Rattle.board_check.proofs.numbers.plays_in.Given as goal
 abbrev pub invariant-loop-index : goal.invariant-loop-index
 invariant-loop-index l = record {
   len : length l.plays ≡ 21;
-  read : (i : ℕ) → i < l.index → slice_index l.plays i ≡ board_play_of l.record.bytes i;
+  read : (i : ℕ) → i < l.index → slice_index l.plays i ≡ board_play_of l.stored.bytes i;
 }

@@ -8,5 +8,5 @@ ghost-has_count g a = g.plays
 -- the counts so far are right
 abbrev pub invariant-loop-below : goal.invariant-loop-below
 invariant-loop-below g l = record {
-  right : (j : ℕ) → 1 ≤ j → j ≤ l.below → IsCountOf l.lower.bytes g.plays l.record.bytes j;
+  right : (j : ℕ) → 1 ≤ j → j ≤ l.below → IsCountOf l.lower.bytes g.plays l.stored.bytes j;
 }

@@ -8,7 +8,8 @@ use Rattle.race_model.specs.BestPlays.{IsBestPlay}
 use Rattle.board_records.specs.Lower.{board_mean}
 use Rattle.board_check.specs.Tested.{IsResult}
 use Rattle.board_check.proofs.PlayTests.{is_played, not_played, best-result, not_best, is_best, lower_result}
-use Rattle.board_check.proofs.plays.check_play.Goals.{Then-not-is_result, Else-not-is_result, Then-is_less, Else-is_less}
+use Rattle.board_check.proofs.plays.check_play.Goals.{Then-not-is_result, Else-not-is_result}
+use Rattle.board_check.proofs.plays.check_play.Goals.{Then-is_less, Else-is_less}
 use Rattle.board_check.proofs.plays.check_play.Goals as goal
 
 pub returns-then-recorded-best-clause-right : goal.returns-then-recorded-best-clause-right
