@@ -63,6 +63,18 @@ impl<'a> LowerRecords<'a> {
         self.offsets.len() as u16
     }
 
+    /// The same records, for a loop that writes elsewhere: so the compiler knows that it doesn't
+    /// change where they lie.
+    #[inline(always)]
+    pub(crate) fn again(&self) -> LowerRecords<'a>
+        ensures { result ≡ self.now }
+    {
+        LowerRecords {
+            bytes: self.bytes,
+            offsets: self.offsets,
+        }
+    }
+
     /// Where the record of a rank stands.
     pub fn place(&self, rank: u16) -> RankedPlace
         requires { rank < self.now.count }

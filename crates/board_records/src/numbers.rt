@@ -99,10 +99,11 @@ fn sum_of_short(lower: &LowerRecords<'_>, places: &[RankedPlace; 21], k: u8) -> 
     requires places { ArePlaced lower.now.count plays places.now }
     ensures { result ≡ weighted (λ v. count_at lower.now.bytes (plays (roll_index v)) k) }
 {
+    let records = lower.again();
     let place = count_place(k.max(1));
     let mut counts = [Word::NONE; 21];
     for index in 0..21 {
-        counts[index] = short(lower, &places[index], k, place);
+        counts[index] = short(&records, &places[index], k, place);
     }
     sum_of(&counts).number()
 }
@@ -117,11 +118,12 @@ fn sums_of_middle(lower: &LowerRecords<'_>, places: &[RankedPlace; 21], k: u8) -
         ≡ weighted (λ v. count_at lower.now.bytes (plays (roll_index v)) k) }
     ensures upper { result.upper ≤ 36 ^ 12 }
 {
+    let records = lower.again();
     let place = count_place(k);
     let mut uppers = [Word::NONE; 21];
     let mut lowers = [Word::NONE; 21];
     for index in 0..21 {
-        let count = middle(lower, &places[index], k, place);
+        let count = middle(&records, &places[index], k, place);
         uppers[index] = count.upper;
         lowers[index] = count.lower;
     }
@@ -140,10 +142,11 @@ fn sum_of_long(lower: &LowerRecords<'_>, places: &[RankedPlace; 21], k: u8) -> L
     ensures { result.sum
         ≡ weighted (λ v. count_at lower.now.bytes (plays (roll_index v)) k) }
 {
+    let records = lower.again();
     let place = count_place(k);
     let mut counts = [LongCount::NONE; 21];
     for index in 0..21 {
-        counts[index] = long(lower, &places[index], k, place);
+        counts[index] = long(&records, &places[index], k, place);
     }
     sum_of(&counts)
 }

@@ -1,7 +1,10 @@
 -- The count of one play more, and the sum of all.
 use Rattle.std.proofs.Common.{◌≡◌, ap, length-set, refl, ◌∙◌, arith}
+use Rattle.std.specs.Prelude.{slice_index_or}
 use Rattle.race_model.specs.BoardFiles.{count_at}
 use Rattle.race_model.proofs.Numbers.Members.{set_next}
+use Rattle.board_records.specs.Lower.{Lower}
+use Rattle.board_records.specs.declared.lower.RankedPlace.{RankedPlace}
 use Rattle.board_records.proofs.Weighted.{weighted-listed}
 use Rattle.board_records.proofs.numbers.sum_of_short.Goals as goal
 
@@ -9,6 +12,8 @@ pub loop-index-preserved : goal.loop-index-preserved
 loop-index-preserved g c =
     let i = c.loop-index.index in
     let kept = c.loop-index.invariant in
+    let none : RankedPlace = record { rank = 0; offset = 0; rolls = 0 } in
+    let placed = slice_index_or c.args.places.now i none in
     record {
       len = length-set c.loop-index.counts i c.short.result ∙ kept.len;
       are =
@@ -17,8 +22,9 @@ loop-index-preserved g c =
           c.loop-index.counts i i c.short.result 0 refl
           (omega (arith, kept.len, c.loop-index-test.true)) kept.are
           (c.short.ensures
+          ∙ ap (λ (l : Lower). count_at l.bytes placed.rank c.args.k) c.again-records.ensures
           ∙ ap (λ r. count_at c.args.lower.now.bytes r c.args.k)
-          (c.requires.1 i _ c.loop-index-test.true).1);
+          (c.requires.1 i none c.loop-index-test.true).1);
     }
 
 pub returns : goal.returns
