@@ -2,17 +2,17 @@
 use Rattle.std.proofs.Common.{ℕ, suc, List, [], ◌∷◌, ◌++◌, Option, refl, subst}
 use Rattle.std.proofs.lemmas.List.{append-nil}
 use Rattle.std.specs.Io.KnownBytes.{Appends, Keeps}
-use Rattle.race_model.specs.Levels.{IsLevelLine}
 use Rattle.db_layout.proofs.Known.{appends_none, appends_kept, appends_twice}
+use Rattle.epc_query.specs.AnyFiles.{AnyFile, IsLevelLineBy}
 use Rattle.bearoff_cli.specs.FileAnswers.{WritesLevels}
 
 -- of no pip counts there is none
-pub no_levels : (file : List ℕ) (old : Option (List ℕ)) → WritesLevels file 0 old old
+pub no_levels : (file : AnyFile) (old : Option (List ℕ)) → WritesLevels file 0 old old
 no_levels file old = record { lines = []; levels = refl; written = appends_none old }
 
 -- the line of the next pip count
-pub next_level : (file : List ℕ) (p : ℕ) (old mid new : Option (List ℕ)) (line : List ℕ)
-    → WritesLevels file p old mid → IsLevelLine file p line → Appends mid new (line ++ 10 ∷ [])
+pub next_level : (file : AnyFile) (p : ℕ) (old mid new : Option (List ℕ)) (line : List ℕ)
+    → WritesLevels file p old mid → IsLevelLineBy file p line → Appends mid new (line ++ 10 ∷ [])
     → WritesLevels file (suc p) old new
 next_level file p old mid new line before is written = record {
   lines = before.lines ++ (line ++ 10 ∷ []);
@@ -28,7 +28,7 @@ appends_then_kept old mid new bytes grown kept =
     (appends_twice old mid new bytes [] grown (appends_kept mid new kept))
 
 -- lines were written, and then nothing
-pub levels_then_kept : (file : List ℕ) (count : ℕ) (old mid new : Option (List ℕ))
+pub levels_then_kept : (file : AnyFile) (count : ℕ) (old mid new : Option (List ℕ))
     → WritesLevels file count old mid → Keeps mid new → WritesLevels file count old new
 levels_then_kept file count old mid new written kept = record {
   lines = written.lines;

@@ -8,11 +8,14 @@ use Rattle.race_model.specs.Ranks.{count_to}
 use Rattle.race_model.specs.Versions.{Version, full, compact, version_number}
 use Rattle.race_model.specs.Files.{version_of, bound_of}
 use Rattle.race_model.specs.RightFiles.{IsRight}
+use Rattle.epc_query.specs.AnyFiles.{AnyFile, IsRightBy}
 use Rattle.db_reader.specs.Telling.{WhereTold}
 use Rattle.certificate.specs.Upgrades.{WritesUpgrade}
 use Rattle.epc_query.proofs.Runs.{read_all, read_front}
 use Rattle.bearoff_cli.proofs.Requests.{IsNot}
-use Rattle.bearoff_cli.specs.FileAnswers.{IsHandedTo, IsReadFrom, SaysLevels, SaysUpgraded, WritesLevels, count_line}
+use Rattle.bearoff_cli.specs.InputAnswers.{AreAnswered}
+use Rattle.bearoff_cli.specs.FileAnswers.{AreAnsweredFrom, IsHandedTo, IsReadFrom, SaysLevels, SaysUpgraded}
+use Rattle.bearoff_cli.specs.FileAnswers.{WritesLevels, count_line}
 use Rattle.bearoff_cli.specs.declared.act.Done.TheVariants.{Upgraded}
 
 -- a list of no length is none
@@ -45,13 +48,22 @@ read_of remaining file items (Ok v) read = (file, read)
 read_of remaining file items (Err e) read = tt
 
 -- the levels of what was read
-pub levels_read : {A E F : Type 0} (remaining : F → Option (List ℕ)) (file : List ℕ)
-    (old new : Option (List ℕ)) (r : Result A E) → IsReadFrom remaining file → IsRight file
-    → OnOk r (WritesLevels file (suc (bound_of file)) old new)
-    → OnOk r (SaysLevels remaining old new)
-levels_read remaining file old new (Ok x) read right levels =
+pub levels_read : {A E F : Type 0} (kind : List ℕ → AnyFile) (remaining : F → Option (List ℕ))
+    (file : List ℕ) (old new : Option (List ℕ)) (r : Result A E) → IsReadFrom remaining file
+    → IsRightBy (kind file) → OnOk r (WritesLevels (kind file) (suc (bound_of file)) old new)
+    → OnOk r (SaysLevels kind remaining old new)
+levels_read kind remaining file old new (Ok x) read right levels =
     record { file = file; read = read; right = right; levels = levels }
-levels_read remaining file old new (Err e) read right levels = tt
+levels_read kind remaining file old new (Err e) read right levels = tt
+
+-- the replies over what was read
+pub over_read : {A E F : Type 0} (kind : List ℕ → AnyFile) (remaining : F → Option (List ℕ))
+    (file given : List ℕ) (left old new : Option (List ℕ)) (r : Result A E)
+    → IsReadFrom remaining file → IfOk r (λ _. AreAnswered (kind file) given left old new)
+    → IfOk r (λ _. AreAnsweredFrom kind remaining given left old new)
+over_read kind remaining file given left old new (Ok x) read is =
+    record { file = file; read = read; answered = is }
+over_read kind remaining file given left old new (Err e) read is = tt
 
 -- a version that is not the second is the first
 pub is_full : (v : Version) → ¬ (version_number v ≡ 2) → v ≡ full

@@ -4,11 +4,10 @@ use Rattle.std.proofs.Common.{IfErr, refl, subst, arith}
 use Rattle.std.specs.Prelude.{OnErr}
 use Rattle.race_model.specs.BuiltFile.{IsBuilt}
 use Rattle.race_model.specs.Files.{bound_of}
-use Rattle.race_model.specs.Levels.{IsLevelLine}
 use Rattle.race_model.specs.Ranks.{count_to}
-use Rattle.race_model.specs.RightFiles.{IsRight}
 use Rattle.retrograde.specs.UsualVersion.{usual_version}
 use Rattle.db_layout.specs.Writes.{AppendsPart}
+use Rattle.epc_query.specs.AnyFiles.{AnyFile, database_file, bound_by, IsRightBy, IsLevelLineBy}
 use Rattle.epc_query.proofs.Held.{part_after, part_all}
 use Rattle.exit_status.specs.declared.fault.Fault.{Fault}
 use Rattle.bearoff_cli.specs.FileAnswers.{IsReadFrom, WritesLevels, count_line}
@@ -16,8 +15,8 @@ use Rattle.bearoff_cli.specs.StoppedRuns.{AreStopped, IsNothingOr, WritesLevelPa
 use Rattle.bearoff_cli.specs.declared.act.Done.{Done}
 
 -- whole lines of pip counts are a part of all lines
-pub levels_part : (file : List ℕ) (count : ℕ) (old new : Option (List ℕ))
-    → count ≤ suc (bound_of file) → WritesLevels file count old new → WritesLevelPart file old new
+pub levels_part : (file : AnyFile) (count : ℕ) (old new : Option (List ℕ))
+    → count ≤ suc (bound_by file) → WritesLevels file count old new → WritesLevelPart file old new
 levels_part file count old new within written = record {
   count = count;
   within = within;
@@ -27,8 +26,8 @@ levels_part file count old new within written = record {
 }
 
 -- .. and so are they with a part of the next one
-pub levels_and_part : (file : List ℕ) (p : ℕ) (old mid new : Option (List ℕ)) (line : List ℕ)
-    → p ≤ bound_of file → WritesLevels file p old mid → IsLevelLine file p line
+pub levels_and_part : (file : AnyFile) (p : ℕ) (old mid new : Option (List ℕ)) (line : List ℕ)
+    → p ≤ bound_by file → WritesLevels file p old mid → IsLevelLineBy file p line
     → AppendsPart mid new (line ++ 10 ∷ []) → WritesLevelPart file old new
 levels_and_part file p old mid new line within before is part = record {
   count = suc p;
@@ -47,12 +46,13 @@ line_part old new done file pips positions p q h =
     subst (λ n. AppendsPart old new (count_line done (bound_of file) n)) q
     (subst (λ n. AppendsPart old new (count_line done n positions)) p h)
 
--- what was written of a database that was read
-pub read_part : {A F : Type 0} (remaining : F → Option (List ℕ)) (Says : List ℕ → Type 0)
-    (file : List ℕ) (old new : Option (List ℕ)) (r : Result A Fault) → IsReadFrom remaining file
-    → IsRight file → OnErr r (Says file) → OnErr r (IsNothingOr remaining Says old new)
-read_part remaining Says file old new (Ok x) read right says = tt
-read_part remaining Says file old new (Err e) read right says = inr (file, read, right, says)
+-- what was written of a file that was read
+pub read_part : {A F : Type 0} (kind : List ℕ → AnyFile) (remaining : F → Option (List ℕ))
+    (Says : List ℕ → Type 0) (file : List ℕ) (old new : Option (List ℕ)) (r : Result A Fault)
+    → IsReadFrom remaining file → IsRightBy (kind file) → OnErr r (Says file)
+    → OnErr r (IsNothingOr kind remaining Says old new)
+read_part kind remaining Says file old new (Ok x) read right says = tt
+read_part kind remaining Says file old new (Err e) read right says = inr (file, read, right, says)
 
 -- where it stopped, it did so with nothing written, or so
 pub may_be_stopped : {A : Type 0} (N : Type 0) (Stops : Fault → Type 0) (r : Result A Fault)
@@ -60,23 +60,24 @@ pub may_be_stopped : {A : Type 0} (N : Type 0) (Stops : Fault → Type 0) (r : R
 may_be_stopped N Stops (Ok x) stops = tt
 may_be_stopped N Stops (Err e) stops = inr stops
 
--- .. over a database that was read
-pub read_stopped : {A F : Type 0} (remaining : F → Option (List ℕ)) (file given : List ℕ)
-    (left old new : Option (List ℕ)) (r : Result A Fault) → IsReadFrom remaining file
-    → IfErr r (λ fault. (new ≡ old) ⊎ AreStopped file given left old new fault)
+-- .. over a file that was read
+pub read_stopped : {A F : Type 0} (kind : List ℕ → AnyFile) (remaining : F → Option (List ℕ))
+    (file given : List ℕ) (left old new : Option (List ℕ)) (r : Result A Fault)
+    → IsReadFrom remaining file
+    → IfErr r (λ fault. (new ≡ old) ⊎ AreStopped (kind file) given left old new fault)
     → IfErr r (λ fault.
-    IsNothingOr remaining (λ f. AreStopped f given left old new fault) old new)
-read_stopped remaining file given left old new (Ok x) read stops = tt
-read_stopped remaining file given left old new (Err e) read (inl same) = inl same
-read_stopped remaining file given left old new (Err e) read (inr stops) =
+    IsNothingOr kind remaining (λ f. AreStopped (kind f) given left old new fault) old new)
+read_stopped kind remaining file given left old new (Ok x) read stops = tt
+read_stopped kind remaining file given left old new (Err e) read (inl same) = inl same
+read_stopped kind remaining file given left old new (Err e) read (inr stops) =
     inr (file, read, stops.right, stops)
 
 -- .. and over the built one
 pub built_stopped : {A : Type 0} (file given : List ℕ) (left old new : Option (List ℕ))
     (r : Result A Fault) → IsBuilt (usual_version 8) 8 file
-    → IfErr r (λ fault. (new ≡ old) ⊎ AreStopped file given left old new fault)
+    → IfErr r (λ fault. (new ≡ old) ⊎ AreStopped (database_file file) given left old new fault)
     → IfErr r (λ fault. (new ≡ old) ⊎ ((f : List ℕ) × IsBuilt (usual_version 8) 8 f
-    × AreStopped f given left old new fault))
+    × AreStopped (database_file f) given left old new fault))
 built_stopped file given left old new (Ok x) built stops = tt
 built_stopped file given left old new (Err e) built (inl same) = inl same
 built_stopped file given left old new (Err e) built (inr stops) = inr (file, built, stops)

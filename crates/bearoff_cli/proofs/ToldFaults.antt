@@ -1,6 +1,6 @@
 -- What the faults of the parts say of a file.
-use Rattle.std.proofs.Common.{◌≡◌, ℕ, List, Option, Result, Ok, Err, IfOk, IfErr, Some, None, inl, inr, refl, subst, sym}
-use Rattle.std.proofs.Common.{◌∙◌, ◌<◌, arith}
+use Rattle.std.proofs.Common.{◌≡◌, ℕ, List, Option, Result, Ok, Err, IfOk, IfErr, Some, None, inl, inr}
+use Rattle.std.proofs.Common.{refl, subst, sym, ◌∙◌, ◌<◌, arith}
 use Rattle.std.specs.Prelude.{◌↔◌, ◌⊎◌, OnOk}
 use Rattle.race_model.specs.Versions.{Version, full, compact}
 use Rattle.certificate.specs.declared.upgrade_fault.UpgradeFault.{UpgradeFault}
@@ -14,7 +14,10 @@ use Rattle.certificate.specs.declared.check_fault.CheckFault.TheVariants.{Read a
 use Rattle.epc_query.specs.declared.run_fault.RunFault.{RunFault}
 use Rattle.epc_query.specs.declared.run_fault.RunFault.TheVariants.{Read as InputRead, Write as OutputWrite, Table}
 use Rattle.epc_query.specs.declared.run_fault.RunFault.TheVariants.{Memory as NoMemoryLeft, Turns as NoTurns}
-use Rattle.exit_status.specs.Causes.{of_check, of_run, of_upgrade}
+use Rattle.board_check.specs.Faults.{IsFirst as IsFirstOnBoard}
+use Rattle.board_check.specs.declared.fault.BoardFault.{BoardFault}
+use Rattle.epc_query.specs.AnyFiles.{AnyFile, database_file, board_file}
+use Rattle.exit_status.specs.Causes.{of_check, of_run, of_upgrade, of_board}
 use Rattle.exit_status.specs.Lines.{error_line}
 use Rattle.exit_status.specs.Statuses.{status_of}
 use Rattle.exit_status.specs.declared.fault.Fault.{Fault}
@@ -22,7 +25,11 @@ use Rattle.exit_status.specs.declared.fault.Fault.TheVariants.{Open, File, Read,
 use Rattle.exit_status.specs.declared.fault.Fault.TheVariants.{Refused, NotOld}
 use Rattle.bearoff_cli.specs.FileAnswers.{IsReadFrom}
 use Rattle.command_line.specs.declared.words.Request.{Request}
-use Rattle.command_line.specs.declared.words.Request.TheVariants.{Default, Build, Check, Query, Audit, Upgrade}
+use Rattle.command_line.specs.declared.words.Request.TheVariants.{Default, Build, Check, Query, Audit}
+use Rattle.command_line.specs.declared.words.Request.TheVariants.{Upgrade, Board}
+use Rattle.command_line.specs.declared.words.BoardCommand.{BoardCommand}
+use Rattle.command_line.specs.declared.words.BoardCommand.TheVariants.{Build as BuildBoard, Check as CheckBoard}
+use Rattle.command_line.specs.declared.words.BoardCommand.TheVariants.{Query as QueryBoard, Audit as AuditBoard}
 use Rattle.bearoff_cli.specs.Faults.{IsFaultIn, IsOwnFault, IsFaultOf, IsRefused}
 use Rattle.bearoff_cli.specs.StoppedRuns.{IsRefusalOf, Leaves}
 use Rattle.bearoff_cli.specs.Tellings.{IsToldBy}
@@ -32,7 +39,7 @@ use Rattle.bearoff_cli.proofs.Requests.{IsSame, of_same}
 
 -- the first fault that a check found
 pub check_in : (file : List ℕ) (cause : CheckFault) → IsFirst file cause
-    → IsFaultIn file (of_check cause)
+    → IsFaultIn (database_file file) (of_check cause)
 check_in file (Header fault) is = is
 check_in file (Play rank roll) is = is
 check_in file (NotLeast rank roll) is = is
@@ -42,11 +49,18 @@ check_in file TableRead is = tt
 
 -- .. as the fault that is told
 pub first_in : (file : List ℕ) (fault : Fault)
-    → (cause : CheckFault) × IsFirst file cause × (fault ≡ of_check cause) → IsFaultIn file fault
+    → (cause : CheckFault) × IsFirst file cause × (fault ≡ of_check cause)
+    → IsFaultIn (database_file file) fault
 first_in file fault (cause, first, is) = rw is (check_in file cause first)
 
+-- .. of a board file
+pub first_on_board : (file : List ℕ) (fault : Fault)
+    → (cause : BoardFault) × IsFirstOnBoard file cause × (fault ≡ Refused (of_board cause))
+    → IsFaultIn (board_file file) fault
+first_on_board file fault (cause, first, is) = rw is (cause, first, refl)
+
 -- what failed is no database
-pub status_in : (file : List ℕ) (fault : Fault) → status_of fault ≡ 1 → IsFaultIn file fault
+pub status_in : (file : AnyFile) (fault : Fault) → status_of fault ≡ 1 → IsFaultIn file fault
 status_in file Open is = tt
 status_in file File is = tt
 status_in file Read is = tt
@@ -58,7 +72,7 @@ status_in file (Refused cause) is = absurd (omega (arith, is))
 status_in file NotOld is = absurd (omega (arith, is))
 
 -- the answers to an input stopped
-pub run_in : (file : List ℕ) (cause : RunFault) → IsFaultIn file (of_run cause)
+pub run_in : (file : AnyFile) (cause : RunFault) → IsFaultIn file (of_run cause)
 run_in file InputRead = tt
 run_in file OutputWrite = tt
 run_in file Table = tt
@@ -66,11 +80,12 @@ run_in file NoMemoryLeft = tt
 run_in file NoTurns = tt
 
 -- the fault of a file that was read
-pub own_of : {A F : Type 0} (remaining : F → Option (List ℕ)) (file : List ℕ) (r : Result A Fault)
-    → IsReadFrom remaining file → IfErr r (λ fault. IsFaultIn file fault)
-    → IfErr r (λ fault. IsOwnFault remaining fault)
-own_of remaining file (Ok x) read is = tt
-own_of remaining file (Err fault) read is = inr (file, read, is)
+pub own_of : {A F : Type 0} (kind : List ℕ → AnyFile) (remaining : F → Option (List ℕ))
+    (file : List ℕ) (r : Result A Fault) → IsReadFrom remaining file
+    → IfErr r (λ fault. IsFaultIn (kind file) fault)
+    → IfErr r (λ fault. IsOwnFault kind remaining fault)
+own_of kind remaining file (Ok x) read is = tt
+own_of kind remaining file (Err fault) read is = inr (file, read, is)
 
 abbrev IsFull : Version → Type 0
 IsFull full = Unit {0}
@@ -113,6 +128,10 @@ memory_of remaining (Query path None) = inl refl
 memory_of remaining (Query path (Some records)) = inl refl
 memory_of remaining (Audit path) = inl refl
 memory_of remaining (Upgrade before after) = inl refl
+memory_of remaining (Board BuildBoard path) = refl
+memory_of remaining (Board CheckBoard path) = inl refl
+memory_of remaining (Board QueryBoard path) = inl refl
+memory_of remaining (Board AuditBoard path) = inl refl
 
 -- .. before anything was written
 pub nothing_of : {F : Type 0} (remaining : F → Option (List ℕ)) (request : Request)
@@ -125,6 +144,10 @@ nothing_of remaining (Query path None) input left old fault = λ given told. inl
 nothing_of remaining (Query path (Some records)) input left old fault = tt
 nothing_of remaining (Audit path) input left old fault = inl refl
 nothing_of remaining (Upgrade before after) input left old fault = inl refl
+nothing_of remaining (Board BuildBoard path) input left old fault = (0, appends_none old)
+nothing_of remaining (Board CheckBoard path) input left old fault = inl refl
+nothing_of remaining (Board QueryBoard path) input left old fault = λ given told. inl refl
+nothing_of remaining (Board AuditBoard path) input left old fault = inl refl
 
 -- the fault of the request that was read, and what was written for it, are those of this one
 pub same_fault : {F : Type 0} (remaining : F → Option (List ℕ)) (request given : Request)
@@ -133,13 +156,25 @@ pub same_fault : {F : Type 0} (remaining : F → Option (List ℕ)) (request giv
     → IsFaultOf remaining request fault × Leaves remaining request input left old new fault
 same_fault remaining request given input left old new fault =
     of_same (λ r. IsFaultOf remaining r fault × Leaves remaining r input left old new fault)
-    (λ n p q h. h) (λ p q h. h) of_query (λ p q h. h) (λ p q r s h. h) request given
+    (λ n p q h. h) (λ p q h. h) of_query (λ p q h. h) (λ p q r s h. h) of_command request given
   where
     of_query : (p q : _) (r : Option ℕ)
-        → IsFaultOf remaining (Query p r) fault × Leaves remaining (Query p r) input left old new fault
-        → IsFaultOf remaining (Query q r) fault × Leaves remaining (Query q r) input left old new fault
+        → IsFaultOf remaining (Query p r) fault
+        × Leaves remaining (Query p r) input left old new fault
+        → IsFaultOf remaining (Query q r) fault
+        × Leaves remaining (Query q r) input left old new fault
     of_query p q None h = h
     of_query p q (Some n) h = h
+
+    of_command : (command : BoardCommand) (p q : _)
+        → IsFaultOf remaining (Board command p) fault
+        × Leaves remaining (Board command p) input left old new fault
+        → IsFaultOf remaining (Board command q) fault
+        × Leaves remaining (Board command q) input left old new fault
+    of_command BuildBoard p q h = h
+    of_command CheckBoard p q h = h
+    of_command QueryBoard p q h = h
+    of_command AuditBoard p q h = h
 
 -- .. where that fault is the refusal
 pub same_refusal : {A F : Type 0} (remaining : F → Option (List ℕ)) (request given : Request)

@@ -1,13 +1,14 @@
--- What the program writes of a database in a file. Source: this project's profile.
+-- What the program writes of a database or a board file. Source: this project's profile.
 use Rattle.std.specs.Prelude.{◌≡◌, ℕ, zero, suc, List, [], ◌∷◌, ◌++◌, take, Option, codes, decimal}
 use Rattle.std.specs.Io.KnownBytes.{Appends}
 use Rattle.race_model.specs.Ranks.{count_to}
 use Rattle.race_model.specs.Versions.{full}
 use Rattle.race_model.specs.Files.{version_of, bound_of}
 use Rattle.race_model.specs.RightFiles.{IsRight}
-use Rattle.race_model.specs.Levels.{IsLevelLine}
 use Rattle.db_reader.specs.Telling.{WhereTold}
 use Rattle.certificate.specs.Upgrades.{WritesUpgrade}
+use Rattle.epc_query.specs.AnyFiles.{AnyFile, IsRightBy, IsLevelLineBy}
+use Rattle.board_build.specs.BuiltBoards.{IsBuiltBoard}
 use Rattle.bearoff_cli.specs.InputAnswers.{AreAnswered}
 use Rattle.bearoff_cli.specs.declared.act.Done.{Done}
 use Rattle.bearoff_cli.specs.declared.act.Done.TheVariants.{Built, Checked, Upgraded}
@@ -23,12 +24,17 @@ abbrev pub IsHandedTo : {W : Type 0} → (W → Option (List ℕ))
 IsHandedTo {W} contents Writes =
     (before : W) × (after : W) × Writes (contents before) (contents after)
 
--- the replies over the database in some opened file were written
-pub record AreAnsweredFrom {F : Type 0} (remaining : F → Option (List ℕ)) (given : List ℕ)
+-- the built board file of a bound was written
+abbrev pub WritesBuiltBoard : ℕ → Option (List ℕ) → Option (List ℕ) → Type 0
+WritesBuiltBoard bound old new = (file : List ℕ) × IsBuiltBoard bound file × Appends old new file
+
+-- the replies over some opened file of this kind were written
+pub record AreAnsweredFrom {F : Type 0} (kind : List ℕ → AnyFile)
+    (remaining : F → Option (List ℕ)) (given : List ℕ)
     (left old new : Option (List ℕ)) : Type 0 where
   pub file : List ℕ
   pub read : IsReadFrom remaining file
-  pub answered : AreAnswered file given left old new
+  pub answered : AreAnswered (kind file) given left old new
 
 -- the words for what was done
 abbrev pub count_text : Done → List ℕ
@@ -41,12 +47,13 @@ abbrev pub count_line : Done → ℕ → ℕ → List ℕ
 count_line done pips positions =
     count_text done ++ decimal pips ++ codes " positions " ++ decimal positions ++ codes "\n"
 
--- the line of an accepted database was written: an opened file is right, and has this bound
-pub record SaysRight {F : Type 0} (remaining : F → Option (List ℕ))
+-- the line of an accepted file was written: an opened file of this kind is right, and has this
+-- bound
+pub record SaysRight {F : Type 0} (kind : List ℕ → AnyFile) (remaining : F → Option (List ℕ))
     (old new : Option (List ℕ)) : Type 0 where
   pub file : List ℕ
   pub read : IsReadFrom remaining file
-  pub right : IsRight file
+  pub right : IsRightBy (kind file)
   pub written : Appends old new (count_line Checked (bound_of file) (count_to (bound_of file)))
 
 -- the line of an upgraded database was written: an opened file is right and of version 1, and has
@@ -61,21 +68,21 @@ pub record SaysUpgraded {F W : Type 0} (remaining : F → Option (List ℕ))
   pub written : Appends old new (count_line Upgraded (bound_of file) (count_to (bound_of file)))
 
 -- the bytes are the lines of the first so many pip counts of a file, from 0 on
-abbrev pub AreLevelLines : List ℕ → ℕ → List ℕ → Type 0
+abbrev pub AreLevelLines : AnyFile → ℕ → List ℕ → Type 0
 AreLevelLines file zero bytes = bytes ≡ []
 AreLevelLines file (suc p) bytes = (before line : List ℕ) × AreLevelLines file p before
-    × IsLevelLine file p line × (bytes ≡ before ++ (line ++ 10 ∷ []))
+    × IsLevelLineBy file p line × (bytes ≡ before ++ (line ++ 10 ∷ []))
 
 -- the lines of the first so many pip counts of a file were written
-pub record WritesLevels (file : List ℕ) (count : ℕ) (old new : Option (List ℕ)) : Type 0 where
+pub record WritesLevels (file : AnyFile) (count : ℕ) (old new : Option (List ℕ)) : Type 0 where
   pub lines : List ℕ
   pub levels : AreLevelLines file count lines
   pub written : Appends old new lines
 
--- the lines of all pip counts of the database in some opened file were written
-pub record SaysLevels {F : Type 0} (remaining : F → Option (List ℕ))
+-- the lines of all pip counts of some opened file of this kind were written
+pub record SaysLevels {F : Type 0} (kind : List ℕ → AnyFile) (remaining : F → Option (List ℕ))
     (old new : Option (List ℕ)) : Type 0 where
   pub file : List ℕ
   pub read : IsReadFrom remaining file
-  pub right : IsRight file
-  pub levels : WritesLevels file (suc (bound_of file)) old new
+  pub right : IsRightBy (kind file)
+  pub levels : WritesLevels (kind file) (suc (bound_of file)) old new

@@ -4,15 +4,18 @@ use Rattle.std.specs.Prelude.{◌≡◌, ℕ, suc, ◌≤◌, ◌⊎◌, List, O
 use Rattle.race_model.specs.BuiltFile.{IsBuilt}
 use Rattle.race_model.specs.Files.{version_of, bound_of}
 use Rattle.race_model.specs.Ranks.{count_to}
-use Rattle.race_model.specs.RightFiles.{IsRight}
 use Rattle.race_model.specs.Versions.{full}
 use Rattle.db_layout.specs.Writes.{AppendsPart}
 use Rattle.db_reader.specs.Telling.{WhereTold}
 use Rattle.retrograde.specs.UsualVersion.{usual_version}
+use Rattle.epc_query.specs.AnyFiles.{AnyFile, database_file, board_file, bound_by, IsRightBy}
 use Rattle.epc_query.specs.Runs.{IsRunStopped}
 use Rattle.epc_query.specs.declared.run_fault.RunFault.{RunFault}
 use Rattle.command_line.specs.declared.words.Request.{Request}
-use Rattle.command_line.specs.declared.words.Request.TheVariants.{Default, Build, Check, Query, Audit, Upgrade}
+use Rattle.command_line.specs.declared.words.Request.TheVariants.{Default, Build, Check, Query, Audit}
+use Rattle.command_line.specs.declared.words.Request.TheVariants.{Upgrade, Board}
+use Rattle.command_line.specs.declared.words.BoardCommand.TheVariants.{Build as BuildBoard, Check as CheckBoard}
+use Rattle.command_line.specs.declared.words.BoardCommand.TheVariants.{Query as QueryBoard, Audit as AuditBoard}
 use Rattle.exit_status.specs.Causes.{of_run}
 use Rattle.exit_status.specs.declared.fault.Fault.{Fault}
 use Rattle.bearoff_cli.specs.Faults.{IsFaultOf}
@@ -21,24 +24,24 @@ use Rattle.bearoff_cli.specs.declared.act.Done.TheVariants.{Built, Checked, Upgr
 use Rattle.bearoff_cli.specs.declared.act.ProgramFault.{ProgramFault}
 use Rattle.bearoff_cli.specs.declared.act.ProgramFault.TheVariants.{Words, Failed}
 
--- the replies to the lines of an input, over a right database, stopped so: what was written is what
+-- the replies to the lines of an input, over a right file, stopped so: what was written is what
 -- `run` says of the fault's cause
-pub record AreStopped (file given : List ℕ) (left old new : Option (List ℕ))
+pub record AreStopped (file : AnyFile) (given : List ℕ) (left old new : Option (List ℕ))
     (fault : Fault) : Type 0 where
-  pub right : IsRight file
+  pub right : IsRightBy file
   pub cause : RunFault
   pub fault_is : fault ≡ of_run cause
   pub stopped : IsRunStopped file given left old new cause
 
 -- a prefix of the lines of the first so many pip counts of a file was written
-pub record WritesLevelPart (file : List ℕ) (old new : Option (List ℕ)) : Type 0 where
+pub record WritesLevelPart (file : AnyFile) (old new : Option (List ℕ)) : Type 0 where
   pub count : ℕ
-  pub within : count ≤ suc (bound_of file)
+  pub within : count ≤ suc (bound_by file)
   pub lines : List ℕ
   pub levels : AreLevelLines file count lines
   pub written : AppendsPart old new lines
 
--- a prefix of the line of an accepted database was written
+-- a prefix of the line of an accepted file was written
 abbrev pub SaysRightPart : List ℕ → Option (List ℕ) → Option (List ℕ) → Type 0
 SaysRightPart file old new =
     AppendsPart old new (count_line Checked (bound_of file) (count_to (bound_of file)))
@@ -48,29 +51,56 @@ abbrev pub SaysUpgradedPart : List ℕ → Option (List ℕ) → Option (List �
 SaysUpgradedPart file old new = (version_of file ≡ full)
     × AppendsPart old new (count_line Upgraded (bound_of file) (count_to (bound_of file)))
 
--- nothing was written, or this was, of a right database that was read from some opened file
-abbrev pub IsNothingOr : {F : Type 0} → (F → Option (List ℕ)) → (List ℕ → Type 0)
+-- nothing was written, or this was, of a right file of this kind that was read from some opened one
+abbrev pub IsNothingOr : {F : Type 0} → (List ℕ → AnyFile) → (F → Option (List ℕ))
+    → (List ℕ → Type 0) → Option (List ℕ) → Option (List ℕ) → Type 0
+IsNothingOr kind remaining Says old new = (new ≡ old)
+    ⊎ ((file : List ℕ) × IsReadFrom remaining file × IsRightBy (kind file) × Says file)
+
+-- what was written of the lines of an input over an opened file of this kind
+abbrev pub LeavesReplies : {F : Type 0} → (List ℕ → AnyFile) → (F → Option (List ℕ))
+    → Option (List ℕ) → Option (List ℕ) → Option (List ℕ) → Option (List ℕ) → Fault → Type 0
+LeavesReplies kind remaining input left old new fault = WhereTold input (λ given.
+    IsNothingOr kind remaining (λ file. AreStopped (kind file) given left old new fault) old new)
+
+-- .. of the line of an accepted one
+abbrev pub LeavesLine : {F : Type 0} → (List ℕ → AnyFile) → (F → Option (List ℕ))
     → Option (List ℕ) → Option (List ℕ) → Type 0
-IsNothingOr remaining Says old new = (new ≡ old)
-    ⊎ ((file : List ℕ) × IsReadFrom remaining file × IsRight file × Says file)
+LeavesLine kind remaining old new =
+    IsNothingOr kind remaining (λ file. SaysRightPart file old new) old new
+
+-- .. and of the lines of its pip counts
+abbrev pub LeavesLevels : {F : Type 0} → (List ℕ → AnyFile) → (F → Option (List ℕ))
+    → Option (List ℕ) → Option (List ℕ) → Type 0
+LeavesLevels kind remaining old new =
+    IsNothingOr kind remaining (λ file. WritesLevelPart (kind file) old new) old new
 
 -- what was written for a request where the program ended with this fault. Of the answers by pages
 -- nothing is said
 abbrev pub Leaves : {F : Type 0} → (F → Option (List ℕ)) → Request → Option (List ℕ)
     → Option (List ℕ) → Option (List ℕ) → Option (List ℕ) → Fault → Type 0
 Leaves remaining Default input left old new fault = WhereTold input (λ given. (new ≡ old)
-    ⊎ ((file : List ℕ) × IsBuilt (usual_version 8) 8 file × AreStopped file given left old new fault))
+    ⊎ ((file : List ℕ) × IsBuilt (usual_version 8) 8 file
+    × AreStopped (database_file file) given left old new fault))
 Leaves remaining (Build pips path) input left old new fault =
     AppendsPart old new (count_line Built pips (count_to pips))
 Leaves remaining (Check path) input left old new fault =
-    IsNothingOr remaining (λ file. SaysRightPart file old new) old new
-Leaves remaining (Query path None) input left old new fault = WhereTold input (λ given.
-    IsNothingOr remaining (λ file. AreStopped file given left old new fault) old new)
+    LeavesLine database_file remaining old new
+Leaves remaining (Query path None) input left old new fault =
+    LeavesReplies database_file remaining input left old new fault
 Leaves remaining (Query path (Some records)) input left old new fault = Unit {0}
 Leaves remaining (Audit path) input left old new fault =
-    IsNothingOr remaining (λ file. WritesLevelPart file old new) old new
+    LeavesLevels database_file remaining old new
 Leaves remaining (Upgrade before after) input left old new fault =
-    IsNothingOr remaining (λ file. SaysUpgradedPart file old new) old new
+    IsNothingOr database_file remaining (λ file. SaysUpgradedPart file old new) old new
+Leaves remaining (Board BuildBoard path) input left old new fault =
+    AppendsPart old new (count_line Built 90 (count_to 90))
+Leaves remaining (Board CheckBoard path) input left old new fault =
+    LeavesLine board_file remaining old new
+Leaves remaining (Board QueryBoard path) input left old new fault =
+    LeavesReplies board_file remaining input left old new fault
+Leaves remaining (Board AuditBoard path) input left old new fault =
+    LeavesLevels board_file remaining old new
 
 -- a request was refused so, and its words are not wrong
 abbrev pub IsRefusalOf : {F : Type 0} → (F → Option (List ℕ)) → Request → Option (List ℕ)

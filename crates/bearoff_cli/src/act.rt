@@ -6,14 +6,18 @@ ghost use Rattle.race_model.specs.BuiltFile.{IsBuilt};
 ghost use Rattle.race_model.specs.Files.{version_of, bound_of};
 ghost use Rattle.race_model.specs.Versions.{version_number};
 ghost use Rattle.race_model.specs.RightFiles.{IsRight};
+ghost use Rattle.race_model.specs.RightBoards.{IsRightBoard};
+ghost use Rattle.board_check.specs.Faults.{IsFirst as IsFirstOnBoard};
+ghost use Rattle.board_check.specs.declared.fault.BoardFault.{BoardFault};
+ghost use Rattle.epc_query.specs.AnyFiles.{database_file, board_file};
 ghost use Rattle.race_model.specs.Ranks.{count_to};
 ghost use Rattle.db_reader.specs.Telling.{WhereTold};
 ghost use Rattle.db_layout.specs.Writes.{AppendsPart};
-ghost use Rattle.exit_status.specs.Causes.{of_check};
+ghost use Rattle.exit_status.specs.Causes.{of_check, of_board};
 ghost use Rattle.exit_status.specs.Lines.{error_line};
 ghost use Rattle.exit_status.specs.Statuses.{status_of};
 ghost use Rattle.exit_status.specs.declared.fault.Fault.{Fault};
-ghost use Rattle.exit_status.specs.declared.fault.Fault.TheVariants.{OverBound};
+ghost use Rattle.exit_status.specs.declared.fault.Fault.TheVariants.{OverBound, Refused};
 ghost use Rattle.command_line.specs.declared.words.Request.{Request};
 ghost use Rattle.certificate.specs.CheckFaults.{IsFirst};
 ghost use Rattle.certificate.specs.declared.check_fault.CheckFault.{CheckFault};
@@ -23,27 +27,33 @@ ghost use Rattle.bearoff_cli.specs.InputAnswers.{AreAnswered, AreAnsweredOver};
 ghost use Rattle.bearoff_cli.specs.FileAnswers.{AreAnsweredFrom, IsHandedTo, SaysRight, SaysUpgraded, SaysLevels};
 ghost use Rattle.retrograde.specs.BuiltBytes.{WritesBuilt};
 ghost use Rattle.retrograde.specs.UsualVersion.{usual_version};
-ghost use Rattle.bearoff_cli.specs.FileAnswers.{WritesLevels, count_line, count_text};
+ghost use Rattle.bearoff_cli.specs.FileAnswers.{WritesBuiltBoard, WritesLevels, count_line, count_text};
 ghost use Rattle.bearoff_cli.specs.RefusedFiles.{KeepsIfRefused, KeepsIfTold};
 ghost use Rattle.bearoff_cli.specs.Requests.{Asks, IsDone};
-ghost use Rattle.bearoff_cli.specs.StoppedRuns.{AreStopped, IsNothingOr, IsRefusalOf, Leaves};
+ghost use Rattle.bearoff_cli.specs.StoppedRuns.{AreStopped, IsNothingOr, IsRefusalOf, Leaves, LeavesLevels};
+ghost use Rattle.bearoff_cli.specs.StoppedRuns.{LeavesLine, LeavesReplies};
 ghost use Rattle.bearoff_cli.specs.StoppedRuns.{SaysRightPart, SaysUpgradedPart, WritesLevelPart};
 ghost use Rattle.bearoff_cli.specs.declared.act.Done.TheVariants.{Built};
 ghost use Rattle.bearoff_cli.specs.declared.act.ProgramFault.TheVariants.{Failed};
 
 use crate::files::{
-    affordable, build_file, flush, probe_stack, read_file, stack_room, upgrade_file,
+    WHOLE_BOARD, affordable, build_board_file, build_file, flush, probe_stack, read_file,
+    stack_room, upgrade_file,
 };
 use arrayvec::ArrayString;
+use board::Board;
+use board_check::check_board;
+use board_layout::BoardHeader;
+use board_query::{BoardLines, BoardText, board_level, put_board_level};
 use certificate::{CheckFault, Checked, check};
 use clap::Error;
 use clap::error::ErrorKind;
-use command_line::{Request, read_words};
+use command_line::{BoardCommand, Request, read_words};
 use database::{Accepted, Database, accept};
 use db_layout::{COMPACT_VERSION, WriteFault, write_bytes};
 use db_reader::{FileSource, Paged, Table, Whole};
 use epc_query::laws::law_level_text;
-use epc_query::{run, run_lines, write_level};
+use epc_query::{run, run_lines, write_level, write_line};
 use exit_status::{Fault, write_fault};
 use home_board::MAX_BOUND;
 use itoa::Buffer;
@@ -220,6 +230,12 @@ fn fulfil<R: Files, I: Read, O: Write>(
         } => answer_pages(rt, alloc, path, records, input, output),
         Request::Audit { path } => audit_database(rt, alloc, path, output),
         Request::Upgrade { old, new } => upgrade_database(rt, alloc, old, new, output),
+        Request::Board { command, path } => match command {
+            BoardCommand::Build => write_board(rt, alloc, path, output),
+            BoardCommand::Check => check_board_file(rt, alloc, path, output),
+            BoardCommand::Query => answer_board_file(rt, alloc, path, input, output),
+            BoardCommand::Audit => audit_board_file(rt, alloc, path, output),
+        },
     }
 }
 
@@ -233,8 +249,9 @@ fn answer_default<I: Read, O: Write>(
     ensures status { IfErr result (λ fault. status_of fault ≡ 1) }
     ensures left { WhereTold (I.remaining input.old) (λ given. IfErr result
         (λ fault. (O.contents output.new ≡ O.contents output.old)
-        ⊎ ((file : List ℕ) × IsBuilt (usual_version 8) 8 file × AreStopped file given
-        (I.remaining input.new) (O.contents output.old) (O.contents output.new) fault))) }
+        ⊎ ((file : List ℕ) × IsBuilt (usual_version 8) 8 file
+        × AreStopped (database_file file) given (I.remaining input.new)
+        (O.contents output.old) (O.contents output.new) fault))) }
     ensures answers { WhereTold (I.remaining input.old)
         (λ given. IfOk result (λ _. AreAnsweredOver 8 given (I.remaining input.new)
         (O.contents output.old) (O.contents output.new))) }
@@ -254,14 +271,15 @@ fn answer_file<R: Files, I: Read, O: Write>(
     output: &mut O,
 ) -> Result<(), Fault>
     ensures refused { KeepsIfRefused result (O.contents output.old) (O.contents output.new) }
-    ensures fault { IfErr result (λ fault. IsOwnFault R.File.remaining fault) }
+    ensures fault { IfErr result (λ fault. IsOwnFault database_file R.File.remaining fault) }
     ensures left { WhereTold (I.remaining input.old) (λ given. IfErr result
-        (λ fault. IsNothingOr R.File.remaining (λ file. AreStopped file given
-        (I.remaining input.new) (O.contents output.old) (O.contents output.new) fault)
+        (λ fault. IsNothingOr database_file R.File.remaining
+        (λ file. AreStopped (database_file file) given (I.remaining input.new)
+        (O.contents output.old) (O.contents output.new) fault)
         (O.contents output.old) (O.contents output.new))) }
     ensures answers { WhereTold (I.remaining input.old)
-        (λ given. IfOk result (λ _. AreAnsweredFrom R.File.remaining given (I.remaining input.new)
-        (O.contents output.old) (O.contents output.new))) }
+        (λ given. IfOk result (λ _. AreAnsweredFrom database_file R.File.remaining given
+        (I.remaining input.new) (O.contents output.old) (O.contents output.new))) }
 {
     let file = read_file(rt, alloc, path)?;
     answer_bytes(alloc, file.as_slice(), input, output)
@@ -302,13 +320,13 @@ fn answer_bytes<I: Read, O: Write>(
 ) -> Result<(), Fault>
     ensures refused { KeepsIfRefused result (O.contents output.old) (O.contents output.new) }
     ensures right { IsRight bytes.now → IfErr result (λ fault. status_of fault ≡ 1) }
-    ensures fault { IfErr result (λ fault. IsFaultIn bytes.now fault) }
+    ensures fault { IfErr result (λ fault. IsFaultIn (database_file bytes.now) fault) }
     ensures left { WhereTold (I.remaining input.old) (λ given. IfErr result
         (λ fault. (O.contents output.new ≡ O.contents output.old)
-        ⊎ AreStopped bytes.now given (I.remaining input.new) (O.contents output.old)
+        ⊎ AreStopped (database_file bytes.now) given (I.remaining input.new) (O.contents output.old)
         (O.contents output.new) fault)) }
     ensures answers { WhereTold (I.remaining input.old) (λ given. IfOk result
-        (λ _. AreAnswered bytes.now given (I.remaining input.new)
+        (λ _. AreAnswered (database_file bytes.now) given (I.remaining input.new)
         (O.contents output.old) (O.contents output.new))) }
 {
     let accepted = accept_bytes(bytes)?;
@@ -346,10 +364,10 @@ fn answer_accepted<I: Read, O: Write>(
     requires bound { accepted.bound ≡ bound_of bytes.now }
     ensures status { IfErr result (λ fault. status_of fault ≡ 1) }
     ensures left { WhereTold (I.remaining input.old) (λ given. IfErr result
-        (AreStopped bytes.now given (I.remaining input.new) (O.contents output.old)
+        (AreStopped (database_file bytes.now) given (I.remaining input.new) (O.contents output.old)
         (O.contents output.new))) }
     ensures answers { WhereTold (I.remaining input.old) (λ given. IfOk result
-        (λ _. AreAnswered bytes.now given (I.remaining input.new)
+        (λ _. AreAnswered (database_file bytes.now) given (I.remaining input.new)
         (O.contents output.old) (O.contents output.new))) }
 {
     let ranks = RankTable::new();
@@ -402,7 +420,7 @@ fn accepted<T: Table>(
     ensures checked { IfOk result (λ checked. told.old ≡ Ok checked.now) }
     ensures refused { IfErr told.old (λ refused. result ≡ Err (of_check refused.1)) }
     ensures fault { (file : List ℕ) → IfErr told.old (λ refused. IsFirst file refused.1)
-        → IfErr result (λ fault. IsFaultIn file fault) }
+        → IfErr result (λ fault. IsFaultIn (database_file file) fault) }
 {
     match told {
         Ok(checked) => Ok(checked),
@@ -446,12 +464,11 @@ fn check_database<R: Files, O: Write>(
     output: &mut O,
 ) -> Result<(), Fault>
     ensures refused { KeepsIfRefused result (O.contents output.old) (O.contents output.new) }
-    ensures fault { IfErr result (λ fault. IsOwnFault R.File.remaining fault) }
-    ensures left { OnErr result (IsNothingOr R.File.remaining (λ file. SaysRightPart file
-        (O.contents output.old) (O.contents output.new))
+    ensures fault { IfErr result (λ fault. IsOwnFault database_file R.File.remaining fault) }
+    ensures left { OnErr result (LeavesLine database_file R.File.remaining
         (O.contents output.old) (O.contents output.new)) }
     ensures right { OnOk result
-        (SaysRight R.File.remaining (O.contents output.old) (O.contents output.new)) }
+        (SaysRight database_file R.File.remaining (O.contents output.old) (O.contents output.new)) }
 {
     let bytes = read_file(rt, alloc, path)?;
     let accepted = accept_bytes(bytes.as_slice())?;
@@ -467,12 +484,11 @@ fn audit_database<R: Files, O: Write>(
     output: &mut O,
 ) -> Result<(), Fault>
     ensures refused { KeepsIfRefused result (O.contents output.old) (O.contents output.new) }
-    ensures fault { IfErr result (λ fault. IsOwnFault R.File.remaining fault) }
-    ensures left { OnErr result (IsNothingOr R.File.remaining (λ file. WritesLevelPart file
-        (O.contents output.old) (O.contents output.new))
+    ensures fault { IfErr result (λ fault. IsOwnFault database_file R.File.remaining fault) }
+    ensures left { OnErr result (LeavesLevels database_file R.File.remaining
         (O.contents output.old) (O.contents output.new)) }
-    ensures levels { OnOk result
-        (SaysLevels R.File.remaining (O.contents output.old) (O.contents output.new)) }
+    ensures levels { OnOk result (SaysLevels database_file R.File.remaining
+        (O.contents output.old) (O.contents output.new)) }
 {
     let bytes = read_file(rt, alloc, path)?;
     let accepted = accept_bytes(bytes.as_slice())?;
@@ -487,9 +503,9 @@ fn write_levels<O: Write>(bytes: &[u8], accepted: Accepted, output: &mut O) -> R
     requires version { accepted.version ≡ version_number (version_of bytes.now) }
     requires bound { accepted.bound ≡ bound_of bytes.now }
     ensures status { IfErr result (λ fault. status_of fault ≡ 1) }
-    ensures part { OnErr result (WritesLevelPart bytes.now
+    ensures part { OnErr result (WritesLevelPart (database_file bytes.now)
         (O.contents output.old) (O.contents output.new)) }
-    ensures levels { OnOk result (WritesLevels bytes.now (suc (bound_of bytes.now))
+    ensures levels { OnOk result (WritesLevels (database_file bytes.now) (suc (bound_of bytes.now))
         (O.contents output.old) (O.contents output.new)) }
 {
     let ranks = RankTable::new();
@@ -500,10 +516,10 @@ fn write_levels<O: Write>(bytes: &[u8], accepted: Accepted, output: &mut O) -> R
 /// Writes a line for each pip count of a database.
 fn write_each_level<O: Write>(database: &Database<'_>, output: &mut O) -> Result<(), Fault>
     ensures status { IfErr result (λ fault. status_of fault ≡ 1) }
-    ensures part { OnErr result (WritesLevelPart database.now
+    ensures part { OnErr result (WritesLevelPart (database_file database.now)
         (O.contents output.old) (O.contents output.new)) }
-    ensures levels { OnOk result (WritesLevels database.now (suc (bound_of database.now))
-        (O.contents output.old) (O.contents output.new)) }
+    ensures levels { OnOk result (WritesLevels (database_file database.now)
+        (suc (bound_of database.now)) (O.contents output.old) (O.contents output.new)) }
 {
     law_level_text();
     for pips in 0..database.bound() + 1 {
@@ -511,6 +527,170 @@ fn write_each_level<O: Write>(database: &Database<'_>, output: &mut O) -> Result
             return Err(Fault::File);
         };
         if write_level(&level, output).is_err() {
+            return Err(Fault::Write);
+        }
+    }
+    Ok(())
+}
+
+/// Writes the board file of 90 pips into a file, and says so.
+#[inline(never)]
+fn write_board<R: Files, O: Write>(
+    rt: &R,
+    alloc: Global,
+    path: &str,
+    output: &mut O,
+) -> Result<(), Fault>
+    ensures status { IfErr result (λ fault. status_of fault ≡ 1) }
+    ensures left { OnErr result (AppendsPart (O.contents output.old) (O.contents output.new)
+        (count_line Built 90 (count_to 90))) }
+    ensures handed { OnOk result (IsHandedTo ⟦<BufWriter<R::File> as Write>⟧.contents
+        (WritesBuiltBoard 90)) }
+    ensures built { OnOk result (Appends (O.contents output.old) (O.contents output.new)
+        (count_line Built 90 (count_to 90))) }
+{
+    build_board_file(rt, alloc, path)?;
+    write_count(Done::Built, WHOLE_BOARD, output)
+}
+
+/// What is kept of bytes that are a right board file.
+fn accept_board(bytes: &[u8]) -> Result<BoardHeader, Fault>
+    ensures right { OnOk result (IsRightBoard bytes.now) }
+    ensures bound { IfOk result (λ header. header.bound ≡ bound_of bytes.now) }
+    ensures exactly { IsRightBoard bytes.now → IsOk result }
+    ensures fault { IfErr result (λ fault. (cause : BoardFault) × IsFirstOnBoard bytes.now cause
+        × (fault ≡ Refused (of_board cause))) }
+{
+    match check_board(bytes) {
+        Ok(header) => Ok(header),
+        Err(refused) => Err(Fault::from(refused)),
+    }
+}
+
+/// Checks the board file in a file, and says that it was accepted.
+#[inline(never)]
+fn check_board_file<R: Files, O: Write>(
+    rt: &R,
+    alloc: Global,
+    path: &str,
+    output: &mut O,
+) -> Result<(), Fault>
+    ensures refused { KeepsIfRefused result (O.contents output.old) (O.contents output.new) }
+    ensures fault { IfErr result (λ fault. IsOwnFault board_file R.File.remaining fault) }
+    ensures left { OnErr result (LeavesLine board_file R.File.remaining
+        (O.contents output.old) (O.contents output.new)) }
+    ensures right { OnOk result
+        (SaysRight board_file R.File.remaining (O.contents output.old) (O.contents output.new)) }
+{
+    let bytes = read_file(rt, alloc, path)?;
+    let header = accept_board(bytes.as_slice())?;
+    write_count(Done::Checked, header.bound, output)
+}
+
+/// Answers each line of the input over the board file in a file.
+#[inline(never)]
+fn answer_board_file<R: Files, I: Read, O: Write>(
+    rt: &R,
+    alloc: Global,
+    path: &str,
+    input: &mut I,
+    output: &mut O,
+) -> Result<(), Fault>
+    ensures refused { KeepsIfRefused result (O.contents output.old) (O.contents output.new) }
+    ensures fault { IfErr result (λ fault. IsOwnFault board_file R.File.remaining fault) }
+    ensures left { IfErr result (LeavesReplies board_file R.File.remaining (I.remaining input.old)
+        (I.remaining input.new) (O.contents output.old) (O.contents output.new)) }
+    ensures answers { WhereTold (I.remaining input.old)
+        (λ given. IfOk result (λ _. AreAnsweredFrom board_file R.File.remaining given
+        (I.remaining input.new) (O.contents output.old) (O.contents output.new))) }
+{
+    let bytes = read_file(rt, alloc, path)?;
+    let header = accept_board(bytes.as_slice())?;
+    answer_board(alloc, bytes.as_slice(), header, input, output)
+}
+
+/// Answers each line of the input over the board file in bytes that were accepted.
+// so that its room is not on the stack while the bytes are checked
+#[inline(never)]
+fn answer_board<I: Read, O: Write>(
+    alloc: Global,
+    bytes: &[u8],
+    header: BoardHeader,
+    input: &mut I,
+    output: &mut O,
+) -> Result<(), Fault>
+    requires right { IsRightBoard bytes.now }
+    requires bound { header.bound ≡ bound_of bytes.now }
+    ensures status { IfErr result (λ fault. status_of fault ≡ 1) }
+    ensures left { WhereTold (I.remaining input.old) (λ given. IfErr result
+        (AreStopped (board_file bytes.now) given (I.remaining input.new) (O.contents output.old)
+        (O.contents output.new))) }
+    ensures answers { WhereTold (I.remaining input.old) (λ given. IfOk result
+        (λ _. AreAnswered (board_file bytes.now) given (I.remaining input.new)
+        (O.contents output.old) (O.contents output.new))) }
+{
+    let ranks = RankTable::new();
+    let mut lines = BoardLines::new(Board::accepted(bytes, header, &ranks));
+    run_lines(alloc, &mut lines, input, output, TURNS)?;
+    Ok(())
+}
+
+/// Checks the board file in a file, and writes a line for each pip count.
+#[inline(never)]
+fn audit_board_file<R: Files, O: Write>(
+    rt: &R,
+    alloc: Global,
+    path: &str,
+    output: &mut O,
+) -> Result<(), Fault>
+    ensures refused { KeepsIfRefused result (O.contents output.old) (O.contents output.new) }
+    ensures fault { IfErr result (λ fault. IsOwnFault board_file R.File.remaining fault) }
+    ensures left { OnErr result (LeavesLevels board_file R.File.remaining
+        (O.contents output.old) (O.contents output.new)) }
+    ensures levels { OnOk result
+        (SaysLevels board_file R.File.remaining (O.contents output.old) (O.contents output.new)) }
+{
+    let bytes = read_file(rt, alloc, path)?;
+    let header = accept_board(bytes.as_slice())?;
+    write_board_levels(bytes.as_slice(), header, output)
+}
+
+/// Writes a line for each pip count of the board file in bytes that were accepted.
+// so that its room is not on the stack while the bytes are checked
+#[inline(never)]
+fn write_board_levels<O: Write>(
+    bytes: &[u8],
+    header: BoardHeader,
+    output: &mut O,
+) -> Result<(), Fault>
+    requires right { IsRightBoard bytes.now }
+    requires bound { header.bound ≡ bound_of bytes.now }
+    ensures status { IfErr result (λ fault. status_of fault ≡ 1) }
+    ensures part { OnErr result (WritesLevelPart (board_file bytes.now)
+        (O.contents output.old) (O.contents output.new)) }
+    ensures levels { OnOk result (WritesLevels (board_file bytes.now) (suc (bound_of bytes.now))
+        (O.contents output.old) (O.contents output.new)) }
+{
+    let ranks = RankTable::new();
+    write_each_board_level(&Board::accepted(bytes, header, &ranks), output)?;
+    flush(output)
+}
+
+/// Writes a line for each pip count of a board file.
+fn write_each_board_level<O: Write>(board: &Board<'_>, output: &mut O) -> Result<(), Fault>
+    ensures status { IfErr result (λ fault. status_of fault ≡ 1) }
+    ensures part { OnErr result (WritesLevelPart (board_file board.now)
+        (O.contents output.old) (O.contents output.new)) }
+    ensures levels { OnOk result (WritesLevels (board_file board.now) (suc (bound_of board.now))
+        (O.contents output.old) (O.contents output.new)) }
+{
+    let mut text = BoardText::new();
+    for pips in 0..board.bound() + 1 {
+        let Some(level) = board_level(board, pips) else {
+            return Err(Fault::File);
+        };
+        put_board_level(&mut text, &level);
+        if write_line(&mut text, output).is_err() {
             return Err(Fault::Write);
         }
     }
@@ -528,9 +708,9 @@ fn upgrade_database<R: Files, O: Write>(
     output: &mut O,
 ) -> Result<(), Fault>
     ensures refused { KeepsIfRefused result (O.contents output.old) (O.contents output.new) }
-    ensures fault { IfErr result (λ fault. IsOwnFault R.File.remaining fault) }
-    ensures left { OnErr result (IsNothingOr R.File.remaining (λ file. SaysUpgradedPart file
-        (O.contents output.old) (O.contents output.new))
+    ensures fault { IfErr result (λ fault. IsOwnFault database_file R.File.remaining fault) }
+    ensures left { OnErr result (IsNothingOr database_file R.File.remaining
+        (λ file. SaysUpgradedPart file (O.contents output.old) (O.contents output.new))
         (O.contents output.old) (O.contents output.new)) }
     ensures upgraded { OnOk result
         (SaysUpgraded R.File.remaining ⟦<BufWriter<R::File> as Write>⟧.contents

@@ -51,7 +51,8 @@ struct Names {
 }
 
 /// Begins to write a file. `Open` where it can't be opened or made, or where its name is given to
-/// other files again and again meanwhile, and `Memory` where there is no room; then it is as it was.
+/// other files again and again meanwhile, and `Memory` where there is no room; then it is as it
+/// was.
 ///
 /// The bytes go straight into what is no plain file, as a device or a pipe, into a plain file that
 /// is an open one's name in `/dev` or `/proc`, and where a new file could not take the place of the

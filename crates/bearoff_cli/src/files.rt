@@ -3,7 +3,8 @@ ghost use Rattle.std.specs.Prelude.{◌≡◌, ◌≤◌, length, take, IfOk, If
 ghost use Rattle.std.specs.Io.KnownBytes.{Consumes, IsAtEnd, Keeps};
 ghost use Rattle.exit_status.specs.Statuses.{status_of};
 ghost use Rattle.exit_status.specs.declared.fault.Fault.TheVariants.{File};
-ghost use Rattle.bearoff_cli.specs.FileAnswers.{IsHandedTo, IsReadFrom};
+ghost use Rattle.board_build.specs.BuiltBoards.{IsBuiltBoard};
+ghost use Rattle.bearoff_cli.specs.FileAnswers.{IsHandedTo, IsReadFrom, WritesBuiltBoard};
 ghost use Rattle.race_model.specs.Versions.{full};
 ghost use Rattle.db_reader.specs.Telling.{WhereTold};
 ghost use Rattle.retrograde.specs.BuiltBytes.{WritesBuilt};
@@ -11,7 +12,10 @@ ghost use Rattle.retrograde.specs.UsualVersion.{usual_version};
 ghost use Rattle.certificate.specs.Upgrades.{WritesUpgrade};
 
 use crate::draft::begin;
+use board_build::build_board;
+use board_layout::BoardHeader;
 use certificate::Checked;
+use db_layout::write_bytes;
 use db_reader::Table;
 use exit_status::Fault;
 use retrograde::build;
@@ -19,6 +23,9 @@ use std::alloc::Global;
 use std::fs;
 use std::io::{BufWriter, Read, Write};
 use std::rt::Files;
+
+/// The greatest pip count of any position.
+pub const WHOLE_BOARD: u8 = 90;
 
 /// How many bytes one read moves. They lie on the stack, which can't grow while room is kept for a
 /// check (`stack_room`), beyond the 128 KB that the system gives a program at its start.
@@ -37,8 +44,8 @@ const KEPT_RECORD: usize = 640;
 const MOST_BYTES: usize = 20_000_001;
 
 /// The bytes of a file, at most 20,000,001 of them. `Memory` where there is no room for the stack
-/// that a check needs, `Open` where the file can't be opened, `File` where a read fails, and `Memory`
-/// where there is no room for the bytes.
+/// that a check needs, `Open` where the file can't be opened, `File` where a read fails, and
+/// `Memory` where there is no room for the bytes.
 pub fn read_file<R: Files>(rt: &R, alloc: Global, path: &str) -> Result<Vec<u8>, Fault>
     ensures status { IfErr result (λ fault. status_of fault ≡ 1) }
     ensures read { IfOk result (λ bytes. IsReadFrom R.File.remaining bytes.items) }
@@ -145,6 +152,55 @@ fn build_into<O: Write>(alloc: Global, pips: u8, output: &mut O) -> Result<(), F
     probe_stack(alloc)?;
     build(alloc, pips, output)?;
     flush(output)
+}
+
+/// Writes the board file of 90 pips into a file, with the faults of `build_file`. It is made in
+/// memory, of which it needs as much as it is long.
+pub fn build_board_file<R: Files>(rt: &R, alloc: Global, path: &str) -> Result<(), Fault>
+    ensures fault { IfErr result (λ fault. status_of fault ≡ 1) }
+    ensures built { OnOk result (IsHandedTo ⟦<BufWriter<R::File> as Write>⟧.contents
+        (WritesBuiltBoard 90)) }
+{
+    probe_stack(alloc)?;
+    let mut draft = begin(rt, alloc, path)?;
+    let written = build_board_into(alloc, &mut draft.writer);
+    draft.finish(rt, written)
+}
+
+/// Writes the board file of 90 pips, to its last byte.
+fn build_board_into<O: Write>(alloc: Global, output: &mut O) -> Result<(), Fault>
+    ensures fault { IfErr result (λ fault. status_of fault ≡ 1) }
+    ensures built { OnOk result (WritesBuiltBoard 90 (O.contents output.old)
+        (O.contents output.new)) }
+{
+    let file = whole_board(alloc)?;
+    if write_bytes(file.as_slice(), output).is_err() {
+        return Err(Fault::Write);
+    }
+    flush(output)
+}
+
+/// The board file of 90 pips.
+// so that the room of the builder is not part of its caller's
+#[inline(never)]
+fn whole_board(alloc: Global) -> Result<Vec<u8>, Fault>
+    ensures fault { IfErr result (λ fault. status_of fault ≡ 1) }
+    ensures built { IfOk result (λ file. IsBuiltBoard 90 file.items) }
+{
+    let size = match BoardHeader::new(WHOLE_BOARD) {
+        Some(header) => header.end(),
+        None => 0,
+    };
+    let stack = stack_room(alloc)?;
+    let mut file = vec![in alloc; 0; size]?;
+    drop(stack);
+    match build_board(WHOLE_BOARD, file.as_mut_slice()) {
+        Ok(count) => {
+            file.truncate(count);
+            Ok(file)
+        }
+        Err(_) => Err(Fault::Memory),
+    }
 }
 
 /// Writes a checked database of version 1 into a file as one of version 2, with the faults of

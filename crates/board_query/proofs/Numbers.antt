@@ -10,7 +10,8 @@ pub front_and_18 : (number front rest : ℕ) → front * 10 ^ 18 + rest ≡ numb
     rest < 10 ^ 18 → number < 10 ^ 58 →
     decimal number ≡ decimal front ++ drop 1 (decimal (10 ^ 18 + rest))
 front_and_18 number front rest whole some few short =
-    ap decimal (sym whole) ∙ two_parts 18 front rest some few (omega arith) (omega (arith, whole, short))
+    ap decimal (sym whole) ∙ two_parts 18 front rest some few (omega arith)
+    (omega (arith, whole, short))
 
 -- .. and of a longer one those of its front, the 18 after it, and the last 18
 pub front_and_36 : (number front middle rest : ℕ) →
@@ -19,7 +20,8 @@ pub front_and_36 : (number front middle rest : ℕ) →
     decimal number
     ≡ (decimal front ++ drop 1 (decimal (10 ^ 18 + middle))) ++ drop 1 (decimal (10 ^ 18 + rest))
 front_and_36 number front middle rest whole some mid few short =
-    front_and_18 number (front * 10 ^ 18 + middle) rest (omega (arith, whole)) (omega (arith, some)) few short
+    front_and_18 number (front * 10 ^ 18 + middle) rest (omega (arith, whole))
+    (omega (arith, some)) few short
     ∙ ap (λ t. t ++ drop 1 (decimal (10 ^ 18 + rest)))
     (front_and_18 (front * 10 ^ 18 + middle) front middle (omega arith) some mid
     (omega (arith, whole, short)))

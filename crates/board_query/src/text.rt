@@ -6,11 +6,15 @@ ghost use Rattle.race_model.specs.FirstPlays.{move_text};
 ghost use Rattle.race_model.specs.Replies.{fraction_text, thousandths_text, refusal_text};
 ghost use Rattle.race_model.specs.BookReplies.{IsShareTextOver, IsMeanReplyOver};
 ghost use Rattle.race_model.specs.BookReplies.{IsSharePartOver, IsDistReplyOver, IsChoicePartOver};
+ghost use Rattle.race_model.specs.BookLevels.{IsLevelLineIn};
+ghost use Rattle.race_model.specs.BoardFiles.{board_book};
 ghost use Rattle.fixed_fraction.specs.Board.{board_whole};
 ghost use Rattle.epc_query.specs.Texts.{position_text, why};
 ghost use Rattle.board_query.specs.Lists.{IsListText};
+ghost use Rattle.board_query.specs.Levels.{HasBoardLevel};
 ghost use Rattle.legal_plays.specs.MoveLists.{moves_of};
 
+use crate::levels::BoardLevel;
 use arrayvec::ArrayString;
 use board::BoardChoice;
 use epc_query::Refusal;
@@ -153,17 +157,17 @@ pub fn put_board_loss(text: &mut BoardText, loss: BoardMean)
 {
     text.clear();
     text.push_str("loss ");
-    push_loss(text, loss);
+    push_rolls(text, loss);
 }
 
-/// Adds a loss.
-fn push_loss(text: &mut BoardText, loss: BoardMean)
+/// Adds a number of rolls, as of a mean or a loss.
+fn push_rolls(text: &mut BoardText, rolls: BoardMean)
     requires { array_string_len text.old + 117 ≤ 16896 }
-    ensures part { (fraction : List ℕ) × IsShareTextOver board_whole loss fraction
+    ensures part { (fraction : List ℕ) × IsShareTextOver board_whole rolls fraction
         × (text.new.bytes ≡ text.old.bytes ++ fraction) }
     ensures len { array_string_len text.new ≤ array_string_len text.old + 117 }
 {
-    push_fraction(text, board_mean_and_epc(loss).0);
+    push_fraction(text, board_mean_and_epc(rolls).0);
 }
 
 /// Adds a result and its loss, as they stand in a list of moves after what is before them.
@@ -177,7 +181,7 @@ fn push_choice(text: &mut BoardText, choice: &BoardChoice)
     text.push_str(" ");
     push_position(text, &choice.to);
     text.push_str(":");
-    push_loss(text, choice.loss);
+    push_rolls(text, choice.loss);
 }
 
 /// Makes a text the list of moves of up to 127 results with their losses, in their order.
@@ -229,6 +233,23 @@ pub fn put_board_rank(text: &mut BoardText, rank: u16)
     text.clear();
     text.push_str("rank ");
     push_number(text, Wide::of(u128::from(rank)));
+}
+
+/// Makes a text the line that an audit writes of a level.
+pub fn put_board_level(text: &mut BoardText, level: &BoardLevel)
+    ensures text { (f : List ℕ) (p : ℕ) → HasBoardLevel f p level.now
+        → IsLevelLineIn (board_book f) p text.new.bytes }
+    ensures len { array_string_len text.new ≤ 4200 }
+{
+    text.clear();
+    text.push_str("pips ");
+    text.push_str(Buffer::new().format(level.pips));
+    text.push_str(" positions ");
+    text.push_str(Buffer::new().format(level.positions));
+    text.push_str(" least ");
+    push_rolls(text, level.least);
+    text.push_str(" greatest ");
+    push_rolls(text, level.greatest);
 }
 
 /// Makes a text that of a refusal.

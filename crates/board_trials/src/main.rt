@@ -1,22 +1,17 @@
-//! A program that builds board files, checks them and answers lines from them, as its words say:
+//! A program that builds board files of any bound and damages them, as its words say:
 //!
 //! - `build BOUND FILE`: it builds the file of a pip bound, and writes it;
-//! - `check FILE`: it prints the bound of a right file, or the first fault of another one;
-//! - `query FILE`: it checks a file, and answers each line of the input;
-//! - `damage FILE FIRST STEP`: for each STEPth rank from FIRST on it changes one byte of the record,
-//!   checks the file, and prints how many were refused, and how many not;
-//! - none: it builds the file of 15 pips, and answers each line of the input.
+//! - `damage FILE FIRST STEP`: for each STEPth rank from FIRST on it changes one byte of the
+//!   record, checks the file, and prints how many were refused, and how many not;
+//! - none: it builds the file of 15 pips, and damages each record of it.
 //!
-//! `tests/test_boards.py` compares what it prints with what was counted outside. It rests on
-//! `board_build`, `board_check` and `board_query`; nothing stands on it.
+//! `tests/test_boards.py` compares what it writes and prints with what was counted outside. It
+//! rests on `board_build` and `board_check`; nothing stands on it.
 #![tactic(auto)]
 
-use board::Board;
 use board_build::{BoardBuildFault, build_board};
-use board_check::{BoardFault, check_board};
+use board_check::check_board;
 use board_layout::BoardHeader;
-use board_query::{BoardText, answer};
-use ranking::RankTable;
 use std::alloc::{AllocError, Global};
 use std::{env, fs, io};
 
@@ -26,8 +21,8 @@ const DEFAULT_BOUND: u8 = 15;
 fn main(rt: HostRuntime) -> io::Result<()> {
     let mut words = env::args(&rt)?.skip(1);
     let Some(word) = words.next() else {
-        let file = built(rt.alloc(), DEFAULT_BOUND)?;
-        return query(&rt, file.as_slice());
+        let mut file = built(rt.alloc(), DEFAULT_BOUND)?;
+        return damage(&rt, file.as_mut_slice(), 0, 1);
     };
     let Some(first) = words.next() else {
         return println!(rt; "wrong words");
@@ -39,14 +34,6 @@ fn main(rt: HostRuntime) -> io::Result<()> {
             };
             let file = built(rt.alloc(), first.as_str().parse().unwrap_or(u8::MAX))?;
             fs::write(&rt, path.as_str(), file.as_slice())
-        }
-        "check" => {
-            let file = fs::read(&rt, first.as_str())?;
-            report(&rt, file.as_slice())
-        }
-        "query" => {
-            let file = fs::read(&rt, first.as_str())?;
-            query(&rt, file.as_slice())
         }
         "damage" => {
             let mut file = fs::read(&rt, first.as_str())?;
@@ -76,36 +63,6 @@ fn built(alloc: Global, bound: u8) -> Result<Vec<u8>, AllocError> {
     match build_board(bound, room.as_mut_slice()) {
         Ok(_) | Err(BoardBuildFault::Room) | Err(BoardBuildFault::OverBound) => Ok(room),
     }
-}
-
-/// Prints the bound of a right file, or the first fault.
-fn report(rt: &impl Print, file: &[u8]) -> io::Result<()> {
-    match check_board(file) {
-        Ok(header) => println!(rt; "bound {}", header.bound),
-        Err(BoardFault::Header(fault)) => println!(rt; "{fault}"),
-        Err(BoardFault::Play { rank, roll }) => println!(rt; "play {rank} {roll}"),
-        Err(BoardFault::NotLeast { rank, roll }) => println!(rt; "least {rank} {roll}"),
-        Err(BoardFault::Mean { rank }) => println!(rt; "mean {rank}"),
-        Err(BoardFault::Spread { rank, k }) => println!(rt; "spread {rank} {k}"),
-    }
-}
-
-/// Answers each line of the input from a file.
-fn query(rt: &(impl Print + Input + AllocGlobal), file: &[u8]) -> io::Result<()> {
-    let Ok(header) = check_board(file) else {
-        return println!(rt; "no board file");
-    };
-    let ranks = RankTable::new();
-    let board = Board::accepted(file, header, &ranks);
-    let mut text = BoardText::new();
-    for line in rt.lines(rt.alloc()) {
-        let line = line?;
-        match answer(&board, line.as_str().as_bytes(), &mut text) {
-            Some(()) => println!(rt; "{}", text.as_str())?,
-            None => println!(rt; "none")?,
-        }
-    }
-    Ok(())
 }
 
 /// Changes a byte of each STEPth record from one on, and counts the files that are refused.

@@ -2,3 +2,4 @@ mod WalkValues
 mod PlainWords
 mod Numbers
 mod OptionWords
+mod BoardWords

@@ -35,7 +35,8 @@ pub ok_no_err : {X E : Type 0} (r : Result X E) (P : E → Type 0) → IsOk r �
 ok_no_err (Ok x) P h = tt
 ok_no_err (Err e) P h = absurd (true≢false (sym h))
 
-is_false : (b : Bool) → not b ≡ true → b ≡ false
+-- what is not true is false
+pub is_false : (b : Bool) → not b ≡ true → b ≡ false
 is_false true e = sym e
 is_false false e = refl
 

@@ -1,5 +1,5 @@
 -- What words ask for.
-use Rattle.std.specs.Prelude.{◌≡◌, ◌==◌, ℕ, Bool, true, false, not, List, [], ◌∷◌}
+use Rattle.std.specs.Prelude.{◌≡◌, ◌==◌, ◌&&◌, ◌||◌, ℕ, Bool, true, false, not, List, [], ◌∷◌}
 use Rattle.std.specs.Str.Parse.{IsNumeral, digits_value}
 use Rattle.std.specs.Prelude.{Option, Result, IfOk, IfErr, codes}
 use Rattle.std.specs.List.{Contains, list_any}
@@ -7,6 +7,8 @@ use Rattle.std.specs.Str.{bytes_eq}
 use Rattle.clap.specs.Words.{Text, kind_of}
 use Rattle.clap.specs.declared.error.Error.{Error}
 use Rattle.clap.specs.declared.error.kind.ErrorKind.TheVariants.{OutOfMemory}
+use Rattle.command_line.specs.declared.words.BoardCommand.{BoardCommand}
+use Rattle.command_line.specs.declared.words.BoardCommand.TheVariants.{Build, Check, Query, Audit}
 use Rattle.command_line.specs.declared.words.Request.{Request}
 use Rattle.command_line.specs.declared.words.Request.TheVariants as request
 
@@ -49,6 +51,18 @@ abbrev pub asks_query : Text → Option ℕ → Request → Type 0
 asks_query path records (request.Query given cache) = (given.now ≡ path) × (cache ≡ records)
 asks_query path records _ = ⊥
 
+-- .. to do this with the board file of this path
+abbrev pub asks_board : BoardCommand → Text → Request → Type 0
+asks_board command path (request.Board asked given) = (asked ≡ command) × (given.now ≡ path)
+asks_board command path _ = ⊥
+
+-- the name of a command
+abbrev pub name_of : BoardCommand → Text
+name_of Build = codes "build"
+name_of Check = codes "check"
+name_of Query = codes "query"
+name_of Audit = codes "audit"
+
 -- the text is one digit or more, which write n
 abbrev pub Writes : ℕ → Text → Type 0
 Writes n text = IsNumeral 10 text × (digits_value 10 text ≡ n)
@@ -56,6 +70,17 @@ Writes n text = IsNumeral 10 text × (digits_value 10 text ≡ n)
 -- the words begin with the name, and the text is one of the others
 abbrev pub Follows : Text → List Text → Text → Type 0
 Follows name words text = (rest : List Text) × (words ≡ name ∷ rest) × Contains rest text
+
+-- whether `--board` is one of the words, before any word `--`
+abbrev pub names_board : List Text → Bool
+names_board [] = false
+names_board (word ∷ rest) = bytes_eq word (codes "--board")
+    || (not (bytes_eq word (codes "--")) && names_board rest)
+
+-- the words begin with the name, `--board` is one of the others, and so is the text
+abbrev pub FollowsBoard : Text → List Text → Text → Type 0
+FollowsBoard name words text = (rest : List Text) × (words ≡ name ∷ rest)
+    × (names_board rest ≡ true) × Contains rest text
 
 -- the names of the commands
 abbrev pub names : List Text
@@ -66,7 +91,8 @@ abbrev pub begins_with_name : List Text → Bool
 begins_with_name [] = false
 begins_with_name (word ∷ rest) = list_any (bytes_eq word) names
 
--- the command is the first word, and each path is one of the others
+-- the command is the first word, each path is one of the others, and so is `--board` where the
+-- request is of a board file
 abbrev pub IsAskedBy : List Text → Request → Type 0
 IsAskedBy words request.Default = begins_with_name words ≡ false
 IsAskedBy words (request.Build pips path) = Follows (codes "build") words path.now
@@ -75,3 +101,4 @@ IsAskedBy words (request.Query path cache) = Follows (codes "query") words path.
 IsAskedBy words (request.Audit path) = Follows (codes "audit") words path.now
 IsAskedBy words (request.Upgrade old new) =
     Follows (codes "upgrade") words old.now × Follows (codes "upgrade") words new.now
+IsAskedBy words (request.Board command path) = FollowsBoard (name_of command) words path.now

@@ -2,6 +2,7 @@
 use Rattle.std.specs.Prelude.{◌≡◌, true, codes, Some, pos}
 use Rattle.clap.specs.Words.{App, Rule, Text, new_app, new_rule, with_rule}
 use Rattle.clap.specs.Simple.{on_top}
+use Rattle.clap.specs.declared.builder.action.ArgAction.TheVariants.{SetTrue}
 use Rattle.clap.specs.declared.builder.value_parser.ValueParser.TheVariants as vp
 
 -- a required word
@@ -48,3 +49,32 @@ cache_rule = record (new_rule (codes "cache")) {
 -- `query --cache N FILE`
 abbrev pub query_app : App
 query_app = with_rule (file_app (codes "query")) cache_rule
+
+-- the flag `--board`, which is required
+abbrev pub board_rule : Rule
+board_rule =
+    record (word_rule (codes "board")) { long = Some (codes "board"); action = Some SetTrue }
+
+-- `NAME --board FILE`
+abbrev pub board_app : Text → App
+board_app name = with_rule (with_rule (bare_app name) board_rule) (word_rule (codes "FILE"))
+
+-- .. of some name
+abbrev pub IsBoardApp : App → Type 0
+IsBoardApp a = (name : Text) × (a ≡ board_app name)
+
+-- an option of this name with a value, which does not go with `--board`
+abbrev pub other_rule : Text → Rule
+other_rule id = record (new_rule id) { long = Some id; value_names = 1 }
+
+-- `NAME --board FILE`, which knows the option of that name, too
+abbrev pub board_or_app : Text → Text → App
+board_or_app name other = with_rule (board_app name) (other_rule other)
+
+-- `build --board FILE`, which knows `--pips N`, too
+abbrev pub build_board_app : App
+build_board_app = board_or_app (codes "build") (codes "pips")
+
+-- `query --board FILE`, which knows `--cache N`, too
+abbrev pub query_board_app : App
+query_board_app = board_or_app (codes "query") (codes "cache")

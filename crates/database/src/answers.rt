@@ -5,6 +5,7 @@ ghost use Rattle.race_model.specs.Positions.{pips};
 ghost use Rattle.race_model.specs.Files.{version_of, bound_of};
 ghost use Rattle.race_model.specs.Queries.{mean_query, IsAccepted};
 ghost use Rattle.race_model.specs.Replies.{IsReply};
+ghost use Rattle.epc_query.specs.AnyFiles.{database_file};
 ghost use Rattle.epc_query.specs.Readings.{asked};
 ghost use Rattle.epc_query.specs.Faults.{IsAnswerable};
 
@@ -21,8 +22,8 @@ use std::io::Write;
 
 impl<'a> Database<'a> {
     /// Makes a text the reply to a line, which comes without its line feed, as the text does: what
-    /// the database says, or why the line is refused. A mean is read and written as it stands, since
-    /// a query has room for two positions and a roll.
+    /// the database says, or why the line is refused. A mean is read and written as it stands,
+    /// since a query has room for two positions and a roll.
     pub fn answer(&self, line: &[u8], text: &mut Text) -> Option<()>
         ensures some { IsSome result }
         ensures reply { IsReply self.now line.now (text.new.bytes ++ 10 ∷ []) }
@@ -116,6 +117,8 @@ impl<'a> Answers for Database<'a> {
       version = version_of database;
       failures = 0;
     } };
+
+    ghost kind = { database_file };
 
     fn write_answer<W: Write>(
         &mut self,

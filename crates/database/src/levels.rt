@@ -1,7 +1,7 @@
 //! The positions of one pip count.
 ghost use Rattle.std.specs.Prelude.{◌≡◌, ◌*◌, ◌<◌, ◌≤◌, IsSome, IfSome};
 ghost use Rattle.race_model.specs.Ranks.{count_to};
-ghost use Rattle.race_model.specs.Files.{bound_of};
+ghost use Rattle.race_model.specs.Files.{bound_of, mean_at};
 ghost use Rattle.race_model.specs.LocalEquations.{whole};
 ghost use Rattle.epc_query.specs.LevelMeans.{AreMeansOf, HasLevel};
 
@@ -30,7 +30,7 @@ impl<'a> Database<'a> {
         ensures least { IfSome result (λ means. means.least ≤ 22 * whole) }
         ensures greatest { IfSome result (λ means. means.greatest ≤ 22 * whole) }
         ensures means { IfSome result (λ means.
-            AreMeansOf self.now first end means.least means.greatest) }
+            AreMeansOf (mean_at self.now) first end means.least means.greatest) }
     {
         let mut records = self.records_from(first);
         let mut means = LevelMeans::NONE;

@@ -6,14 +6,17 @@ use Rattle.std.proofs.lemmas.Bool.{cases_lt}
 use Rattle.std.proofs.Math.Path.{ap₂}
 use Rattle.race_model.specs.Positions.{Board, IsPosition, pips}
 use Rattle.race_model.specs.Ranks.{rank, at_rank, count_to, first_of}
-use Rattle.race_model.specs.Files.{mean, mean_at}
+use Rattle.race_model.specs.Files.{mean_at}
+use Rattle.race_model.specs.Books.{Book, mean_in}
+use Rattle.race_model.specs.FileBooks.{book_of}
 use Rattle.race_model.specs.Levels.{IsLevel, IsLevelLine}
+use Rattle.race_model.specs.BookLevels.{IsLevelIn}
 use Rattle.epc_query.specs.declared.reply.Level.{Level}
 use Rattle.epc_query.specs.Texts.{ratio_text, level_text}
 use Rattle.epc_query.specs.LevelMeans.{AreMeansOf, HasLevel}
 
 -- some position has this pip count
-pub some_position : (p : ℕ) → p ≤ 84 → (x : Board) × IsPosition x × (pips x ≡ p)
+pub some_position : (p : ℕ) → p ≤ 90 → (x : Board) × IsPosition x × (pips x ≡ p)
 some_position p low = by (p / 6) (p % 6) (omega arith) (omega arith)
   where
     by : (q r : ℕ) → p ≡ 6 * q + r → r < 6 → (x : Board) × IsPosition x × (pips x ≡ p)
@@ -50,24 +53,38 @@ some_position p low = by (p / 6) (p % 6) (omega arith) (omega arith)
     by q (suc (suc (suc (suc (suc (suc r)))))) e h = absurd (omega arith)
 
 -- no ranks
-pub no_means : (f : List ℕ) (first end least greatest : ℕ) → end ≤ first
-    → AreMeansOf f first end least greatest
-no_means f first end least greatest none = record {
+pub no_means : (mean : ℕ → ℕ) (first end least greatest : ℕ) → end ≤ first
+    → AreMeansOf mean first end least greatest
+no_means mean first end least greatest none = record {
   least_reached = λ h. absurd (omega arith);
   none_under = λ r low high. absurd (omega arith);
   greatest_reached = λ h. absurd (omega arith);
   none_over = λ r low high. absurd (omega arith);
 }
 
+-- one rank
+pub one_mean : (mean : ℕ → ℕ) (first n : ℕ) → n ≡ mean first
+    → AreMeansOf mean first (first + 1) n n
+one_mean mean first n e = record {
+  least_reached = λ _. (first, omega arith, omega arith, sym e);
+  none_under = λ r low high.
+      let same : first ≡ r = omega arith in
+      omega (arith, e, ap mean same);
+  greatest_reached = λ _. (first, omega arith, omega arith, sym e);
+  none_over = λ r low high.
+      let same : first ≡ r = omega arith in
+      omega (arith, e, ap mean same);
+}
+
 -- the mean is that of a rank from the first on and before the end
-abbrev IsReached : List ℕ → ℕ → ℕ → ℕ → Type 0
-IsReached f first end mean = (r : ℕ) × (first ≤ r) × (r < end) × (mean_at f r ≡ mean)
+abbrev IsReached : (ℕ → ℕ) → ℕ → ℕ → ℕ → Type 0
+IsReached mean first end n = (r : ℕ) × (first ≤ r) × (r < end) × (mean r ≡ n)
 
 -- with one rank more, its mean or one that was reached is reached
-reached_more : (f : List ℕ) (first r kept n chosen : ℕ) → first ≤ r → n ≡ mean_at f r
-    → (first < r → IsReached f first r kept) → (first ≡ r → chosen ≡ n)
-    → (chosen ≡ n) ⊎ (chosen ≡ kept) → IsReached f first (r + 1) chosen
-reached_more f first r kept n chosen within e before fresh either = elim (cases_lt first r) [
+reached_more : (mean : ℕ → ℕ) (first r kept n chosen : ℕ) → first ≤ r → n ≡ mean r
+    → (first < r → IsReached mean first r kept) → (first ≡ r → chosen ≡ n)
+    → (chosen ≡ n) ⊎ (chosen ≡ kept) → IsReached mean first (r + 1) chosen
+reached_more mean first r kept n chosen within e before fresh either = elim (cases_lt first r) [
   | inl some ↦ elim either [
     | inl new ↦ (r, within, omega arith, sym e ∙ sym new)
     | inr old ↦ let w = before some in (w.0, w.1, omega (arith, w.2), w.3 ∙ sym old)
@@ -76,24 +93,24 @@ reached_more f first r kept n chosen within e before fresh either = elim (cases_
 ]
 
 -- one rank more
-pub more_means : (f : List ℕ) (first r least greatest n : ℕ) → first ≤ r
-    → AreMeansOf f first r least greatest → n ≡ mean_at f r
-    → (first ≡ r → n ≤ least) → (first ≡ r → greatest ≤ n) → AreMeansOf f first (r + 1)
+pub more_means : (mean : ℕ → ℕ) (first r least greatest n : ℕ) → first ≤ r
+    → AreMeansOf mean first r least greatest → n ≡ mean r
+    → (first ≡ r → n ≤ least) → (first ≡ r → greatest ≤ n) → AreMeansOf mean first (r + 1)
     (min least n) (max greatest n)
-more_means f first r least greatest n within are e fresh_least fresh_greatest = record {
+more_means mean first r least greatest n within are e fresh_least fresh_greatest = record {
   least_reached = λ _.
-      reached_more f first r least n (min least n) within e are.least_reached
+      reached_more mean first r least n (min least n) within e are.least_reached
       (λ same. let low = fresh_least same in omega arith)
       (elim (cases_lt n least) [ inl lt ↦ inl (omega arith) | inr not ↦ inr (omega arith) ]);
   none_under = λ k low high.
-      below_more (λ j. first ≤ j → min least n ≤ mean_at f j) r
+      below_more (λ j. first ≤ j → min least n ≤ mean j) r
       (λ j lt from. omega (arith, are.none_under j from lt)) (λ _. omega (arith, e)) k high low;
   greatest_reached = λ _.
-      reached_more f first r greatest n (max greatest n) within e are.greatest_reached
+      reached_more mean first r greatest n (max greatest n) within e are.greatest_reached
       (λ same. let high = fresh_greatest same in omega arith)
       (elim (cases_lt greatest n) [ inl lt ↦ inl (omega arith) | inr not ↦ inr (omega arith) ]);
   none_over = λ k low high.
-      below_more (λ j. first ≤ j → mean_at f j ≤ max greatest n) r
+      below_more (λ j. first ≤ j → mean j ≤ max greatest n) r
       (λ j lt from. omega (arith, are.none_over j from lt)) (λ _. omega (arith, e)) k high low;
 }
 
@@ -129,16 +146,16 @@ module _ (found : (x : Board) → IsPosition x → at_rank (rank x) ≡ x)
         | inr enough ↦ enough
       ]
 
-  -- there is a rank of each pip count up to 84
-  pub some_rank : (p : ℕ) → p ≤ 84 → first_of p < count_to p
+  -- there is a rank of each pip count
+  pub some_rank : (p : ℕ) → p ≤ 90 → first_of p < count_to p
   some_rank p low =
       let x = some_position p low in
       omega (arith, not_below p x.0 x.1 x.2, (within x.0 p x.1).1 (omega (arith, x.2)))
 
   -- the means of the ranks of a pip count are those of its positions
-  pub level_means : (f : List ℕ) (p least greatest : ℕ) → p ≤ 84 → AreMeansOf f (first_of p)
-      (count_to p) least greatest → IsLevel f p least greatest
-  level_means f p least greatest low are =
+  pub level_in : (b : Book) (p least greatest : ℕ) → p ≤ 90 → AreMeansOf b.means (first_of p)
+      (count_to p) least greatest → IsLevelIn b p least greatest
+  level_in b p least greatest low are =
       let some = some_rank p low in
       record {
         least_reached = at least (are.least_reached some);
@@ -149,12 +166,24 @@ module _ (found : (x : Board) → IsPosition x → at_rank (rank x) ≡ x)
             ((within x p is).1 (omega (arith, e)));
       }
     where
-      at : (n : ℕ) → IsReached f (first_of p) (count_to p) n →
-          (x : Board) × IsPosition x × (pips x ≡ p) × (mean f x ≡ n)
+      at : (n : ℕ) → IsReached b.means (first_of p) (count_to p) n →
+          (x : Board) × IsPosition x × (pips x ≡ p) × (mean_in b x ≡ n)
       at n (r, first, last, is) =
           let few = (under p r last).1 in
           let many = not_fewer p r first last in
-          (at_rank r, position r, omega arith, ap (mean_at f) (under p r last).0 ∙ is)
+          (at_rank r, position r, omega arith, ap b.means (under p r last).0 ∙ is)
+
+  -- .. also by a file
+  pub level_means : (f : List ℕ) (p least greatest : ℕ) → p ≤ 90 → AreMeansOf (mean_at f)
+      (first_of p) (count_to p) least greatest → IsLevel f p least greatest
+  level_means f p least greatest low are =
+      let is = level_in (book_of f) p least greatest low are in
+      record {
+        least_reached = is.least_reached;
+        none_under = is.none_under;
+        greatest_reached = is.greatest_reached;
+        none_over = is.none_over;
+      }
 
 -- the text of a level is its line
 pub level_line : (f : List ℕ) (p : ℕ) (level : Level) → HasLevel f p level

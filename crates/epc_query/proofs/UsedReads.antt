@@ -4,11 +4,12 @@ use Rattle.std.proofs.Common.{length-append}
 use Rattle.std.proofs.lemmas.List.{length-take}
 use Rattle.epc_query.specs.declared.run_fault.RunFault.{RunFault}
 use Rattle.epc_query.specs.declared.run_fault.RunFault.TheVariants.{Read, Write, Table, Memory, Turns}
+use Rattle.epc_query.specs.AnyFiles.{AnyFile}
 use Rattle.epc_query.specs.Runs.{IsStoppedAt}
 use Rattle.epc_query.specs.UsedReads.{HasUsed}
 
 -- where the answers to lines stopped, the reads did not run out
-pub used_in : (f : List ℕ) (lines : List (List ℕ)) (old new : Option (List ℕ)) (turns : ℕ)
+pub used_in : (f : AnyFile) (lines : List (List ℕ)) (old new : Option (List ℕ)) (turns : ℕ)
     (input : List ℕ) (left : Option (List ℕ)) (fault : RunFault)
     → IsStoppedAt f lines old new fault → HasUsed turns input left fault
 used_in f lines old new turns input left Read h = tt

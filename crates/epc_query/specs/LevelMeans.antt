@@ -1,19 +1,18 @@
 -- The means of the positions of one pip count. Source: this project's profile.
 use Rattle.std.specs.Prelude.{◌≡◌, ℕ, ◌<◌, ◌≤◌, List}
-use Rattle.race_model.specs.Files.{mean_at}
 use Rattle.race_model.specs.Fractions.{IsMean}
 use Rattle.race_model.specs.Levels.{level_count, IsLevel}
 use Rattle.certificate.specs.declared.query_fault.QueryFault.{QueryFault}
 use Rattle.certificate.specs.declared.query_fault.QueryFault.TheVariants.{OverBound, Finished, NotLegal, Memory, Read}
 use Rattle.epc_query.specs.declared.reply.Level.{Level}
 
--- the least and the greatest recorded mean of the ranks from one on and before another, where
+-- the least and the greatest of the means of the ranks from one on and before another, where
 -- there are any
-pub record AreMeansOf (f : List ℕ) (first end least greatest : ℕ) : Type 0 where
-  pub least_reached : first < end → (r : ℕ) × (first ≤ r) × (r < end) × (mean_at f r ≡ least)
-  pub none_under : (r : ℕ) → first ≤ r → r < end → least ≤ mean_at f r
-  pub greatest_reached : first < end → (r : ℕ) × (first ≤ r) × (r < end) × (mean_at f r ≡ greatest)
-  pub none_over : (r : ℕ) → first ≤ r → r < end → mean_at f r ≤ greatest
+pub record AreMeansOf (mean : ℕ → ℕ) (first end least greatest : ℕ) : Type 0 where
+  pub least_reached : first < end → (r : ℕ) × (first ≤ r) × (r < end) × (mean r ≡ least)
+  pub none_under : (r : ℕ) → first ≤ r → r < end → least ≤ mean r
+  pub greatest_reached : first < end → (r : ℕ) × (first ≤ r) × (r < end) × (mean r ≡ greatest)
+  pub none_over : (r : ℕ) → first ≤ r → r < end → mean r ≤ greatest
 
 -- the level is that of the positions of exactly p pips
 pub record HasLevel (f : List ℕ) (p : ℕ) (level : Level) : Type 0 where

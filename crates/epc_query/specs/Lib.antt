@@ -4,6 +4,7 @@ pub mod Held
 pub mod Answers
 pub mod Faults
 pub mod Costs
+pub mod AnyFiles
 pub mod Runs
 pub mod LevelMeans
 pub mod UsedReads

@@ -7,6 +7,7 @@ ghost use Rattle.race_model.specs.Queries.{IsAccepted};
 ghost use Rattle.db_reader.specs.Telling.{WhereTold};
 ghost use Rattle.certificate.specs.Databases.{Stays};
 ghost use Rattle.epc_query.specs.Readings.{asked};
+ghost use Rattle.epc_query.specs.AnyFiles.{database_file};
 ghost use Rattle.epc_query.specs.Answers.{IsReplyTo};
 ghost use Rattle.epc_query.specs.Faults.{IsAnswerable, IsFaultOf, stop_of, IsHeard, IsStopOf};
 
@@ -133,6 +134,8 @@ pub fn answer_line<T: Table>(
 /// An accepted table answers lines by its replies.
 impl<T: Table> Answers for Checked<T> {
     ghost seen = { λ checked. checked };
+
+    ghost kind = { database_file };
 
     fn write_answer<W: Write>(
         &mut self,

@@ -1,7 +1,8 @@
 //! What answers lines: the one place where a database in bytes and a table of pages meet.
-ghost use Rattle.std.specs.Prelude.{◌≡◌, [], ◌∷◌, Err, MatchResult};
+ghost use Rattle.std.specs.Prelude.{◌≡◌, ℕ, List, [], ◌∷◌, Err, MatchResult};
 ghost use Rattle.db_reader.specs.Telling.{WhereTold};
 ghost use Rattle.certificate.specs.Databases.{Database, Stays};
+ghost use Rattle.epc_query.specs.AnyFiles.{AnyFile};
 ghost use Rattle.epc_query.specs.Runs.{HasReplies, IsStoppedAt};
 
 use crate::run_fault::RunFault;
@@ -15,6 +16,9 @@ pub trait Answers {
     // a read has failed
     ghost seen: { Self → Database };
 
+    // of which kind these bytes are
+    ghost kind: { List ℕ → AnyFile };
+
     /// Writes the reply to a line, which comes without its line feed, by way of a text that the
     /// lines share. Refused as `Table`, `Memory` and `Write`, as `run` is.
     fn write_answer<W: Write>(
@@ -25,8 +29,9 @@ pub trait Answers {
         writer: &mut W,
     ) -> Result<(), RunFault>
         ensures answered { WhereTold (seen self.old).told (λ file. MatchResult result
-            (λ _. HasReplies file (line.now ∷ []) (W.contents writer.old) (W.contents writer.new))
-            (IsStoppedAt file (line.now ∷ [])
+            (λ _. HasReplies (kind file) (line.now ∷ [])
+            (W.contents writer.old) (W.contents writer.new))
+            (IsStoppedAt (kind file) (line.now ∷ [])
             (W.contents writer.old) (W.contents writer.new))) }
         ensures stays { Stays (seen self.old) (seen self.new) (result ≡ Err RunFault.Table) };
 }

@@ -1,6 +1,7 @@
 //! The positions of one pip count.
 ghost use Rattle.std.specs.Prelude.{◌≡◌, ℕ, ◌*◌, ◌<◌, ◌≤◌, List, Err, IfOk, IfErr, OnOk, OnErr};
 ghost use Rattle.race_model.specs.Ranks.{first_of, count_to};
+ghost use Rattle.race_model.specs.Files.{mean_at};
 ghost use Rattle.race_model.specs.LocalEquations.{whole};
 ghost use Rattle.db_reader.specs.Telling.{WhereTold};
 ghost use Rattle.certificate.specs.Databases.{Stays};
@@ -55,7 +56,7 @@ pub fn level_of(pips: u8, means: LevelMeans) -> Level
     requires least { means.least ≤ 22 * whole }
     requires greatest { means.greatest ≤ 22 * whole }
     ensures { (file : List ℕ) →
-        AreMeansOf file (first_of pips) (count_to pips) means.least means.greatest →
+        AreMeansOf (mean_at file) (first_of pips) (count_to pips) means.least means.greatest →
         HasLevel file pips result }
 {
     laws::law_rank();
@@ -80,7 +81,8 @@ fn means_of<T: Table>(
     ensures least { IfOk result (λ means. means.least ≤ 22 * whole) }
     ensures greatest { IfOk result (λ means. means.greatest ≤ 22 * whole) }
     ensures means { WhereTold checked.old.told
-        (λ file. IfOk result (λ means. AreMeansOf file first end means.least means.greatest)) }
+        (λ file. IfOk result (λ means.
+        AreMeansOf (mean_at file) first end means.least means.greatest)) }
     ensures stays { Stays checked.old checked.new (result ≡ Err QueryFault.Read) }
 {
     laws::law_rank();

@@ -39,11 +39,11 @@ fn answer_piece<A: Answers, W: Write>(
     requires { HasNoFeed piece.now }
     ensures answered { WhereTold (A.seen answers.old).told
         (λ file. (done : List ℕ) (start : Option (List ℕ))
-        → IsAnswered file done start (W.contents writer.old) held.old → MatchResult result
-        (λ _. IsAnswered file ((done ++ piece.now) ++ 10 ∷ []) start (W.contents writer.new)
-        held.new × (length (whole_lines ((done ++ piece.now) ++ 10 ∷ []))
+        → IsAnswered (A.kind file) done start (W.contents writer.old) held.old → MatchResult result
+        (λ _. IsAnswered (A.kind file) ((done ++ piece.now) ++ 10 ∷ []) start
+        (W.contents writer.new) held.new × (length (whole_lines ((done ++ piece.now) ++ 10 ∷ []))
         ≡ length (whole_lines done) + 1))
-        (IsStoppedAt file (whole_lines ((done ++ piece.now) ++ 10 ∷ [])) start
+        (IsStoppedAt (A.kind file) (whole_lines ((done ++ piece.now) ++ 10 ∷ [])) start
         (W.contents writer.new))) }
     ensures stays { Stays (A.seen answers.old) (A.seen answers.new) (result ≡ Err RunFault.Table) }
 {
@@ -72,10 +72,11 @@ pub(crate) fn answer_chunk<A: Answers, W: Write>(
     requires { length chunk.now < 2 ^ 32 }
     ensures answered { WhereTold (A.seen answers.old).told
         (λ file. (done : List ℕ) (start : Option (List ℕ))
-        → IsAnswered file done start (W.contents writer.old) held.old → MatchResult result
-        (λ n. IsAnswered file (done ++ chunk.now) start (W.contents writer.new) held.new
+        → IsAnswered (A.kind file) done start (W.contents writer.old) held.old → MatchResult result
+        (λ n. IsAnswered (A.kind file) (done ++ chunk.now) start (W.contents writer.new) held.new
         × (length (whole_lines (done ++ chunk.now)) ≡ length (whole_lines done) + n))
-        (IsStoppedAt file (whole_lines (done ++ chunk.now)) start (W.contents writer.new))) }
+        (IsStoppedAt (A.kind file) (whole_lines (done ++ chunk.now)) start
+        (W.contents writer.new))) }
     ensures few { IfOk result (λ n. n ≤ length chunk.now) }
     ensures stays { Stays (A.seen answers.old) (A.seen answers.new) (result ≡ Err RunFault.Table) }
 {
@@ -104,10 +105,10 @@ pub(crate) fn answer_last<A: Answers, W: Write>(
 ) -> Result<u64, RunFault>
     ensures answered { WhereTold (A.seen answers.old).told
         (λ file. (done : List ℕ) (start : Option (List ℕ))
-        → IsAnswered file done start (W.contents writer.old) held.now → MatchResult result
-        (λ n. HasReplies file (lines_of done) start (W.contents writer.new)
+        → IsAnswered (A.kind file) done start (W.contents writer.old) held.now → MatchResult result
+        (λ n. HasReplies (A.kind file) (lines_of done) start (W.contents writer.new)
         × (length (lines_of done) ≡ length (whole_lines done) + n))
-        (IsStoppedAt file (lines_of done) start (W.contents writer.new))) }
+        (IsStoppedAt (A.kind file) (lines_of done) start (W.contents writer.new))) }
     ensures few { IfOk result (λ n. n ≤ 1) }
     ensures stays { Stays (A.seen answers.old) (A.seen answers.new) (result ≡ Err RunFault.Table) }
 {

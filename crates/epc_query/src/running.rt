@@ -5,6 +5,7 @@ ghost use Rattle.std.specs.Io.KnownBytes.{Keeps, IsAtEnd};
 ghost use Rattle.race_model.specs.InputLines.{whole_lines, lines_of};
 ghost use Rattle.db_reader.specs.Telling.{WhereTold};
 ghost use Rattle.certificate.specs.Databases.{Stays};
+ghost use Rattle.epc_query.specs.AnyFiles.{database_file};
 ghost use Rattle.epc_query.specs.Runs.{HasReplies, IsStoppedAt, IsAnswered, IsRunStopped};
 ghost use Rattle.epc_query.specs.UsedReads.{HasUsed};
 
@@ -44,10 +45,11 @@ pub fn run<T: Table, R: Read, W: Write>(
     ensures done { WhereTold checked.old.told (λ file. WhereTold (R.remaining reader.old)
         (λ input. IfOk result
         (λ n. IsAtEnd (R.remaining reader.new) × (n ≡ length (lines_of input))
-        × HasReplies file (lines_of input) (W.contents writer.old) (W.contents writer.new)))) }
+        × HasReplies (database_file file) (lines_of input)
+        (W.contents writer.old) (W.contents writer.new)))) }
     ensures stopped { WhereTold checked.old.told (λ file. WhereTold (R.remaining reader.old)
         (λ input. IfErr result
-        (IsRunStopped file input (R.remaining reader.new) (W.contents writer.old)
+        (IsRunStopped (database_file file) input (R.remaining reader.new) (W.contents writer.old)
         (W.contents writer.new)))) }
     ensures used { WhereTold checked.old.told (λ _. WhereTold (R.remaining reader.old)
         (λ input. IfErr result (HasUsed turns input (R.remaining reader.new)))) }
@@ -68,10 +70,11 @@ pub fn run_lines<A: Answers, R: Read, W: Write>(
     ensures done { WhereTold (A.seen answers.old).told (λ file. WhereTold (R.remaining reader.old)
         (λ input. IfOk result
         (λ n. IsAtEnd (R.remaining reader.new) × (n ≡ length (lines_of input))
-        × HasReplies file (lines_of input) (W.contents writer.old) (W.contents writer.new)))) }
+        × HasReplies (A.kind file) (lines_of input)
+        (W.contents writer.old) (W.contents writer.new)))) }
     ensures stopped { WhereTold (A.seen answers.old).told (λ file.
         WhereTold (R.remaining reader.old) (λ input. IfErr result
-        (IsRunStopped file input (R.remaining reader.new) (W.contents writer.old)
+        (IsRunStopped (A.kind file) input (R.remaining reader.new) (W.contents writer.old)
         (W.contents writer.new)))) }
     ensures used { WhereTold (A.seen answers.old).told (λ _. WhereTold (R.remaining reader.old)
         (λ input. IfErr result (HasUsed turns input (R.remaining reader.new)))) }
@@ -112,10 +115,10 @@ fn answer_end<A: Answers, W: Write>(
 ) -> Result<u64, RunFault>
     ensures answered { WhereTold (A.seen answers.old).told
         (λ file. (done : List ℕ) (start : Option (List ℕ))
-        → IsAnswered file done start (W.contents writer.old) held.now → MatchResult result
-        (λ n. HasReplies file (lines_of done) start (W.contents writer.new)
+        → IsAnswered (A.kind file) done start (W.contents writer.old) held.now → MatchResult result
+        (λ n. HasReplies (A.kind file) (lines_of done) start (W.contents writer.new)
         × (length (lines_of done) ≡ length (whole_lines done) + n))
-        (IsStoppedAt file (lines_of done) start (W.contents writer.new))) }
+        (IsStoppedAt (A.kind file) (lines_of done) start (W.contents writer.new))) }
     ensures few { IfOk result (λ n. n ≤ 1) }
     ensures stays { Stays (A.seen answers.old) (A.seen answers.new) (result ≡ Err RunFault.Table) }
 {

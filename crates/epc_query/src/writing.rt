@@ -11,6 +11,7 @@ use crate::text::{
     Text, push_choice, put_dist, put_level, put_loss, put_mean, put_moves, put_play, put_rank,
     put_refusal,
 };
+use arrayvec::ArrayString;
 use db_layout::{WriteFault, write_bytes};
 use std::io::Write;
 
@@ -63,9 +64,12 @@ pub fn write_level<W: Write>(level: &Level, writer: &mut W) -> Result<(), WriteF
     write_line(&mut text, writer)
 }
 
-/// Writes a text and a line feed.
-pub fn write_line<W: Write>(text: &mut Text, writer: &mut W) -> Result<(), WriteFault>
-    requires { array_string_len text.old + 1 ≤ 12288 }
+/// Writes a text and a line feed, which the text has room for.
+pub fn write_line<const ROOM: usize, W: Write>(
+    text: &mut ArrayString<ROOM>,
+    writer: &mut W,
+) -> Result<(), WriteFault>
+    requires { array_string_len text.old + 1 ≤ ROOM }
     ensures all { OnOk result
         (Appends (W.contents writer.old) (W.contents writer.new) (text.old.bytes ++ 10 ∷ [])) }
     ensures part { OnErr result

@@ -1,5 +1,6 @@
 -- The levels of the bytes that were read, which are a right database.
 use Rattle.std.proofs.Common.{◌≡◌, ◌∙◌, Err, inr, subst, sym, rules}
+use Rattle.epc_query.specs.AnyFiles.{database_file}
 use Rattle.bearoff_cli.specs.FileAnswers.{IsReadFrom}
 use Rattle.bearoff_cli.specs.StoppedRuns.{WritesLevelPart}
 use Rattle.bearoff_cli.proofs.OpenedFiles.{levels_read}
@@ -22,7 +23,7 @@ returns-clause-levels g c =
     let read = subst (λ bytes. IsReadFrom g.R.File.Read.remaining bytes)
     (sym c.as_slice.ensures.value) c.in_ok-bytes.ensures.read in
     let same = c.as_slice-2.ensures.value ∙ sym c.as_slice.ensures.value in
-    levels_read g.R.File.Read.remaining file _ _ c.write_levels.result read
+    levels_read database_file g.R.File.Read.remaining file _ _ c.write_levels.result read
     c.in_ok-accepted.ensures.right (rw same at c.write_levels.ensures.levels)
 
 pub returns-clause-left : goal.returns-clause-left
@@ -33,6 +34,7 @@ returns-clause-left g c =
     let same = c.as_slice-2.ensures.value ∙ sym c.as_slice.ensures.value in
     let old = g.O.Write.contents c.args.output.now in
     let new = g.O.Write.contents c.write_levels.new.output in
-    read_part g.R.File.Read.remaining (λ f. WritesLevelPart f old new) file old new
+    read_part database_file g.R.File.Read.remaining
+    (λ f. WritesLevelPart (database_file f) old new) file old new
     c.write_levels.result read c.in_ok-accepted.ensures.right
     (rw same at c.write_levels.ensures.part)

@@ -1,6 +1,7 @@
 -- The fault of the bytes that were read, and the line of what was accepted.
 use Rattle.std.proofs.Common.{◌≡◌, Err, inr, ap, subst, sym, rules}
 use Rattle.race_model.specs.Ranks.{count_to}
+use Rattle.epc_query.specs.AnyFiles.{database_file}
 use Rattle.bearoff_cli.specs.FileAnswers.{IsReadFrom}
 use Rattle.bearoff_cli.specs.StoppedRuns.{SaysRightPart}
 use Rattle.bearoff_cli.specs.declared.act.Done.TheVariants.{Checked}
@@ -26,7 +27,7 @@ returns-clause-left g c =
     let accepted = c.in_ok-accepted.ensures in
     let old = g.O.Write.contents c.args.output.now in
     let new = g.O.Write.contents c.write_count.new.output in
-    read_part g.R.File.Read.remaining (λ f. SaysRightPart f old new) file old new
+    read_part database_file g.R.File.Read.remaining (λ f. SaysRightPart f old new) file old new
     c.write_count.result read accepted.right (err-weaker c.write_count.result
     (line_part old new Checked file _ _ accepted.bound (ap count_to accepted.bound))
     c.write_count.ensures.part)

@@ -2,7 +2,7 @@
 use Rattle.std.proofs.Common.{◌≡◌, None, ap, ◌∙◌, subst, sym}
 use Rattle.std.specs.Prelude.{IfErr, OnOk}
 use Rattle.std.specs.Io.Buffered.{writer_contents}
-use Rattle.command_line.specs.declared.words.Request.TheVariants.{Query}
+use Rattle.command_line.specs.declared.words.Request.TheVariants.{Query, Board}
 use Rattle.bearoff_cli.specs.Requests.{IsDone}
 use Rattle.bearoff_cli.specs.StoppedRuns.{Leaves}
 use Rattle.bearoff_cli.proofs.Requests.{told_done, told_left}
@@ -36,3 +36,13 @@ returns-in-Query-default-None-clause-left g c =
     (g.O.Write.contents c.args.output.now) (g.O.Write.contents c.answer_file.new.output)))
     (sym (here.is ∙ ap (λ cache. Query here.path cache) none))
     (told_left c.answer_file.result _ _ c.answer_file.ensures.left)
+
+pub returns-in-Query-clause-done : goal.returns-in-Query-clause-done
+returns-in-Query-clause-done g c =
+    let here = c.in-Board in
+    subst (λ request. OnOk c.answer_board_file.result (IsDone g.R.File.Read.remaining
+    (writer_contents g.R.File.Write.contents) request
+    (g.I.Read.remaining c.args.input.now) (g.I.Read.remaining c.answer_board_file.new.input)
+    (g.O.Write.contents c.args.output.now) (g.O.Write.contents c.answer_board_file.new.output)))
+    (sym (here.is ∙ ap (λ command. Board command here.path) c.in-Query.is))
+    (told_done c.answer_board_file.result _ _ c.answer_board_file.ensures.answers)

@@ -1,17 +1,31 @@
 -- The words ask for a request, and so it is the one that was read and fulfilled.
-use Rattle.std.proofs.Common.{◌≡◌, IfOk, IfErr, true, subst, sym, ◌∙◌}
+use Rattle.std.proofs.Common.{◌≡◌, IfOk, IfErr, true, map, subst, sym, ◌∙◌}
 use Rattle.clap.specs.Words.{kind_of}
 use Rattle.clap.specs.declared.error.kind.ErrorKind.TheVariants.{OutOfMemory}
 use Rattle.std.specs.Io.Buffered.{writer_contents}
-use Rattle.bearoff_cli.proofs.Requests.{IsSame, IsNot, read_as, same_done, no_help}
+use Rattle.command_line.specs.Asked.{Gives}
+use Rattle.command_line.specs.declared.words.Request.{Request}
+use Rattle.bearoff_cli.specs.Requests.{Asks}
+use Rattle.bearoff_cli.proofs.Requests.{IsSame, IsNot, read_as, board_as, same_done, no_help}
 use Rattle.bearoff_cli.proofs.ToldFaults.{done_if, same_refusal}
+use Rattle.bearoff_cli.proofs.act.perform.Given.{Over}
+use Rattle.bearoff_cli.proofs.act.perform.Goals.{After-read_words}
 use Rattle.bearoff_cli.proofs.act.perform.Goals as goal
+
+-- the request that the words ask for was read, or memory was wanting
+read : (g : Over) (c : After-read_words g) (request : Request)
+    → Asks (map g.S.AsStr.text c.args.words.now) request
+    → Gives c.read_words.result (IsSame request)
+read g c =
+    let words = c.read_words.ensures in
+    read_as g.S.AsStr.text c.args.words.now c.read_words.result words.nothing words.build
+    words.query words.query_by words.check words.audit words.upgrade
+    (board_as g.S.AsStr.text c.args.words.now c.read_words.result words.build_board
+    words.check_board words.query_board words.audit_board)
 
 pub returns-in-Ok-clause-done : goal.returns-in-Ok-clause-done
 returns-in-Ok-clause-done g c request asks =
-    let words = c.read_words.ensures in
-    let gives = read_as g.S.AsStr.text c.args.words.now c.read_words.result words.nothing
-    words.build words.query words.query_by words.check words.audit words.upgrade request asks in
+    let gives = read g (goal.at.returns-in-Ok-clause-done g c).After-read_words request asks in
     let same = subst (λ r. IfOk r (λ read. IsSame request read)) c.in-Ok.is gives.0 in
     done_if c.fulfil.result c.refused.result c.fulfil.ensures.done
     (same_done g.R.File.Read.remaining (writer_contents g.R.File.Write.contents) request
@@ -20,9 +34,7 @@ returns-in-Ok-clause-done g c request asks =
 
 pub returns-in-Ok-clause-fault : goal.returns-in-Ok-clause-fault
 returns-in-Ok-clause-fault g c request asks =
-    let words = c.read_words.ensures in
-    let gives = read_as g.S.AsStr.text c.args.words.now c.read_words.result words.nothing
-    words.build words.query words.query_by words.check words.audit words.upgrade request asks in
+    let gives = read g (goal.at.returns-in-Ok-clause-fault g c).After-read_words request asks in
     let same = subst (λ r. IfOk r (λ read. IsSame request read)) c.in-Ok.is gives.0 in
     same_refusal g.R.File.Read.remaining request c.in-Ok.request
     (g.I.Read.remaining c.args.input.now) (g.I.Read.remaining c.fulfil.new.input)
@@ -33,9 +45,7 @@ returns-in-Ok-clause-fault g c request asks =
 -- words that ask for a request are not wrong
 pub returns-in-Err-2-clause-fault : goal.returns-in-Err-2-clause-fault
 returns-in-Err-2-clause-fault g c request asks =
-    let words = c.read_words.ensures in
-    let gives = read_as g.S.AsStr.text c.args.words.now c.read_words.result words.nothing
-    words.build words.query words.query_by words.check words.audit words.upgrade request asks in
+    let gives = read g (goal.at.returns-in-Err-2-clause-fault g c).After-read_words request asks in
     let memory = subst (λ r. IfErr r (λ error. kind_of error ≡ OutOfMemory)) c.in-Err.is gives.1 in
     let kind : c.kind.result ≡ OutOfMemory = c.kind.ensures ∙ memory in
     let equal : c.eq.result ≡ true = rw kind at c.eq.ensures in
@@ -44,16 +54,12 @@ returns-in-Err-2-clause-fault g c request asks =
 -- .. and ask for no help
 pub returns-in-Err-3-clause-done : goal.returns-in-Err-3-clause-done
 returns-in-Err-3-clause-done g c request asks =
-    let words = c.read_words.ensures in
-    let gives = read_as g.S.AsStr.text c.args.words.now c.read_words.result words.nothing
-    words.build words.query words.query_by words.check words.audit words.upgrade request asks in
+    let gives = read g (goal.at.returns-in-Err-3-clause-done g c).After-read_words request asks in
     let memory = subst (λ r. IfErr r (λ error. kind_of error ≡ OutOfMemory)) c.in-Err.is gives.1 in
     absurd (no_help _ c.use_stderr.result c.use_stderr.ensures memory c.if-use_stderr.false)
 
 pub returns-in-Err-3-clause-fault : goal.returns-in-Err-3-clause-fault
 returns-in-Err-3-clause-fault g c request asks =
-    let words = c.read_words.ensures in
-    let gives = read_as g.S.AsStr.text c.args.words.now c.read_words.result words.nothing
-    words.build words.query words.query_by words.check words.audit words.upgrade request asks in
+    let gives = read g (goal.at.returns-in-Err-3-clause-fault g c).After-read_words request asks in
     let memory = subst (λ r. IfErr r (λ error. kind_of error ≡ OutOfMemory)) c.in-Err.is gives.1 in
     absurd (no_help _ c.use_stderr.result c.use_stderr.ensures memory c.if-use_stderr.false)

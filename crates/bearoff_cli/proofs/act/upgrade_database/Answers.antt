@@ -6,6 +6,7 @@ use Rattle.std.proofs.lemmas.Result.{IfOk-weaker}
 use Rattle.race_model.specs.Ranks.{count_to}
 use Rattle.race_model.specs.Files.{version_of}
 use Rattle.race_model.specs.RightFiles.{IsRight}
+use Rattle.epc_query.specs.AnyFiles.{database_file}
 use Rattle.bearoff_cli.specs.FileAnswers.{IsReadFrom}
 use Rattle.bearoff_cli.specs.StoppedRuns.{SaysUpgradedPart}
 use Rattle.bearoff_cli.specs.declared.act.Done.TheVariants.{Upgraded}
@@ -52,7 +53,7 @@ returns-clause-left g c =
     (c.in_ok-upgrade_file.ensures.stays.0 ∙ told)).1 in
     let old = g.O.Write.contents c.args.output.now in
     let new = g.O.Write.contents c.write_count.new.output in
-    read_part g.R.File.Read.remaining (λ f. SaysUpgradedPart f old new) file old new
+    read_part database_file g.R.File.Read.remaining (λ f. SaysUpgradedPart f old new) file old new
     c.write_count.result read right (err-weaker c.write_count.result
     (λ part. (
       full,

@@ -2,6 +2,7 @@
 use Rattle.std.proofs.Common.{suc, arith}
 use Rattle.db_layout.proofs.Known.{on-error}
 use Rattle.race_model.specs.Files.{bound_of}
+use Rattle.epc_query.specs.AnyFiles.{database_file}
 use Rattle.bearoff_cli.proofs.Levels.{levels_then_kept}
 use Rattle.bearoff_cli.proofs.StoppedRuns.{levels_part}
 use Rattle.bearoff_cli.proofs.act.write_levels.Goals as goal
@@ -12,6 +13,7 @@ returns-clause-part g c =
     let old = g.O.Write.contents c.args.output.now in
     let new = g.O.Write.contents c.flush.new.output in
     let all = suc (bound_of file) in
-    on-error c.flush.result (levels_part file all old new (omega arith)
-    (levels_then_kept file all old (g.O.Write.contents c.write_each_level.new.output) new
+    on-error c.flush.result (levels_part (database_file file) all old new (omega arith)
+    (levels_then_kept (database_file file) all old (g.O.Write.contents
+    c.write_each_level.new.output) new
     (rw c.kept.ensures at c.in_ok-write_each_level.ensures.levels) c.flush.ensures.kept))

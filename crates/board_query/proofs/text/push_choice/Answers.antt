@@ -7,7 +7,7 @@ use Rattle.board_query.proofs.text.push_choice.Goals as goal
 pub returns-clause-part : goal.returns-clause-part
 returns-clause-part c =
     let to = c.args.choice.now.to in
-    let lost = c.push_loss.ensures.part in (
+    let lost = c.push_rolls.ensures.part in (
       codes " " ++ position_text to ++ codes ":" ++ lost.0,
       record {
         position = position_text to;

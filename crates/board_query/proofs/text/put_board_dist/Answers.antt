@@ -31,7 +31,8 @@ loop-k-preserved c =
     record {
       parts = one_more_part (IsPartOf counts) k (codes "dist") c.loop-k.text.bytes
           c.push_share.new.text.bytes part.0 c.loop-k.invariant.parts
-          (subst (λ n. IsSharePartOver board_whole (n * 36 ^ (33 - k)) k part.0) same part.1) part.2;
+          (subst (λ n. IsSharePartOver board_whole (n * 36 ^ (33 - k)) k part.0) same part.1)
+          part.2;
       len = omega (arith, c.push_share.ensures.len, c.loop-k.invariant.len);
     }
 

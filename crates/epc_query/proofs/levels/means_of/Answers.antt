@@ -9,7 +9,7 @@ use Rattle.epc_query.proofs.levels.means_of.Goals as goal
 pub loop-rank-init : goal.loop-rank-init
 unfolding whole
 loop-rank-init g c = record {
-  means = λ file t. no_means file c.args.first c.args.first _ 0 (omega arith);
+  means = λ file t. no_means (mean_at file) c.args.first c.args.first _ 0 (omega arith);
   low = lit≤ tt;
   high = lit≤ tt;
   fresh = λ _. (refl, refl);
@@ -24,7 +24,7 @@ loop-rank-preserved g c =
           let ranked = rw c.unwrap-position.ensures at c.unrank.ensures.ranked in
           let here = told.recorded file (c.loop-rank.invariant.stays.told ∙ t) in
           rw (c.min.ensures, c.max.ensures)
-          (more_means file c.args.first c.loop-rank.rank _ _ c.numerator-mean.result
+          (more_means (mean_at file) c.args.first c.loop-rank.rank _ _ c.numerator-mean.result
           c.loop-rank.auto.rank
           (c.loop-rank.invariant.means file t) (c.numerator-mean.ensures.value ∙ here
           ∙ ap (mean_at file) ranked)
@@ -46,5 +46,5 @@ returns-clause-means g c = λ file t. elim (cases_lt c.args.first c.args.end) [
   | inl some ↦
       let all : c.loop-rank.rank ≡ c.args.end = omega arith in
       rw all at (c.loop-rank.invariant.means file t)
-  | inr none ↦ no_means file c.args.first c.args.end _ _ none
+  | inr none ↦ no_means (mean_at file) c.args.first c.args.end _ _ none
 ]

@@ -1,4 +1,5 @@
 use Rattle.std.proofs.Common.{◌≡◌, ◌*◌, ◌≤◌}
+use Rattle.race_model.specs.Files.{mean_at}
 use Rattle.race_model.specs.LocalEquations.{whole}
 use Rattle.db_reader.specs.Telling.{WhereTold}
 use Rattle.certificate.specs.Databases.{Stays}
@@ -9,7 +10,7 @@ use Rattle.epc_query.proofs.levels.means_of.Given as goal
 abbrev pub invariant-loop-rank : goal.invariant-loop-rank
 invariant-loop-rank g l = record {
   means : WhereTold l.initial.checked.told
-      (λ file. AreMeansOf file l.fn.first l.rank l.means.least l.means.greatest);
+      (λ file. AreMeansOf (mean_at file) l.fn.first l.rank l.means.least l.means.greatest);
   low : l.means.least ≤ 22 * whole;
   high : l.means.greatest ≤ 22 * whole;
   fresh : l.fn.first ≡ l.rank → (l.means.least ≡ 22 * whole) × (l.means.greatest ≡ 0);

@@ -25,7 +25,8 @@ returns-in_err-answer_piece-clause-answered g c = λ file t done start is.
     (c.loop-length.invariant.stays.told ∙ t) (done ++ take i chunk) start before.0) in
     let so_far = ((done ++ take i chunk) ++ take place (drop i chunk)) ++ 10 ∷ [] in
     let cut = c.law_input_lines.ensures.more so_far (drop (i + place + 1) chunk) in
-    rw same (stopped_before file so_far (drop (i + place + 1) chunk) (done ++ chunk) cut.0 start _
+    rw same (stopped_before (g.A.Answers.kind file) so_far (drop (i + place + 1) chunk)
+    (done ++ chunk) cut.0 start _
     fault (piece_rest done chunk i place first) cut.1 stopped)
 
 pub loop-length-preserved : goal.loop-length-preserved
@@ -54,8 +55,10 @@ loop-length-preserved g c =
 taken : (g : Over) (c : After-extend g) (file : List ℕ) →
     (g.A.Answers.seen c.args.answers.now).told ≡ Some file →
     (done : List ℕ) (start : Option (List ℕ)) →
-    IsAnswered file done start (g.W.Write.contents c.args.writer.now) c.args.held.now →
-    IsAnswered file (done ++ c.args.chunk.now) start (g.W.Write.contents c.loop-length.writer)
+    IsAnswered (g.A.Answers.kind file) done start (g.W.Write.contents c.args.writer.now)
+    c.args.held.now →
+    IsAnswered (g.A.Answers.kind file) (done ++ c.args.chunk.now) start
+    (g.W.Write.contents c.loop-length.writer)
     c.extend.new.self
     × (length (whole_lines (done ++ c.args.chunk.now))
     ≡ length (whole_lines done) + c.loop-length.count)
@@ -66,7 +69,8 @@ taken g c file t done start is =
     let left = all_left chunk i in
     let rest = rest_more c.law_input_lines.ensures.other (done ++ take i chunk) (drop i chunk)
     (rw left at c.in_default.ensures) in
-    let kept = bytes_kept file (done ++ take i chunk) start _ c.loop-length.held c.extend.new.self
+    let kept = bytes_kept (g.A.Answers.kind file) (done ++ take i chunk) start _ c.loop-length.held
+    c.extend.new.self
     (drop i chunk) before.0 rest (rw left at c.extend.ensures) in
     let all = chunk_parts done chunk i in (
       rw (← all) kept.0,
@@ -81,13 +85,15 @@ returns-in_err-flush-clause-answered g c = λ file t done start is.
     let told = (c.in_err-flush.ensures {u = tt}).fault in
     let fault : c.in_err-flush.field-0.0 ≡ Write = cc in
     rw (same, fault)
-    (failed_flush file (whole_lines (done ++ c.args.chunk.now)) start _ _ has.0.replies
+    (failed_flush (g.A.Answers.kind file) (whole_lines (done ++ c.args.chunk.now)) start _ _
+    has.0.replies
     c.flush.ensures.kept)
 
 pub returns-clause-answered : goal.returns-clause-answered
 returns-clause-answered g c = λ file t done start is.
     let at = (goal.at.returns-clause-answered g c).After-extend in
     let has = taken g at file t done start is in (
-      flushed_answers file (done ++ c.args.chunk.now) start _ _ _ has.0 c.flush.ensures.kept,
+      flushed_answers (g.A.Answers.kind file) (done ++ c.args.chunk.now) start _ _ _ has.0
+          c.flush.ensures.kept,
       has.1,
     )

@@ -25,7 +25,7 @@ returns-in_err-count-clause-stopped g c = λ file t input u.
     let end = told.1 c.if-taken-eq0.true (omega (arith, c.read.auto.buf)) in
     let none = rw c.if-taken-eq0.true at told.0 in
     let all : input ≡ so_far.0 = read_all input _ _ so_far.0 so_far.1 none end in
-    rw same (run_stopped file input _ _ _ fault (rw all stopped))
+    rw same (run_stopped (g.A.Answers.kind file) input _ _ _ fault (rw all stopped))
 
 pub returns-then-taken-eq0-clause-done : goal.returns-then-taken-eq0-clause-done
 returns-then-taken-eq0-clause-done g c = λ file t input u.
@@ -43,15 +43,16 @@ returns-in_err-count-2-clause-stopped g c = λ file t input u.
     let so_far = c.loop-turn.invariant.taken file t input u in
     let fault = c.in_err-count-2.field-0.0 in
     let same : c.from_residual-in_err-count-2.result ≡ Err fault = search rules in
-    let stopped = (c.in_err-count-2.ensures {u = tt}).answered file (c.loop-turn.invariant.stays.told
+    let stopped = (c.in_err-count-2.ensures {u = tt}).answered file
+    (c.loop-turn.invariant.stays.told
     ∙ t) so_far.0 _ so_far.2 in
     let told = (c.in-Ok.ensures {u = tt}).bytes in
     let consumed = read_more input _ _ so_far.0 _ so_far.1 told.0 in
     let front = read_front input _ _ consumed in
     let cut = c.law_input_lines.ensures.more
     (so_far.0 ++ take c.in-Ok.taken c.read.new.buf) front.0 in
-    rw same (run_stopped file input _ _ _ fault
-    (stopped_in file
+    rw same (run_stopped (g.A.Answers.kind file) input _ _ _ fault
+    (stopped_in (g.A.Answers.kind file)
     (so_far.0 ++ take c.in-Ok.taken c.read.new.buf) front.0 input cut.0 _ _ fault front.1 cut.1
     stopped))
 
@@ -62,7 +63,8 @@ loop-turn-preserved g c =
     record {
       taken = λ file t input u.
           let so_far = c.loop-turn.invariant.taken file t input u in
-          let has = told.answered file (c.loop-turn.invariant.stays.told ∙ t) so_far.0 _ so_far.2 in (
+          let has = told.answered file (c.loop-turn.invariant.stays.told ∙ t) so_far.0 _ so_far.2
+          in (
             so_far.0 ++ take c.in-Ok.taken c.read.new.buf,
             read_more input _ _ so_far.0 _ so_far.1 read.bytes.0,
             has.0,
@@ -99,7 +101,7 @@ returns-in_err-count-clause-used g c = λ file t input u.
     let same : c.from_residual.result ≡ Err fault = search rules in
     let stopped = (c.in_err-count.ensures {u = tt}).answered file
     (c.loop-turn.invariant.stays.told ∙ t) so_far.0 _ so_far.2 in
-    rw same (used_in file _ _ _ c.args.turns input _ fault stopped)
+    rw same (used_in (g.A.Answers.kind file) _ _ _ c.args.turns input _ fault stopped)
 
 pub returns-in_err-count-2-clause-used : goal.returns-in_err-count-2-clause-used
 returns-in_err-count-2-clause-used g c = λ file t input u.
@@ -108,4 +110,4 @@ returns-in_err-count-2-clause-used g c = λ file t input u.
     let same : c.from_residual-in_err-count-2.result ≡ Err fault = search rules in
     let stopped = (c.in_err-count-2.ensures {u = tt}).answered file
     (c.loop-turn.invariant.stays.told ∙ t) so_far.0 _ so_far.2 in
-    rw same (used_in file _ _ _ c.args.turns input _ fault stopped)
+    rw same (used_in (g.A.Answers.kind file) _ _ _ c.args.turns input _ fault stopped)

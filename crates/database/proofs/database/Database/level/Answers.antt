@@ -1,4 +1,5 @@
 use Rattle.std.proofs.Common.{suc, arith}
+use Rattle.race_model.specs.Files.{mean_at}
 use Rattle.race_model.specs.Ranks.{first_of, count_to}
 use Rattle.race_model.proofs.Ranks.RankOrder.{first_of-rises, first_of-suc, count_to-rises}
 use Rattle.epc_query.specs.LevelMeans.{AreMeansOf}
@@ -21,7 +22,7 @@ means_of-requires-clause-within c =
 pub returns-clause-level : goal.returns-clause-level
 returns-clause-level c =
     let means = (c.in_ok-means.ensures {u = tt}).means in
-    let here : AreMeansOf c.args.self.now (first_of c.args.pips) (count_to c.args.pips)
+    let here : AreMeansOf (mean_at c.args.self.now) (first_of c.args.pips) (count_to c.args.pips)
     c.in_ok-means.means.least c.in_ok-means.means.greatest =
     rw (← c.first_of.ensures, ← c.count_to.ensures) means in
     c.level_of.ensures c.args.self.now here

@@ -10,7 +10,7 @@ unfolding whole
 loop-init c = record {
   rank_is = c.records_from-records.ensures.rank;
   database_is = c.records_from-records.ensures.database;
-  means = no_means c.args.self.now c.args.first c.args.first _ 0 (omega arith);
+  means = no_means (mean_at c.args.self.now) c.args.first c.args.first _ 0 (omega arith);
   low = lit≤ tt;
   high = lit≤ tt;
   fresh = λ _. (refl, refl);
@@ -28,7 +28,8 @@ loop-preserved c =
       rank_is = omega (arith, c.next_mean.ensures.next, c.loop.invariant.rank_is);
       database_is = c.next_mean.ensures.database ∙ c.loop.invariant.database_is;
       means = rw (c.min.ensures, c.max.ensures)
-          (more_means c.args.self.now c.args.first c.loop.counter _ _ c.numerator-mean.result
+          (more_means (mean_at c.args.self.now) c.args.first c.loop.counter _ _
+          c.numerator-mean.result
           c.loop.auto.counter c.loop.invariant.means here
           (λ e. omega (arith, (c.loop.invariant.fresh e).0, c.numerator-mean.ensures.range))
           (λ e. omega (arith, (c.loop.invariant.fresh e).1)));
