@@ -6,9 +6,10 @@ _bearoff() {
         words='build check query audit upgrade help --help --version'
     else
         case ${COMP_WORDS[1]} in
-            build) words='--pips --help' ;;
-            query) words='--cache --help' ;;
-            check | audit | upgrade) words='--help' ;;
+            build) words='--pips --board --help' ;;
+            query) words='--cache --board --help' ;;
+            check | audit) words='--board --help' ;;
+            upgrade) words='--help' ;;
             help) words='build check query audit upgrade' ;;
         esac
         case ${COMP_WORDS[1]}:$word in help:* | *:-*) ;; *) words= ;; esac

@@ -1,5 +1,5 @@
 # Completions of bearoff for fish.
-complete -c bearoff -n __fish_use_subcommand -f -a build -d 'write the database of a pip bound into a file'
+complete -c bearoff -n __fish_use_subcommand -f -a build -d 'write the database of a pip bound, or of the whole home board, into a file'
 complete -c bearoff -n __fish_use_subcommand -f -a check -d 'check a database'
 complete -c bearoff -n __fish_use_subcommand -f -a query -d 'check a database, and answer standard input'
 complete -c bearoff -n __fish_use_subcommand -f -a audit -d 'check a database, and tell its least and greatest means'
@@ -8,5 +8,9 @@ complete -c bearoff -n __fish_use_subcommand -f -a help -d 'print the help of a 
 complete -c bearoff -n __fish_use_subcommand -s V -l version -d 'print the version'
 complete -c bearoff -s h -l help -d 'print help'
 complete -c bearoff -n '__fish_seen_subcommand_from build' -l pips -x -d 'the greatest pip count, 0 to 58'
+complete -c bearoff -n '__fish_seen_subcommand_from build' -l board -d 'write the whole home board'
 complete -c bearoff -n '__fish_seen_subcommand_from query' -l cache -x -d 'how many records are kept, 1 to 65535'
+complete -c bearoff -n '__fish_seen_subcommand_from check' -l board -d 'the file is a board file'
+complete -c bearoff -n '__fish_seen_subcommand_from query' -l board -d 'the file is a board file'
+complete -c bearoff -n '__fish_seen_subcommand_from audit' -l board -d 'the file is a board file'
 complete -c bearoff -n '__fish_seen_subcommand_from help' -f -a 'build check query audit upgrade'

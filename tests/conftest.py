@@ -138,6 +138,20 @@ def board_trials(request):
 
 
 @pytest.fixture(scope="session")
+def board(board_trials, store):
+    """The board file of a bound, built once."""
+
+    def file(bound):
+        path = store / f"board_{bound}"
+        if not path.exists():
+            succeed(board_trials, "build", bound, f"{path}.part", timeout=300)
+            os.rename(f"{path}.part", path)
+        return path
+
+    return file
+
+
+@pytest.fixture(scope="session")
 def store():
     """A folder for what tests share, with room for large files."""
     with tempfile.TemporaryDirectory(prefix="bearoff-tests-") as folder:

@@ -1,16 +1,17 @@
 """Compares board files, every position of the home board to 90 pips, with what was counted
 outside: sizes and digests of ten bounds, and the replies in tests/board_rows.txt; all means, plays
 and counts with those of a plain program, and to 58 pips with those of version 2. Each header fault
-and a damaged byte in a record have their refusals."""
+and a damaged byte in a record have their refusals. The program builds the whole board, checks and
+answers it; files of other bounds come from the program of crates/board_trials."""
 
 import functools
 import hashlib
 import itertools
-from pathlib import Path
+from fractions import Fraction
 
 import pytest
 
-from running import HERE, expect, run
+from running import HERE, expect, expect_same, expect_that, run
 
 PART = 36**11
 
@@ -131,20 +132,6 @@ def records(file):
     assert place == len(file)
 
 
-@pytest.fixture(scope="session")
-def board(board_trials, store):
-    """The board file of a bound, built once."""
-
-    def file(bound):
-        path = store / f"board_{bound}"
-        if not path.exists():
-            expect(run(board_trials, "build", bound, f"{path}.part"))
-            Path(f"{path}.part").rename(path)
-        return path
-
-    return file
-
-
 pytestmark = pytest.mark.xdist_group("boards")
 
 
@@ -154,12 +141,27 @@ def test_digests(board, bound):
     assert (len(data), hashlib.sha256(data).hexdigest()) == FILES[bound]
 
 
+def accepted(bound):
+    """What the program says of a right board file."""
+    count = sum(pips <= bound for pips in pip_counts())
+    return f"ok pips {bound} positions {count}\n"
+
+
 @pytest.mark.parametrize("bound", FILES)
-def test_accepted(board_trials, board, bound):
-    expect(run(board_trials, "check", board(bound)), output=f"bound {bound}")
+def test_accepted(program, board, bound):
+    expect(run(program, "check", "--board", board(bound)), output=accepted(bound))
 
 
-def test_each_bound_is_a_prefix(board_trials, board, tmp_path):
+def test_the_program_builds_the_whole_board(program, board, tmp_path):
+    path = tmp_path / "board"
+    path.write_bytes(b"an older file")
+    done = run(program, "build", "--board", path)
+    expect(done, output="built pips 90 positions 54264\n")
+    expect_same(path, board(90), "the whole board")
+    assert [entry.name for entry in tmp_path.iterdir()] == ["board"]
+
+
+def test_each_bound_is_a_prefix(program, board_trials, board, tmp_path):
     """But for its header, and accepted."""
     whole = board(90).read_bytes()
     for bound in range(91):
@@ -167,7 +169,7 @@ def test_each_bound_is_a_prefix(board_trials, board, tmp_path):
         expect(run(board_trials, "build", bound, path))
         data = path.read_bytes()
         assert data[32:] == whole[32 : len(data)], bound
-        expect(run(board_trials, "check", path), output=f"bound {bound}")
+        expect(run(program, "check", "--board", path), output=accepted(bound))
 
 
 def test_values(board):
@@ -209,11 +211,12 @@ def replies():
     return list(zip(lines[::2], lines[1::2]))
 
 
-def test_rows(board_trials, board):
+def test_rows(program, board):
     asked = replies()
     assert len(asked) == 36
-    done = run(board_trials, "query", board(90), input="\n".join(line for line, _ in asked))
-    expect(done, output="\n".join(reply for _, reply in asked))
+    lines = "\n".join(line for line, _ in asked)
+    done = run(program, "query", "--board", board(90), input=lines)
+    expect(done, output="".join(f"{reply}\n" for _, reply in asked))
 
 
 # of a small file, lines of each kind and the replies: the first words are counted by hand
@@ -236,9 +239,44 @@ LINES = {
 }
 
 
-def test_lines(board_trials, board):
-    done = run(board_trials, "query", board(15), input="\n".join(LINES) + "\n")
-    expect(done, output="\n".join(LINES.values()))
+@pytest.mark.parametrize("end", ("\n", "\r\n"))
+def test_lines(program, board, end):
+    asked = "".join(line + end for line in LINES)
+    done = run(program, "query", "--board", board(15), input=asked)
+    expect(done, output="".join(f"{reply}\n" for reply in LINES.values()))
+
+
+def test_long_lines(program, board):
+    """A line is kept to its first 130 bytes, and one so long asks nothing."""
+    position = "mean 0,0,0,0,0,1"
+    asked = "".join(position + " " * more + "\n" for more in range(300))
+    done = run(program, "query", "--board", board(8), input=asked + position)
+    reply = "mean 5/4 epc 245/24 10.208\n"
+    expect(done, output=reply + "error bad-line\n" * 299 + reply)
+
+
+@functools.cache
+def levels(board):
+    """The line of each pip count to 90."""
+    means = {}
+    for pips, (mean, _, _) in zip(pip_counts(), records(board(90).read_bytes())):
+        means.setdefault(pips, []).append(Fraction(mean, 36**33))
+    lines = []
+    for pips, found in means.items():
+        least, greatest = (f"{n.numerator}/{n.denominator}" for n in (min(found), max(found)))
+        lines.append(f"pips {pips} positions {len(found)} least {least} greatest {greatest}\n")
+    return lines
+
+
+@pytest.mark.parametrize("bound", FILES)
+def test_audit(program, board, bound):
+    done = run(program, "audit", "--board", board(bound))
+    expect(done, output="".join(levels(board)[: bound + 1]))
+
+
+def test_audit_to_58_pips_is_that_of_version_2(program, board, built):
+    done = run(program, "audit", built(58))
+    expect(done, output="".join(levels(board)[:59]))
 
 
 def lines_of(bound):
@@ -254,71 +292,109 @@ def lines_of(bound):
             yield f"{word} {text} {dice}"
 
 
-def test_lines_are_those_of_version_2(board_trials, board, program, built):
+def test_lines_are_those_of_version_2(board, program, built):
     """Every reply to 58 pips, since a fraction in lowest terms is the same over 36 ** 33."""
     asked = "\n".join(lines_of(58)) + "\n"
     old = run(program, "query", built(58), input=asked)
-    new = run(board_trials, "query", board(90), input=asked)
+    new = run(program, "query", "--board", board(90), input=asked)
     assert old.status == 0 and old.output.count(b"\n") == asked.count("\n")
     expect(new, output=old.output)
 
 
+def expect_refusal(program, path, fault):
+    """Each command that checks a board file refuses it so, and writes nothing else."""
+    for command in ("check", "query", "audit"):
+        done = run(program, command, "--board", path, input="mean 0,0,0,0,0,1\n")
+        expect(done, status=3, errors=f"bearoff: refused {fault}\n")
+
+
 HEADERS = [
-    (0, b"F", "bad magic"),
-    (8, b"\0\2", "bad version"),
-    (8, b"\0\4", "bad version"),
-    (10, b"\0\x5b", "bad bound"),
-    (10, b"\1\0", "bad bound"),
-    (12, b"\0\0\0\5", "bad count"),
-    (16, b"\0\0\0\x42", "bad record bytes"),
-    (20, b"\1", "bad reserved"),
-    (31, b"\1", "bad reserved"),
+    (0, b"F", "bad-magic"),
+    (8, b"\0\1", "bad-version"),
+    (8, b"\0\2", "bad-version"),
+    (8, b"\0\4", "bad-version"),
+    (10, b"\0\x5b", "bad-bound"),
+    (10, b"\1\0", "bad-bound"),
+    (12, b"\0\0\0\5", "bad-count"),
+    (16, b"\0\0\0\x42", "bad-record-bytes"),
+    (20, b"\1", "bad-reserved"),
+    (31, b"\1", "bad-reserved"),
 ]
 
 
-def test_headers(board_trials, board, tmp_path):
-    """Each fault alone, and with every later one beside it."""
+@pytest.mark.parametrize("place, wrong, fault", HEADERS)
+def test_headers(program, board, tmp_path, place, wrong, fault):
+    """Alone, and with every later fault beside it."""
     data = bytearray(board(2).read_bytes())
     path = tmp_path / "file"
-    for place, wrong, fault in HEADERS:
-        bad = data[:place] + wrong + data[place + len(wrong) :]
-        path.write_bytes(bad)
-        expect(run(board_trials, "check", path), output=fault)
-        path.write_bytes(bad[:-1])
-        expect(run(board_trials, "check", path), output=fault)
-    for size in (0, 8, 31):
+    bad = data[:place] + wrong + data[place + len(wrong) :]
+    for found in (bad, bad[:-1]):
+        path.write_bytes(found)
+        expect_refusal(program, path, f"header {fault}")
+
+
+def test_lengths(program, board, tmp_path):
+    """A file that is cut at any byte, or is longer."""
+    data = board(2).read_bytes()
+    path = tmp_path / "file"
+    for size in range(len(data)):
         path.write_bytes(data[:size])
-        expect(run(board_trials, "check", path), output="too short")
-    for bad in (data[:32], data[:-1], data + b"\0"):
-        path.write_bytes(bad)
-        expect(run(board_trials, "check", path), output="bad length")
+        fault = "too-short" if size < 32 else "bad-length"
+        done = run(program, "check", "--board", path)
+        expect(done, status=3, errors=f"bearoff: refused header {fault}\n")
+    for more in (1, 20_000_000):
+        path.write_bytes(data + bytes(more))
+        expect_refusal(program, path, "header bad-length")
+
+
+def test_each_kind_refuses_the_other(program, board, built):
+    """A database is no board file, and a board file is no database."""
+    for bound in (8, 58):
+        expect_refusal(program, built(bound), "header bad-version")
+    for words in (("check",), ("query",), ("query", "--cache", "9"), ("audit",)):
+        done = run(program, *words, board(8), input="mean 0,0,0,0,0,1\n")
+        expect(done, status=3, errors="bearoff: refused header bad-version\n")
 
 
 # the first fault where bits of a byte in the record of rank 5 are turned round: a byte of the upper
 # and of the lower part of its mean, of the first and the last play, and of the counts of one and
 # two throws; and in that of rank 9 the play of 3-1, which then leads to another result
 DAMAGES = [
-    (5, 0, 0x80, "mean 5"),
-    (5, 15, 1, "mean 5"),
-    (5, 16, 0x80, "mean 5"),
-    (5, 23, 1, "mean 5"),
-    (5, 24, 0x80, "play 5 0"),
-    (5, 65, 4, "play 5 20"),
-    (5, 66, 0x80, "spread 5 1"),
-    (5, 73, 1, "spread 5 1"),
-    (5, 81, 1, "spread 5 2"),
-    (9, 31, 1, "least 9 3"),
+    (5, 0, 0x80, "mean rank 5"),
+    (5, 15, 1, "mean rank 5"),
+    (5, 16, 0x80, "mean rank 5"),
+    (5, 23, 1, "mean rank 5"),
+    (5, 24, 0x80, "play rank 5 roll 0"),
+    (5, 65, 4, "play rank 5 roll 20"),
+    (5, 66, 0x80, "spread rank 5 k 1"),
+    (5, 73, 1, "spread rank 5 k 1"),
+    (5, 81, 1, "spread rank 5 k 2"),
+    (9, 31, 1, "not-least rank 9 roll 3"),
 ]
 
 
 @pytest.mark.parametrize("rank, place, bits, fault", DAMAGES)
-def test_damages(board_trials, board, tmp_path, rank, place, bits, fault):
+def test_damages(program, board, tmp_path, rank, place, bits, fault):
     data = bytearray(board(8).read_bytes())
     start = 32 + sum(66 + 8 * most_rolls(pips) for pips in pip_counts()[:rank])
     data[start + place] ^= bits
     path = tmp_path / "file"
     path.write_bytes(data)
-    expect(run(board_trials, "check", path), output=fault)
+    expect_refusal(program, path, fault)
+
+
+def test_each_byte_of_a_small_file(program, board, tmp_path):
+    """A change of any byte is refused."""
+    data = bytearray(board(3).read_bytes())
+    path = tmp_path / "file"
+    for place in range(len(data)):
+        data[place] ^= 1 << place % 8
+        path.write_bytes(data)
+        data[place] ^= 1 << place % 8
+        done = run(program, "check", "--board", path)
+        expect_that(
+            (done.status, done.output) == (3, b""), done, f"a refusal of the changed byte {place}"
+        )
 
 
 def test_a_byte_of_each_record(board_trials, board):

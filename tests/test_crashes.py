@@ -1,7 +1,7 @@
 """Kills the built program before each of its system calls, and fails each of them, one in a run,
-by strace: under a build over a good file, a build of a new one, both through a link too, and an
-upgrade in place. After each run the file is the whole old or the whole new database, or absent
-where there was none. After a kill there is at most one new file beside it; after a failed call
+by strace: under a build over a good file, a build of a new one, both through a link too, an
+upgrade in place, and a build of the whole board. After each run the file is the whole old or the
+whole new one, or absent where there was none. After a kill there is at most one new file beside it; after a failed call
 there is none, and the status and the line are those of the fault. Tries also that the bytes are
 brought to the disk before the file gets its name, eight builds and checks of one file at once, a
 whole build within each system call of another run, a run that a limit ends, and the kinds of file
@@ -66,6 +66,7 @@ HELD_UP = 700_000
 LINES = [f"bearoff: {word}\n".encode() for word in ("open", "file", "write", "memory")]
 BUILD = ["build", "--pips", "8"]
 BUILT, UPGRADED = b"built pips 8 positions 64\n", b"upgraded pips 8 positions 64\n"
+BOARD = b"built pips 90 positions 54264\n"
 IS_ROOT = os.getuid() == 0
 
 # a run that is killed or failed: its words, where the file is, what stands there before and after,
@@ -81,6 +82,7 @@ SCENES = (
         "build of a new file by a link", [*BUILD, "link"], "inner/db", None, "eight", "link", BUILT
     ),
     Scene("upgrade in place", ["upgrade", "db", "db"], "db", "eight", "new_eight", None, UPGRADED),
+    Scene("build of a board", ["build", "--board", "db"], "db", "six", "board", None, BOARD),
 )
 every_scene = pytest.mark.parametrize("scene", SCENES, ids=lambda scene: scene.name)
 
@@ -101,7 +103,7 @@ def leftovers(folder="."):
 class Crashes:
     """A copy of the program, the databases that it writes, and the runs under strace."""
 
-    def __init__(self, program, built, folder):
+    def __init__(self, program, built, board, folder):
         self.work = folder
         self.program = os.path.join(folder, "bearoff")
         shutil.copyfile(program, self.program)
@@ -110,6 +112,7 @@ class Crashes:
         for name, bound in (("three", 3), ("six", 6), ("eight", 8)):
             self.bytes_of[name] = built(bound).read_bytes()
             self.bytes_of[f"new_{name}"] = built(bound, is_new=True).read_bytes()
+        self.bytes_of["board"] = board(90).read_bytes()
 
     def prepare(self, scene, place):
         os.makedirs(os.path.join(place, "inner"))
@@ -327,12 +330,12 @@ def none_wrong(jobs):
 
 
 @pytest.fixture(scope="module")
-def crashes(program, built):
+def crashes(program, built, board):
     # strace can't follow a script into the program
     with tempfile.TemporaryDirectory(prefix="bearoff-crashes-") as folder:
         # also for the user that is nobody
         os.chmod(folder, 0o755)
-        yield Crashes(program, built, folder)
+        yield Crashes(program, built, board, folder)
 
 
 @pytest.fixture

@@ -145,6 +145,8 @@ class TestBeforeAProof:
         ("query --cache=3 -- x", "query --cache=3 -- @x"), ("audit -- x", "audit -- @x"),
         ("check -- -x", "check -- @-x"), ("check -- /x", "check -- /x"), ("check -", "check @-"),
         ("check a:/x", "check @a:/x"), ("build --pips 8 -- --pips", "build --pips 8 -- @--pips"),
+        ("build --board x", "build --board @x"), ("query x --board", "query @x --board"),
+        ("check -- --board", "check -- @--board"),
         ("upgrade x y", "upgrade @x @y"), ("upgrade -- -x --", "upgrade -- @-x @--"),
         ("help build", "help build"), ("unknown x", "unknown x"),
     ])

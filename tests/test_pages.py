@@ -558,6 +558,12 @@ def compare_file_format(page, program):
             f"the digest of version {version}, bound {bound}",
         )
 
+    # the built board files are compared by tests/test_boards.py
+    boards = read("tests/test_boards.py")
+    for bound, size, digest in table(page, "Bound of a board file", "Bytes", "SHA-256"):
+        row = f"    {bound}: ({number(size)}, \"{digest.strip('`')}\"),\n"
+        expect(row in boards, f"the size or the digest of the board file of {bound} pips")
+
     # in version 2 the records of one pip count have one length, so two files whose bounds differ
     # by one tell it
     most_rolls = {0: 0}
@@ -670,6 +676,16 @@ def helped(program, *words):
     )
 
 
+def options_of(program, name):
+    """The long options of a command: those of its help, and where that speaks of `--board` those
+    of its help over a board file."""
+    text = subprocess.run(
+        [program, name, "--help"], capture_output=True, text=True, check=True
+    ).stdout
+    boards = helped(program, name, "--board")[1] if "--board" in text else set()
+    return helped(program, name)[1] | boards
+
+
 def completed():
     """What the three files complete, by shell: the options of each command, and of the program
     itself under ''."""
@@ -724,7 +740,7 @@ def compare_completions(program):
     commands, options = helped(program)
     wanted = {
         "": options,
-        **{name: helped(program, name)[1] if name != "help" else set() for name in commands},
+        **{name: options_of(program, name) if name != "help" else set() for name in commands},
     }
     found, listed = completed()
     for shell, given in found.items():

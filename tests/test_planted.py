@@ -37,6 +37,7 @@ RUNNING = "crates/epc_query/src/running.rt"
 LINES = "crates/epc_query/src/lines.rt"
 ACT = "crates/bearoff_cli/src/act.rt"
 FILES = "crates/bearoff_cli/src/files.rt"
+BOARD_LINES = "crates/board_query/src/lines.rt"
 CHECKED = "crates/certificate/src/checked.rt"
 FILE_SOURCE = "crates/db_reader/src/file_source.rt"
 TRIAL = "crates/db_reader/src/trial.rt"
@@ -412,6 +413,43 @@ PLANTED = [
         "        None => Err(QueryFault::Read),",
         "        None => Ok(mean(Scaled::ZERO)),",
         "file_tests",
+    ),
+    (
+        "the_whole_board_always_wants_memory",
+        FILES,
+        "    let stack = stack_room(alloc)?;",
+        "    if size > 0 { return Err(Fault::Memory); }\n    let stack = stack_room(alloc)?;",
+        "rows TestBoards",
+    ),
+    (
+        "a_board_file_over_14_megabytes_is_not_written",
+        FILES,
+        "    if write_bytes(file.as_slice(), output).is_err() {",
+        "    if file.len() > 14_000_000 || write_bytes(file.as_slice(), output).is_err() {",
+        "rows TestBoards",
+    ),
+    (
+        "lines_over_a_board_blame_the_file",
+        BOARD_LINES,
+        "        let Some(()) = answer(&self.board, line, &mut self.text) else {",
+        "        if line.len() > 40 { return Err(RunFault::Table); }\n"
+        "        let Some(()) = answer(&self.board, line, &mut self.text) else {",
+        "rows TestBoards",
+    ),
+    (
+        "the_audit_of_a_board_gives_up_at_90_pips",
+        ACT,
+        "        let Some(level) = board_level(board, pips) else {",
+        "        if pips == 90 { return Err(Fault::File); }\n"
+        "        let Some(level) = board_level(board, pips) else {",
+        "rows TestBoards",
+    ),
+    (
+        "the_query_of_a_board_reads_another_file",
+        ACT,
+        "            BoardCommand::Query => answer_board_file(rt, alloc, path, input, output),",
+        '            BoardCommand::Query => answer_board_file(rt, alloc, "eight", input, output),',
+        "rows TestBoards",
     ),
     (
         "moves_want_memory_over_100_results",

@@ -128,6 +128,7 @@ class TestCommands:
         --pips 6 -|-
         --pips=6 -- --pips|--pips
         --pips 6 -- -x|-x
+        --pips 6 -- --board|--board
     """
         ),
     )
@@ -142,10 +143,11 @@ class TestCommands:
         expect_same(file, built(6, is_new=True), f"upgrade {words}")
 
     @pytest.mark.parametrize(
-        "words", ["-- six", "six --", "-", "-- -", "-- --pips", "-- -x", "-- -y", "-- --"]
+        "words",
+        ["-- six", "six --", "-", "-- -", "-- --pips", "-- -x", "-- -y", "-- --", "-- --board"],
     )
     def test_spellings_of_check(self, files, ask, words):
-        for name in ("-", "--pips", "-x", "-y", "--"):
+        for name in ("-", "--pips", "-x", "-y", "--", "--board"):
             shutil.copy("six", name)
         expect(ask("check " + words), 0, "ok pips 6 positions 30")
 
@@ -215,6 +217,22 @@ class TestCommands:
             "-- check eight",
             "upgrade eight large large",
             "nothing",
+            "build --board",
+            "build --board --",
+            "build --board large large",
+            "build --board=large",
+            "build --board --board large",
+            "build --pips --board large",
+            "check --board",
+            "check eight --board large",
+            "check --board=eight",
+            "query --board",
+            "query eight --board eight",
+            "query --cache --board eight",
+            "audit --board",
+            "audit --board eight eight",
+            "upgrade --board eight large",
+            "--board eight",
         ],
     )
     def test_words_that_are_refused(self, files, ask, words):
@@ -222,6 +240,39 @@ class TestCommands:
         is_so = done.status == 2 and done.output == b"" and done.errors != b""
         expect_that(is_so, done, "status 2, and a text on standard error alone")
         assert is_gone("large"), "a file was opened for wrong words"
+
+    # an option that a board file has not is named
+    @pytest.mark.parametrize(
+        "words, option",
+        [
+            ("build --pips 8 --board large", "--pips"),
+            ("build --board --pips=8 large", "--pips"),
+            ("build large --board --pips x", "--pips"),
+            ("query --cache 5 --board eight", "--cache"),
+            ("query --board eight --cache=5", "--cache"),
+        ],
+    )
+    def test_options_beside_board(self, files, ask, words, option):
+        name = words.split()[0]
+        expect(
+            ask(words),
+            2,
+            "",
+            f"error: the argument '{option} <N>' cannot be used with '--board'\n\n"
+            f"Usage: bearoff {name} --board <FILE>\n\nFor more information, try '--help'.",
+        )
+        assert is_gone("large"), "a file was opened for wrong words"
+
+    # a command has a help of its own for a board file, and its help says so
+    @pytest.mark.parametrize("name", ["build", "check", "query", "audit"])
+    def test_helps_of_board(self, files, ask, name):
+        for words in (f"{name} --board --help", f"{name} --board -h", f"{name} --help --board"):
+            done = ask(words)
+            usage = f"Usage: bearoff {name} --board <FILE>\n".encode()
+            is_so = done.status == 0 and usage in done.output and done.errors == b""
+            expect_that(is_so, done, "status 0, and the usage with --board on standard output")
+        done = ask(f"{name} --help")
+        expect_that(b"--board FILE" in done.output, done, "a help that tells of --board FILE")
 
     @pytest.mark.parametrize(
         "words",
@@ -708,6 +759,97 @@ class TestAudits:
         )
 
 
+class TestBoards:
+    """The whole home board, and what is no board file. tests/test_boards.py has all replies."""
+
+    @pytest.fixture(scope="class")
+    def whole(self, program, store):
+        """The board file that the program makes."""
+        file = store / "whole"
+        succeed(program, "build", "--board", file)
+        return file
+
+    def test_build(self, files, ask, whole):
+        expect(ask("build --board eight"), 0, "built pips 90 positions 54264")
+        sha = "bf11d8377b8d8e7ee690d3fb1bcbb650a5e8ee105a740de12fbb117d78f8e178"
+        assert digest(Path("eight").read_bytes()) == sha
+        expect_same(whole, "eight", "the board file")
+
+    def test_check(self, ask, whole):
+        expect(ask(["check", "--board", whole]), 0, "ok pips 90 positions 54264")
+
+    @pytest.mark.parametrize(
+        "input, output",
+        [
+            (THREE, REPLIES),
+            (THREE[:-1].encode(), REPLIES),
+            ("", ""),
+            ("rank 0,0,0,0,0,15", "rank 54263"),
+            ("rank 0,0,0,5,5,5\nrank 0,0,0,3,5,7", "rank 53778\nrank 54101"),
+            (
+                "play 0,0,0,3,5,7 66\nmoves 0,0,0,0,0,15 66\nrank 16,0,0,0,0,0\nmean 1",
+                "play 6/off 6/off 6/off 6/off to 0,0,0,3,5,3\nmoves 0,0,0,0,0,11:0/1\n"
+                "error too-many\nerror bad-line",
+            ),
+            ("x" * 200_000, "error bad-line"),
+            ("mean 0,0,0,0,0,1\r\n" * 20_000, "mean 5/4 epc 245/24 10.208\n" * 20_000),
+        ],
+        ids=["lines", "no last line feed", "none", "last", "middle", "kinds", "long", "many"],
+    )
+    def test_query(self, ask, whole, input, output):
+        expect(ask(["query", "--board", whole], input), 0, output)
+
+    def test_audit(self, ask, whole, built):
+        done = ask(["audit", "--board", whole])
+        to_58 = ask(["audit", built(58)]).output
+        is_so = done.status == 0 and done.errors == b"" and done.output.count(b"\n") == 91
+        expect_that(is_so and done.output.startswith(to_58), done, "the lines of 91 pip counts")
+        last = done.output.split(b"\n")[90].split()
+        assert last[:4] == [b"pips", b"90", b"positions", b"1"] and last[5] == last[7]
+
+    @pytest.mark.parametrize(
+        "words, status, error",
+        [
+            ("build --board .", 1, "open"),
+            ("build --board nowhere/newer", 1, "open"),
+            ("build --board /dev/full", 1, "write"),
+            *((f"{command} --board nothing", 1, "open") for command in ("check", "query", "audit")),
+            *((f"{command} --board .", 1, "file") for command in ("check", "query", "audit")),
+            *(
+                (f"{command} --board {file}", 3, "refused header bad-version")
+                for command in ("check", "query", "audit")
+                for file in ("eight", "new")
+            ),
+        ],
+    )
+    def test_faults(self, files, ask, words, status, error):
+        expect(ask(words, THREE), status, "", f"bearoff: {error}")
+        assert sorted(os.listdir()) == ["eight", "new", "one", "six", "three"]
+
+    @pytest.mark.parametrize("command", (*READERS, "upgrade"))
+    def test_a_board_file_is_no_database(self, room, ask, whole, command):
+        expect_refused(ask, command, str(whole), "header bad-version")
+
+    def test_a_file_that_is_cut(self, room, ask, whole):
+        data = whole.read_bytes()
+        for size in (0, 31, 32, 97, len(data) - 1):
+            Path("cut").write_bytes(data[:size])
+            fault = "too-short" if size < 32 else "bad-length"
+            expect(ask("check --board cut"), 3, "", f"bearoff: refused header {fault}")
+
+    @pytest.mark.parametrize("words", ("check", "query", "audit", "build"))
+    def test_a_full_output(self, room, program, whole, words):
+        with open("/dev/full", "wb") as full:
+            done = subprocess.run(
+                [program, words, "--board", "made" if words == "build" else whole],
+                input=THREE.encode(),
+                stdout=full,
+                stderr=subprocess.PIPE,
+                timeout=60,
+            )
+        assert (done.returncode, done.stderr) == (1, b"bearoff: write\n")
+
+
 class TestLongAudits:
     def test_of_44(self, ask, built):
         expect_audit(
@@ -756,6 +898,14 @@ class TestSmallStack:
 
     def test_audit(self, ask_it, built):
         expect_audit(ask_it, built, 58, AUDIT_OF_58)
+
+    def test_the_whole_board(self, room, ask_it):
+        expect(ask_it("build --board whole"), 0, "built pips 90 positions 54264")
+        expect(ask_it("check --board whole"), 0, "ok pips 90 positions 54264")
+        expect(ask_it("query --board whole", self.LINES), 0, self.TOLD)
+        done = ask_it("audit --board whole")
+        is_so = (done.status, done.errors, done.output.count(b"\n")) == (0, b"", 91)
+        expect_that(is_so, done, "the lines of 91 pip counts")
 
 
 def test_the_page_for_users_is_there():
