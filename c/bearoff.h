@@ -19,8 +19,9 @@
  * Threads. Each call may be made from any thread; calls that only read a database may share it.
  *
  * Stack. bearoff_open and bearoff_upgrade need less than BEAROFF_OPEN_STACK bytes of stack,
- * bearoff_build less than BEAROFF_BUILD_STACK, every other call less than 128 KB. Threads whose
- * stack is smaller have to be given more before they make such a call.
+ * bearoff_build less than BEAROFF_BUILD_STACK, bearoff_board_open and bearoff_board_build less than
+ * BEAROFF_BOARD_STACK, every other call less than 128 KB. Threads whose stack is smaller have to be
+ * given more before they make such a call.
  *
  * Refusals. Each call but bearoff_thousandths returns a status; where it isn't BEAROFF_OK nothing
  * that the caller lends was changed, except for what the call's comment says.
@@ -396,6 +397,155 @@ typedef struct bearoff_stand {
 
 /* What a position stands at, without a database. BEAROFF_OK or BEAROFF_TOO_MANY. */
 uint32_t bearoff_standing(const bearoff_position *position, bearoff_stand *standing);
+
+/*
+ * The whole home board. A board is the bytes of a board file, or any bytes that are a right one: it
+ * has every position of the home board of at most its pip bound, and to 90 pips that is all of them.
+ * Its numbers are over 36^33, since no game takes more than 33 rolls. bearoff_board_open checks the
+ * bytes as bearoff_open checks a database, and what is said above of bytes, structs, threads, stack
+ * and statuses holds of boards too. Of a board BEAROFF_OVER_BOUND means that the position has more
+ * pips than its bound, or that the bound of a file to be built is over 90; BEAROFF_BAD_VERSION that
+ * the version is not 3, BEAROFF_BAD_BOUND that the bound is over 90, and BEAROFF_BAD_RECORD_BYTES
+ * that the field is not 0. bearoff_status_text has the words for databases.
+ */
+
+/* A number of 192 bits in three words, the greatest first: 2^128 times words[0], and so on. */
+typedef struct bearoff_long {
+    uint64_t words[3];
+} bearoff_long;
+
+/* A numerator over 36^33 as a number of rolls, or as a chance: near to it, and no more than that. */
+static inline double bearoff_long_as_double(bearoff_long numerator) {
+    return (((double)numerator.words[0] * 18446744073709551616.0 + (double)numerator.words[1]) *
+                18446744073709551616.0 +
+            (double)numerator.words[2]) /
+           (17324272922341479351919144385642496.0 * 131621703842267136.0);
+}
+
+/* A fraction in lowest terms; the denominator is not 0. */
+typedef struct bearoff_long_fraction {
+    bearoff_long numerator;
+    bearoff_long denominator;
+} bearoff_long_fraction;
+
+/* An effective pip count, in pips: exact, and in thousandths, rounded to the nearest and a half up. */
+typedef struct bearoff_long_pips {
+    bearoff_long_fraction exact;
+    uint64_t thousandths;
+} bearoff_long_pips;
+
+/* The chances of being off in exactly 0 to 33 rolls, as numerators over 36^33. They add up to 36^33. */
+typedef struct bearoff_long_shares {
+    bearoff_long shares[34];
+} bearoff_long_shares;
+
+/* A position that a roll can lead to, and what it costs in rolls, as in bearoff_result. */
+typedef struct bearoff_long_result {
+    bearoff_position to;
+    bearoff_long_fraction loss;
+} bearoff_long_result;
+
+/*
+ * A board, in 17,680 bytes of the caller's. Nothing but bearoff_board_open and bearoff_board_close
+ * writes it. It begins as BEAROFF_BOARD_CLOSED, which is not open; one of zeros isn't open either.
+ */
+typedef struct bearoff_board {
+    const uint8_t *bytes;
+    size_t length;
+    uint8_t is_open;
+    uint8_t bound;
+    uint16_t ranks[6 * 16 * 91 + 92];
+} bearoff_board;
+
+/* bearoff_board board = BEAROFF_BOARD_CLOSED; */
+#define BEAROFF_BOARD_CLOSED {(const uint8_t *)"", 0, 0, 0, {0}}
+
+/* How many bytes of stack bearoff_board_open and bearoff_board_build want. */
+#define BEAROFF_BOARD_STACK 1572864
+
+/* How many bytes a board file has at most: that of 90 pips. */
+#define BEAROFF_BOARD_FILE 14643664
+
+/* Room for the reply to any line about a board: no reply has more bytes. */
+#define BEAROFF_BOARD_REPLY 16642
+
+/*
+ * Builds the board file of a pip bound into the front of `room`; `*filled` is how many bytes it has,
+ * BEAROFF_BOARD_FILE for 90 pips. It needs no other room. BEAROFF_OK; BEAROFF_OVER_BOUND exactly
+ * where the bound is over 90; else BEAROFF_SHORT exactly where `length` is less than the file has.
+ * Where the status is not BEAROFF_OK `room` and `*filled` stay as they were.
+ */
+uint32_t bearoff_board_build(uint8_t bound, uint8_t *room, size_t length, size_t *filled);
+
+/*
+ * Checks `length` bytes and opens a board over them. BEAROFF_OK exactly where they are a right board
+ * file. Any other status, 16 to 27, names the first fault, and the board is not open, whatever it was
+ * before, and else as it was; of `line`, `room` and `*needed` the same holds as in bearoff_open.
+ */
+uint32_t bearoff_board_open(bearoff_board *board, const uint8_t *bytes, size_t length,
+                            uint8_t *line, size_t room, size_t *needed);
+
+/* Closes a board, so that each call says that it is not open; else it stays as it was. BEAROFF_OK. */
+uint32_t bearoff_board_close(bearoff_board *board);
+
+/*
+ * The least mean number of rolls until all checkers are off, over all strategies, as a numerator
+ * over 36^33 (at most 33 * 36^33). BEAROFF_OK, BEAROFF_NOT_OPEN, BEAROFF_TOO_MANY or
+ * BEAROFF_OVER_BOUND, and BEAROFF_CHANGED, which comes only where the bytes were changed after they
+ * were checked: where the mean that now stands there is over 33 rolls, or its lower part too great.
+ */
+uint32_t bearoff_board_mean(const bearoff_board *board, const bearoff_position *position,
+                            bearoff_long *mean);
+
+/* The effective pip count: 49/6 pips for each roll of the mean. The statuses of bearoff_board_mean. */
+uint32_t bearoff_board_epc(const bearoff_board *board, const bearoff_position *position,
+                           bearoff_long_pips *pips);
+
+/*
+ * The chance of each number of rolls, where each play is the recorded one. The statuses of
+ * bearoff_board_mean; BEAROFF_CHANGED, only where the bytes were changed, where a count that now
+ * stands there is more than there are sequences of throws.
+ */
+uint32_t bearoff_board_distribution(const bearoff_board *board, const bearoff_position *position,
+                                    bearoff_long_shares *shares);
+
+/*
+ * The recorded play of a roll, what a play costs, and every position that a roll can lead to: what
+ * bearoff_play, bearoff_loss and bearoff_results say of a database, with the same statuses. But
+ * bearoff_board_moves lists the positions by rising loss, and of equal losses by rising rank, as the
+ * line `moves` does. `room` has room for `length` of them; BEAROFF_RESULTS are enough.
+ */
+uint32_t bearoff_board_play(const bearoff_board *board, const bearoff_position *position,
+                            uint8_t one, uint8_t other, bearoff_recorded_play *play);
+uint32_t bearoff_board_loss(const bearoff_board *board, const bearoff_position *position,
+                            uint8_t one, uint8_t other, const bearoff_position *to,
+                            bearoff_long_fraction *loss);
+uint32_t bearoff_board_moves(const bearoff_board *board, const bearoff_position *position,
+                             uint8_t one, uint8_t other, bearoff_long_result *room, size_t length,
+                             size_t *count);
+
+/*
+ * Whole tables in one call: the means and the shares of the positions of the `count` ranks from
+ * `first` on, by rising rank, each as that of bearoff_board_mean and bearoff_board_distribution; a
+ * board to 90 pips has 54,264 positions. `count` may be 0. BEAROFF_OK or BEAROFF_NOT_OPEN;
+ * BEAROFF_NO_RANK where `first` + `count` is over how many positions the board has; and
+ * BEAROFF_CHANGED. All that refuses is found out before the first element is written; only where the
+ * bytes change while the call runs may BEAROFF_CHANGED come later.
+ */
+uint32_t bearoff_board_means(const bearoff_board *board, uint16_t first, bearoff_long *means,
+                             size_t count);
+uint32_t bearoff_board_distributions(const bearoff_board *board, uint16_t first,
+                                     bearoff_long_shares *shares, size_t count);
+
+/*
+ * Answers a line of the query language by a board: bearoff_answer_line says what `line`, `length`,
+ * `text`, `room` and `*needed` are, which is at most BEAROFF_BOARD_REPLY here. `moves` lists the
+ * positions by rising loss, and then by rising rank. BEAROFF_OK or BEAROFF_NOT_OPEN; BEAROFF_SHORT
+ * where `room` is less than `*needed`: then no text is written; and BEAROFF_CHANGED, which comes only
+ * where the bytes were changed after they were checked.
+ */
+uint32_t bearoff_board_answer_line(const bearoff_board *board, const uint8_t *line, size_t length,
+                                   uint8_t *text, size_t room, size_t *needed);
 
 #ifdef __cplusplus
 }

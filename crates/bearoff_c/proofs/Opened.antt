@@ -16,7 +16,7 @@ use Rattle.race_model.proofs.Plays.Enumerated.{IsIn, results_listed, listed_resu
 use Rattle.race_model.proofs.RightFiles.Right.{right_of_local, local_of_right}
 
 -- two lists of numbers are the same, or they aren't
-same_or_not : (xs ys : List ℕ) → (xs ≡ ys) ⊎ (xs ≡ ys → ⊥)
+pub same_or_not : (xs ys : List ℕ) → (xs ≡ ys) ⊎ (xs ≡ ys → ⊥)
 same_or_not [] [] = inl refl
 same_or_not [] (y ∷ ys) = inr (λ e. let n = ap length e in omega (arith, n))
 same_or_not (x ∷ xs) [] = inr (λ e. let n = ap length e in omega (arith, n))
@@ -51,7 +51,7 @@ in_or_not y (x ∷ xs) = by (same_or_not y x) (in_or_not y xs)
     by (inr apart) (inr none) = inr (λ held. ⊎_elim apart none held)
 
 -- that a throw leads to a position can be looked up
-legal_known : (x : Board) (v : Throw) (y : Board) → ∥ Legal x v y ∥₁ → Legal x v y
+pub legal_known : (x : Board) (v : Throw) (y : Board) → ∥ Legal x v y ∥₁ → Legal x v y
 legal_known x v y known =
     ⊎_elim (λ held. results_listed x v y held)
     (λ none. absurd (∥∥₁_elim known (λ a b. absurd a) (λ legal. none (listed_results x v y legal))))

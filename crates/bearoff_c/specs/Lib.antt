@@ -8,3 +8,8 @@ pub mod ResultLists
 pub mod RoundedPips
 pub mod Listed
 pub mod Closing
+pub mod Longs
+pub mod OpenedBoards
+pub mod BoardFaults
+pub mod BoardClosing
+pub mod BoardMoves

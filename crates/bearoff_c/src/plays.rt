@@ -81,7 +81,7 @@ pub fn find_turn<'a>(
 }
 
 /// The roll of two dice. Refused as `BadRoll` where one doesn't show a number from 1 to 6.
-fn read_roll(one: u8, other: u8) -> Result<Roll, Refusal>
+pub fn read_roll(one: u8, other: u8) -> Result<Roll, Refusal>
     ensures refusal { refusal_in result ≡ roll_refusal one other }
     ensures value { IfOk result (λ roll. roll ≡ roll_of (face one) (face other)) }
 {
@@ -131,7 +131,7 @@ pub extern "C" fn bearoff_play(
 }
 
 /// The moves of a play, and zeros after the last.
-fn listed(play: &Play) -> [Move; 4]
+pub fn listed(play: &Play) -> [Move; 4]
     ensures moves { map (λ m. (m.from, m.to)) (take (length play.now.items) result)
         ≡ moves_of play.now.items }
     ensures zeros { AreZerosAfter (length play.now.items) result }

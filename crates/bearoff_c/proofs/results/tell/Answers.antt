@@ -1,18 +1,13 @@
-use Rattle.std.proofs.Common.{◌≡◌, ℕ, ◌+◌, ◌<◌, List, [], ◌∷◌, ◌++◌, All, length, get_or, take, drop, ap}
+use Rattle.std.proofs.Common.{◌≡◌, ℕ, ◌+◌, ◌<◌, List, [], ◌∷◌, ◌++◌, All, length, get_or, take, ap}
 use Rattle.std.proofs.Common.{sym, subst, ◌∙◌, arith}
-use Rattle.std.proofs.lemmas.List.{get_or-map, map-append, take_more, take_more_set, drop_more, drop-set-lt}
+use Rattle.std.proofs.lemmas.List.{get_or-map, map-append, take_more, take_more_set, drop-set-lt}
 use Rattle.std.proofs.lemmas.List.Elements.{All-push}
 use Rattle.race_model.specs.Positions.{Board}
 use Rattle.race_model.specs.Fractions.{IsMean}
 use Rattle.bearoff_c.specs.declared.results.Choice.{Choice}
 use Rattle.bearoff_c.specs.ResultLists.{places, HasCost}
+use Rattle.bearoff_c.proofs.Fronts.{rest_stays}
 use Rattle.bearoff_c.proofs.results.tell.Goals as goal
-
--- the rest of a list doesn't change where one of its front is written
-rest_stays : {X : Type 0} (xs ys : List X) (i : _) (x d : X) → i < length xs → i < length ys →
-    drop i xs ≡ drop i ys → drop (i + 1) xs ≡ drop (i + 1) ys
-rest_stays xs ys i x d low less e =
-    ap (drop 1) (sym (drop_more xs i d low) ∙ e ∙ drop_more ys i d less)
 
 pub loop-index-preserved : goal.loop-index-preserved
 loop-index-preserved c =

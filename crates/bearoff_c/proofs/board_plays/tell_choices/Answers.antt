@@ -1,0 +1,60 @@
+use Rattle.std.proofs.Common.{◌≡◌, ℕ, ◌+◌, ◌<◌, List, [], ◌∷◌, ◌++◌, All, length, map, take, ap}
+use Rattle.std.proofs.Common.{sym, subst, ◌∙◌, arith}
+use Rattle.std.proofs.lemmas.List.{map-append, take_more, take_more_set, drop-set-lt}
+use Rattle.std.proofs.lemmas.List.Elements.{All-push}
+use Rattle.race_model.specs.Positions.{Board}
+use Rattle.race_model.specs.Fractions.{IsFraction}
+use Rattle.fixed_fraction.specs.Board.{board_whole}
+use Rattle.board.specs.Choices.{result_of}
+use Rattle.board.specs.declared.lists.BoardChoice.{BoardChoice}
+use Rattle.bearoff_c.specs.declared.board_plays.LongChoice.{LongChoice}
+use Rattle.bearoff_c.specs.BoardMoves.{long_places, HasLongCost}
+use Rattle.bearoff_c.proofs.Fronts.{rest_stays}
+use Rattle.bearoff_c.proofs.board_plays.tell_choices.Goals as goal
+
+pub loop-index-preserved : goal.loop-index-preserved
+loop-index-preserved c =
+    let i = c.loop-index.index in
+    let found = c.args.found.now in
+    let room = c.loop-index.room in
+    let choice = c.index-found-index.result in
+    let fraction = c.board_mean_and_epc.result.0 in
+    let one : LongChoice = record { to = c.of.result; loss = c.of-in-loop-index.result } in
+    let inside : i < length found = omega arith in
+    let low : i < length room = omega arith in
+    let less : i < length c.args.room.now = omega arith in
+    record {
+      places_are =
+          ap long_places (take_more_set room i one low)
+          ∙ map-append (λ (told : LongChoice). told.to.points) (take i room) (one ∷ [])
+          ∙ ap (λ (ys : List Board). ys ++ c.of.result.points ∷ [])
+          c.loop-index.invariant.places_are
+          ∙ ap (λ (y : Board). map result_of (take i found) ++ y ∷ []) c.of.ensures
+          ∙ sym (map-append result_of (take i found) (choice ∷ []))
+          ∙ ap (λ (y : BoardChoice). map result_of (take i found ++ y ∷ []))
+          c.index-found-index.is
+          ∙ ap (map result_of) (sym (take_more found i choice inside));
+      costs = λ cost are.
+          let same : choice.loss ≡ cost choice.to =
+          subst (λ (y : BoardChoice). y.loss ≡ cost y.to) (sym c.index-found-index.is)
+          (are i choice inside) in
+          let priced : HasLongCost cost one = rw (
+            c.of.ensures,
+            c.of-in-loop-index.ensures.numerator,
+            c.of-in-loop-index.ensures.denominator,
+          ) (subst (λ n. IsFraction n board_whole fraction.numerator fraction.denominator) same
+          c.board_mean_and_epc.ensures.mean) in
+          subst (λ (ones : List LongChoice). All (HasLongCost cost) ones)
+          (sym (take_more_set room i one low))
+          (All-push (HasLongCost cost) (take i room) one
+          (c.loop-index.invariant.costs cost are) priced);
+      rest =
+          drop-set-lt (i + 1) room i one (omega arith)
+          ∙ rest_stays room c.args.room.now i one one low less c.loop-index.invariant.rest;
+    }
+
+pub returns-clause-costs : goal.returns-clause-costs
+returns-clause-costs c = λ ok cost are.
+    let all : c.loop-index.index ≡ length c.args.found.now = omega arith in
+    subst (λ (n : ℕ). All (HasLongCost cost) (take n c.loop-index.room)) all
+    (c.loop-index.invariant.costs cost are)

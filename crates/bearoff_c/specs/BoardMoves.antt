@@ -1,0 +1,32 @@
+-- Every result of a roll with what it costs by a book, as C has them.
+use Rattle.std.specs.Prelude.{◌≡◌, ℕ, List, length, map, All}
+use Rattle.race_model.specs.Positions.{Board}
+use Rattle.race_model.specs.Dice.{Throw}
+use Rattle.race_model.specs.Fractions.{IsFraction}
+use Rattle.race_model.specs.Books.{Book}
+use Rattle.race_model.specs.BookReplies.{loss_in, IsMoveListIn}
+use Rattle.fixed_fraction.specs.Board.{board_whole}
+use Rattle.bearoff_c.specs.declared.board_plays.LongChoice.{LongChoice}
+use Rattle.bearoff_c.specs.Longs.{long_number_of}
+
+-- the positions of results
+abbrev pub long_places : List LongChoice → List Board
+long_places choices = map (λ choice. choice.to.points) choices
+
+-- the loss of a result is what its position costs, over 36 ^ 33
+abbrev pub HasLongCost : (Board → ℕ) → LongChoice → Type 0
+HasLongCost cost choice = IsFraction (cost choice.to.points) board_whole
+    (long_number_of choice.loss.numerator) (long_number_of choice.loss.denominator)
+
+-- the results are every position that the throw leads to, once, by rising loss and then by rising
+-- rank, each with its loss
+pub record IsChoiceList (b : Book) (x : Board) (v : Throw) (choices : List LongChoice) : Type 0
+  where
+    pub listed : IsMoveListIn b x v (long_places choices)
+    pub losses : All (HasLongCost (loss_in b x v)) choices
+
+-- there are so many positions that the throw leads to: a list has each of them once
+pub record IsChoiceCount (b : Book) (x : Board) (v : Throw) (n : ℕ) : Type 0 where
+  pub found : List Board
+  pub listed : IsMoveListIn b x v found
+  pub count_is : n ≡ length found

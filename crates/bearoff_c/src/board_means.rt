@@ -1,0 +1,82 @@
+//! The least mean number of rolls of a position of the whole board, and its effective pip count.
+ghost use Rattle.std.specs.Prelude.{◌≡◌, ◌*◌, IfOk};
+ghost use Rattle.race_model.specs.Books.{mean_in, IsLeastIn};
+ghost use Rattle.race_model.specs.BoardFiles.{board_book};
+ghost use Rattle.race_model.specs.Fractions.{IsFraction, IsThousandths};
+ghost use Rattle.fixed_fraction.specs.Board.{board_whole};
+ghost use Rattle.bearoff_c.specs.Longs.{long_number_of};
+ghost use Rattle.bearoff_c.specs.Refusals.{position_refusal, refusal_in, status_of};
+
+use crate::board_positions::find_on_board;
+use crate::kept_board::Board;
+use crate::long_numbers::{Long, RoundedLong};
+use crate::positions::Counts;
+use crate::statuses::{OK, Refusal};
+use fixed_fraction::BoardMean;
+
+/// The least mean number of rolls of a position, as a numerator over 36 ^ 33. Refused as
+/// `find_on_board` is.
+fn mean_of_counts(board: &Board<'_>, counts: &Counts) -> Result<BoardMean, Refusal>
+    ensures refusal { refusal_in result
+        ≡ position_refusal board.now.is_open board.now.bound counts.now.points }
+    ensures least { IfOk result (IsLeastIn 33 counts.now.points) }
+    ensures recorded { IfOk result (λ mean.
+        mean ≡ mean_in (board_book board.now.bytes.now) counts.now.points) }
+{
+    let found = find_on_board(board, counts)?;
+    match found.board.mean(&found.position) {
+        Some(mean) => Ok(mean),
+        None => Err(Refusal::Changed),
+    }
+}
+
+/// The least mean number of rolls of a position over all strategies, also those that look at the
+/// history, as a numerator over 36 ^ 33. Refused as `NotOpen`, `TooMany` or `OverBound`, and as
+/// `Changed` only where the bytes were changed since they were checked, of which no clause speaks;
+/// then `mean` stays as it was.
+#[unsafe(no_mangle)]
+pub extern "C" fn bearoff_board_mean(board: &Board<'_>, position: &Counts, mean: &mut Long) -> u32
+    ensures status { result ≡ status_of
+        (position_refusal board.now.is_open board.now.bound position.now.points) }
+    ensures least { result ≡ 0 → IsLeastIn 33 position.now.points (long_number_of mean.new) }
+    ensures recorded { result ≡ 0 → long_number_of mean.new
+        ≡ mean_in (board_book board.now.bytes.now) position.now.points }
+    ensures left { ¬ (result ≡ 0) → mean.new ≡ mean.old }
+{
+    match mean_of_counts(board, position) {
+        Ok(rolls) => {
+            *mean = Long::of(rolls.numerator());
+            OK
+        }
+        Err(refusal) => refusal.status(),
+    }
+}
+
+/// The effective pip count of a position: 49/6 of the least mean number of rolls (the GNU
+/// Backgammon manual). Refused as `bearoff_board_mean` is; then `pips` stays as it was.
+#[unsafe(no_mangle)]
+pub extern "C" fn bearoff_board_epc(
+    board: &Board<'_>,
+    position: &Counts,
+    pips: &mut RoundedLong,
+) -> u32
+    ensures status { result ≡ status_of
+        (position_refusal board.now.is_open board.now.bound position.now.points) }
+    ensures least { result ≡ 0 → IsLeastIn 33 position.now.points
+        (mean_in (board_book board.now.bytes.now) position.now.points) }
+    ensures pips { result ≡ 0 → IsFraction
+        (49 * mean_in (board_book board.now.bytes.now) position.now.points) (6 * board_whole)
+        (long_number_of pips.new.exact.numerator) (long_number_of pips.new.exact.denominator) }
+    ensures rounded { result ≡ 0 → IsThousandths
+        (long_number_of pips.new.exact.numerator) (long_number_of pips.new.exact.denominator)
+        pips.new.thousandths }
+    ensures left { ¬ (result ≡ 0) → pips.new ≡ pips.old }
+{
+    match mean_of_counts(board, position) {
+        Ok(rolls) => {
+            *pips = RoundedLong::epc(rolls);
+            OK
+        }
+        Err(refusal) => refusal.status(),
+    }
+}

@@ -1,0 +1,228 @@
+//! What a roll is played with by a board file, and what plays cost.
+ghost use Rattle.std.specs.Prelude.{◌≡◌, ℕ, ◌<◌, ◌≤◌, ◌⊎◌, ◌↔◌, None, IfOk, All, length, map, take, drop};
+ghost use Rattle.std.specs.Prelude.{nat_le, if◌then◌else◌};
+ghost use Rattle.race_model.specs.Positions.{Board as Place, pips};
+ghost use Rattle.race_model.specs.Plays.{Legal};
+ghost use Rattle.race_model.specs.Files.{bound_of};
+ghost use Rattle.race_model.specs.FirstPlays.{IsFirstPlay};
+ghost use Rattle.race_model.specs.Fractions.{IsFraction};
+ghost use Rattle.race_model.specs.Books.{recorded_in};
+ghost use Rattle.race_model.specs.BookReplies.{loss_in, IsLossIn};
+ghost use Rattle.race_model.specs.BoardFiles.{board_book};
+ghost use Rattle.fixed_fraction.specs.Board.{board_whole};
+ghost use Rattle.legal_plays.specs.Faces.{face, roll_of};
+ghost use Rattle.board.specs.Choices.{result_of};
+ghost use Rattle.bearoff_c.specs.BoardMoves.{long_places, HasLongCost, IsChoiceList, IsChoiceCount};
+ghost use Rattle.bearoff_c.specs.Longs.{long_number_of};
+ghost use Rattle.bearoff_c.specs.PlayLists.{moves_in, AreZerosAfter};
+ghost use Rattle.bearoff_c.specs.Refusals.{loss_refusal, play_refusal, refusal_in, status_of};
+
+use crate::board_positions::{FoundOnBoard, find_on_board};
+use crate::kept_board::Board;
+use crate::long_numbers::LongFraction;
+use crate::plays::{RecordedPlay, listed, read_roll};
+use crate::positions::Counts;
+use crate::statuses::{OK, Refusal, SHORT};
+use board::{Board as Opened, BoardChoice};
+use fixed_fraction::board_mean_and_epc;
+use home_board::Position;
+use legal_plays::{Roll, play_to};
+
+/// A position that is to be played, a roll, and the board file that has a record of the position.
+#[derive(Drop)]
+pub struct BoardTurn<'a> {
+    pub board: Opened<'a>,
+    pub position: Position,
+    pub roll: Roll,
+}
+
+/// The position that is to be played with a roll, which is given by its two dice in either order.
+/// Refused exactly as `play_refusal` says.
+fn find_board_turn<'a>(
+    board: &'a Board<'_>,
+    counts: &Counts,
+    one: u8,
+    other: u8,
+) -> Result<BoardTurn<'a>, Refusal>
+    ensures refusal { refusal_in result ≡ play_refusal
+        board.now.is_open board.now.bound counts.now.points one other }
+    ensures bytes { IfOk result (λ turn. turn.board ≡ board.now.bytes.now) }
+    ensures position { IfOk result (λ turn. turn.position ≡ counts.now.points) }
+    ensures roll { IfOk result (λ turn. turn.roll ≡ roll_of (face one) (face other)) }
+    ensures within { IfOk result (λ turn. pips turn.position ≤ bound_of turn.board) }
+{
+    if !board.is_open {
+        return Err(Refusal::NotOpen);
+    }
+    let roll = read_roll(one, other)?;
+    let FoundOnBoard { board, position } = find_on_board(board, counts)?;
+    if position.is_finished() {
+        return Err(Refusal::Finished);
+    }
+    Ok(BoardTurn {
+        board,
+        position,
+        roll,
+    })
+}
+
+/// The recorded play of a roll, given by its two dice in either order: no play has a smaller mean.
+/// Refused as `NotOpen`, else as `BadRoll` where a die isn't 1 to 6, else as `TooMany` or
+/// `OverBound`, and else as `Finished` where no checker is left, and as `Changed` only where the
+/// bytes were changed since they were checked; then `play` stays as it was.
+#[unsafe(no_mangle)]
+pub extern "C" fn bearoff_board_play(
+    board: &Board<'_>,
+    position: &Counts,
+    one: u8,
+    other: u8,
+    play: &mut RecordedPlay,
+) -> u32
+    ensures status { result ≡ status_of (play_refusal
+        board.now.is_open board.now.bound position.now.points one other) }
+    ensures recorded { result ≡ 0 → play.new.to.points ≡ recorded_in
+        (board_book board.now.bytes.now) position.now.points (roll_of (face one) (face other)) }
+    ensures legal { result ≡ 0 →
+        Legal position.now.points (roll_of (face one) (face other)) play.new.to.points }
+    ensures first { result ≡ 0 → IsFirstPlay position.now.points (roll_of (face one) (face other))
+        play.new.to.points (moves_in play.new) }
+    ensures few { result ≡ 0 → play.new.count ≤ 4 }
+    ensures zeros { result ≡ 0 → AreZerosAfter play.new.count play.new.moves }
+    ensures left { ¬ (result ≡ 0) → play.new ≡ play.old }
+{
+    let turn = match find_board_turn(board, position, one, other) {
+        Ok(turn) => turn,
+        Err(refusal) => return refusal.status(),
+    };
+    let Some((found, to)) = turn.board.play(&turn.position, turn.roll) else {
+        return Refusal::Changed.status();
+    };
+    *play = RecordedPlay {
+        moves: listed(&found),
+        count: found.len() as u8,
+        to: Counts::of(&to),
+    };
+    OK
+}
+
+/// What a result of a roll costs, in rolls: the least mean after it less the least such mean among
+/// all results. Refused as `bearoff_board_play` is, else as `TooMany` where the result has more
+/// than 15 checkers, and else as `NotLegal` where the roll doesn't lead there; then `loss` stays as
+/// it was.
+#[unsafe(no_mangle)]
+pub extern "C" fn bearoff_board_loss(
+    board: &Board<'_>,
+    position: &Counts,
+    one: u8,
+    other: u8,
+    to: &Counts,
+    loss: &mut LongFraction,
+) -> u32
+    ensures not_legal { (result ≡ 6) ↔ ((loss_refusal board.now.is_open board.now.bound
+        position.now.points one other to.now.points ≡ None)
+        × (¬ Legal position.now.points (roll_of (face one) (face other)) to.now.points)) }
+    ensures status { ¬ (result ≡ 6) → result ≡ status_of (loss_refusal board.now.is_open
+        board.now.bound position.now.points one other to.now.points) }
+    ensures recorded { result ≡ 0 → IsFraction (loss_in (board_book board.now.bytes.now)
+        position.now.points (roll_of (face one) (face other)) to.now.points) board_whole
+        (long_number_of loss.new.numerator) (long_number_of loss.new.denominator) }
+    ensures lost { result ≡ 0 → IsLossIn 33
+        position.now.points (roll_of (face one) (face other)) to.now.points
+        (loss_in (board_book board.now.bytes.now)
+        position.now.points (roll_of (face one) (face other)) to.now.points) }
+    ensures left { ¬ (result ≡ 0) → loss.new ≡ loss.old }
+{
+    let turn = match find_board_turn(board, position, one, other) {
+        Ok(turn) => turn,
+        Err(refusal) => return refusal.status(),
+    };
+    let Ok(after) = Position::new(to.points) else {
+        return Refusal::TooMany.status();
+    };
+    if play_to(&turn.position, turn.roll, &after).is_none() {
+        return Refusal::NotLegal.status();
+    }
+    let Some(lost) = turn.board.loss(&turn.position, turn.roll, &after) else {
+        return Refusal::Changed.status();
+    };
+    *loss = LongFraction::of(board_mean_and_epc(lost).0);
+    OK
+}
+
+/// A position that a roll can lead to, and what it costs.
+#[repr(C)]
+#[derive(Clone, Copy, Debug, PartialEq, Eq)]
+pub struct LongChoice {
+    /// The position.
+    pub to: Counts,
+
+    /// The least mean number of rolls after it less the least such mean among all results of the
+    /// roll, in rolls.
+    pub loss: LongFraction,
+}
+
+/// Every position that a roll can lead to, once, by rising loss and then by rising rank, with what
+/// it costs. They stand in front of the room that the caller lends, and `count` is how many there
+/// are, at most 127; the rest of the room stays as it was. Refused as `bearoff_board_play` is, when
+/// all stays as it was; and with the status 8 where they have no room, when `count` is told and
+/// the room stays as it was.
+#[unsafe(no_mangle)]
+pub extern "C" fn bearoff_board_moves(
+    board: &Board<'_>,
+    position: &Counts,
+    one: u8,
+    other: u8,
+    room: &mut [LongChoice],
+    count: &mut usize,
+) -> u32
+    ensures short { (result ≡ 8) ↔ ((play_refusal board.now.is_open board.now.bound
+        position.now.points one other ≡ None) × (length room.old < count.new)) }
+    ensures status { ¬ (result ≡ 8) → result ≡ status_of (play_refusal board.now.is_open
+        board.now.bound position.now.points one other) }
+    ensures listed { result ≡ 0 → IsChoiceList (board_book board.now.bytes.now)
+        position.now.points (roll_of (face one) (face other)) (take count.new room.new) }
+    ensures told { result ≡ 8 → IsChoiceCount (board_book board.now.bytes.now)
+        position.now.points (roll_of (face one) (face other)) count.new }
+    ensures counted { result ≡ 0 → count.new ≤ length room.old }
+    ensures most { (result ≡ 0) ⊎ (result ≡ 8) → count.new ≤ 127 }
+    ensures rest { result ≡ 0 → drop count.new room.new ≡ drop count.new room.old }
+    ensures left { ¬ (result ≡ 0) → room.new ≡ room.old }
+    ensures untold { ¬ (result ≡ 0) → ¬ (result ≡ 8) → count.new ≡ count.old }
+{
+    let turn = match find_board_turn(board, position, one, other) {
+        Ok(turn) => turn,
+        Err(refusal) => return refusal.status(),
+    };
+    match turn.board.moves(&turn.position, turn.roll) {
+        Some(choices) => tell_choices(choices.as_slice(), room, count),
+        None => Refusal::Changed.status(),
+    }
+}
+
+/// Tells how many choices there are, and writes them to the front of a room: the status 0. With
+/// the status 8, exactly where they have no room, only their number is told. It reads no byte of a
+/// board file.
+fn tell_choices(found: &[BoardChoice], room: &mut [LongChoice], count: &mut usize) -> u32
+    ensures status { result ≡ (if nat_le (length found.now) (length room.old) then 0 else 8) }
+    ensures told { count.new ≡ length found.now }
+    ensures places { result ≡ 0 →
+        long_places (take (length found.now) room.new) ≡ map result_of found.now }
+    ensures costs { result ≡ 0 → (cost : Place → ℕ)
+        → All (λ choice. choice.loss ≡ cost choice.to) found.now
+        → All (HasLongCost cost) (take (length found.now) room.new) }
+    ensures rest { result ≡ 0 →
+        drop (length found.now) room.new ≡ drop (length found.now) room.old }
+    ensures left { ¬ (result ≡ 0) → room.new ≡ room.old }
+{
+    *count = found.len();
+    if found.len() > room.len() {
+        return SHORT;
+    }
+    for (index, choice) in found.iter().enumerate() {
+        room[index] = LongChoice {
+            to: Counts::of(&choice.to),
+            loss: LongFraction::of(board_mean_and_epc(choice.loss).0),
+        };
+    }
+    OK
+}

@@ -1,0 +1,80 @@
+//! Numbers of the whole board as C has them.
+ghost use Rattle.std.specs.Prelude.{◌≡◌, ◌*◌};
+ghost use Rattle.race_model.specs.Fractions.{IsFraction, IsThousandths};
+ghost use Rattle.fixed_fraction.specs.Board.{board_whole};
+ghost use Rattle.bearoff_c.specs.Longs.{long_number_of};
+
+use fixed_fraction::{BoardMean, Wide, WideFraction, board_mean_and_epc};
+
+/// 2 ^ 64.
+const WORD: u128 = 18_446_744_073_709_551_616;
+
+/// A number of 192 bits in three words, since C has no such number.
+#[repr(C)]
+#[derive(Clone, Copy, Debug, PartialEq, Eq)]
+pub struct Long {
+    /// Its 64-bit words, the greatest first.
+    pub words: [u64; 3],
+}
+
+impl Long {
+    /// No number of rolls, and no share.
+    pub const ZERO: Long = Long { words: [0; 3] };
+
+    /// A number in three words.
+    pub fn of(number: Wide) -> Long
+        ensures { long_number_of result ≡ number }
+    {
+        let low = number.low();
+        Long {
+            words: [number.high(), (low / WORD) as u64, (low % WORD) as u64],
+        }
+    }
+}
+
+/// A fraction in lowest terms.
+#[repr(C)]
+#[derive(Clone, Copy, Debug, PartialEq, Eq)]
+pub struct LongFraction {
+    pub numerator: Long,
+    pub denominator: Long,
+}
+
+impl LongFraction {
+    /// A fraction, its numbers in three words each.
+    pub fn of(fraction: WideFraction) -> LongFraction
+        ensures numerator { long_number_of result.numerator ≡ fraction.numerator }
+        ensures denominator { long_number_of result.denominator ≡ fraction.denominator }
+    {
+        LongFraction {
+            numerator: Long::of(fraction.numerator()),
+            denominator: Long::of(fraction.denominator()),
+        }
+    }
+}
+
+/// A number of pips, exact and rounded.
+#[repr(C)]
+#[derive(Clone, Copy, Debug, PartialEq, Eq)]
+pub struct RoundedLong {
+    /// In lowest terms.
+    pub exact: LongFraction,
+
+    /// In thousandths, rounded to the nearest, and a half upward.
+    pub thousandths: u64,
+}
+
+impl RoundedLong {
+    /// The effective pip count of a mean, exact and rounded: 49/6 of it.
+    pub fn epc(mean: BoardMean) -> RoundedLong
+        ensures exact { IsFraction (49 * mean) (6 * board_whole)
+            (long_number_of result.exact.numerator) (long_number_of result.exact.denominator) }
+        ensures rounded { IsThousandths (long_number_of result.exact.numerator)
+            (long_number_of result.exact.denominator) result.thousandths }
+    {
+        RoundedLong {
+            exact: LongFraction::of(board_mean_and_epc(mean).1),
+            thousandths: mean.effective_thousandths(),
+        }
+    }
+}
