@@ -11,6 +11,7 @@ by mypy and is installed by pip without a trace in the checkout; the examples of
 and docs/analysts.md do what the pages say."""
 
 import ctypes
+import hashlib
 import os
 import re
 import shutil
@@ -20,7 +21,8 @@ from pathlib import Path
 
 import pytest
 
-from running import CALLERS, ROOT, as_bytes, code_blocks, expect, expect_that, need, run, succeed
+from running import CALLERS, HERE, ROOT, as_bytes, code_blocks, expect, expect_that, need, run, succeed
+from test_boards import FILES as BOARDS
 
 FLAGS = ["-O2", "-Wall", "-Wextra", "-Werror", f"-I{ROOT}/c"]
 PRINTED = "1.250 rolls, 10.208 pips\n4/2 2/1"
@@ -40,6 +42,8 @@ CALLER_WORDS = {
     "reads_outside": ("cc", ["-std=c11"], "reads_outside.c", STATIC),
     "rooms": ("cc", ["-std=c11"], "rooms.c", [*STATIC, "-lpthread"]),
     "largest": ("cc", ["-std=c11"], "largest.c", STATIC),
+    "boards": ("cc", ["-std=c11"], "boards.c", STATIC),
+    "boards_asan": ("cc", ["-std=c11", *SANITIZED], "boards.c", STATIC),
 }
 LINE_CALLERS = ["lines_c", "lines_cpp", "lines_shared"]
 
@@ -174,7 +178,8 @@ def test_rooms(caller):
 
 @pytest.mark.parametrize("name, source", [
     ("LINE", "opening.rt"), ("STATUS_TEXT", "status_texts.rt"), ("RESULTS", "results.rt"),
-    ("REPLY", "lines.rt")])
+    ("REPLY", "lines.rt"), ("LINE", "board_opening.rt"), ("RESULTS", "board_plays.rt"),
+    ("BOARD_REPLY", "board_lines.rt")])
 def test_sizes(name, source):
     """The rooms that the header names are as large as the contracts say is enough, and no larger;
     the package for JavaScript has them too."""
@@ -190,6 +195,33 @@ def test_sizes(name, source):
 def test_largest(caller, built):
     """The longest list of results, and the longest reply, of all positions up to 58 pips."""
     expect(run(caller("largest"), built(58), timeout=600), 0, "108 results, 5828 bytes")
+
+
+def test_board_room():
+    """The room that the header names is that of the greatest board file."""
+    header = (ROOT / "c/bearoff.h").read_text(encoding="utf-8")
+    told = int(re.search(r"(?m)^#define BEAROFF_BOARD_FILE (\d+)$", header)[1])
+    assert told == BOARDS[90][0]
+
+
+@pytest.mark.parametrize("bound", [8, 90])
+@pytest.mark.parametrize("name", ["boards", "boards_asan"])
+def test_boards(caller, room, name, bound):
+    """A board file that was built in a room has the bytes that were computed outside, and its lines
+    the replies."""
+    rows = (HERE / "board_rows.txt").read_text().splitlines(keepends=True)
+    asked = "".join(rows[::2]) if bound == 90 else "mean 0,0,0,0,0,1\n"
+    replies = "".join(rows[1::2]) if bound == 90 else "mean 5/4 epc 245/24 10.208\n"
+    expect(run(caller(name), bound, "built.db", input=asked.encode(), timeout=600), 0, replies)
+    data = Path("built.db").read_bytes()
+    assert (len(data), hashlib.sha256(data).hexdigest()) == BOARDS[bound]
+
+
+def test_board_example_in_c(library, room):
+    Path("example.c").write_text(code_blocks("docs/embedding.md", "c")[2], encoding="utf-8")
+    words = ["cc", "-std=c11", *FLAGS, "-o", "example", "example.c", library / "libbearoff.a"]
+    expect(run(*words), 0)
+    expect(run("./example"), 0, "12.266 rolls, 100.174 pips")
 
 
 def test_status_texts(library):
