@@ -26,6 +26,7 @@ from test_boards import FILES as BOARDS
 
 FLAGS = ["-O2", "-Wall", "-Wextra", "-Werror", f"-I{ROOT}/c"]
 PRINTED = "1.250 rolls, 10.208 pips\n4/2 2/1"
+PRINTED_OF_A_BOARD = "12.266 rolls, 100.174 pips"
 SANITIZED = ["-g", "-fsanitize=address,undefined", "-fno-sanitize-recover"]
 AS_CPP = ["-std=c++17", "-x", "c++"]
 
@@ -221,7 +222,7 @@ def test_board_example_in_c(library, room):
     Path("example.c").write_text(code_blocks("docs/embedding.md", "c")[2], encoding="utf-8")
     words = ["cc", "-std=c11", *FLAGS, "-o", "example", "example.c", library / "libbearoff.a"]
     expect(run(*words), 0)
-    expect(run("./example"), 0, "12.266 rolls, 100.174 pips")
+    expect(run("./example"), 0, PRINTED_OF_A_BOARD)
 
 
 def test_status_texts(library):
@@ -352,7 +353,7 @@ def test_example_for_analysts(python, room, built):
 @pytest.fixture
 def example(room, built):
     """A folder with the example of the page and its database."""
-    text = "".join(code_blocks("docs/embedding.md", "python"))
+    text = code_blocks("docs/embedding.md", "python")[0]
     Path("example.py").write_text(text, encoding="utf-8")
     shutil.copy(built(44), "race.db")
     return room
@@ -360,6 +361,12 @@ def example(room, built):
 
 def test_example_in_python(python, example):
     expect(python("example.py", cwd=example), 0, PRINTED)
+
+
+def test_board_example_in_python(python, room):
+    text = code_blocks("docs/embedding.md", "python")[1]
+    Path("example.py").write_text(text, encoding="utf-8")
+    expect(python("example.py", cwd=room), 0, PRINTED_OF_A_BOARD)
 
 
 class TestExampleOfAFile:

@@ -191,7 +191,7 @@ class TestWheel:
         assert (site / "bearoff/py.typed").exists()
 
     def test_module(self, release, site, room):
-        text = "".join(code_blocks("docs/embedding.md", "python"))
+        text = code_blocks("docs/embedding.md", "python")[0]
         Path("example.py").write_text(text, encoding="utf-8")
         os.symlink(release.database, "race.db")
         environment = {name: value for name, value in os.environ.items()

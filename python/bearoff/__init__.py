@@ -1,9 +1,11 @@
 """Exact answers of a proved backgammon bearoff database.
 
-A database is a file that ``bearoff build`` writes, or what `Database.build` makes. `Database.open` checks it
-once, and accepts it exactly where it is right: every mean in it is the least over all strategies, the
-recorded plays reach these means, and the recorded shares are those of these plays. That is proved of the
-library that this package calls, and so is what the library answers; this package only hands numbers over.
+A database is a file that ``bearoff build`` writes, or what `Database.build` makes; a board file, which
+``bearoff build --board`` writes, is one with the whole home board. `Database.open` checks it once, and accepts
+it exactly where it is right: every mean in it is the least over all strategies, the recorded plays reach these
+means, and the recorded shares are those of these plays. That is proved of the library that this package calls,
+and so is what the library answers; this package only hands numbers over, and lists the positions of a board file
+by itself.
 
     >>> database = Database.open("race.db")
     >>> database.mean("0,0,0,0,0,1")

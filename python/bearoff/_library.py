@@ -21,28 +21,43 @@ REPLY = 12070
 FILE = 15060844
 OPEN_STACK = 1572864
 BUILD_STACK = 20971520
+BOARD_FILE = 14643664
+BOARD_REPLY = 16642
+BOARD_STACK = 1572864
 
 # a thread of Python needs stack of its own too
 _MORE_STACK = 4 << 20
 
-# what the library's structs hold: a number of 128 bits is its high half and its low half
-WIDE = Struct("=2Q")
-FRACTION = Struct("=4Q")
-PIPS = Struct("=5Q")
-SHARES = Struct("=46Q")
+# what the library's structs hold, and rooms for one of them
 PLAY = Struct("=8BB6B")
-RESULT = Struct("=6B2x4Q")
 COUNTS = Struct("=6B")
 STANDING = Struct("=3B")
-
-# rooms for one of them
-WideRoom = ctypes.c_char * WIDE.size
-FractionRoom = ctypes.c_char * FRACTION.size
-PipsRoom = ctypes.c_char * PIPS.size
-SharesRoom = ctypes.c_char * SHARES.size
 PlayRoom = ctypes.c_char * PLAY.size
 CountsRoom = ctypes.c_char * COUNTS.size
 StandingRoom = ctypes.c_char * STANDING.size
+
+
+class Layout:
+    """What the structs with numbers hold, where a number has so many words of 64 bits, the
+    greatest first, and a game takes at most so many rolls; and rooms for one of them.
+    """
+
+    def __init__(self, words: int, rolls: int) -> None:
+        self.words = words
+        self.rolls = rolls
+        self.number = Struct(f"={words}Q")
+        self.fraction = Struct(f"={2 * words}Q")
+        self.pips = Struct(f"={2 * words + 1}Q")
+        self.shares = Struct(f"={(rolls + 1) * words}Q")
+        self.result = Struct(f"=6B2x{2 * words}Q")
+        self.NumberRoom = ctypes.c_char * self.number.size
+        self.FractionRoom = ctypes.c_char * self.fraction.size
+        self.PipsRoom = ctypes.c_char * self.pips.size
+        self.SharesRoom = ctypes.c_char * self.shares.size
+
+
+DATABASE = Layout(2, 22)
+BOARD = Layout(3, 33)
 
 
 class DatabaseStruct(ctypes.Structure):
@@ -54,6 +69,18 @@ class DatabaseStruct(ctypes.Structure):
         ("is_open", ctypes.c_uint8),
         ("bound", ctypes.c_uint8),
         ("version", ctypes.c_uint16),
+        ("ranks", ctypes.c_uint16 * (6 * 16 * 91 + 92)),
+    ]
+
+
+class BoardStruct(ctypes.Structure):
+    """The struct that `bearoff_board_open` fills."""
+
+    _fields_ = [
+        ("bytes", ctypes.c_void_p),
+        ("length", ctypes.c_size_t),
+        ("is_open", ctypes.c_uint8),
+        ("bound", ctypes.c_uint8),
         ("ranks", ctypes.c_uint16 * (6 * 16 * 91 + 92)),
     ]
 
@@ -73,6 +100,10 @@ _LONG_CALLS: _Calls = {
     "listed_means": (_POINTER, _RANK, _POINTER, _SIZE),
     "listed_epcs": (_POINTER, _RANK, _POINTER, _SIZE),
     "listed_distributions": (_POINTER, _RANK, _POINTER, _SIZE),
+    "board_open": (_POINTER, _POINTER, _SIZE, _POINTER, _SIZE, _POINTER),
+    "board_build": (_BYTE, _POINTER, _SIZE, _POINTER),
+    "board_means": (_POINTER, _RANK, _POINTER, _SIZE),
+    "board_distributions": (_POINTER, _RANK, _POINTER, _SIZE),
 }
 
 # .. and those that are over before another thread could have begun; what takes pointers alone is given them as they
@@ -92,6 +123,13 @@ _SHORT_CALLS: _Calls = {
     "loss": (_POINTER, _POINTER, _BYTE, _BYTE, _POINTER, _POINTER),
     "results": (_POINTER, _POINTER, _BYTE, _BYTE, _POINTER, _SIZE, _POINTER),
     "answer_line": (_POINTER, _POINTER, _SIZE, _POINTER, _SIZE, _POINTER),
+    "board_mean": None,
+    "board_epc": None,
+    "board_distribution": None,
+    "board_play": (_POINTER, _POINTER, _BYTE, _BYTE, _POINTER),
+    "board_loss": (_POINTER, _POINTER, _BYTE, _BYTE, _POINTER, _POINTER),
+    "board_moves": (_POINTER, _POINTER, _BYTE, _BYTE, _POINTER, _SIZE, _POINTER),
+    "board_answer_line": (_POINTER, _POINTER, _SIZE, _POINTER, _SIZE, _POINTER),
 }
 
 

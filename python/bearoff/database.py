@@ -25,6 +25,7 @@ from typing import (
 )
 
 from . import _library as lib
+from ._opened import MOST_CHECKERS, Opened, OpenedBoard, opened_of
 from .errors import (
     NO_RANK,
     NOT_OPEN,
@@ -34,13 +35,11 @@ from .errors import (
     BadArgument,
     BearoffError,
     Changed,
-    Damaged,
     OutOfRange,
     Refused,
 )
-from .exact import WHOLE, fraction_of, over_whole, share_of_whole, wide_numbers
+from .exact import wide_numbers
 from .positions import (
-    MOST_ROLLS,
     AnyPosition,
     AnyPositions,
     AnyRoll,
@@ -65,43 +64,17 @@ Source = Union[str, "os.PathLike[str]", bytes, bytearray, memoryview]
 
 _Self = TypeVar("_Self", bound="Database")
 
-_MOST_CHECKERS = 15
 _LOW = (1 << 64) - 1
 
-
-class _Opened:
-    """Bytes that the library has accepted, and the struct in which it keeps what it knows of them.
-    Neither changes, and each call holds on to both until it is over, so threads and copies may
-    share them.
-    """
-
-    def __init__(self, library: lib.Library, content: bytes) -> None:
-        self.library = library
-        self.content = content
-        self.struct = lib.DatabaseStruct(bytes=ctypes.cast(ctypes.c_char_p(content), ctypes.c_void_p))
-        self.at = ctypes.byref(self.struct)
-        self.ranks: Optional[Ranks] = None
-
-    def check(self) -> None:
-        """Lets the library check the bytes, and raises `Damaged` where it refuses them."""
-        line = ctypes.create_string_buffer(lib.LINE)
-        needed = ctypes.c_size_t()
-        status = lib.on_stack(
-            lib.OPEN_STACK,
-            self.library.open,
-            self.at,
-            self.content,
-            len(self.content),
-            line,
-            lib.LINE,
-            ctypes.byref(needed),
-        )
-        if status:
-            raise Damaged(status, line.raw[: needed.value].decode("ascii"))
+_Words = TypeVar("_Words", memoryview, Tuple[int, ...])
 
 
 class Database:
-    """A database that was checked and accepted, with a copy of its bytes of its own.
+    """A database that was checked and accepted, with a copy of its bytes of its own. It is the one
+    of a file that ``bearoff build`` writes, of at most 58 pips, or a board file, which ``bearoff
+    build --board`` writes: that has every position of the home board of at most its bound, which
+    is at most 90 pips, and its numbers are over 36^33, not 36^22. Both answer each call but
+    `upgrade`, and to 58 pips they say the same of a position.
 
     A position is six counts of checkers in a tuple, a list, an array or a `Position`, that of the
     ace point first, or a text like ``0,0,0,0,0,1``; a roll is two dice in either order, or a text
@@ -117,14 +90,16 @@ class Database:
 
     def __init__(self, content: Union[bytes, bytearray, memoryview]) -> None:
         """Takes the bytes of a file and checks them, as `open` does."""
-        opened = _Opened(lib.library(), _bytes_of(content))
+        opened = opened_of(lib.library(), _bytes_of(content))
         opened.check()
         self._opened = opened
         self._path: Optional[str] = None
 
     @classmethod
     def open(cls: Type[_Self], source: Source) -> _Self:
-        """Reads a file, or takes bytes, and checks them: 0.2 s for 44 pips, 0.3 s for 58.
+        """Reads a file, or takes bytes, and checks them: 0.2 s for 44 pips, 0.3 s for 58, 0.4 s
+        for a board of 90. Which kind of file they are is told by the version in their header: they
+        are a board file where it is 3.
 
         Raises `Damaged` where they are no right database, and OSError where a file can't be read.
         """
@@ -136,32 +111,26 @@ class Database:
 
     @classmethod
     def build(cls: Type[_Self], bound: SupportsIndex) -> _Self:
-        """Builds the database of a pip bound, 0 to 58, and checks it: half a second for 58 pips.
-        Its bytes are those of the file that ``bearoff build`` writes; ``bytes(database)`` gives
-        them.
+        """Builds the database of a pip bound, 0 to 90, and checks it: half a second for 58 pips,
+        a second for 90. To 58 pips its bytes are those of the file that ``bearoff build`` writes,
+        and beyond them those of a board file, that of 90 the one that ``bearoff build --board``
+        writes; ``bytes(database)`` gives them.
+
+        Raises `BadArgument` where the bound is no whole number from 0 on, and `Refused` where it
+        is over 90.
         """
         library = lib.library()
         asked = bound_of(bound)
-        work, room = bytearray(lib.FILE), bytearray(lib.FILE)
-        filled = ctypes.c_size_t()
-        status = lib.on_stack(
-            lib.BUILD_STACK,
-            library.build,
-            asked,
-            lib.address(work),
-            len(work),
-            lib.address(room),
-            len(room),
-            ctypes.byref(filled),
-        )
+        kind = Opened if asked <= Opened.most_pips else OpenedBoard
+        status, content = kind.build(library, asked)
         if status == OVER_BOUND:
-            raise Refused(status, f"{shown(bound)}, and no bound is over 58")
+            raise Refused(status, f"{shown(bound)}, and no bound is over {kind.most_pips}")
         _check(status)
-        return cls(memoryview(room)[: filled.value])
+        return cls(content)
 
     def close(self) -> None:
         """Lets the bytes go. Every query of a closed database raises `Refused`."""
-        self._opened = _Opened(self._opened.library, b"")
+        self._opened = Opened(self._opened.library, b"")
 
     @property
     def closed(self) -> bool:
@@ -182,35 +151,39 @@ class Database:
 
     @property
     def version(self) -> int:
-        """The version of its file: 1, or 2 where records leave out the shares that are known."""
-        version = ctypes.c_uint16()
-        opened = self._opened
-        _check(opened.library.version(opened.at, ctypes.byref(version)))
-        return version.value
+        """The version of its file: 1, or 2 where records leave out the shares that are known, or 3
+        where it is a board file.
+        """
+        return _told(*self._opened.version())
 
     @property
     def bound(self) -> int:
         """The greatest pip count of its positions."""
-        bound = ctypes.c_uint8()
+        return _told(*self._opened.bound())
+
+    @property
+    def whole(self) -> int:
+        """The denominator over which all its means and shares are numerators: 36^22, or 36^33 of a
+        board file.
+        """
         opened = self._opened
-        _check(opened.library.bound(opened.at, ctypes.byref(bound)))
-        return bound.value
+        _check(0 if opened.struct.is_open else NOT_OPEN)
+        return opened.whole
 
     def __len__(self) -> int:
-        return _length(self._opened)
+        return _told(*self._opened.length())
 
     def __contains__(self, position: object) -> bool:
         """Whether it is a position, of at most 15 checkers, and of at most as many pips as the
         bound.
         """
-        rank = ctypes.c_uint16()
         opened = self._opened
         try:
             counts = counts_of(position)  # type: ignore[arg-type]
         except BadArgument:
             _check(0 if opened.struct.is_open else NOT_OPEN)
             return False
-        status = opened.library.rank(opened.at, counts, ctypes.byref(rank))
+        status, _ = opened.rank(counts)
         if status in (TOO_MANY, OVER_BOUND):
             return False
         _check(status, position)
@@ -280,21 +253,18 @@ class Database:
         """How many positions are before it: those of fewer pips, and of as many those with the
         smaller counts, that of the ace point first.
         """
-        rank = ctypes.c_uint16()
-        opened = self._opened
-        _check(opened.library.rank(opened.at, counts_of(position), ctypes.byref(rank)), position)
-        return rank.value
+        status, rank = self._opened.rank(counts_of(position))
+        _check(status, position)
+        return rank
 
     def position(self, rank: SupportsIndex) -> Position:
         """The position of a rank. Raises `Refused` where the rank is not below the number of
         positions.
         """
-        told = lib.CountsRoom()
-        opened = self._opened
-        status = opened.library.position_of(opened.at, rank_of(rank), told)
+        status, counts = self._opened.position(rank_of(rank))
         if status:
             raise Refused(status, shown(rank))
-        return Position._make(told.raw)
+        return Position._make(counts)
 
     def ranks(self, positions: AnyPositions) -> memoryview:
         """The ranks of many positions, in their order, as an array of numbers of 16 bits: the rows
@@ -306,25 +276,26 @@ class Database:
         """
         opened = self._opened
         if opened.ranks is None:
-            opened.ranks = Ranks(self._table("listed_positions", "B", 6, of=opened))
+            opened.ranks = Ranks(_table(opened, "positions", "B", 6))
         return opened.ranks.of(positions, _no_rank)
 
     def mean(self, position: AnyPosition) -> Fraction:
         """The least mean number of rolls until all checkers are off, over all strategies."""
-        told = lib.WideRoom()
         opened = self._opened
-        status = opened.library.mean(opened.at, counts_of(position), told)
+        layout = opened.layout
+        told = layout.NumberRoom()
+        status = opened.mean(opened.at, counts_of(position), told)
         if status:
             raise _refused(status, position)
-        return share_of_whole(*lib.WIDE.unpack(told))
+        return opened.share(*layout.number.unpack(told))
 
     def epc(self, position: AnyPosition) -> EffectivePips:
         """The effective pip count, in pips, and in thousandths rounded to the nearest, half up."""
-        told = lib.PipsRoom()
         opened = self._opened
-        _check(opened.library.epc(opened.at, counts_of(position), told), position)
-        *exact, thousandths = lib.PIPS.unpack(told)
-        return EffectivePips(fraction_of(*exact), thousandths)
+        told = opened.layout.PipsRoom()
+        _check(opened.epc(opened.at, counts_of(position), told), position)
+        *exact, thousandths = opened.layout.pips.unpack(told)
+        return EffectivePips(opened.fraction(*exact), thousandths)
 
     def wastage(self, position: AnyPosition) -> Wastage:
         """The effective pip count less the pip count, in pips, and in thousandths rounded to the
@@ -335,27 +306,22 @@ class Database:
         return Wastage(exact - pips, thousandths - 1000 * pips)
 
     def distribution(self, position: AnyPosition) -> Tuple[Fraction, ...]:
-        """The chances of being off in exactly 0 to 22 rolls, by the recorded plays. They sum to 1.
+        """The chances of being off in exactly 0 to 22 rolls, by the recorded plays, of a board
+        file 0 to 33. They sum to 1.
         """
-        halves = self._shares(position)
-        return tuple(map(share_of_whole, halves[::2], halves[1::2]))
+        opened = self._opened
+        return tuple(map(opened.share, *_shares(opened, position)))
 
     def within(self, position: AnyPosition, rolls: SupportsIndex) -> Fraction:
         """The chance of being off in at most so many rolls, by the recorded plays. From 22 rolls
-        on it is 1.
+        on, and of a board file from 33 on, it is 1.
 
         Raises `BadArgument` where the number of rolls is no whole number from 0 on.
         """
-        end = 2 * rolls_of(rolls) + 2
-        halves = self._shares(position)
-        return over_whole(sum(wide_numbers(halves[:end:2], halves[1:end:2])))
-
-    def _shares(self, position: AnyPosition) -> Tuple[int, ...]:
-        """The halves of the numerators of a distribution."""
-        told = lib.SharesRoom()
         opened = self._opened
-        _check(opened.library.distribution(opened.at, counts_of(position), told), position)
-        return lib.SHARES.unpack(told)
+        asked = rolls_of(rolls, opened.layout.rolls)
+        columns = _shares(opened, position)
+        return opened.share(*(sum(column[: asked + 1]) for column in columns))
 
     @staticmethod
     def standing(position: AnyPosition) -> Standing:
@@ -368,92 +334,84 @@ class Database:
 
     def positions(self) -> memoryview:
         """All positions by rising rank, as an array of bytes with six counts in each row."""
-        return self._table("listed_positions", "B", 6)
+        return _table(self._opened, "positions", "B", 6)
 
     def means(self, *, floats: bool = False) -> memoryview:
         """The means of all positions by rising rank, in rolls, as an array of numbers of 64 bits
-        with two in each row: the high and the low half of the numerator over 36^22. With `floats`
-        it is an array of floats, one for each position, each the float that is nearest to the
-        exact number; so of each table below.
+        with two in each row: the high and the low half of the numerator over 36^22. Of a board
+        file each row has three: the words of the numerator over 36^33, the greatest first. With
+        `floats` it is an array of floats, one for each position, each the float that is nearest to
+        the exact number; so of each table below.
         """
-        table = self._table("listed_means", "Q", 2)
-        return _floats_over_whole(table, len(table)) if floats else table
+        opened = self._opened
+        table = _table(opened, "means", "Q", opened.layout.words)
+        return _floats_over_whole(opened, table, len(table)) if floats else table
 
     def epcs(self, *, floats: bool = False) -> memoryview:
         """The effective pip counts of all positions by rising rank, in pips, as an array of
         numbers of 64 bits with five in each row: the halves of the numerator, those of the
-        denominator, and the thousandths.
+        denominator, and the thousandths. Of a board file there are seven: three words, three, and
+        the thousandths.
         """
-        table = self._table("listed_epcs", "Q", 5)
-        return _floats_of_fractions(table) if floats else table
+        opened = self._opened
+        table = _table(opened, "epcs", "Q", 2 * opened.layout.words + 1)
+        return _floats_of_fractions(opened, table) if floats else table
 
     def wastages(self, *, floats: bool = False) -> memoryview:
         """The wastages of all positions by rising rank, in pips, as those of `epcs`. None is below
         0.
         """
-        table = self._table("listed_epcs", "Q", 5)
+        opened = self._opened
+        words = opened.layout.words
+        table = _table(opened, "epcs", "Q", 2 * words + 1)
         flat = table.cast("B").cast("Q")
         # what is taken from the numerator is so many times the denominator, so the terms stay the
         # lowest
-        columns = [flat[place::5].tolist() for place in range(5)]
-        denominators = [*wide_numbers(*columns[2:4])]
-        pips = self._pips()
+        columns = [column.tolist() for column in _columns(flat, 2 * words + 1)]
+        denominators = [*wide_numbers(*columns[words:-1])]
+        pips = _pips(opened)
         numerators = [
             numerator - denominator * count
             for numerator, denominator, count in zip(
-                wide_numbers(*columns[:2]), denominators, pips
+                wide_numbers(*columns[:words]), denominators, pips
             )
         ]
-        flat[0::5] = _column(numerator >> 64 for numerator in numerators)
-        flat[1::5] = _column(numerator & _LOW for numerator in numerators)
-        flat[4::5] = _column(told - 1000 * count for told, count in zip(columns[4], pips))
-        return _floats_of_fractions(table) if floats else table
-
-    def _pips(self) -> List[int]:
-        """The pip counts of all positions by rising rank."""
-        flat = self.positions().cast("B")
-        columns = [flat[place::6].tolist() for place in range(6)]
-        return [sum(map(int.__mul__, range(1, 7), counts)) for counts in zip(*columns)]
+        _set_columns(flat, 2 * words + 1, words, numerators)
+        flat[2 * words :: 2 * words + 1] = _column(
+            told - 1000 * count for told, count in zip(columns[-1], pips)
+        )
+        return _floats_of_fractions(opened, table) if floats else table
 
     def distributions(self, *, floats: bool = False) -> memoryview:
         """The distributions of all positions by rising rank, as an array of numbers of 64 bits: of
-        each position, for 0 to 22 rolls, the high and the low half of the numerator over 36^22.
-        With `floats` there is a float for each number of rolls.
+        each position, for 0 to 22 rolls, the high and the low half of the numerator over 36^22,
+        and of a board file, for 0 to 33 rolls, the three words of that over 36^33. With `floats`
+        there is a float for each number of rolls.
         """
-        table = self._table("listed_distributions", "Q", MOST_ROLLS + 1, 2)
-        return _floats_over_whole(table, len(table), MOST_ROLLS + 1) if floats else table
+        opened = self._opened
+        shares = opened.layout.rolls + 1
+        table = _table(opened, "distributions", "Q", shares, opened.layout.words)
+        return _floats_over_whole(opened, table, len(table), shares) if floats else table
 
     def withins(self, rolls: SupportsIndex, *, floats: bool = False) -> memoryview:
         """The chances of being off in at most so many rolls, of all positions by rising rank, as
         those of `means`. Raises `BadArgument` where the number of rolls is no whole number from 0
         on.
         """
-        asked = rolls_of(rolls)
-        flat = self.distributions().cast("B").cast("Q")
-        row = 2 * MOST_ROLLS + 2
-        highs, lows = (
-            map(sum, zip(*(flat[place::row].tolist() for place in range(half, 2 * asked + 2, 2))))
-            for half in (0, 1)
-        )
-        numerators = [*wide_numbers(highs, lows)]
-        table = memoryview(bytearray(16 * len(numerators))).cast("Q")
-        table[0::2] = _column(numerator >> 64 for numerator in numerators)
-        table[1::2] = _column(numerator & _LOW for numerator in numerators)
-        shaped = table.cast("B").cast("Q", (len(numerators), 2))
-        return _floats_over_whole(shaped, len(numerators)) if floats else shaped
-
-    def _table(
-        self, name: str, kind: Literal["B", "Q"], *shape: int, of: Optional[_Opened] = None
-    ) -> memoryview:
-        """An array of all positions, which belongs to the caller."""
-        opened = of or self._opened
-        count = _length(opened)
-        size = 1 if kind == "B" else 8
-        for length in shape:
-            size *= length
-        room = bytearray(count * size)
-        _check(getattr(opened.library, name)(opened.at, 0, lib.address(room), count))
-        return memoryview(room).cast(kind, (count, *shape))
+        opened = self._opened
+        words, shares = opened.layout.words, opened.layout.rolls + 1
+        asked = rolls_of(rolls, opened.layout.rolls)
+        flat = _table(opened, "distributions", "Q", shares, words).cast("B").cast("Q")
+        columns = _columns(flat, words * shares)[: words * (asked + 1)]
+        sums = [
+            map(sum, zip(*(column.tolist() for column in columns[word::words])))
+            for word in range(words)
+        ]
+        numerators = [*wide_numbers(*sums)]
+        table = memoryview(bytearray(8 * words * len(numerators))).cast("Q")
+        _set_columns(table, words, words, numerators)
+        shaped = table.cast("B").cast("Q", (len(numerators), words))
+        return _floats_over_whole(opened, shaped, len(numerators)) if floats else shaped
 
     def play(self, position: AnyPosition, roll: AnyRoll) -> Play:
         """The recorded play of a roll: none has a smaller mean, and others may be as good.
@@ -464,7 +422,7 @@ class Database:
         opened = self._opened
         one, other = dice_of(roll)
         counts = counts_of(position)
-        _check(opened.library.play(opened.at, counts, one, other, told), position, roll)
+        _check(opened.play(opened.at, counts, one, other, told), position, roll)
         return _play_of(lib.PLAY.unpack(told))
 
     @staticmethod
@@ -486,12 +444,12 @@ class Database:
 
         Raises `Refused` as `play` does, and where the roll doesn't lead to `to`.
         """
-        told = lib.FractionRoom()
         opened = self._opened
+        told = opened.layout.FractionRoom()
         one, other = dice_of(roll)
         counts, after = counts_of(position), counts_of(to)
-        _check(opened.library.loss(opened.at, counts, one, other, after, told), position, roll, to)
-        return fraction_of(*lib.FRACTION.unpack(told))
+        _check(opened.loss(opened.at, counts, one, other, after, told), position, roll, to)
+        return opened.fraction(*opened.layout.fraction.unpack(told))
 
     def moves(self, position: AnyPosition, roll: AnyRoll) -> List[Choice]:
         """Every position that a roll can lead to, once, the best first, and of equal ones the
@@ -501,20 +459,22 @@ class Database:
         one, other = dice_of(roll)
         counts = counts_of(position)
         count = ctypes.c_size_t()
+        result_of = opened.layout.result
         for room in (64, lib.RESULTS):
-            results = bytearray(room * lib.RESULT.size)
-            status = opened.library.results(
+            results = bytearray(room * result_of.size)
+            status = opened.results(
                 opened.at, counts, one, other, lib.address(results), room, ctypes.byref(count)
             )
             if status != SHORT:
                 break
         _check(status, position, roll)
-        told = memoryview(results)[: count.value * lib.RESULT.size]
+        told = memoryview(results)[: count.value * result_of.size]
         choices = [
-            Choice(Position._make(result[:6]), fraction_of(*result[6:]))
-            for result in lib.RESULT.iter_unpack(told)
+            Choice(Position._make(result[:6]), opened.fraction(*result[6:]))
+            for result in result_of.iter_unpack(told)
         ]
-        # they come by rising rank, and sorting leaves those of equal loss in their order
+        # they come by rising rank, or of a board by rising loss and then by rising rank, and
+        # sorting leaves those of equal loss in their order
         return sorted(choices, key=lambda choice: choice.loss)
 
     def answer(self, line: str) -> str:
@@ -528,9 +488,9 @@ class Database:
         # no query has a character beyond ASCII, nor a question mark
         asked = line.encode("ascii", "replace")
         needed = ctypes.c_size_t()
-        for room in (4096, lib.REPLY):
+        for room in (4096, opened.longest_reply()):
             text = ctypes.create_string_buffer(room)
-            status = opened.library.answer_line(
+            status = opened.answer_line(
                 opened.at, asked, len(asked), text, room, ctypes.byref(needed)
             )
             if status != SHORT:
@@ -540,7 +500,7 @@ class Database:
 
     def upgrade(self) -> bytes:
         """The bytes of a file of version 2 that says the same: of the same bound, means, plays and
-        shares. Raises `Refused` where the database is of version 2 already.
+        shares. Raises `Refused` where the database is of version 2 already, or of a board file.
         """
         opened = self._opened
         content = bytes(self)
@@ -607,7 +567,7 @@ def _no_rank(number: int, position: Any) -> BearoffError:
         counts = position_of(position)
     except BadArgument as error:
         return BadArgument(f"{error} in row {number}")
-    status = TOO_MANY if sum(counts) > _MOST_CHECKERS else OVER_BOUND
+    status = TOO_MANY if sum(counts) > MOST_CHECKERS else OVER_BOUND
     return Refused(status, f"{counts} in row {number}")
 
 
@@ -623,18 +583,46 @@ def _column(numbers: Iterator[int]) -> memoryview:
     return memoryview(array("Q", numbers)).cast("B").cast("Q")
 
 
-def _floats_over_whole(table: memoryview, *shape: int) -> memoryview:
-    """The floats of a table of numerators over 36^22."""
-    flat = table.cast("B").cast("Q")
-    numbers = wide_numbers(flat[0::2].tolist(), flat[1::2].tolist())
-    return _floats((numerator / WHOLE for numerator in numbers), *shape)
+def _shares(opened: Opened, position: AnyPosition) -> List[Tuple[int, ...]]:
+    """The numerators of a distribution: all the greatest words of them, and so on."""
+    layout = opened.layout
+    told = layout.SharesRoom()
+    _check(opened.distribution(opened.at, counts_of(position), told), position)
+    return _columns(layout.shares.unpack(told), layout.words)
 
 
-def _floats_of_fractions(table: memoryview) -> memoryview:
+def _columns(flat: _Words, count: int) -> List[_Words]:
+    """The columns of a table of so many of them."""
+    return [flat[place::count] for place in range(count)]
+
+
+def _set_columns(flat: memoryview, count: int, words: int, numbers: List[int]) -> None:
+    """Sets the first columns of a table to the words of numbers, the greatest first."""
+    for place in range(words):
+        shift = 64 * (words - 1 - place)
+        flat[place::count] = _column(number >> shift & _LOW for number in numbers)
+
+
+def _pips(opened: Opened) -> List[int]:
+    """The pip counts of all positions by rising rank."""
+    flat = _table(opened, "positions", "B", 6).cast("B")
+    columns = [column.tolist() for column in _columns(flat, 6)]
+    return [sum(map(int.__mul__, range(1, 7), counts)) for counts in zip(*columns)]
+
+
+def _floats_over_whole(opened: Opened, table: memoryview, *shape: int) -> memoryview:
+    """The floats of a table of numerators over 36^22, or over 36^33."""
+    columns = _columns(table.cast("B").cast("Q"), opened.layout.words)
+    numbers = wide_numbers(*(column.tolist() for column in columns))
+    whole = opened.whole
+    return _floats((numerator / whole for numerator in numbers), *shape)
+
+
+def _floats_of_fractions(opened: Opened, table: memoryview) -> memoryview:
     """The floats of a table of fractions, as `Database.epcs` has it."""
-    flat = table.cast("B").cast("Q")
-    columns = [flat[place::5].tolist() for place in range(4)]
-    numbers = map(truediv, wide_numbers(*columns[:2]), wide_numbers(*columns[2:]))
+    words = opened.layout.words
+    columns = [column.tolist() for column in _columns(table.cast("B").cast("Q"), 2 * words + 1)]
+    numbers = map(truediv, wide_numbers(*columns[:words]), wide_numbers(*columns[words:-1]))
     return _floats(numbers, len(table))
 
 
@@ -642,10 +630,21 @@ def _floats(numbers: Iterator[float], *shape: int) -> memoryview:
     return memoryview(array("d", numbers)).cast("B").cast("d", shape)
 
 
-def _length(opened: _Opened) -> int:
-    positions = ctypes.c_uint32()
-    _check(opened.library.positions(opened.at, ctypes.byref(positions)))
-    return positions.value
+def _table(opened: Opened, name: str, kind: Literal["B", "Q"], *shape: int) -> memoryview:
+    """An array of all positions, which belongs to the caller."""
+    count = _told(*opened.length())
+    size = 1 if kind == "B" else 8
+    for length in shape:
+        size *= length
+    room = bytearray(count * size)
+    _check(getattr(opened, "list_" + name)(room, count))
+    return memoryview(room).cast(kind, (count, *shape))
+
+
+def _told(status: int, number: int) -> int:
+    """What was told, where the status is that of success."""
+    _check(status)
+    return number
 
 
 def _check(status: int, position: Any = None, roll: Any = None, to: Any = None) -> None:

@@ -29,6 +29,7 @@ _REASONS = {
     SHORT: "the room is too small",
     9: "the file is of version 2 already",
     NO_RANK: "the database has no position of that rank",
+    18: "the version is not 1 or 2",
 }
 
 

@@ -1,4 +1,4 @@
-"""Exact numbers out of the halves in which the library tells them."""
+"""Exact numbers out of the words in which the library tells them."""
 
 from __future__ import annotations
 
@@ -11,6 +11,9 @@ from typing import Any, Callable, Iterable, Iterator
 
 WHOLE = 36**22
 """The denominator of every number in a database: 36 throws, and at most 22 rolls."""
+
+LONG_WHOLE = 36**33
+"""That of every number of a board file: no game takes more than 33 rolls."""
 
 WEIGHTS = (2.0**64 / WHOLE, 1.0 / WHOLE)
 """What the high and the low half of a numerator over 36^22 count, as floats: the halves, each
@@ -69,15 +72,26 @@ def share_of_whole(high: int, low: int) -> fractions.Fraction:
     return over_whole((high << 64) + low)
 
 
-def over_whole(numerator: int) -> fractions.Fraction:
-    """A numerator over 36^22."""
-    common = gcd(numerator, WHOLE)
-    return lowest_terms(numerator // common, WHOLE // common)
+def long_share_of_whole(first: int, middle: int, last: int) -> fractions.Fraction:
+    """A numerator over 36^33."""
+    return over_whole((first << 128) + (middle << 64) + last, LONG_WHOLE)
+
+
+def over_whole(numerator: int, whole: int = WHOLE) -> fractions.Fraction:
+    """A numerator over 36^22, or over another whole."""
+    common = gcd(numerator, whole)
+    return lowest_terms(numerator // common, whole // common)
 
 
 def fraction_of(high: int, low: int, below_high: int, below_low: int) -> fractions.Fraction:
     """A fraction that the library tells in lowest terms, the halves of the denominator last."""
     return lowest_terms((high << 64) + low, (below_high << 64) + below_low)
+
+
+def long_fraction_of(*words: int) -> fractions.Fraction:
+    """A fraction in lowest terms of six words, those of the denominator last."""
+    numerator, denominator = wide_numbers(words[::3], words[1::3], words[2::3])
+    return lowest_terms(numerator, denominator)
 
 
 def lowest_terms(numerator: int, denominator: int) -> fractions.Fraction:
@@ -93,6 +107,10 @@ def lowest_terms(numerator: int, denominator: int) -> fractions.Fraction:
     return fraction
 
 
-def wide_numbers(highs: Iterable[int], lows: Iterable[int]) -> Iterator[int]:
-    """The numbers of many halves."""
-    return ((high << 64) + low for high, low in zip(highs, lows))
+def wide_numbers(*words: Iterable[int]) -> Iterator[int]:
+    """The numbers of many words: all the greatest ones, and so on. They are two for a number of
+    128 bits, and three for one of 192.
+    """
+    if len(words) == 2:
+        return ((high << 64) + low for high, low in zip(*words))
+    return ((first << 128) + (middle << 64) + last for first, middle, last in zip(*words))

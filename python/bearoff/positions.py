@@ -157,7 +157,6 @@ _LISTS = frozenset((tuple, list, Position))
 _MOST_COUNT = 999
 _BYTE = 255
 _MOST_RANK = 65535
-MOST_ROLLS = 22
 
 
 def counts_of(position: AnyPosition) -> bytes:
@@ -214,16 +213,16 @@ def rank_of(rank: SupportsIndex) -> int:
     return min(number_of(rank, "a rank"), _MOST_RANK)
 
 
-def rolls_of(rolls: SupportsIndex) -> int:
-    """A number of rolls, or `BadArgument`. One over 22 becomes 22, within which all checkers are
-    off.
+def rolls_of(rolls: SupportsIndex, most: int) -> int:
+    """A number of rolls, or `BadArgument`. One over the most becomes that, within which all
+    checkers are off.
     """
-    return min(number_of(rolls, "a number of rolls"), MOST_ROLLS)
+    return min(number_of(rolls, "a number of rolls"), most)
 
 
 def bound_of(bound: SupportsIndex) -> int:
     """The pip bound as the library takes it, or `BadArgument`. One over 255 becomes 255, which is
-    over 58 too.
+    over 90 too.
     """
     return min(number_of(bound, "a pip bound"), _BYTE)
 

@@ -240,7 +240,8 @@ class Versions(unittest.TestCase):
 
     def test_sizes_are_those_of_the_header(self) -> None:
         header = (ROOT / "c/bearoff.h").read_text()
-        for name in ("LINE", "RESULTS", "REPLY", "FILE", "OPEN_STACK", "BUILD_STACK"):
+        sizes = ("LINE", "RESULTS", "REPLY", "FILE", "OPEN_STACK", "BUILD_STACK")
+        for name in (*sizes, "BOARD_FILE", "BOARD_REPLY", "BOARD_STACK"):
             told = re.findall(rf"(?m)^#define BEAROFF_{name} (\d+)$", header)
             self.assertEqual(told, [str(getattr(_library, name))], name)
         statuses = {name: int(number) for name, number in re.findall(r"BEAROFF_([A-Z_]+) = (\d+),", header)}

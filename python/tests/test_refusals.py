@@ -147,7 +147,7 @@ class Refusals(unittest.TestCase):
     def test_what_is_no_bound(self) -> None:
         for wrong in (*NO_RANKS, "44", (44,)):
             self.bad(Database.build, wrong)
-        for beyond in (59, 255, 256, 256 + 8, 2**64, HUGE):
+        for beyond in (91, 255, 256, 256 + 8, 2**64, HUGE):
             self.refused(4, Database.build, beyond)
         self.assertEqual(len(Database.build(0)), 1)
 
