@@ -4,21 +4,56 @@ in WEB, the two modules in the folder MODULES and the version in the file VERSIO
 The scripts in WEB, and those of the package in js/ beside it, are modules that name each other by
 `import` and `export`; esbuild makes one script of them for the page and one for its worker. With
 --maps each has a source map in it, for work on the page. The page's policy lets run and style what
-was put into it, by its hash, and nothing else.
+was put into it, by its hash, and nothing else. The page shows no board file, so the calls for these,
+and what only they reach, are left out of its modules, by Debian's binaryen.
 """
 import base64
 import gzip
 import hashlib
 import json
+import re
 import subprocess
 import sys
+import tempfile
 from pathlib import Path
 
 MOST_BYTES = 400_000
+# what the calls of the module for board files are named, and what its parts need
+BOARD_CALLS = "bearoff_board_"
+FEATURES = (
+    "memory64", "bulk-memory", "mutable-globals", "sign-ext", "nontrapping-float-to-int", "multivalue", "simd",
+)
 # what the oldest browsers that have all else can read
 TARGET = "es2020"
 # modules are strict, and a script says so
 STRICT = '"use strict";'
+
+
+def run(words, **options):
+    """What a tool writes on standard output."""
+    try:
+        done = subprocess.run(words, capture_output=True, text=True, **options)
+    except FileNotFoundError:
+        sys.exit(f"page: {words[0]} is missing: make needs installs it")
+    if done.returncode != 0 or done.stderr:
+        sys.exit(f"page: {words[0]} ended with status {done.returncode}\n{done.stderr}")
+    return done.stdout
+
+
+def without_boards(module):
+    """The bytes of a module that has no call for board files, and nothing that only they reach."""
+    features = [f"--enable-{feature}" for feature in FEATURES]
+    text = run(["wasm-dis", *features, str(module)])
+    names = re.findall(r'(?m)^ \(export "([^"]*)"', text)
+    graph = [
+        {"name": "page", "root": True, "reaches": [name for name in names if not name.startswith(BOARD_CALLS)]},
+        *({"name": name, "export": name} for name in names),
+    ]
+    with tempfile.TemporaryDirectory() as folder:
+        described, made = Path(folder) / "graph.json", Path(folder) / "made.wasm"
+        described.write_text(json.dumps(graph))
+        run(["wasm-metadce", *features, "--graph-file", str(described), "-o", str(made), str(module)])
+        return made.read_bytes()
 
 
 def script(web, module, name, call, banner, maps):
@@ -34,13 +69,7 @@ def script(web, module, name, call, banner, maps):
         *(["--sourcemap=inline"] if maps else []),
     ]
     entry = f'import {{ {name} }} from "./{module}";\n{call};\n'
-    try:
-        done = subprocess.run(words, cwd=web, input=entry, capture_output=True, text=True)
-    except FileNotFoundError:
-        sys.exit("page: esbuild is missing: make needs installs it")
-    if done.returncode != 0 or done.stderr:
-        sys.exit(f"page: {module} could not be bundled\n{done.stderr}")
-    return done.stdout
+    return run(words, cwd=web, input=entry)
 
 
 def hashed(text):
@@ -69,8 +98,8 @@ def main(web, modules, version, page, maps=None):
     # a browser with memories of 64-bit addresses can unpack; an older one needs the other module
     # as it is
     packed = {
-        "wide": gzip.compress((modules / "wide.wasm").read_bytes(), 9, mtime=0),
-        "narrow": (modules / "narrow.wasm").read_bytes(),
+        "wide": gzip.compress(without_boards(modules / "wide.wasm"), 9, mtime=0),
+        "narrow": without_boards(modules / "narrow.wasm"),
     }
     encoded = {name: base64.b64encode(module).decode() for name, module in packed.items()}
     worker = script(web, "worker.js", "serve", "serve(self)", STRICT, maps)
