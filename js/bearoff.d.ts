@@ -1,7 +1,8 @@
 /**
  * Exact answers of a proved backgammon bearoff database.
  *
- * A database is the bytes of a file that `bearoff build` writes, or what {@link Bearoff.build} makes. It is checked once,
+ * A database is the bytes of a file that `bearoff build` writes, or what {@link Bearoff.build} makes. A board file, which
+ * has positions to 90 pips, is one too, with greater numbers: each call says where it differs. It is checked once,
  * and accepted exactly where it is right: every mean in it is the least over all strategies, the recorded plays reach
  * these means, and the recorded shares are those of these plays. That is proved of the WebAssembly module of this package,
  * and so is what the module answers; the script hands numbers over.
@@ -103,7 +104,7 @@ export type RefusalCode =
     | "finished"
     /** The roll doesn't lead to that position. */
     | "not-legal"
-    /** The file that is to be upgraded is of version 2 already. */
+    /** The file that is to be upgraded is of version 2 already, or a board file. */
     | "not-old"
     /** The database has no position of that rank, or fewer than asked from there on. */
     | "no-rank"
@@ -160,9 +161,10 @@ export function asNumber(fraction: Fraction): number;
 
 /**
  * The numbers of a table of {@link Bearoff.means} or {@link Bearoff.distributions} as doubles, near to them and no more
- * than that: rolls, or chances. A `TypeError` where the table is no `BigUint64Array` of pairs.
+ * than that: rolls, or chances. `whole` is {@link Bearoff.whole} of their database, 36^22 where it is left out: a table of a
+ * board file wants it. A `TypeError` where it is another, or the table is no `BigUint64Array` of so many words a number.
  */
-export function asDoubles(table: BigUint64Array): Float64Array;
+export function asDoubles(table: BigUint64Array, whole?: bigint): Float64Array;
 
 /**
  * A checked database, in a memory of its own: 25 MB and its file, or twice its file where it was built. `close` gives it
@@ -172,15 +174,16 @@ export class Bearoff {
     private constructor();
 
     /**
-     * Copies the bytes of a file, checks them and opens it: 0.2 to 0.4 s for 44 pips, in which the thread does nothing
-     * else, so a page asks in a worker. The bytes stay as they are until the promise is kept, and may be changed then. A
-     * {@link DamagedError} where they are no right database, and `no-memory`.
+     * Copies the bytes of a file, checks them and opens it, a board file where its header says so: 0.2 to 0.4 s for 44
+     * pips, in which the thread does nothing else, so a page asks in a worker. The bytes stay as they are until the promise
+     * is kept, and may be changed then. A {@link DamagedError} where they are no right database, and `no-memory`.
      */
     static open(bytes: ArrayBufferLike | ArrayBufferView, options?: Options): Promise<Bearoff>;
 
     /**
-     * Builds the database of a pip bound, 0 to 58, checks it as any other, and opens it: 0.3 to 0.9 s for 44 pips, in which
-     * the thread does nothing else. Refused as `over-bound` where the bound is over 58, and as `no-memory`.
+     * Builds the database of a pip bound, 0 to 58, or the board file of one of 59 to 90, checks it as any other, and opens
+     * it: 0.3 to 0.9 s for 44 pips, and some seconds for 90, in which the thread does nothing else. Refused as `over-bound`
+     * where the bound is over 90, and as `no-memory`.
      */
     static build(bound: number, options?: Options): Promise<Bearoff>;
 
@@ -193,14 +196,17 @@ export class Bearoff {
     /** Whether it wasn't closed. */
     readonly isOpen: boolean;
 
-    /** The greatest pip count of its positions, 0 to 58. */
+    /** The greatest pip count of its positions: 0 to 58, and of a board file 0 to 90. */
     readonly bound: number;
 
     /** How many positions it has: those of at most its bound. Their ranks are 0 to one less. */
     readonly positionCount: number;
 
-    /** The version of its file: 1, or 2 where the records leave out the shares that are known. */
+    /** The version of its file: 1, 2 where the records leave out the shares that are known, and 3 of a board file. */
     readonly version: number;
+
+    /** What its chances add up to, and what its whole tables are over: 36n ** 22n, and of a board file 36n ** 33n. */
+    readonly whole: bigint;
 
     /** The version of the module, as `1.2.3`. */
     readonly libraryVersion: string;
@@ -219,7 +225,7 @@ export class Bearoff {
 
     /**
      * The chances of being off in exactly 0 to 22 rolls, from a position of the database by the recorded plays: 23
-     * fractions over 36^22, whose numerators add up to 36^22.
+     * fractions over 36^22, whose numerators add up to 36^22. Of a board file they are 34, to 33 rolls, over 36^33.
      */
     distribution(position: Position): Exact[];
 
@@ -274,33 +280,40 @@ export class Bearoff {
 
     /**
      * A fraction in thousandths, rounded to the nearest and a half up. A `RangeError` where the fraction is over 180, or
-     * its denominator is 0 or over 6 * 36^22: every number of a database is in that range.
+     * its denominator is 0 or over six times {@link Bearoff.whole}: every number of a database is in that range.
      */
     thousandths(fraction: Fraction): number;
 
     /**
      * Whole tables: of `count` ranks from `first` on, or of all from there on, by rising rank. Refused as `no-rank` where
-     * the database has fewer. Each is a copy of the caller's own.
+     * the database has fewer. Each is a copy of the caller's own. Of a board file a number has three words of 64 bits, the
+     * greatest first, in place of two.
      *
      * Positions: six bytes for each.
      */
     positions(first?: number, count?: number): Uint8Array;
 
-    /** Means: two numbers for each, the upper and the lower 64 bits of a numerator over 36^22. */
+    /** Means: two numbers for each, the upper and the lower 64 bits of a numerator over 36^22. Three of a board file. */
     means(first?: number, count?: number): BigUint64Array;
 
     /**
      * Effective pip counts: five numbers for each. The first two are the upper and the lower 64 bits of the numerator, the
-     * next two those of the denominator, in lowest terms, and the fifth are the thousandths.
+     * next two those of the denominator, in lowest terms, and the fifth are the thousandths. Seven of a board file.
      */
     epcs(first?: number, count?: number): BigUint64Array;
 
-    /** Distributions: 46 numbers for each, the upper and the lower 64 bits of each of 23 numerators over 36^22. */
+    /**
+     * Distributions: 46 numbers for each, the upper and the lower 64 bits of each of 23 numerators over 36^22. Of a board
+     * file they are 102, three words of each of 34 numerators over 36^33.
+     */
     distributions(first?: number, count?: number): BigUint64Array;
 
     /** The bytes of its file: a copy. */
     bytes(): Uint8Array;
 
-    /** The bytes of a file of version 2 that says the same. Refused as `not-old` where its file is of version 2 already. */
+    /**
+     * The bytes of a file of version 2 that says the same. Refused as `not-old` where its file is of version 2 already, or a
+     * board file.
+     */
     upgrade(): Uint8Array;
 }

@@ -4,7 +4,6 @@
 // Six counts and two dice are bytes in the module.
 const MOST_BYTE = 255;
 const MOST_RANK = 65535;
-const MOST_WIDE = (1n << 128n) - 1n;
 
 const isList = (value) => Array.isArray(value) || (ArrayBuffer.isView(value) && !(value instanceof DataView));
 
@@ -60,7 +59,7 @@ export const readRank = (value) => Math.min(readNatural(value, "a rank", Number.
 // A pip bound, as it fits the module.
 export const readBound = (value) => Math.min(readNatural(value, "a bound", Number.MAX_SAFE_INTEGER), MOST_BYTE);
 
-// A number of rolls, as it fits the module: from 22 rolls on all checkers are off.
+// A number of rolls, as it fits the module: from 33 rolls on all checkers are off, whatever stands.
 export const readRolls = (value) => Math.min(readNatural(value, "a number of rolls", Number.MAX_SAFE_INTEGER), MOST_BYTE);
 
 // A range of ranks: the first, and how many; all that follow where no count is told.
@@ -75,12 +74,13 @@ export function readLine(value) {
     return value;
 }
 
-// A fraction, with numbers that fit the module.
-export function readFraction(value) {
+// A fraction, with numbers that fit into so many bits.
+export function readFraction(value, bits) {
+    const most = (1n << BigInt(bits)) - 1n;
     if (typeof value !== "object" || value === null) throw new TypeError(`a fraction is an object, and not ${named(value)}`);
     return [["numerator", value.numerator], ["denominator", value.denominator]].map(([name, number]) => {
         if (typeof number !== "bigint") throw new TypeError(`a ${name} is a bigint, and not ${named(number)}`);
-        if (number < 0n || number > MOST_WIDE) throw new RangeError(`a ${name} is 0 to 2^128 - 1, and not ${number}`);
+        if (number < 0n || number > most) throw new RangeError(`a ${name} is 0 to 2^${bits} - 1, and not ${number}`);
         return number;
     });
 }

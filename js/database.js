@@ -2,20 +2,22 @@
 import {
     readBound, readBytes, readFraction, readLine, readModule, readPosition, readRange, readRank, readRoll, readRolls,
 } from "./checks.js";
+import { nearest, positionsByRank, rounded } from "./boards.js";
 import { Engine, OUTPUT_BYTES } from "./engine.js";
 import { BearoffError, refusal } from "./errors.js";
 import { Fraction } from "./fractions.js";
+import { BOARD, kindOf } from "./kinds.js";
 
-// How many bytes the elements of a whole table have.
+// How many bytes the elements of a whole table have, with so many words a number.
 const POSITION_BYTES = 6;
-const MEAN_BYTES = 16;
-const EPC_BYTES = 40;
-const DISTRIBUTION_BYTES = 368;
-const RESULT_BYTES = 40;
+const meanBytes = ({ words }) => 8 * words;
+const epcBytes = ({ words }) => 16 * words + 8;
+const distributionBytes = ({ words, rolls }) => 8 * words * (rolls + 1);
+const resultBytes = ({ words }) => 8 + 16 * words;
 const MOST_RESULTS = 127;
 
-const WHOLE = 36n ** 22n;
-const MOST_ROLLS = 22;
+// The statuses of what a line about a position of a board is refused with.
+const LINE_STATUSES = { "error too-many": 3, "error over-bound": 4 };
 
 // The less loss first; of equal losses, as they came.
 function byLoss({ loss: one }, { loss: other }) {
@@ -35,8 +37,16 @@ function opened(Kind, engine, put) {
     }
 }
 
+// Whether a file begins as a board file does.
+export const isBoardFile = (bytes) => kindOf(readBytes(bytes)) === BOARD;
+
 export class Database {
     #engine;
+
+    #kind;
+
+    // the positions of a board by rank, once they are wanted
+    #byRank = null;
 
     #bound;
 
@@ -62,6 +72,12 @@ export class Database {
 
     constructor(engine) {
         this.#engine = engine;
+        this.#kind = engine.kind;
+        if (this.#isBoard) {
+            this.#bound = engine.boardBound();
+            this.#count = engine.boardCount();
+            return;
+        }
         engine.ask("bound", "bearoff_bound", engine.atDatabase, engine.atTold);
         this.#bound = engine.bytes[engine.told];
         engine.ask("positions", "bearoff_positions", engine.atDatabase, engine.atTold);
@@ -86,8 +102,13 @@ export class Database {
         return this.#count;
     }
 
+    get whole() {
+        return this.#kind.whole;
+    }
+
     get version() {
         const engine = this.#instance("version");
+        if (this.#isBoard) return engine.boardVersion();
         engine.ask("version", "bearoff_version", engine.atDatabase, engine.atTold);
         return engine.view.getUint16(engine.told, true);
     }
@@ -99,26 +120,40 @@ export class Database {
     }
 
     mean(position) {
+        if (this.#isBoard) {
+            const engine = this.#askOf("mean", "bearoff_board_mean", position);
+            return rounded(engine.numeral(engine.output), this.whole);
+        }
         return this.#rounded("mean", "bearoff_rounded_mean", position);
     }
 
     epc(position) {
-        return this.#rounded("epc", "bearoff_epc", position);
+        return this.#rounded("epc", this.#kind.epc, position);
     }
 
     wastage(position) {
+        if (this.#isBoard) {
+            const engine = this.#askOf("wastage", this.#kind.epc, position);
+            const { thousandths } = engine.roundedAt(engine.output);
+            const counts = engine.countsAt(engine.position);
+            return { thousandths: thousandths - 1000 * counts.reduce((sum, count, place) => sum + count * (place + 1), 0) };
+        }
         const engine = this.#askOf("wastage", "bearoff_wastage", position);
         const thousandths = engine.number(engine.output);
         return { thousandths: engine.bytes[engine.output + 8] === 0 ? thousandths : -thousandths };
     }
 
     distribution(position) {
-        const engine = this.#askOf("distribution", "bearoff_distribution", position);
-        return Array.from({ length: MOST_ROLLS + 1 }, (_, rolls) =>
-            new Fraction(engine.wide(engine.output + 16 * rolls), WHOLE));
+        const engine = this.#askOf("distribution", this.#kind.distribution, position);
+        return this.#sharesIn(engine).map((share) => new Fraction(share, this.whole));
     }
 
     within(position, rolls) {
+        if (this.#isBoard) {
+            const [most, counts] = [readRolls(rolls), readPosition(position)];
+            const shares = this.#sharesIn(this.#askOf("within", this.#kind.distribution, counts));
+            return { thousandths: nearest(shares.slice(0, most + 1).reduce((sum, share) => sum + share), this.whole) };
+        }
         const engine = this.#askOf("within", "bearoff_within", position, readRolls(rolls));
         return { thousandths: engine.number(engine.output) };
     }
@@ -133,6 +168,13 @@ export class Database {
     }
 
     rank(position) {
+        if (this.#isBoard) {
+            const line = `rank ${readPosition(position)}`;
+            this.#instance("rank");
+            const reply = this.answer(line);
+            if (reply in LINE_STATUSES) throw refusal(LINE_STATUSES[reply], line);
+            return Number(reply.slice("rank ".length));
+        }
         const engine = this.#askOf("rank", "bearoff_rank", position);
         return engine.view.getUint16(engine.output, true);
     }
@@ -140,13 +182,17 @@ export class Database {
     position(rank) {
         const asked = readRank(rank);
         const engine = this.#instance("position");
+        if (this.#isBoard) {
+            if (asked >= this.#count) throw refusal(10, `position ${rank}`);
+            return Array.from(this.#ranked().subarray(POSITION_BYTES * asked, POSITION_BYTES * (asked + 1)));
+        }
         engine.ask(`position ${rank}`, "bearoff_position_of", engine.atDatabase, asked, engine.atOutput);
         return engine.countsAt(engine.output);
     }
 
     play(position, roll) {
         const dice = readRoll(roll);
-        const engine = this.#askOf("play", "bearoff_play", position, ...dice);
+        const engine = this.#askOf("play", this.#kind.play, position, ...dice);
         return engine.playAt(engine.output);
     }
 
@@ -165,7 +211,7 @@ export class Database {
         const engine = this.#instance("loss");
         engine.setCounts(engine.position, counts);
         engine.setCounts(engine.to, target);
-        engine.ask(`loss ${counts} ${dice.join("")} ${target}`, "bearoff_loss", engine.atDatabase, engine.atPosition, ...dice,
+        engine.ask(`loss ${counts} ${dice.join("")} ${target}`, this.#kind.loss, engine.atDatabase, engine.atPosition, ...dice,
             engine.atTo, engine.atOutput);
         return engine.fractionAt(engine.output);
     }
@@ -174,10 +220,10 @@ export class Database {
         const [counts, dice] = [readPosition(position), readRoll(roll)];
         const engine = this.#instance("moves");
         engine.setCounts(engine.position, counts);
-        engine.ask(`moves ${counts} ${dice.join("")}`, "bearoff_results", engine.atDatabase, engine.atPosition, ...dice,
+        engine.ask(`moves ${counts} ${dice.join("")}`, this.#kind.moves, engine.atDatabase, engine.atPosition, ...dice,
             engine.atOutput, BigInt(MOST_RESULTS), engine.atTold);
         return Array.from({ length: engine.number(engine.told) }, (_, result) => {
-            const place = engine.output + RESULT_BYTES * result;
+            const place = engine.output + resultBytes(this.#kind) * result;
             return { to: engine.countsAt(place), loss: engine.fractionAt(place + 8) };
         }).sort(byLoss);
     }
@@ -186,35 +232,49 @@ export class Database {
         const asked = readLine(line);
         const engine = this.#instance("answer");
         const length = engine.setLine(asked);
-        engine.ask("answer", "bearoff_answer_line", engine.atDatabase, BigInt(engine.line), BigInt(length), engine.atOutput,
+        engine.ask("answer", this.#kind.answer, engine.atDatabase, BigInt(engine.line), BigInt(length), engine.atOutput,
             BigInt(OUTPUT_BYTES), engine.atTold);
         return engine.text(engine.output, engine.number(engine.told));
     }
 
     thousandths(fraction) {
-        const numbers = readFraction(fraction);
+        const { words, rolls } = this.#kind;
+        const numbers = readFraction(fraction, 64 * words);
         const engine = this.#instance("thousandths");
-        engine.setFraction(numbers);
-        if (!engine.call("bearoff_thousandths", BigInt(engine.fraction), engine.atTold)) {
-            throw new RangeError("a fraction in thousandths is at most 180, and its denominator is 1 to 6 * 36^22");
+        const outside = `a fraction in thousandths is at most 180, and its denominator is 1 to 6 * 36^${rolls}`;
+        if (this.#isBoard) {
+            const [numerator, denominator] = numbers;
+            if (denominator === 0n || denominator > 6n * this.whole || numerator > 180n * denominator) {
+                throw new RangeError(outside);
+            }
+            return nearest(numerator, denominator);
         }
+        engine.setFraction(numbers);
+        if (!engine.call("bearoff_thousandths", BigInt(engine.fraction), engine.atTold)) throw new RangeError(outside);
         return engine.number(engine.told);
     }
 
     positions(first = 0, count = undefined) {
+        if (this.#isBoard) {
+            const [from, all] = this.#range(first, count);
+            return this.#ranked().slice(POSITION_BYTES * from, POSITION_BYTES * (from + all));
+        }
         return this.#listed("bearoff_listed_positions", POSITION_BYTES, first, count);
     }
 
     means(first = 0, count = undefined) {
-        return new BigUint64Array(this.#listed("bearoff_listed_means", MEAN_BYTES, first, count).buffer);
+        return new BigUint64Array(this.#listed(this.#kind.means, meanBytes(this.#kind), first, count).buffer);
     }
 
     epcs(first = 0, count = undefined) {
-        return new BigUint64Array(this.#listed("bearoff_listed_epcs", EPC_BYTES, first, count).buffer);
+        const each = epcBytes(this.#kind);
+        if (this.#isBoard) return new BigUint64Array(this.#askedEach(this.#kind.epc, each, first, count).buffer);
+        return new BigUint64Array(this.#listed("bearoff_listed_epcs", each, first, count).buffer);
     }
 
     distributions(first = 0, count = undefined) {
-        return new BigUint64Array(this.#listed("bearoff_listed_distributions", DISTRIBUTION_BYTES, first, count).buffer);
+        const each = distributionBytes(this.#kind);
+        return new BigUint64Array(this.#listed(this.#kind.distributions, each, first, count).buffer);
     }
 
     bytes() {
@@ -222,7 +282,19 @@ export class Database {
     }
 
     upgrade() {
-        return this.#instance("upgrade").upgrade();
+        const engine = this.#instance("upgrade");
+        if (this.#isBoard) throw new BearoffError("not-old", "upgrade: the file is a board file, and has no upgrade");
+        return engine.upgrade();
+    }
+
+    get #isBoard() {
+        return this.#kind === BOARD;
+    }
+
+    // The positions of a board by rank, which no byte of its file tells.
+    #ranked() {
+        this.#byRank ??= positionsByRank(this.#bound);
+        return this.#byRank;
     }
 
     // The instance of a database that wasn't closed.
@@ -246,11 +318,39 @@ export class Database {
         return engine.roundedAt(engine.output);
     }
 
+    // The numerators of the shares that lie where outputs do.
+    #sharesIn(engine) {
+        const { words, rolls } = this.#kind;
+        return Array.from({ length: rolls + 1 }, (_, share) => engine.numeral(engine.output + 8 * words * share));
+    }
+
+    // A range of ranks that the open database has: the first, and how many.
+    #range(first, count) {
+        const [from, all] = readRange(first, count, this.#count);
+        this.#instance("a table");
+        if (from + all > this.#count) throw refusal(10, `${all} ranks from ${from} on`);
+        return [from, all];
+    }
+
+    // What the module answers of each position of a range of ranks.
+    #askedEach(name, each, first, count) {
+        const [from, all] = this.#range(first, count);
+        const engine = this.#instance("a table");
+        const table = new Uint8Array(all * each);
+        const positions = this.#ranked();
+        for (let done = 0; done < all; done++) {
+            const start = POSITION_BYTES * (from + done);
+            engine.setCounts(engine.position, positions.subarray(start, start + POSITION_BYTES));
+            engine.ask("a table", name, engine.atDatabase, engine.atPosition, engine.atOutput);
+            table.set(engine.bytes.subarray(engine.output, engine.output + each), done * each);
+        }
+        return table;
+    }
+
     // What the module lists of a range of ranks, copied out by parts that the room for outputs holds.
     #listed(name, each, first, count) {
-        const [from, all] = readRange(first, count, this.#count);
+        const [from, all] = this.#range(first, count);
         const engine = this.#instance("a table");
-        if (from + all > this.#count) throw refusal(10, `${all} ranks from ${from} on`);
         const table = new Uint8Array(all * each);
         const most = Math.floor(OUTPUT_BYTES / each);
         for (let done = 0; done < all; done += most) {

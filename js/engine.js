@@ -2,13 +2,16 @@
 // module; what is done is to hand over bytes and to read what came back.
 import { BearoffError, DamagedError, refusal } from "./errors.js";
 import { Fraction, Rounded } from "./fractions.js";
+import { DATABASE, kindOf, LAST_DATABASE_BOUND } from "./kinds.js";
 
 const PAGE_BYTES = 65536;
 const LINE_BYTES = 256; // more than any line that asks something
 const FAULT_BYTES = 32;
 
-// The struct of an open database, which only the module writes.
+// The struct of an open database, which only the module writes. That of an open board has as many bytes, and its bound lies
+// at the same place.
 const DATABASE_BYTES = 17680;
+const BOUND_AT = 17;
 
 // What a call answers: the longest reply to a line, the results of a roll, or a part of a table.
 export const OUTPUT_BYTES = 131072;
@@ -17,8 +20,13 @@ export const OUTPUT_BYTES = 131072;
 // it has fewer, and its upgrade fewer still.
 const MOST_FILE_BYTES = 15060844;
 const OLD_FILE_BYTES = 11209796;
+const BOARD_FILE_BYTES = 14643664;
 const UPGRADE_BYTES = 7608420;
 const LAST_OLD_BOUND = 44;
+
+// Where a file has its version and the number of its positions.
+const VERSION_AT = 8;
+const COUNT_AT = 12;
 
 const ENCODER = new TextEncoder();
 const DECODER = new TextDecoder();
@@ -129,14 +137,25 @@ export class Engine {
         this.bytes.fill(0, this.database, this.database + DATABASE_BYTES);
         this.view.setBigUint64(this.database, BigInt(this.file), true); // no null, where there are no bytes
         this.fileBytes = 0;
+        this.kind = DATABASE;
     }
 
     // Builds the file of a bound with the proved builder, where files lie.
     build(bound) {
+        if (bound > LAST_DATABASE_BOUND) {
+            this.#buildBoard(bound);
+            return;
+        }
         const room = bound > LAST_OLD_BOUND ? MOST_FILE_BYTES : OLD_FILE_BYTES;
         const [front, work] = this.#rooms(this.file, room);
         const length = BigInt(room);
         this.ask(`build ${bound}`, "bearoff_build", bound, BigInt(work), length, BigInt(front), length, this.atTold);
+        this.fileBytes = this.number(this.told);
+    }
+
+    #buildBoard(bound) {
+        this.#lend(this.file + BOARD_FILE_BYTES);
+        this.ask(`build ${bound}`, "bearoff_board_build", bound, BigInt(this.file), BigInt(BOARD_FILE_BYTES), this.atTold);
         this.fileBytes = this.number(this.told);
     }
 
@@ -149,11 +168,26 @@ export class Engine {
         this.fileBytes = length;
     }
 
-    // Checks the file that lies there with the proved checker, and opens it.
+    // Checks the file that lies there with the proved checker of its kind, and opens it.
     open() {
-        const status = this.call("bearoff_open", this.atDatabase, BigInt(this.file), BigInt(this.fileBytes), this.atOutput,
+        this.kind = kindOf(this.bytes.subarray(this.file, this.file + this.fileBytes));
+        const status = this.call(this.kind.open, this.atDatabase, BigInt(this.file), BigInt(this.fileBytes), this.atOutput,
             BigInt(FAULT_BYTES), this.atTold);
         if (status !== 0) throw new DamagedError(status, this.text(this.output, this.number(this.told)));
+    }
+
+    // The bound, the version and the number of positions of an open board, for which the module has no calls: the first out
+    // of the struct, the others out of the header that was checked.
+    boardBound() {
+        return this.bytes[this.database + BOUND_AT];
+    }
+
+    boardVersion() {
+        return this.view.getUint16(this.file + VERSION_AT);
+    }
+
+    boardCount() {
+        return this.view.getUint32(this.file + COUNT_AT);
     }
 
     // The bytes of the open file.
@@ -194,13 +228,20 @@ export class Engine {
         return high === 0n ? low : (high << 64n) | low;
     }
 
+    // A number of the open file, in two words or in three.
+    numeral(place) {
+        const { words } = this.kind;
+        return words === 2 ? this.wide(place) : (this.view.getBigUint64(place, true) << 128n) | this.wide(place + 8);
+    }
+
     fractionAt(place) {
-        return new Fraction(this.wide(place), this.wide(place + 16));
+        return new Fraction(this.numeral(place), this.numeral(place + 8 * this.kind.words));
     }
 
     // A fraction with its thousandths behind it.
     roundedAt(place) {
-        return new Rounded(this.wide(place), this.wide(place + 16), this.number(place + 32));
+        const bytes = 8 * this.kind.words;
+        return new Rounded(this.numeral(place), this.numeral(place + bytes), this.number(place + 2 * bytes));
     }
 
     // A number of 64 bits that is small.

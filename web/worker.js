@@ -1,6 +1,6 @@
 // What the worker does: it builds, checks and answers, so that the page never stands still.
-import { Database } from "../js/database.js";
-import { BearoffError } from "../js/errors.js";
+import { Database, isBoardFile } from "../js/database.js";
+import { BearoffError, DamagedError } from "../js/errors.js";
 import { chancesOf, choicesOf, playsOf, roundedOf, roundText, signedOf } from "./answers.js";
 import { bytesOf, unpacked } from "./packed.js";
 import { ROLLS } from "./rolls.js";
@@ -79,8 +79,10 @@ export class Desk {
         return { ...opened, took: performance.now() - begun };
     }
 
-    // Checks a file and opens it; where it is refused the database that was open stays so.
+    // Checks a file and opens it; where it is refused the database that was open stays so. The page shows databases alone,
+    // so the version of a board file is the fault of it.
     async open(file) {
+        if (isBoardFile(file)) throw new DamagedError(18, "header bad-version");
         return this.become(await Database.open(file, this.module));
     }
 

@@ -1,46 +1,12 @@
 // Asks the package everything that the program was asked, and compares what it answers with the program's lines: each call,
 // the texts of its replies, whole tables, and the bytes of files. answers.mjs PACKAGE PROGRAM FOLDER [BOUND..]
 import { bytesOf, end, equal, FILES, linesOf, partOf, textOf, wrong } from "./given.mjs";
+import { nearest, number, walked, written } from "./written.mjs";
 
 const { Bearoff, BearoffError, asDoubles, asNumber } = await partOf("bearoff.js");
 const { version } = JSON.parse(textOf("package.json"));
 const WHOLE = 36n ** 22n;
 const REFUSED = ["too-many", "over-bound", "finished", "not-legal"];
-
-const fraction = ({ numerator, denominator }) => `${numerator}/${denominator}`;
-const divisor = (one, other) => (other === 0n ? one : divisor(other, one % other));
-const decimal = (thousandths) => `${Math.floor(thousandths / 1000)}.${String(thousandths % 1000).padStart(3, "0")}`;
-const number = (text) => text.split(",").map(Number);
-
-// A number over another in thousandths, to the nearest and a half up, as the definition says.
-const nearest = ({ numerator, denominator }) => Number((2000n * numerator + denominator) / (2n * denominator));
-
-function lowest({ numerator, denominator }) {
-    const common = divisor(numerator, denominator);
-    return `${numerator / common}/${denominator / common}`;
-}
-
-// What the program writes for a line, put together from what the calls answer.
-function written(database, line) {
-    const [word, at, dice, to] = line.split(" ");
-    const position = number(at);
-    const roll = dice && [...dice].map(Number);
-    if (word === "mean") {
-        const epc = database.epc(position);
-        return `mean ${fraction(database.mean(position))} epc ${fraction(epc)} ${decimal(epc.thousandths)}`;
-    }
-    if (word === "dist") {
-        const shares = database.distribution(position).map((share, rolls) => [rolls, share]);
-        return `dist ${shares.filter(([, share]) => share.numerator > 0n).map(([rolls, share]) => `${rolls}:${lowest(share)}`).join(" ")}`;
-    }
-    if (word === "play") {
-        const play = database.play(position, roll);
-        return `play ${play.moves.map((move) => `${move.from}/${move.to === 0 ? "off" : move.to}`).join(" ")} to ${play.to}`;
-    }
-    if (word === "loss") return `loss ${fraction(database.loss(position, roll, number(to)))}`;
-    if (word === "rank") return `rank ${database.rank(position)}`;
-    return `moves ${database.moves(position, roll).map((choice) => `${choice.to}:${fraction(choice.loss)}`).join(" ")}`;
-}
 
 function compareLines(database, bound) {
     const lines = linesOf(`questions_${bound}`);
@@ -96,16 +62,6 @@ function comparePosition(database, name, position) {
             equal(`${name}, its moves`, walked(position, play.moves), to.join());
         }
     }
-}
-
-// Where moves lead, checker by checker.
-function walked(position, moves) {
-    const counts = [...position];
-    for (const { from, to } of moves) {
-        counts[from - 1] -= 1;
-        if (to > 0) counts[to - 1] += 1;
-    }
-    return counts.join();
 }
 
 // Of each bound the position from which a double one leads to more results than any other roll of any position does.

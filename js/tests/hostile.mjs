@@ -173,7 +173,7 @@ async function refuseOpening() {
     for (const file of [undefined, null, "race.db", 8, [1, 2, 3], {}, new Blob([eight]), () => eight]) {
         equal(`opening a ${typeof file}`, await refusedLater(() => Bearoff.open(file)), "TypeError");
     }
-    for (const [bound, refusal] of [...NUMBERS, [undefined, "TypeError"], [59, "over-bound"], [255, "over-bound"], [256, "over-bound"], [300, "over-bound"], [2 ** 40, "over-bound"]]) {
+    for (const [bound, refusal] of [...NUMBERS, [undefined, "TypeError"], [91, "over-bound"], [255, "over-bound"], [256, "over-bound"], [300, "over-bound"], [2 ** 40, "over-bound"]]) {
         equal(`building ${String(bound)}`, await refusedLater(() => Bearoff.build(bound)), refusal);
     }
     for (const module of [null, {}, eight, "wide.wasm", 1]) {
@@ -320,6 +320,7 @@ async function refuseMemory() {
     const engine = new Engine({ ...exports, memory: exports.memory }, module);
     engine.exports = { ...exports, memory };
     equal("no memory for a build", refusedWith(() => engine.build(58)), "no-memory");
+    equal("no memory for a board", refusedWith(() => engine.build(90)), "no-memory");
     equal("no memory for a file", refusedWith(() => engine.put(new Uint8Array(14_000_000))), "no-memory");
     const { instantiate } = WebAssembly;
     WebAssembly.instantiate = async () => { throw new RangeError("full"); };

@@ -17,6 +17,8 @@ const loss: Fraction = database.loss(six, [1, 2], play.to);
 const counts: Counts = database.position(database.rank(new Uint8Array([0, 0, 0, 0, 0, 1])));
 const halves: BigUint64Array = database.means(0, 3);
 const doubles: Float64Array = asDoubles(halves);
+const whole: bigint = database.whole;
+const over: Float64Array = asDoubles(halves, whole);
 const texts: string[] = play.moves.map(({ from, to }) => `${from}/${to}`);
 const split: number[] = "0,0,0,0,0,1".split(",").map(Number);
 const effective: Rounded = database.epc(split);
@@ -45,7 +47,7 @@ function named(error: unknown): string {
 const refused: string = await Bearoff.open(new ArrayBuffer(3)).then(() => "none", named);
 const refusal: string = await Promise.resolve("").then(read).then(() => "none", named);
 const told = [notations.join(" "), pips, refusal,
-    exact, mean.denominator, texts.join(" "), first?.to.join(), loss.numerator, counts.join(), doubles[1]?.toFixed(3), again.version,
+    exact, mean.denominator, texts.join(" "), first?.to.join(), loss.numerator, counts.join(), over[1] === doubles[1] ? doubles[1]?.toFixed(3) : "another", again.version,
     again.wastage(six).thousandths, asNumber(again.distribution(six)[1]!).toFixed(2), refused,
     effective.thousandths, digits?.numerator === `${share?.numerator}`, thousandths, JSON.stringify([mean, loss])];
 console.log(told.join("; "));
@@ -90,6 +92,8 @@ export async function wrong(): Promise<void> {
     await Bearoff.open("race.db");
     // @ts-expect-error a bound that is a text
     await Bearoff.build("44");
+    // @ts-expect-error a whole that is a double
+    asDoubles(halves, 36 ** 22);
     // @ts-expect-error a module that is an address
     await Bearoff.build(44, { module: "wide.wasm" });
     // @ts-expect-error it is opened, and not made

@@ -1,5 +1,6 @@
 // The package for JavaScript, as it is put down: it answers what the program is asked, every
 // position of 8 pips and a thousand of 44 and of 58, by each call, by lines and in whole tables;
+// board files, beside replies that were computed outside and beside databases;
 // hostile arguments of each kind; a thousand openings in one process; positions in other
 // notations, which GNU Backgammon has written and read; its types under tsc --strict, with lines
 // that may not compile; the examples of docs/embedding.md and of js/README.md; and in Chromium,
@@ -26,8 +27,8 @@ const TYPED = "XGID=-C--B-A------------d--cba-:0:0:-1:21:0:0:0:0:10 AAAA2vEAAAAA
 const BELONGS = [
     "README.md", "package.json", "wide.wasm", "narrow.wasm",
     ...["bearoff", "notation"].flatMap((name) => [`${name}.js`, `${name}.d.ts`, `${name}.d.cts`]),
-    ...["abilities", "checks", "database", "engine", "errors", "fractions", "modules", "numbers"]
-        .map((name) => `${name}.js`),
+    ...["abilities", "boards", "checks", "database", "engine", "errors", "fractions", "kinds", "modules",
+        "numbers"].map((name) => `${name}.js`),
 ].sort();
 const PRINTED = "1.250 rolls, 10.208 pips\n4/2 2/1\n";
 const version = readFileSync(join(ROOT, "VERSION"), "utf8").trim();
@@ -103,6 +104,7 @@ test("npm packs the same files", { skip: skip("npm") }, () => {
 
 test("what it answers", () => { script("answers.mjs"); });
 test("what it refuses", () => { script("hostile.mjs"); });
+test("board files", () => { script("boards.mjs"); });
 test("its memory", () => { script("memory.mjs"); });
 test("fractions, lists and closing", () => { script("fractions.mjs"); });
 test("other notations", () => { script("notation.mjs"); });
@@ -120,6 +122,7 @@ const hasBoth = form() === "narrow" && form(WIDE) === "wide";
 const one = { skip: hasBoth ? false : "this node has one form of memories, so one of the modules is tried" };
 test("what it answers with wide addresses", one, () => { script("answers.mjs", ["8", "44"], [WIDE]); });
 test("what it refuses with wide addresses", one, () => { script("hostile.mjs", [], [WIDE]); });
+test("board files with wide addresses", one, () => { script("boards.mjs", [], [WIDE]); });
 
 test("its types", () => {
     run(["tsc", "--project", "."], { cwd: site });
@@ -146,7 +149,7 @@ test("the examples of js/README.md", () => {
     const told = blocks("js/README.md").replace(/^(?!const )(.*); \/\/ (.*)$/gm, "assert.deepStrictEqual(structuredClone($1), $2);");
     const tables = "assert.deepStrictEqual([means, points, shares].map((table) => table.length / 26314), [1, 6, 23]);";
     const text = `import assert from "node:assert";\n${told}${tables}\n`;
-    assert.equal(text.match(/^assert/gm).length, 11, "js/README.md has no examples that tell ten answers");
+    assert.equal(text.match(/^assert/gm).length, 14, "js/README.md has no examples that tell thirteen answers");
     writeFileSync(join(site, "readme.js"), text);
     assert.equal(run([process.execPath, "readme.js"], { cwd: site }), "");
 });
