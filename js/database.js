@@ -6,7 +6,7 @@ import { nearest, positionsByRank, rounded } from "./boards.js";
 import { Engine, OUTPUT_BYTES } from "./engine.js";
 import { BearoffError, refusal } from "./errors.js";
 import { Fraction } from "./fractions.js";
-import { BOARD, kindOf } from "./kinds.js";
+import { BOARD } from "./kinds.js";
 
 // How many bytes the elements of a whole table have, with so many words a number.
 const POSITION_BYTES = 6;
@@ -36,9 +36,6 @@ function opened(Kind, engine, put) {
         throw error;
     }
 }
-
-// Whether a file begins as a board file does.
-export const isBoardFile = (bytes) => kindOf(readBytes(bytes)) === BOARD;
 
 export class Database {
     #engine;

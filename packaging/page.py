@@ -2,31 +2,32 @@
 in WEB, the two modules in the folder MODULES and the version in the file VERSION.
 
 The scripts in WEB, and those of the package in js/ beside it, are modules that name each other by
-`import` and `export`; esbuild makes one script of them for the page and one for its worker. With
---maps each has a source map in it, for work on the page. The page's policy lets run and style what
-was put into it, by its hash, and nothing else. The page shows no board file, so the calls for these,
-and what only they reach, are left out of its modules, by Debian's binaryen.
+`import` and `export`; esbuild makes one script of them for the page and one for its worker, which
+has Debian's pako to unpack the modules. With --maps each has a source map in it, for work on the
+page. The page's policy lets run and style what was put into it, by its hash, and nothing else.
 """
 import base64
 import gzip
 import hashlib
 import json
-import re
+import os
 import subprocess
 import sys
-import tempfile
 from pathlib import Path
 
 MOST_BYTES = 400_000
-# what the calls of the module for board files are named, and what its parts need
-BOARD_CALLS = "bearoff_board_"
-FEATURES = (
-    "memory64", "bulk-memory", "mutable-globals", "sign-ext", "nontrapping-float-to-int", "multivalue", "simd",
-)
+# where Debian puts what is written for node
+LIBRARIES = "/usr/share/nodejs"
 # what the oldest browsers that have all else can read
 TARGET = "es2020"
 # modules are strict, and a script says so
 STRICT = '"use strict";'
+# what each of the two scripts begins with
+PAGE = 'import { start } from "./app.js";\nstart(document, window, PARTS);\n'
+WORKER = (
+    'import { ungzip } from "pako/dist/pako_inflate.js";\n'
+    'import { serve } from "./worker.js";\nserve(self, ungzip);\n'
+)
 
 
 def run(words, **options):
@@ -40,24 +41,8 @@ def run(words, **options):
     return done.stdout
 
 
-def without_boards(module):
-    """The bytes of a module that has no call for board files, and nothing that only they reach."""
-    features = [f"--enable-{feature}" for feature in FEATURES]
-    text = run(["wasm-dis", *features, str(module)])
-    names = re.findall(r'(?m)^ \(export "([^"]*)"', text)
-    graph = [
-        {"name": "page", "root": True, "reaches": [name for name in names if not name.startswith(BOARD_CALLS)]},
-        *({"name": name, "export": name} for name in names),
-    ]
-    with tempfile.TemporaryDirectory() as folder:
-        described, made = Path(folder) / "graph.json", Path(folder) / "made.wasm"
-        described.write_text(json.dumps(graph))
-        run(["wasm-metadce", *features, "--graph-file", str(described), "-o", str(made), str(module)])
-        return made.read_bytes()
-
-
-def script(web, module, name, call, banner, maps):
-    """One script of a module and those below it, which ends with a call of one of its names."""
+def script(web, entry, banner, maps):
+    """One script of a text that imports modules, and of these."""
     words = [
         "esbuild",
         "--bundle",
@@ -68,8 +53,12 @@ def script(web, module, name, call, banner, maps):
         f"--banner:js={banner}",
         *(["--sourcemap=inline"] if maps else []),
     ]
-    entry = f'import {{ {name} }} from "./{module}";\n{call};\n'
-    return run(words, cwd=web, input=entry)
+    return run(words, cwd=web, input=entry, env={**os.environ, "NODE_PATH": LIBRARIES})
+
+
+def packed(module):
+    """A module as the page carries it."""
+    return base64.b64encode(gzip.compress(module.read_bytes(), 9, mtime=0)).decode()
 
 
 def hashed(text):
@@ -95,24 +84,16 @@ def policy(code, style):
 
 def main(web, modules, version, page, maps=None):
     web, modules = Path(web), Path(modules)
-    # a browser with memories of 64-bit addresses can unpack; an older one needs the other module
-    # as it is
-    packed = {
-        "wide": gzip.compress(without_boards(modules / "wide.wasm"), 9, mtime=0),
-        "narrow": without_boards(modules / "narrow.wasm"),
-    }
-    encoded = {name: base64.b64encode(module).decode() for name, module in packed.items()}
-    worker = script(web, "worker.js", "serve", "serve(self)", STRICT, maps)
+    worker = script(web, WORKER, STRICT, maps)
     lessons = "".join(
         line
         for line in (web / "lessons.txt").read_text().splitlines(True)
         if not line.startswith("from:")
     )
-    parts = json.dumps({"worker": worker, "lessons": lessons, **encoded}).replace("</", "<\\/")
+    forms = {name: packed(modules / f"{name}.wasm") for name in ("wide", "narrow")}
+    parts = json.dumps({"worker": worker, "lessons": lessons, **forms}).replace("</", "<\\/")
     # what the script is given stands behind it, so that its map holds
-    code = script(
-        web, "app.js", "start", "start(document, window, PARTS)", STRICT + "(PARTS=>{", maps
-    )
+    code = script(web, PAGE, STRICT + "(PARTS=>{", maps)
     code = f"{code}}})({parts});"
     style = (web / "style.css").read_text()
     text = (web / "index.html").read_text()

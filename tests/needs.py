@@ -66,6 +66,7 @@ NEEDS = (
     # the page, and the package for JavaScript
     Need("wasm-opt", ["binaryen"], has("wasm-opt")),
     Need("esbuild", ["esbuild"], has("esbuild")),
+    Need("pako", ["node-pako"], lambda: os.path.isdir("/usr/share/nodejs/pako")),
     Need("node", ["nodejs"], has("node")),
     Need("tsc", ["node-typescript"], has("tsc")),
     Need("jsdom", ["node-jsdom"], lambda: os.path.isdir("/usr/share/nodejs/jsdom")),

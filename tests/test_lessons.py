@@ -22,12 +22,12 @@ TEXT = (ROOT / "web/lessons.txt").read_text(encoding="utf-8")
 
 
 @pytest.fixture
-def replies(program, built):
-    """What the program replies to lines over 44 pips."""
+def replies(program, board):
+    """What the program replies to lines about the whole board."""
 
     def asked(lines):
         text = "".join(f"{line}\n" for line in lines)
-        return succeed(program, "query", built(44), input=text).decode().splitlines()
+        return succeed(program, "query", "--board", board(90), input=text).decode().splitlines()
 
     return asked
 

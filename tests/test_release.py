@@ -57,7 +57,7 @@ class Release:
 
 @pytest.fixture(scope="module")
 def release(store, program):
-    need("cc", "readelf", "wasm-opt", "esbuild", "git", "node")
+    need("cc", "readelf", "wasm-opt", "esbuild", "pako", "git", "node")
     (store / "release").mkdir()
     return Release(store / "release")
 

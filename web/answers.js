@@ -43,9 +43,3 @@ export function playsOf(database, points, roll) {
         };
     });
 }
-
-// The decimals of a fraction that is given as a text.
-export function roundText(database, fraction) {
-    const [numerator, denominator] = fraction.split("/").map(BigInt);
-    return decimal(database.thousandths({ numerator, denominator }));
-}

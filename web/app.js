@@ -432,7 +432,7 @@ export function start(document, window, parts) {
         if (!window.Worker) {
             throw new Error("this browser runs no workers; one of the last few years can");
         }
-        return session.begin(makeClient, { text: parts[able], isPacked: able === "wide" });
+        return session.begin(makeClient, parts[able]);
     }
 
     // What was kept is read, and the page is drawn, once the worker is at work.

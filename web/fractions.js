@@ -1,5 +1,7 @@
-// Sums of fractions, and rolls in pips, exactly: the numbers that the page's script works out
-// itself.
+// Sums of fractions, rolls in pips, and their decimals: the numbers that the page's script works
+// out itself.
+import { nearest } from "../js/boards.js";
+import { decimal } from "./texts.js";
 
 const divisor = (one, other) => (other === 0n ? one : divisor(other, one % other));
 
@@ -20,3 +22,6 @@ export function inPips(rolls) {
     const [above, below] = rolls.split("/").map(BigInt);
     return lowest(49n * above, 6n * below);
 }
+
+// A text like "1/18" as a decimal, to the nearest thousandth.
+export const decimalOf = (fraction) => decimal(nearest(...fraction.split("/").map(BigInt)));

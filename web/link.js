@@ -1,7 +1,7 @@
 // What the address keeps: the positions, their captions, and how the page stands; and what a reader
 // types as a position. Captions are text.
 import { NoRaceError, read } from "../js/notation.js";
-import { MOST_CHECKERS, readPoints, sumOf } from "./points.js";
+import { FIRST, GREATEST, MOST_CHECKERS, readPoints, sumOf } from "./points.js";
 import { ASKED, ESTIMATED, LEVELS, readDrill, readLessons, readSeed, themeOf } from "./trainer.js";
 
 export const MOST_KEPT = 10;
@@ -56,7 +56,7 @@ function faultsOf(words, drill) {
             `a position is six counts of at most ${MOST_CHECKERS} checkers`],
         ["roll", isNone(/^[1-6]{2}$/), "a roll is two digits from 1 to 6"],
         ["guess", isNone(/^1$/), "it is 1 or left out"],
-        ["pips", isNone(/^(44|58)$/), "the databases have 44 or 58 pips"],
+        ["pips", isNone(/^(44|58|90)$/), `the databases have ${FIRST} or ${GREATEST} pips`],
         ["view", isNone(/^board$/), "the only other view is board"],
         ["drill", (value) => !themeOf(value), "there is no such theme"],
         ["seed", (value) => readSeed(value) === null,
@@ -114,7 +114,7 @@ export function readLink(hash) {
         title: text(words.get("t")),
         roll: roll && roll.sort((one, other) => other - one),
         guess: words.get("guess") === "1",
-        bound: words.get("pips") === "58" ? 58 : 44,
+        bound: ["90", "58"].includes(words.get("pips")) ? GREATEST : FIRST,
         isPlaced: words.has("at"),
         isCompact: words.get("view") === "board",
         drill,
@@ -149,7 +149,7 @@ export function writeLink({ points, kept, title, roll, guess, bound, ...more }) 
     words.append("at", points.join());
     if (roll) words.append("roll", roll.join(""));
     if (guess) words.append("guess", "1");
-    if (bound === 58) words.append("pips", "58");
+    if (bound === GREATEST) words.append("pips", bound);
     for (const { points: counts, caption } of kept) {
         words.append("p", counts.join());
         if (caption) words.append("c", caption);

@@ -2,6 +2,7 @@
 import { h } from "./tree.js";
 import { lookedAt, miniature } from "./board.js";
 import { GREATEST } from "./points.js";
+import { decimalOf } from "./fractions.js";
 import { ROLLS, sameRoll } from "./rolls.js";
 import { byLoss } from "./state.js";
 
@@ -55,8 +56,7 @@ export function numbers(answer, isComing = true, awaited = false) {
         const { status, standing, bound } = answer;
         return h("div", { class: "refusal" },
             h("p", {}, standing ? `${standing.pips} pips. ${answer.refusal}` : answer.refusal),
-            status === 4 && h("p", {}, standing.pips > GREATEST
-                ? `The greatest has ${GREATEST} pips.` : `It goes to ${bound} pips.`));
+            status === 4 && h("p", {}, `It goes to ${bound} pips.`));
     }
     const { standing, mean, effective, wastage } = answer;
     return [
@@ -156,7 +156,7 @@ const cost = (play) =>
 const NO_ROLL = h("p", { class: "hint" }, "Choose a roll to see its plays here and on the board.");
 
 // The plays of the chosen roll on a small board, and what each loses, in rolls; of the one that is
-// shown in EPC too, where `lost` has that. In a guess they stand in the order of their texts.
+// shown in EPC too: `lost` is that fraction. In a guess they stand in the order of their texts.
 export function plays({ points, dice, list, shown, lost, isHidden, isTrained, stop }, act) {
     if (!dice) return NO_ROLL;
     const byText = (one, other) => one.text.localeCompare(other.text);
@@ -181,7 +181,7 @@ export function plays({ points, dice, list, shown, lost, isHidden, isTrained, st
                     cost(play))))),
         shown && h("div", { class: "shown" },
             h("p", { class: "loss" }, shown.isBest ? `${shown.text} loses nothing.`
-                : `${shown.text} loses ${shown.exact} of a roll, ${lost ?? COMING} pips of EPC.`),
+                : `${shown.text} loses ${shown.exact} of a roll, ${decimalOf(lost)} pips of EPC.`),
             !isTrained && h("button", {
                 type: "button", class: "onward", "data-key": "onward", click: () => act.onward(),
             }, `Play ${shown.text}`)),

@@ -7,10 +7,9 @@ export const sumOf = (counts) => counts.reduce((sum, count) => sum + count, 0);
 export const pipsOf = (counts) =>
     counts.reduce((sum, count, place) => sum + count * (place + 1), 0);
 
-// The bounds, in pips, of the databases that the page builds: the first one, and the greatest that
-// there is.
+// The bounds, in pips, of what the page builds: the first database, and the whole board.
 export const FIRST = 44;
-export const GREATEST = 58;
+export const GREATEST = 90;
 
 // Six counts of at most 15 checkers in all, or null.
 export function readPoints(text) {

@@ -15,10 +15,10 @@ function whyNot(failure) {
 }
 
 // What stands for the reply to a question that failed.
-function noReply({ kind, fraction }, { bound }, refusal) {
+function noReply({ kind }, { bound }, refusal) {
     return {
         ask: { refusal, status: 0, standing: null, bound }, rolls: [], draw: [],
-        again: { plays: [], answers: [] }, round: fraction,
+        again: { plays: [], answers: [] },
     }[kind];
 }
 
@@ -29,7 +29,7 @@ export class Session {
         this.state = begin(link, lessons);
         this.changed = changed;
         this.client = null; // with the worker that has the open database
-        this.second = null; // with one that builds the database of 58 pips meanwhile
+        this.second = null; // with one that builds the whole board meanwhile
         this.isAsking = false;
     }
 
@@ -104,7 +104,7 @@ export class Session {
         })(), true);
     }
 
-    // Builds the database of 58 pips where it is wanted, in a worker of its own: the open one
+    // Builds the whole board where it is wanted, in a worker of its own: the open database
     // answers meanwhile, and goes on where this fails.
     async widen() {
         if (!wantsMore(this.state)) return;

@@ -4,11 +4,11 @@
 import { MOST_KEPT, readTyped } from "./link.js";
 import { FIRST, GREATEST, MOST_CHECKERS, pipsOf, sumOf } from "./points.js";
 import { decimal } from "./texts.js";
-import { inPips, sumOfFractions } from "./fractions.js";
+import { decimalOf, inPips, sumOfFractions } from "./fractions.js";
 import { sameRoll } from "./rolls.js";
 import { isWhole, reachedBy, ways } from "./steps.js";
 import {
-    drillOf, ESTIMATED, FAR, meanOf, MOST_PIPS, readEstimate, readLessons, readSeed, themeOf,
+    drillOf, ESTIMATED, FAR, meanOf, mostOf, readEstimate, readLessons, readSeed, themeOf,
     thousandthsOf, WANTED, writeLesson,
 } from "./trainer.js";
 
@@ -43,13 +43,12 @@ export function begin(link, lessons = []) {
         // is a file
         database: null,
         loads: 0, // how many databases are being built or checked, which nothing is asked meanwhile
-        isWidening: false, // whether the one of 58 pips is built beside the open one
+        isWidening: false, // whether the whole board is built beside the open one
         notWide: "", // why it couldn't be, or ""
         isGivenUp: false, // whether something needed it then
         trouble: "", // what went wrong, in words
         answers: new Map(), // what the open database says of a position
         rolls: new Map(), // and of its 21 rolls
-        decimals: new Map(), // a fraction's decimals
         said: "", // what is read aloud
         notice: "", // what a link has that can't be taken, or what has ended
     }, link);
@@ -183,11 +182,10 @@ export const hidesNumbers = (state) => asksNumber(state)
     || (Boolean(estimated(state)) && (!answerOf(state)?.refusal || isAwaited(state))
         && !estimateOf(state));
 
-// Whether the database of 58 pips is made ready for a position, which the open one doesn't have.
+// Whether the whole board is made ready for a position, which the open database doesn't have.
 export function isAwaited(state, points = state.points) {
     const answer = answerOf(state, points);
-    return answer?.status === 4 && state.database !== null && !state.isGivenUp
-        && isOver(points, answer.bound);
+    return answer?.status === 4 && state.database !== null && !state.isGivenUp;
 }
 
 // The play that is made on the board, or null where none is: the points after its steps, where each
@@ -237,29 +235,26 @@ export const captionOf = (state) =>
 
 export const isFull = (state) => state.kept.length >= MOST_KEPT;
 
-// Whether a position has more pips than a bound, and the greatest database has it.
-const isOver = (points, bound) => pipsOf(points) > bound && pipsOf(points) <= GREATEST;
-
 // The bound of the database that is built first.
-export const firstBound = ({ points }) => (isOver(points, FIRST) ? GREATEST : FIRST);
+export const firstBound = ({ points }) => (pipsOf(points) > FIRST ? GREATEST : FIRST);
 
-// Whether something on the page needs the database of 58 pips: a position, a step of the lesson,
-// the drill, or the link.
+// Whether something on the page needs the whole board: a position, a step of the lesson, the drill,
+// or the link.
 export function needsMore(state) {
     const { database, drill, kept } = state;
     if (!database || database.bound >= GREATEST) return false;
-    return state.bound === GREATEST || Boolean(drill && database.bound < MOST_PIPS)
+    return state.bound === GREATEST || Boolean(drill && database.bound < mostOf(drill))
         || [state, ...kept, ...(lessonOf(state)?.steps || [])]
-            .some(({ points }) => isOver(points, database.bound));
+            .some(({ points }) => pipsOf(points) > database.bound);
 }
 
-// A build of 58 pips takes about so many times as long as one of 44, and at most so many
-// milliseconds where nobody has asked for it.
-const LONGER = 2.2;
-const UNASKED = 2000;
+// A build of the whole board takes about so many times as long as one of 44 pips, and at most so
+// many milliseconds where nobody has asked for it.
+const LONGER = 4;
+const UNASKED = 10000;
 
-// Whether the database of 58 pips is to be built now: where something needs it, or where it takes
-// no time to speak of.
+// Whether the whole board is to be built now: where something needs it, or where the machine isn't
+// too slow for it.
 export function wantsMore(state) {
     const { database, loads, isWidening, notWide, isGivenUp, isCompact } = state;
     if (!database || loads > 0 || isWidening || database.bound >= GREATEST) return false;
@@ -277,16 +272,10 @@ export function wanted(state) {
     if (!answer.refusal && !rollsOf(state)) return { kind: "rolls", points };
     const kept = state.kept.find((entry) => !answerOf(state, entry.points));
     if (kept) return { kind: "ask", points: kept.points };
-    if (state.drill && !state.questions && state.database.bound >= MOST_PIPS) {
-        return { kind: "draw", drill: state.drill };
-    }
-    if (state.drill && state.picks) return { kind: "again", picks: state.picks };
-    const summed = state.guesses.length > 0 ? [lostOf(state), ...scoreOf(state)] : [];
-    const guess = guessOf(state);
-    const guessed = guess && !guess.play.isBest ? inPips(guess.play.exact) : null;
-    const fraction = [...summed, lostPips(state), guessed]
-        .find((one) => one !== null && !state.decimals.has(one));
-    return fraction ? { kind: "round", fraction } : null;
+    const { drill, questions, picks } = state;
+    if (!drill || state.database.bound < mostOf(drill)) return null;
+    if (!questions) return { kind: "draw", drill };
+    return picks ? { kind: "again", picks } : null;
 }
 
 // The guesses of a drill's questions, in the order of these.
@@ -334,27 +323,23 @@ function spoken(state) {
         + `wastage ${wastage.text}.`;
 }
 
-// What a guess lost, and all guesses so far. The sum's decimals may not be known yet.
+// What a guess lost, and all guesses so far.
 export function verdictOf(state) {
     const guess = state.guess && guessOf(state);
     if (!guess) return null;
     const exact = lostOf(state);
     const { play, best } = guess;
-    const decimals = state.decimals.get(exact);
     const first = play.isBest
         ? `${play.text} is best${play.isRecorded ? "" : `, as is ${best.text}`}.`
         : `${play.text} loses ${play.lossText} of a roll; best is ${best.text}.`;
-    return {
-        isBest: play.isBest, first, all: lostInAll(state), pips: inPips(play.exact), exact,
-        isWhole: decimals !== undefined,
-    };
+    return { isBest: play.isBest, first, all: lostInAll(state), pips: inPips(play.exact), exact };
 }
 
 // What all guesses have lost, in words.
 function lostInAll(state) {
     const count = state.guesses.length;
-    const decimals = state.decimals.get(lostOf(state));
-    return `${count === 1 ? "One guess has" : `${count} guesses have`} lost ${decimals ?? "\u2026"} of a roll.`;
+    const decimals = decimalOf(lostOf(state));
+    return `${count === 1 ? "One guess has" : `${count} guesses have`} lost ${decimals} of a roll.`;
 }
 
 // The answers of positions that are still shown.
@@ -367,12 +352,6 @@ function stillShown(answers, state) {
 // is none.
 export function received(state, database, question, reply) {
     if (state.database !== database) return state;
-    if (question.kind === "round") {
-        const next = { ...state, decimals: new Map(state.decimals).set(question.fraction, reply) };
-        const verdict = verdictOf(next);
-        return verdict && verdict.isWhole
-            ? { ...next, said: `${verdict.first} ${verdict.all}` } : next;
-    }
     if (question.kind === "draw") {
         if (question.drill !== state.drill) return state;
         const next = { ...state, questions: reply };
@@ -439,7 +418,7 @@ export function opened(state, { bound, positions, took = Infinity }, isOwn = fal
     };
 }
 
-// The database of 58 pips begins to be built beside the open one.
+// The whole board begins to be built beside the open database.
 export const widening = (state) => ({ ...state, isWidening: true });
 
 // It isn't wanted any more.
@@ -564,10 +543,10 @@ export function choosePlay(state, text) {
     };
     const list = isAgain(state) ? "again" : "guesses";
     const next = {
-        ...state, shown: text, steps: [], picked: null, [list]: [...state[list], guess], said: "",
+        ...state, shown: text, steps: [], picked: null, [list]: [...state[list], guess],
     };
-    const verdict = verdictOf(next);
-    return verdict.isWhole ? { ...next, said: `${verdict.first} ${verdict.all}` } : next;
+    const { first, all } = verdictOf(next);
+    return { ...next, said: `${first} ${all}` };
 }
 
 const nameOf = (place) => (place === 0 ? "off" : `point ${place}`);
@@ -641,8 +620,7 @@ function changeDrill(state, drill) {
     const run = (drill && runs.get(drillKey(drill))) || NO_RUN;
     return {
         ...state, ...AFRESH, ...run, drill, runs, lesson: null, text: "", given: null, place: 0,
-        seedFault: "",
-        decimals: new Map(), estimate: null, notice: "",
+        seedFault: "", estimate: null, notice: "",
     };
 }
 
@@ -762,9 +740,7 @@ export function setGuess(state, guess) {
 
 // No guess was made yet.
 export function resetGuesses(state) {
-    return {
-        ...state, guesses: [], decimals: new Map(), shown: null, said: "The guesses begin anew.",
-    };
+    return { ...state, guesses: [], shown: null, said: "The guesses begin anew." };
 }
 
 // Keeps the board's position.

@@ -1,9 +1,8 @@
 // Drills and lessons: what is asked, drawn by a seed that stands in the link, and lessons that say
 // their text. Texts are texts, and nothing here computes a number of a position.
-import { MOST_CHECKERS, readPoints, sumOf } from "./points.js";
+import { FIRST, GREATEST, MOST_CHECKERS, readPoints, sumOf } from "./points.js";
 
 export const QUESTIONS = 20; // of a drill
-export const MOST_PIPS = 44;
 const MOST_STEPS = 60;
 const LONGEST_TEXT = 1200;
 const MODULUS = 2147483647;
@@ -11,7 +10,7 @@ const MOST_TRIES = 20000; // until a drill has its questions
 
 // The positions of at most so many pips, in the order of their ranks: by pips, and then as words in
 // a dictionary.
-export function positions(most = MOST_PIPS) {
+export function positions(most) {
     const found = [];
     const fill = (points, pips, checkers) => {
         const point = points.length + 1;
@@ -35,8 +34,8 @@ const gapsOf = (points) => points.flatMap((count, place) =>
     (count === 0 && sumOf(points.slice(0, place)) > 0 && sumOf(points.slice(place)) > 0
         ? [place] : []));
 
-// The themes: the name in a link, the words, the positions, whether a roll can have something to
-// decide there, and what else of the plays has to hold.
+// The themes: the name in a link, the words, the positions, of at most `most` pips or else of 44,
+// whether a roll can have something to decide there, and what else of the plays has to hold.
 export const THEMES = [
     { name: "all", words: "All positions", has: (points) => sumOf(points) > 1, isPlayed: true },
     {
@@ -69,9 +68,24 @@ export const THEMES = [
         isAsked: (plays) =>
             plays.every(({ to, isBest }) => !isBest || sumOf(to) > leastLeft(plays)),
     },
+    {
+        name: "board", words: "The whole board", has: (points) => sumOf(points) > 1,
+        isPlayed: true, most: GREATEST,
+    },
+    {
+        name: "fifteen", words: "All fifteen checkers", isPlayed: true, most: GREATEST,
+        has: (points) => sumOf(points) === MOST_CHECKERS,
+    },
+    {
+        name: "stacks", words: "7-5-3 shapes", isPlayed: true, most: GREATEST,
+        has: (points) => isWithin(4, 6)(points) && sumOf(points) > 12,
+    },
 ];
 
 export const themeOf = (theme) => THEMES.find(({ name }) => name === theme);
+
+// How many pips the questions of a drill can have.
+export const mostOf = ({ theme }) => themeOf(theme).most ?? FIRST;
 
 // What a drill asks: the name in a link, the words, and the words within a sentence.
 export const ASKED = { play: "Play", pips: "Pip count", effective: "EPC", wastage: "Wastage" };
@@ -156,7 +170,7 @@ export function drawQuestions({ theme, seed, ask, level = "any" }, rolls, playsO
     const asked = themeOf(theme);
     const { has, isAsked = () => true } = asked;
     const asks = LEVELS.find(({ name }) => name === level).isAsked;
-    const themed = positions().filter(has);
+    const themed = positions(mostOf({ theme })).filter(has);
     const numbers = numbersFrom(seed);
     const drawn = new Map();
     const most = Math.min(QUESTIONS, themed.length);

@@ -3,13 +3,13 @@ import { decimal } from "./texts.js";
 import { lookedAt } from "./board.js";
 import { COMING, dicePicture } from "./panels.js";
 import { h } from "./tree.js";
-import { ASKED, ESTIMATED, LEVELS, meanOf, MOST_PIPS, themeOf, THEMES, WANTED } from "./trainer.js";
+import { ASKED, ESTIMATED, LEVELS, meanOf, mostOf, themeOf, THEMES, WANTED } from "./trainer.js";
 import {
     answeredOf, askedIn, drillErrors, drillGuesses, estimated, estimateOf, hasBegun, isAgain, isFar,
     isTraining, lengthOf, lessonOf, meanError, missedOf, mistakesOf, questionOf, scoreOf, stepOf,
     toldOf,
 } from "./state.js";
-import { sumOfFractions } from "./fractions.js";
+import { decimalOf, sumOfFractions } from "./fractions.js";
 
 const button = (key, text, click, more = {}) =>
     h("button", { type: "button", "data-key": key, click, ...more }, text);
@@ -62,12 +62,11 @@ function score(state) {
         ];
     }
     const [rolls, pips] = scoreOf(state);
-    const told = (fraction) => state.decimals.get(fraction) ?? (count === 0 ? "0.000" : COMING);
     const mistakes = mistakesOf(state);
     return [
         h("p", { class: "says score" },
-            `${count} of ${state.questions.length} were played. They lost ${told(rolls)} rolls, or `
-            + `${told(pips)} pips of EPC. Exactly: ${rolls} of a roll.`),
+            `${count} of ${state.questions.length} were played. They lost ${decimalOf(rolls)} rolls, `
+            + `or ${decimalOf(pips)} pips of EPC. Exactly: ${rolls} of a roll.`),
         askedAgain("missed", state.again.filter(({ play }) => play.isBest).length, "right"),
         mistakes && h("p", {},
             h("a", { href: link({ text: mistakes }), "data-key": "mistakes" },
@@ -83,7 +82,7 @@ function soFar(state) {
         return ` ${count} estimated, mean error ${decimal(meanOf(drillErrors(state)))} pips.`;
     }
     const lost = sumOfFractions(drillGuesses(state).map(({ play }) => play.exact));
-    return ` ${count} played, ${state.decimals.get(lost) ?? COMING} rolls lost.`;
+    return ` ${count} played, ${decimalOf(lost)} rolls lost.`;
 }
 
 function drillPanel(state, act) {
@@ -94,8 +93,9 @@ function drillPanel(state, act) {
     return h("div", { class: "coach" },
         head(act, `Drill: ${themeOf(drill.theme).words}, ${ASKED[drill.ask]}${level}`),
         !questions ? h("p", {},
-            state.database?.bound < MOST_PIPS
-                ? `A drill needs ${MOST_PIPS} pips, more than your file has.` : COMING)
+            state.database?.bound < mostOf(drill)
+                ? `A drill of this theme needs ${mostOf(drill)} pips, and the open database has `
+                    + `${state.database.bound}.` : COMING)
             : questions.length === 0 ? h("p", {}, "No roll of this theme is of this level.")
             : question ? h("p", { class: "asks" }, askedIn(state),
                 question.roll && [" ", dicePicture(question.roll)])
@@ -132,7 +132,7 @@ export function steering(state, making, verdict, act) {
             : begun ? "Where to? A ring marks each place."
             : "Move a checker, or choose from the list."),
         verdict && h("p", { class: verdict.isBest ? "verdict good" : "verdict" }, verdict.first,
-            verdict.isBest ? null : ` In EPC: ${state.decimals.get(verdict.pips) ?? COMING} pips.`),
+            verdict.isBest ? null : ` In EPC: ${decimalOf(verdict.pips)} pips.`),
         h("p", { class: "steering" },
             making?.play && button("made", `Play ${making.play.text}`,
                 () => act.play(making.play.text), { class: "first" }),

@@ -63,7 +63,7 @@ export function view(state, act) {
             plays: [
                 plays({
                     points, dice: roll, list: chosen, shown,
-                    lost: state.decimals.get(lostPips(state)),
+                    lost: lostPips(state),
                     isHidden: hides(state), isTrained: trains, stop: stops.plays,
                 }, act),
                 told && !trains && verdict(told, act),

@@ -1,11 +1,10 @@
 // What the worker does: it builds, checks and answers, so that the page never stands still.
-import { Database, isBoardFile } from "../js/database.js";
-import { BearoffError, DamagedError } from "../js/errors.js";
-import { chancesOf, choicesOf, playsOf, roundedOf, roundText, signedOf } from "./answers.js";
-import { bytesOf, unpacked } from "./packed.js";
+import { Database } from "../js/database.js";
+import { BearoffError } from "../js/errors.js";
+import { chancesOf, choicesOf, playsOf, roundedOf, signedOf } from "./answers.js";
 import { ROLLS } from "./rolls.js";
 import { REFUSALS } from "./texts.js";
-import { drawQuestions, MOST_PIPS } from "./trainer.js";
+import { drawQuestions, mostOf } from "./trainer.js";
 
 // The numbers of a position. Over the bound, or with too many checkers, only why there are none.
 export function answer(database, points) {
@@ -36,7 +35,7 @@ export function rollsOf(database, points) {
 
 // The questions of a drill; none where the database has fewer pips than they can have.
 export function drawn(database, drill) {
-    return database.bound < MOST_PIPS
+    return database.bound < mostOf(drill)
         ? [] : drawQuestions(drill, ROLLS, (points, roll) => choicesOf(database, points, roll));
 }
 
@@ -50,10 +49,10 @@ export function again(database, { guesses, again: more, estimates, estimatesAgai
 
 // One desk of the worker: the compiled module, and the open database.
 export class Desk {
-    // A desk with the module that a page carries.
-    static async at({ text, isPacked }, tell) {
-        const bytes = isPacked ? await unpacked(bytesOf(text)) : bytesOf(text);
-        return new Desk(await WebAssembly.compile(bytes), tell);
+    // A desk with the module that a page carries: packed by gzip, and in base 64.
+    static async at(text, unpack, tell) {
+        const packed = Uint8Array.from(atob(text), (letter) => letter.charCodeAt(0));
+        return new Desk(await WebAssembly.compile(unpack(packed)), tell);
     }
 
     constructor(module, tell) {
@@ -79,10 +78,8 @@ export class Desk {
         return { ...opened, took: performance.now() - begun };
     }
 
-    // Checks a file and opens it; where it is refused the database that was open stays so. The page shows databases alone,
-    // so the version of a board file is the fault of it.
+    // Checks a file and opens it; where it is refused the database that was open stays so.
     async open(file) {
-        if (isBoardFile(file)) throw new DamagedError(18, "header bad-version");
         return this.become(await Database.open(file, this.module));
     }
 
@@ -93,7 +90,7 @@ export class Desk {
         return { bound: database.bound, positions: database.positionCount };
     }
 
-    async take({ kind, file, points, fraction, drill, picks }) {
+    async take({ kind, file, points, drill, picks }) {
         switch (kind) {
             case "open":
                 this.tell({ from: 0.1, until: 1, usual: 400, text: "Checking the file\u2026" });
@@ -106,24 +103,22 @@ export class Desk {
                 return drawn(this.database, drill);
             case "again":
                 return again(this.database, picks);
-            case "round":
-                return roundText(this.database, fraction);
             default:
                 throw new Error("no such question");
         }
     }
 }
 
-// Answers the messages of a page, one after the other. The first one has the module, and a bound to
-// build: so nothing waits for the page, which draws meanwhile.
-export function serve(scope) {
+// Answers the messages of a page, one after the other; `unpack` undoes gzip. The first one has the
+// module, and a bound to build: so nothing waits for the page, which draws meanwhile.
+export function serve(scope, unpack) {
     let desk = null;
     let last = Promise.resolve();
     const answerOne = async ({ number, question }) => {
         try {
             if (question.kind === "start") {
                 const tell = (step) => scope.postMessage({ step });
-                desk = await Desk.at(question.module, tell);
+                desk = await Desk.at(question.module, unpack, tell);
                 scope.postMessage({ number, reply: await desk.build(question.bound) });
                 return;
             }

@@ -2,7 +2,6 @@
 import { board, lookedAt, miniature, placeUnder, played, watched } from "../../web/board.js";
 import { abilities } from "../../js/abilities.js";
 import { Client } from "../../web/client.js";
-import { bytesOf } from "../../web/packed.js";
 import { decimal, notation, percent } from "../../web/texts.js";
 import { MOST_KEPT, readLink, START, writeLink } from "../../web/link.js";
 import { readPoints } from "../../web/points.js";
@@ -48,7 +47,7 @@ part("positions and addresses", async () => {
         ["", null], ["1,1,1,1,1,-1", null], ["1,1,1,1,1,1,1", null], ["1,1,1,1,1,1e1", null], ["1,1,1,1,1,", null],
     ]) equal(`the position ${text}`, readPoints(text), points);
     const state = {
-        points: [0, 0, 0, 0, 0, 1], title: "A lesson & more", roll: [3, 1], guess: true, bound: 58,
+        points: [0, 0, 0, 0, 0, 1], title: "A lesson & more", roll: [3, 1], guess: true, bound: 90,
         kept: [{ points: [1, 2, 0, 0, 0, 0], caption }, { points: [15, 0, 0, 0, 0, 0], caption: "" }],
     };
     const back = readLink(writeLink(state));
@@ -114,7 +113,7 @@ part("what stands in a picture", async () => {
 part("each word of a link, there and back", () => {
     const whole = {
         points: [0, 0, 1, 0, 0, 1], kept: [{ points: [1, 0, 0, 0, 0, 0], caption: "one & two" }, { points: [0, 2, 0, 0, 0, 0], caption: "" }], title: "T = 1", roll: [6, 1],
-        guess: true, bound: 58, isCompact: true, drill: { theme: "few", seed: 999999999, ask: "play", level: "easy" }, place: 6, estimate: "pips", lesson: 12, text: "", step: 3,
+        guess: true, bound: 90, isCompact: true, drill: { theme: "few", seed: 999999999, ask: "play", level: "easy" }, place: 6, estimate: "pips", lesson: 12, text: "", step: 3,
     };
     const text = "lesson: L\nstep: 1,0,0,0,0,0\nroll: 52\ntext: a=b&c";
     for (const state of [whole, { ...whole, lesson: null, text }, { ...whole, drill: { theme: "ace", seed: 1, ask: "wastage" }, guess: false, roll: null, bound: 44, isCompact: false, estimate: null, place: 0, step: 1, title: "", kept: [] }]) {
@@ -149,8 +148,8 @@ part("panels", async () => {
     equal("numbers that don't", figures(numbers(undefined, false)), ["\u2013", "\u2013", "\u2013", "\u2013"]);
     const over = (pips, bound) => textOf(numbers({ refusal: "Over.", status: 4, bound, standing: { pips } }));
     equal("over 44", [over(50, 44), over(58, 8)], ["50 pips. Over. It goes to 44 pips.", "58 pips. Over. It goes to 8 pips."]);
-    equal("over 58", [over(59, 58), over(60, 44)], ["59 pips. Over. The greatest has 58 pips.", "60 pips. Over. The greatest has 58 pips."]);
-    equal("numbers that 58 pips bring", [figures(numbers(undefined, true, 55)), textOf(numbers(undefined, true, 55)).includes("58 pips is being built")], [["55", ...Array(5).fill("\u2026")], true]);
+    equal("over 58", [over(59, 58), over(90, 44)], ["59 pips. Over. It goes to 58 pips.", "90 pips. Over. It goes to 44 pips."]);
+    equal("numbers that 90 pips bring", [figures(numbers(undefined, true, 55)), textOf(numbers(undefined, true, 55)).includes("90 pips is being built")], [["55", ...Array(5).fill("\u2026")], true]);
     const entries = [{ points: [0, 0, 0, 0, 0, 1], caption }, { points: [2, 0, 0, 0, 0, 0], caption: "" }];
     const rows = build(document, kept(entries, ([first]) => (first === 0 ? answer : undefined), false, {}));
     equal("captions", all(rows, "input").map((input) => input.getAttribute("value")), [caption, ""]);
@@ -222,5 +221,4 @@ part("what a browser can", () => {
     equal("this node", ["wide", "narrow"].includes(abilities()), true);
     equal("no 64-bit memories", abilities({ validate: (bytes) => bytes.length === 8 }), "narrow");
     equal("neither", abilities({ validate: () => false }), "none");
-    equal("base 64", [...bytesOf("AGFz")], [0, 97, 115]);
 });

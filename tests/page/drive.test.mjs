@@ -29,12 +29,12 @@ const wait = (milliseconds) => new Promise((keep) => setTimeout(keep, millisecon
 
 const pipsOf = (position) => position.split(",").reduce((sum, count, place) => sum + count * (place + 1), 0);
 
-// The program's reply to a line about a position, over 58 pips where that has more than 44.
+// The program's reply to a line about a position, of the whole board where that has more than 44 pips.
 function ask(line) {
     if (!asked.has(line)) {
         const [, position = ""] = line.split(" ");
-        const file = pipsOf(position) > 44 ? "large.db" : "race.db";
-        const reply = execFileSync(program, ["query", join(folder, file)], { input: `${line}\n`, encoding: "utf8" });
+        const words = pipsOf(position) > 44 ? ["--board", join(folder, "whole.board")] : [join(folder, "race.db")];
+        const reply = execFileSync(program, ["query", ...words], { input: `${line}\n`, encoding: "utf8" });
         asked.set(line, reply.trim());
     }
     return asked.get(line);
@@ -82,7 +82,7 @@ async function compareWatched(page, name, least) {
     let told = 0;
     for (const [position, figures] of pairs) {
         const right = [String(pipsOf(position))];
-        if (pipsOf(position) <= 58 && figures.length === 4 && figures[1] !== "\u2026") {
+        if (figures.length === 4 && figures[1] !== "\u2026") {
             const [, mean, , , effective] = ask(`mean ${position}`).split(" ");
             const [above, below] = mean.split("/").map(BigInt);
             const thousandths = (2000n * above + below) / (2n * below);
@@ -351,6 +351,7 @@ const machine = (took, { late = 0, bad = 0, prefix = "" } = {}) => `(() => {
 })();
 `;
 const SLOW = machine(60000);
+const NO_MEMORY = 'WebAssembly.instantiate = async () => { throw new RangeError("could not allocate memory"); }; WebAssembly.Instance = class { constructor() { throw new RangeError("could not allocate memory"); } };';
 const WORKERS = "workers.map(({ asked, isEnded }) => [asked[0], Boolean(isEnded)])";
 
 // Sets a position in the field.
@@ -361,10 +362,10 @@ async function giveCounts(page, position) {
     await page.key("Enter");
 }
 
-// The database of 58 pips: unasked and unseen on a fast machine, where something needs it on a slow one, and where it
+// The database of 90 pips: unasked and unseen on a fast machine, where something needs it on a slow one, and where it
 // can't be had the first one goes on. Each number on the way is the program's.
 async function driveWider(browser) {
-    const [near, far] = ["2,2,2,2,2,1", "0,0,0,3,5,3"];
+    const [near, far] = ["2,2,2,2,2,1", "0,0,0,3,5,7"];
     const SHOWS = '[document.getElementById("open").textContent, document.getElementById("bar").hidden, document.getElementById("trouble").hidden, document.getElementById("wider").hidden]';
     const isOpen = (page, bound) => page.until(`document.getElementById("open").textContent === "${bound} pips"`, 60000);
 
@@ -373,16 +374,16 @@ async function driveWider(browser) {
     await fast.until(`${READY} && ${KNOWN} && document.querySelector(".plays")`);
     equal("fast: the first number comes of 44 pips", await fast.value(SHOWS), ["44 pips", true, true, true]);
     await fast.until("workers.length === 2", 5000);
-    equal("fast: what is asked", await fast.value(WORKERS), [["start 44", false], ["start 58", false]]);
+    equal("fast: what is asked", await fast.value(WORKERS), [["start 44", false], ["start 90", false]]);
     await giveCounts(fast, near);
-    await compare(fast, "fast: while 58 pips are built", near);
+    await compare(fast, "fast: while 90 pips are built", near);
     equal("fast: nothing is said of it", await fast.value(SHOWS), ["44 pips", true, true, true]);
     await fast.value('window.before = document.querySelector("main").innerHTML');
-    await isOpen(fast, 58);
+    await isOpen(fast, 90);
     equal("fast: nothing changes with it", await fast.value('document.querySelector("main").innerHTML === before'), true);
     equal("fast: one worker is left", (await fast.value(WORKERS)).map(([, isEnded]) => isEnded), [true, false]);
     await giveCounts(fast, far);
-    await compare(fast, "fast: 55 pips", far);
+    await compare(fast, "fast: 79 pips", far);
     await compareRolls(fast, far);
     equal("fast: the address", await fast.value("location.hash.includes('pips')"), false);
     await compareWatched(fast, "fast", 2);
@@ -395,39 +396,38 @@ async function driveWider(browser) {
     await giveCounts(slow, far);
     await slow.until("workers.length === 2 && !document.getElementById('bar').hidden");
     equal("slow: it says so", await slow.value(`[document.querySelector("#numbers .hint").textContent, document.getElementById("said").textContent, ${SHOWS}].flat()`),
-        ["The database of 58 pips is being built for it.", "55 pips: the database of 58 pips is being built.", "44 pips", false, true, true]);
-    equal("slow: nothing is known yet", (await slow.value(SHOWN)).figures, ["55", "\u2026", "\u2026", "\u2026"]);
+        ["The database of 90 pips is being built for it.", "79 pips: the database of 90 pips is being built.", "44 pips", false, true, true]);
+    equal("slow: nothing is known yet", (await slow.value(SHOWN)).figures, ["79", "\u2026", "\u2026", "\u2026"]);
     await giveCounts(slow, near);
     await compare(slow, "slow: the first answers meanwhile", near);
     equal("slow: and nothing waits", await slow.value(SHOWS), ["44 pips", true, true, true]);
     await giveCounts(slow, far);
     await slow.until("!document.getElementById('bar').hidden");
     await slow.value('document.getElementById("keep").click()');
-    await isOpen(slow, 58);
-    await compare(slow, "slow: 55 pips", far);
+    await isOpen(slow, 90);
+    await compare(slow, "slow: 79 pips", far);
     await slow.until('!document.querySelector(".kept").textContent.includes("\u2026")');
-    equal("slow: done", await slow.value(SHOWS), ["58 pips", true, true, true]);
+    equal("slow: done", await slow.value(SHOWS), ["90 pips", true, true, true]);
     await compareWatched(slow, "slow", 2);
 
     // what needs it from the first: one build alone
     const linked = await browser.open(`${address}#at=${far}`, { before: machine(5000) + WATCH });
     await linked.until(`${READY} && ${KNOWN}`);
-    await compare(linked, "a link to 55 pips", far);
-    equal("a link to 55 pips builds once", await linked.value(WORKERS), [["start 58", false]]);
+    await compare(linked, "a link to 79 pips", far);
+    equal("a link to 79 pips builds once", await linked.value(WORKERS), [["start 90", false]]);
 
     // no memory for it: unasked it is silent, and where it is needed it is said; then it is tried again by its button
-    const noMemory = 'WebAssembly.instantiate = async () => { throw new RangeError("could not allocate memory"); }; WebAssembly.Instance = class { constructor() { throw new RangeError("could not allocate memory"); } };';
-    for (const [what, prefix] of [["no memory", noMemory], ["a worker that dies", "setTimeout(() => { throw new Error('gone'); }, 0); self.onmessage = () => {}; Object.defineProperty(self, 'onmessage', { set() {} });"]]) {
+    for (const [what, prefix] of [["no memory", NO_MEMORY], ["a worker that dies", "setTimeout(() => { throw new Error('gone'); }, 0); self.onmessage = () => {}; Object.defineProperty(self, 'onmessage', { set() {} });"]]) {
         const page = await browser.open(address, { before: machine(500, { bad: 2, prefix }) + WATCH });
         await page.until(`${READY} && ${KNOWN} && document.querySelector(".rolls .next")`);
         await page.until("workers.length === 2 && workers[1].isEnded", 5000).catch(() => wrong(`${what}: the second worker isn't let go`));
-        equal(`${what}: in silence`, [await page.value(SHOWS), await page.value(WORKERS)], [["44 pips", true, true, true], [["start 44", false], ["start 58", true]]]);
+        equal(`${what}: in silence`, [await page.value(SHOWS), await page.value(WORKERS)], [["44 pips", true, true, true], [["start 44", false], ["start 90", true]]]);
         await giveCounts(page, near);
         await compare(page, `${what}: the first answers`, near);
         await giveCounts(page, far);
         await page.until("!document.getElementById('trouble').hidden");
         const told = await page.value('document.getElementById("trouble").textContent');
-        (told.startsWith("The database of 58 pips couldn\u2019t be built: ") && told.endsWith(" That of 44 pips goes on.")) || wrong(`${what}: it says ${told}`);
+        (told.startsWith("The database of 90 pips couldn\u2019t be built: ") && told.endsWith(" That of 44 pips goes on.")) || wrong(`${what}: it says ${told}`);
         equal(`${what}: where it is needed`, await page.value(SHOWS), ["44 pips", true, false, false]);
         await giveCounts(page, near);
         await compare(page, `${what}: the first still answers`, near);
@@ -435,9 +435,9 @@ async function driveWider(browser) {
         await page.until("!document.getElementById('wider').hidden");
         await page.click("#wider");
         equal(`${what}: the focus stays`, await page.value(FOCUS), "numbers");
-        await isOpen(page, 58);
+        await isOpen(page, 90);
         await compare(page, `${what}: tried again`, far);
-        equal(`${what}: and there`, await page.value(SHOWS), ["58 pips", true, true, true]);
+        equal(`${what}: and there`, await page.value(SHOWS), ["90 pips", true, true, true]);
         await compareWatched(page, what, 2);
     }
 }
@@ -529,7 +529,7 @@ async function driveFiles(page) {
     await compare(page, "over a file of one's own", "5,0,0,0,0,0");
 }
 
-// A board that changes while a dropped file is checked and while 58 pips are built, twice in a tick, and with Keep in
+// A board that changes while a dropped file is checked and while 90 pips are built, twice in a tick, and with Keep in
 // between: no number is ever beside a position that it isn't of.
 async function driveMoments(browser) {
     const race = readFileSync(join(folder, "race.db"));
@@ -568,10 +568,10 @@ async function driveMoments(browser) {
         document.querySelector('[data-key="Add 1"]').click();
         document.querySelector('[data-key="Add 1"]').click();
     })()`);
-    await wider.until('document.getElementById("open").textContent === "58 pips"', 60000);
-    await compare(wider, "after 58 pips were built", "2,0,0,3,5,0");
+    await wider.until('document.getElementById("open").textContent === "90 pips"', 60000);
+    await compare(wider, "after 90 pips were built", "2,0,0,3,5,0");
     await wider.until('document.querySelectorAll(".kept td[data-head]").length === 4 && !document.querySelector(".kept").textContent.includes("\u2026")');
-    await compareWatched(wider, "while 58 pips are built", 2);
+    await compareWatched(wider, "while 90 pips are built", 2);
 }
 
 // Each of three kept positions has its numbers.
@@ -615,8 +615,9 @@ async function driveHistory(browser) {
         await page.until(`${state} === "${wanted}"`, 3000).catch(async () => wrong(`${move}: ${await page.value(state)}, and not ${wanted}`));
     }
     await compare(page, "after Forward", "1,0,0,1,0,0");
+    // as a link of an older page has it
     await page.value('location.hash = "#at=0,0,0,3,5,3&pips=58"');
-    await page.until('document.getElementById("open").textContent === "58 pips" && document.querySelector(".figures")', 60000);
+    await page.until('document.getElementById("open").textContent === "90 pips" && document.querySelector(".figures")', 60000);
     await page.until('document.querySelector(".figure dd").textContent.trim() === "55"');
 }
 
@@ -828,7 +829,7 @@ async function driveDrill(browser) {
     await page.until('document.querySelector("#coach h2").textContent === "Mistakes of a drill"');
     for (const position of ["0,0,0,0,4,4", "3,0,0,0,0,0", "7,4,2,0,0,0"]) {
         const rank = Number(ask(`rank ${position}`).split(" ")[1]);
-        equal(`the rank of ${position}`, positions()[rank].join(), position);
+        equal(`the rank of ${position}`, positions(44)[rank].join(), position);
     }
     equal("nothing went wrong", page.troubles(), []);
 
@@ -1272,7 +1273,8 @@ const OPENED = [
     ["a drill", "#drill=all&seed=31&ask=play&level=hard", "#board .source", 'document.querySelector("#board .source").dispatchEvent(new MouseEvent("click", { bubbles: true }))'],
     ["a verdict", "#drill=all&seed=31&ask=play", "#board .source", 'document.querySelector(".plays button:last-child").click()'],
     ["an estimate", "#drill=all&seed=31&ask=wastage", ".estimate input", `document.querySelector('[data-key="tell"]').click()`],
-    ["a refusal", "#at=0,0,0,0,0,15&lesson=99", ".refusal", ""],
+    ["a refusal", "#at=1,0,0,0,0,0", ".figures", 'location.hash = "#at=0,0,0,0,0,15&lesson=99"',
+        { before: machine(500, { bad: 9, prefix: NO_MEMORY }), then: ".refusal" }],
     ["a lesson that is made", "#at=0,0,0,1,0,1&p=0,0,0,1,0,1&c=First&p=3,0,0,0,0,0", '[data-key="draft begin"]', `document.querySelector('[data-key="draft begin"]').click()`],
     ["the embedded view", "#view=board&at=7,4,2,0,0,0", ".figures", ""],
 ];
@@ -1281,10 +1283,11 @@ async function driveAudit(browser) {
     let [compared, labels] = [0, 0];
     for (const [width, height, mobile] of [[360, 780, true], [1180, 800, false]]) {
         for (const colours of ["light", "dark"]) {
-            for (const [what, hash, there, act] of OPENED) {
-                const page = await browser.open(address + hash, { width, height, mobile, colours });
+            for (const [what, hash, there, act, { before, then = "body" } = {}] of OPENED) {
+                const page = await browser.open(address + hash, { width, height, mobile, colours, before });
                 await page.until(`document.body.dataset.ready && document.querySelector(${JSON.stringify(there)})`);
                 if (act) await page.value(act);
+                await page.until(`document.querySelector(${JSON.stringify(then)})`);
                 await wait(200);
                 const told = await audit(page, false);
                 for (const fault of told.faults) wrong(`${what}, ${width} wide, ${colours}: ${fault}`);

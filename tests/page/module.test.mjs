@@ -5,7 +5,9 @@ import { spawnSync } from "node:child_process";
 import { mkdtempSync, readFileSync, rmSync, writeFileSync } from "node:fs";
 import { tmpdir } from "node:os";
 import { join } from "node:path";
-import { playsOf, roundText, signedOf } from "../../web/answers.js";
+import { gunzipSync, gzipSync } from "node:zlib";
+import { playsOf, signedOf } from "../../web/answers.js";
+import { decimalOf } from "../../web/fractions.js";
 import { readPoints, sumOf } from "../../web/points.js";
 import { ROLLS } from "../../web/rolls.js";
 import { decimal, FAULTS, notation } from "../../web/texts.js";
@@ -17,7 +19,7 @@ const program = programPath();
 const folder = testedFolder();
 const bytes = readFileSync(join(modulesFolder(), "narrow.wasm"));
 const module = await WebAssembly.compile(bytes);
-const WHOLE = 36n ** 22n;
+const WHOLE = 36n ** 33n;
 
 // A number over another in thousandths, to the nearest and a half up, as the definition says.
 const nearest = (numerator, denominator) => (2000n * numerator + denominator) / (2n * denominator);
@@ -113,7 +115,7 @@ async function compareBuilt(bound, positions) {
     const desk = new Desk(module, ({ from, until, text }) => told.push(`${from} to ${until} ${text}`));
     const opened = await desk.build(bound);
     equal(`the database of ${bound} pips`, [opened.bound, opened.positions].join(), [bound, positions].join());
-    const megabytes = { 8: "0", 44: "11" }[bound];
+    const megabytes = { 8: "0", 44: "11", 90: "15" }[bound];
     equal("the steps of the bar", told.join("; "), `0.1 to 0.55 Building the database of ${bound} pips\u2026; 0.55 to 1 Checking all of its ${megabytes} MB\u2026`);
     compareLines(desk.database, bound);
     return desk;
@@ -124,9 +126,8 @@ async function compareDamaged(desk) {
     const file = new Uint8Array(readFileSync(join(folder, "eight")));
     const before = JSON.stringify(await desk.take({ kind: "ask", points: [0, 1, 0, 0, 0, 0] }), (_, value) => (typeof value === "bigint" ? String(value) : value));
     const own = mkdtempSync(join(tmpdir(), "damaged-"));
-    // the version of a board file, 3, is one of the faults: the page shows none
     const places = [0, 8, 9, 12, 16, 20, 28, 32 + 426 * 3, 32 + 426 * 5 + 16, 32 + 426 * 7 + 30, 32 + 426 * 9 + 100, -1];
-    for (const [place, mask] of [[9, 2], ...places.map((each) => [each, 1])]) {
+    for (const [place, mask] of places.map((each) => [each, 1])) {
         const other = place < 0 ? file.slice(0, -1) : file.slice();
         if (place >= 0) other[place] ^= mask;
         writeFileSync(join(own, "file"), other);
@@ -140,6 +141,24 @@ async function compareDamaged(desk) {
     rmSync(own, { recursive: true });
     const opened = await desk.take({ kind: "open", file });
     equal("a right file after them", [opened.bound, opened.positions].join(), "8,64");
+}
+
+// A board file is checked and opened like a database, and refused by its first fault.
+async function compareBoards(desk) {
+    const file = new Uint8Array(readFileSync(join(folder, "whole.board")));
+    const other = file.slice();
+    other[32 + 60] ^= 1;
+    const own = mkdtempSync(join(tmpdir(), "damaged-"));
+    writeFileSync(join(own, "file"), other);
+    const { stderr } = spawnSync(program, ["check", "--board", join(own, "file")], { encoding: "utf8" });
+    rmSync(own, { recursive: true });
+    const why = await desk.take({ kind: "open", file: other }).then(() => ({ line: "accepted" }), (failure) => failure);
+    equal("the first fault", `bearoff: refused ${why.line}\n`, stderr);
+    equal("the former database stays", desk.database.bound, 8);
+    const opened = await desk.take({ kind: "open", file });
+    equal("a right one", [opened.bound, opened.positions], [90, 54264]);
+    equal("what it answers", [(await desk.take({ kind: "ask", points: [0, 0, 0, 0, 0, 15] })).effective.text], ["100.174"]);
+    await desk.take({ kind: "open", file: new Uint8Array(readFileSync(join(folder, "eight"))) });
 }
 
 // What a drill asks has a play that is best alone, and another.
@@ -164,7 +183,7 @@ function compareLevels(database) {
         const filled = (play) => play.to.filter((count) => count > 0).length;
         return off.filter((play) => off.every((other) => filled(other) <= filled(play))).some(({ exact }) => exact === "0/1");
     };
-    for (const { name } of THEMES.filter(({ isPlayed }) => isPlayed)) {
+    for (const { name } of THEMES.filter(({ isPlayed, most = 44 }) => isPlayed && (most > 44) === (database.bound > 44))) {
         for (const level of ["any", "easy", "hard"]) {
             let [count, right, close, fewer] = [0, 0, 0, 0];
             for (const seed of [3, 1789, 20260101]) {
@@ -203,9 +222,9 @@ async function compareAgain(desk) {
     equal("numbers, and those of what was asked once more", answers.map(({ mean }) => mean.exact), ["5/4", "1/1"]);
 }
 
-function compareRounded(database) {
-    for (const fraction of ["0/1", "1/6", "1/2000", "999/2000000", "31/2", `${7n ** 40n}/${36n ** 22n}`, `${7n ** 43n}/${36n ** 22n}`, "180/1"]) {
-        equal(`${fraction} in decimals`, roundText(database, fraction), decimal(nearest(...over(fraction))));
+function compareRounded() {
+    for (const fraction of ["0/1", "1/6", "1/2000", "999/2000000", "31/2", `${7n ** 40n}/${36n ** 22n}`, `${7n ** 43n}/${36n ** 22n}`, `${7n ** 65n}/${6n * 36n ** 33n}`, "180/1", "181/1"]) {
+        equal(`${fraction} in decimals`, decimalOf(fraction), decimal(nearest(...over(fraction))));
     }
     equal("a negative number", signedOf({ thousandths: -5 }).text, "\u22120.005");
     equal("and a positive one", signedOf({ thousandths: 4208 }).text, "4.208");
@@ -215,40 +234,45 @@ function compareRounded(database) {
 async function compareServed() {
     const posted = [];
     const scope = { postMessage: (message) => posted.push(message) };
-    serve(scope);
+    serve(scope, gunzipSync);
     const questions = [
-        { kind: "ask", points: [0, 0, 0, 0, 0, 1] }, { kind: "start", module: { text: bytes.toString("base64"), isPacked: false }, bound: 8 },
-        { kind: "ask", points: [0, 0, 0, 0, 0, 1] }, { kind: "open", file: new Uint8Array(3) }, { kind: "round", fraction: "181/1" }, { kind: "nothing" },
-        { kind: "round", fraction: "5/4" },
+        { kind: "ask", points: [0, 0, 0, 0, 0, 1] }, { kind: "start", module: gzipSync(bytes).toString("base64"), bound: 8 },
+        { kind: "ask", points: [0, 0, 0, 0, 0, 1] }, { kind: "open", file: new Uint8Array(3) }, { kind: "nothing" },
+        { kind: "ask", points: [1, 0, 0, 0, 0, 0] },
     ];
     questions.forEach((question, number) => scope.onmessage({ data: { number, question } }));
     while (!posted.some(({ number }) => number === questions.length - 1)) await new Promise((keep) => setTimeout(keep, 5));
     const replies = posted.filter(({ number }) => number !== undefined);
-    equal("the order of replies", replies.map(({ number }) => number).join(), "0,1,2,3,4,5,6");
+    equal("the order of replies", replies.map(({ number }) => number).join(), "0,1,2,3,4,5");
     equal("a question before the start", replies[0].failure.message, "the module didn't start");
     equal("the start", replies[1].reply.positions, 64);
     equal("an answer", replies[2].reply.mean.exact, "5/4");
     equal("a refused file", [replies[3].failure.status, replies[3].failure.line].join(), "16,header too-short");
-    equal("a sum over 180 rolls", replies[4].failure.status, 0);
-    equal("no question", replies[5].failure.message, "no such question");
-    equal("the last one", replies[6].reply, "1.250");
+    equal("no question", replies[4].failure.message, "no such question");
+    equal("the last one", replies[5].reply.mean.exact, "1/1");
 }
 
 let small = null;
 let large = null;
+let whole = null;
 
 part("a text of a position is read", () => {
     if (readPoints("0,0,0,0,0,1") === null) wrong("points.js reads no position");
 });
 part("a built database of 8 pips", async () => { small = await compareBuilt(8, 64); });
 part("a built database of 44 pips", async () => { large = await compareBuilt(44, 26314); });
+part("the whole board", async () => { whole = await compareBuilt(90, 54264); });
 part("damaged files", () => compareDamaged(small));
+part("a board file of one's own", () => compareBoards(small));
 part("drills", async () => {
     await compareDrawn(large);
     const drill = { theme: "gaps", seed: 7, ask: "play" };
     equal("a small database has no drill", drawn(small.database, drill).length, 0);
+    equal("nor has one of 44 pips those of the whole board", THEMES.filter(({ name }) => drawn(large.database, { theme: name, seed: 7, ask: "pips" }).length === 0).map(({ name }) => name), ["board", "fifteen", "stacks"]);
+    equal("a drill is the same in both", JSON.stringify(drawn(whole.database, drill)), JSON.stringify(drawn(large.database, drill)));
 });
 part("drills of each level", () => compareLevels(large.database));
+part("drills of each level, of the whole board", () => compareLevels(whole.database));
 part("what was chosen before", () => compareAgain(large));
-part("rounded fractions", () => compareRounded(small.database));
+part("rounded fractions", compareRounded);
 part("messages", compareServed);

@@ -170,10 +170,10 @@ export class Worker {
     async answerAll(bound = 44) {
         await settled();
         while (this.asked.length > 0) {
-            const { kind, points, fraction, drill, picks } = this.asked[0].question;
+            const { kind, points, drill, picks } = this.asked[0].question;
             const plays = this.plays || rollsFrom;
             await this.answer({
-                ask: answerTo, rolls: plays, round: () => inThousandths(fraction), draw: () => drawFrom(drill), again: () => playedBefore(picks, plays),
+                ask: answerTo, rolls: plays, draw: () => drawFrom(drill), again: () => playedBefore(picks, plays),
             }[kind](points, bound));
         }
     }
@@ -187,11 +187,6 @@ export const pipsOf = (points) => points.reduce((sum, count, place) => sum + cou
 const madeUp = (points) => BigInt(points.reduce((sum, count) => 16 * sum + count, 1));
 
 export const nearest = (above, below) => (2000n * above + below) / (2n * below);
-
-export function inThousandths(fraction) {
-    const [above, below] = fraction.split("/").map(BigInt);
-    return decimal(nearest(above, below));
-}
 
 export function answerTo(points, bound = 44) {
     const checkers = points.reduce((sum, count) => sum + count, 0);

@@ -8,7 +8,7 @@ import { ROLLS } from "../../web/rolls.js";
 import { moved } from "../../web/panels.js";
 import { asSvg } from "../../web/picture.js";
 import { begin, giveEstimate, isFar, pressed, received, wanted } from "../../web/state.js";
-import { drawQuestions, LEVELS, meanOf, numbersFrom, positions, readEstimate, readLessons, THEMES, writeLesson } from "../../web/trainer.js";
+import { drawQuestions, LEVELS, meanOf, mostOf, numbersFrom, positions, readEstimate, readLessons, THEMES, writeLesson } from "../../web/trainer.js";
 import { drawn } from "../../web/worker.js";
 import { thumb } from "../../web/training.js";
 import { textOf } from "../../web/tree.js";
@@ -27,7 +27,7 @@ class Used {
         this.document = newDocument();
         this.window = new Window(hash, protocol);
         before(this.window, this.document);
-        this.session = start(this.document, this.window, { worker: "", wide: "", narrow: "", lessons });
+        this.session = start(this.document, this.window, { worker: "", wide: "wide", narrow: "narrow", lessons });
         this.worker = Worker.last;
         if (this.worker) [this.worker.plays, this.worker.used] = [plays, this];
     }
@@ -40,18 +40,18 @@ class Used {
     }
 
     async ready(bound = 44, took = undefined) {
-        await this.worker.answer({ bound, positions: bound === 44 ? 26313 : 35327, took });
+        await this.worker.answer({ bound, positions: bound === 44 ? 26313 : 54264, took });
         await this.worker.answerAll(bound);
         this.bound = bound;
         this.check("once all is known");
     }
 
-    // Once the second worker has built the database of 58 pips.
+    // Once the second worker has built the database of 90 pips.
     async widened() {
         const first = this.worker;
         this.worker = Worker.last;
         [this.worker.plays, this.worker.used] = [first.plays, this];
-        await this.ready(58, 900);
+        await this.ready(90, 900);
     }
 
     at(name) { return this.document.getElementById(name); }
@@ -243,8 +243,8 @@ async function moments() {
     used.check("the first is open");
     equal("nothing is asked of it", used.worker.asked.map(({ question }) => question.kind), ["open"]);
     equal("the bar goes on", used.at("bar").hidden, false);
-    await used.worker.answer({ bound: 58, positions: 35327 });
-    await used.worker.answerAll(58);
+    await used.worker.answer({ bound: 90, positions: 54264 });
+    await used.worker.answerAll(90);
     used.check("the second is open");
     equal("43 pips", [used.figures[0], used.at("bar").hidden], ["43", true]);
 
@@ -255,7 +255,7 @@ async function moments() {
     equal("its own is kept", one.answers.size, 1);
 }
 
-// The database of 58 pips: it is built beside the open one, where that is quick and where something needs it, and nobody
+// The database of 90 pips: it is built beside the open one, where that is quick and where something needs it, and nobody
 // is asked.
 async function wider() {
     const FAR_OFF = "#at=0,0,0,3,5,3"; // 55 pips
@@ -267,15 +267,15 @@ async function wider() {
     const isBuilt = (used) => (Worker.last === used.worker || Worker.last.isEnded ? "none"
         : Worker.last.asked.map(({ question }) => [question.kind, question.bound].join(" ")).join());
     const numbersOf = (points) => {
-        const { standing, mean, effective, wastage } = answerTo(points, 58);
+        const { standing, mean, effective, wastage } = answerTo(points, 90);
         return [String(standing.pips), mean.text, effective.text, wastage.text];
     };
     const wide = [0, 0, 0, 3, 5, 3];
 
-    part = "58 pips on a fast machine";
+    part = "90 pips on a fast machine";
     let used = await open("#at=2,2,2,2,2,2&roll=31", 800);
     let [first, said, plays] = [used.worker, used.text("said"), used.plays()];
-    equal("unasked", [isBuilt(used), Worker.last.asked[0].question.module.isPacked, used.worker.isEnded], ["start 58", true, false]);
+    equal("unasked", [isBuilt(used), Worker.last.asked[0].question.module, used.worker.isEnded], ["start 90", "wide", false]);
     equal("in silence", [used.at("bar").hidden, used.at("trouble").hidden, used.figures, used.plays(), used.text("open")], [true, true, numbersOf([2, 2, 2, 2, 2, 2]), plays, "44 pips"]);
     Worker.last.onmessage({ data: { step: { from: 0.1, until: 0.5, usual: 400, text: "Building" } } });
     equal("also while it is built", used.at("bar").hidden, true);
@@ -287,17 +287,17 @@ async function wider() {
     said = used.text("said");
     const tree = used.at("rolls").innerHTML;
     await used.widened();
-    equal("it takes the place of the first", [first.isEnded, used.worker.isEnded, used.text("open"), used.text("known")], [true, false, "58 pips", "35,327"]);
+    equal("it takes the place of the first", [first.isEnded, used.worker.isEnded, used.text("open"), used.text("known")], [true, false, "90 pips", "54,264"]);
     equal("and nothing changes", [used.figures, used.plays(), used.text("said"), used.at("rolls").innerHTML === tree, used.window.location.hash.includes("pips")], [numbersOf([2, 2, 2, 2, 2, 2]), plays, said, true, false]);
     await used.clicked("Remove 6");
     equal("it answers from then on", [used.figures, first.asked.length, Worker.last === used.worker], [numbersOf([2, 2, 2, 2, 2, 1]), 0, true]);
 
     part = "how fast";
-    for (const [took, built] of [[1, "start 58"], [905, "start 58"], [912, "none"], [1500, "none"], [60000, "none"], [undefined, "none"]]) {
+    for (const [took, built] of [[1, "start 90"], [2490, "start 90"], [2510, "none"], [60000, "none"], [undefined, "none"]]) {
         equal(`after ${took} ms`, isBuilt(await open("", took)), built);
     }
 
-    part = "58 pips on a slow machine";
+    part = "90 pips on a slow machine";
     used = await open("", 3000);
     equal("not unasked", isBuilt(used), "none");
     const type = async (counts) => {
@@ -305,13 +305,11 @@ async function wider() {
         tell(used.at("counts"), "change");
         await used.worker.answerAll();
     };
-    await type("0,0,0,0,9,3");
-    equal("63 pips are in no database", [isBuilt(used), used.text("numbers").includes("63 pips."), used.text("numbers").includes("The greatest has 58 pips.")], ["none", true, true]);
     await type("2,2,2,2,2,1");
     equal("36 pips don't need it", [isBuilt(used), used.figures], ["none", numbersOf([2, 2, 2, 2, 2, 1])]);
     await type("2,2,2,2,4,2");
-    equal("52 pips need it", [isBuilt(used), used.figures, used.text("numbers").includes("The database of 58 pips is being built for it."), used.text("said"), used.at("bar").hidden],
-        ["start 58", ["52", "\u2026", "\u2026", "\u2026"], true, "52 pips: the database of 58 pips is being built.", false]);
+    equal("52 pips need it", [isBuilt(used), used.figures, used.text("numbers").includes("The database of 90 pips is being built for it."), used.text("said"), used.at("bar").hidden],
+        ["start 90", ["52", "\u2026", "\u2026", "\u2026"], true, "52 pips: the database of 90 pips is being built.", false]);
     equal("what comes has its room", [used.at("rolls").hidden, used.at("chances").hidden, used.at("wider").hidden, used.text("roll 31").includes("\u2026")], [false, false, true, true]);
     Worker.last.onmessage({ data: { step: { from: 0.1, until: 0.5, usual: 400, text: "Building it" } } });
     equal("the bar says what it is at", used.text("step"), "Building it");
@@ -327,12 +325,12 @@ async function wider() {
     used.click("roll 31");
     await used.widened();
     equal("then it is answered", [used.figures, used.row("0,0,0,3,5,3"), used.at("bar").hidden, used.plays().length > 0, used.text("said")],
-        [numbersOf(wide), numbersOf(wide), true, true, `55 pips, mean ${answerTo(wide, 58).mean.text} rolls, effective pip count ${answerTo(wide, 58).effective.text}, wastage ${answerTo(wide, 58).wastage.text}.`]);
+        [numbersOf(wide), numbersOf(wide), true, true, `55 pips, mean ${answerTo(wide, 90).mean.text} rolls, effective pip count ${answerTo(wide, 90).effective.text}, wastage ${answerTo(wide, 90).wastage.text}.`]);
 
-    part = "what needs 58 pips";
+    part = "what needs 90 pips";
     const lessons = "lesson: One\nstep: 1,0,0,0,0,0\nstep: 0,0,0,3,5,3\nask: What?\nanswer: That.\nlesson: Two\nstep: 1,0,0,0,0,0";
-    for (const [hash, built] of [["#pips=58", "start 58"], ["#p=0,0,0,3,5,3&at=1,0,0,0,0,0", "start 58"], ["#lesson=1", "start 58"], ["#lesson=2", "none"], [`#text=${encodeURIComponent("lesson: L\nstep: 1,0,0,0,0,0\nstep: 0,0,0,0,9,0")}`, "start 58"],
-        ["#at=0,0,0,0,0,15", "none"], ["#view=board&p=0,0,0,3,5,3&at=1,0,0,0,0,0", "start 58"], ["#drill=all&seed=3&ask=play", "none"]]) {
+    for (const [hash, built] of [["#pips=90", "start 90"], ["#p=0,0,0,3,5,3&at=1,0,0,0,0,0", "start 90"], ["#lesson=1", "start 90"], ["#lesson=2", "none"], [`#text=${encodeURIComponent("lesson: L\nstep: 1,0,0,0,0,0\nstep: 0,0,0,0,9,0")}`, "start 90"],
+        ["#lesson=2&p=0,0,0,0,0,15", "start 90"], ["#drill=stacks&seed=3&ask=effective", "start 90"], ["#pips=58", "start 90"], ["#pips=44", "none"], ["#view=board&p=0,0,0,3,5,3&at=1,0,0,0,0,0", "start 90"], ["#drill=all&seed=3&ask=play", "none"]]) {
         used = await open(hash, 5000, { lessons });
         equal(`${hash}, slow`, isBuilt(used), built);
         equal(`${hash}: is it said`, [used.at("bar").hidden, used.at("trouble").hidden], [built === "none", true]);
@@ -347,12 +345,12 @@ async function wider() {
     used = await Used.open("", { lessons });
     const before = Worker.made;
     await used.clicked("Add 6");
-    equal("48 pips need it, once", isBuilt(used), "start 58");
+    equal("48 pips need it, once", isBuilt(used), "start 90");
     await used.clicked("Add 1");
-    equal("49 too, and it goes on", [isBuilt(used), Worker.made - before], ["start 58", 1]);
+    equal("49 too, and it goes on", [isBuilt(used), Worker.made - before], ["start 90", 1]);
     equal("its numbers aren't there", used.figures, ["49", "\u2026", "\u2026", "\u2026"]);
 
-    part = "an estimate that waits for 58 pips";
+    part = "an estimate that waits for 90 pips";
     used = await open("#at=1,0,0,0,0,0&estimate=pips", 5000);
     used.at("counts").value = "0,0,0,3,5,3";
     tell(used.at("counts"), "change");
@@ -367,7 +365,7 @@ async function wider() {
     await used.clicked("tell");
     equal("and compared", [used.text("numbers").includes("You said 55.000: 0.000 pips off."), used.figures], [true, numbersOf(wide)]);
 
-    part = "58 pips that can't be had, unasked";
+    part = "90 pips that can't be had, unasked";
     const failures = {
         "a build that fails": () => Worker.last.refuse({ message: "no memory", status: 0, line: "" }),
         "a worker that dies": async () => {
@@ -385,10 +383,10 @@ async function wider() {
         used.at("counts").value = "0,0,0,3,5,3";
         tell(used.at("counts"), "change");
         await used.worker.answerAll();
-        equal(`${how}: tried again where it is needed`, [isBuilt(used), used.figures[0], used.at("bar").hidden], ["start 58", "55", false]);
+        equal(`${how}: tried again where it is needed`, [isBuilt(used), used.figures[0], used.at("bar").hidden], ["start 90", "55", false]);
         await fail();
         equal(`${how}: and said`, [used.text("trouble"), used.at("trouble").hidden, used.at("wider").hidden, used.at("bar").hidden, used.figures, used.text("numbers")],
-            ["The database of 58 pips couldn\u2019t be built: no memory. That of 44 pips goes on.", false, false, true, [], "55 pips. The position has more pips than the database.It goes to 44 pips."]);
+            ["The database of 90 pips couldn\u2019t be built: no memory. That of 44 pips goes on.", false, false, true, [], "55 pips. The position has more pips than the database.It goes to 44 pips."]);
         equal(`${how}: not once more by itself`, [isBuilt(used), used.worker.isEnded], ["none", false]);
         await used.clicked("Remove 6");
         equal(`${how}: nor for another one`, [isBuilt(used), used.text("numbers").startsWith("49 pips.")], ["none", true]);
@@ -398,9 +396,9 @@ async function wider() {
         await used.worker.answerAll();
         used.click("wider");
         await used.worker.answerAll();
-        equal(`${how}: tried once more by its button`, [isBuilt(used), used.focus(), used.at("trouble").hidden, used.at("wider").hidden, used.figures[0]], ["start 58", "numbers", true, true, "55"]);
+        equal(`${how}: tried once more by its button`, [isBuilt(used), used.focus(), used.at("trouble").hidden, used.at("wider").hidden, used.figures[0]], ["start 90", "numbers", true, true, "55"]);
         await used.widened();
-        equal(`${how}: and then it is there`, [used.figures, used.text("open"), used.at("trouble").hidden], [numbersOf(wide), "58 pips", true]);
+        equal(`${how}: and then it is there`, [used.figures, used.text("open"), used.at("trouble").hidden], [numbersOf(wide), "90 pips", true]);
     }
     part = "a second worker that can't be made";
     let made = 0;
@@ -411,9 +409,9 @@ async function wider() {
     tell(used.at("counts"), "change");
     await used.worker.answerAll();
     globalThis.Worker = real;
-    equal("is told", [made, used.text("trouble"), used.at("wider").hidden], [1, "The database of 58 pips couldn\u2019t be built: too many workers. That of 44 pips goes on.", false]);
+    equal("is told", [made, used.text("trouble"), used.at("wider").hidden], [1, "The database of 90 pips couldn\u2019t be built: too many workers. That of 44 pips goes on.", false]);
 
-    part = "what is asked when 58 pips come";
+    part = "what is asked when 90 pips come";
     used = await open("#at=1,0,0,0,0,0", 100);
     used.click("Add 2");
     const late = used.worker;
@@ -421,7 +419,7 @@ async function wider() {
     await used.widened();
     equal("it is asked of the second", [used.figures, late.isEnded], [numbersOf([1, 1, 0, 0, 0, 0]), true]);
 
-    part = "a file while 58 pips are built";
+    part = "a file while 90 pips are built";
     const file = { arrayBuffer: async () => new ArrayBuffer(8) };
     const drop = async () => {
         tell(used.document, "drop", { dataTransfer: { files: [file] } });
@@ -432,7 +430,7 @@ async function wider() {
     await drop();
     equal("ends that", [second.isEnded, used.worker.asked.map(({ question }) => question.kind), used.at("bar").hidden], [true, ["open"], false]);
     await used.worker.refuse({ message: "refused", status: 25, line: "record 3 mean" });
-    equal("refused, it is begun anew", [used.text("trouble").startsWith("The file was refused"), isBuilt(used), Worker.last !== second], [true, "start 58", true]);
+    equal("refused, it is begun anew", [used.text("trouble").startsWith("The file was refused"), isBuilt(used), Worker.last !== second], [true, "start 90", true]);
     second = Worker.last;
     await drop();
     await used.worker.answer({ bound: 8, positions: 64 });
@@ -448,20 +446,20 @@ async function wider() {
     used.click("Add 5");
     await settled();
     await used.worker.answerAll(8);
-    equal("12 pips aren't", [isBuilt(used), used.figures[0], used.at("notice").hidden], ["start 58", "12", true]);
+    equal("12 pips aren't", [isBuilt(used), used.figures[0], used.at("notice").hidden], ["start 90", "12", true]);
     used.worker.asked.length = 0;
     const older = used.session.state.answers.size;
     await used.widened();
-    equal("which is said", [used.text("notice"), used.figures, used.text("open"), older > 0], ["Your file goes to 8 pips, so the database of 58 pips was built in its place.", numbersOf([1, 0, 0, 0, 1, 1]), "58 pips", true]);
+    equal("which is said", [used.text("notice"), used.figures, used.text("open"), older > 0], ["Your file goes to 8 pips, so the database of 90 pips was built in its place.", numbersOf([1, 0, 0, 0, 1, 1]), "90 pips", true]);
 
     part = "a file's own plays go with it";
     used = await open("#at=1,0,0,0,0,0&roll=21&p=0,0,0,3,5,3", 5000);
     await drop();
     await used.worker.answer({ bound: 8, positions: 64 });
     await used.worker.answerAll(8);
-    equal("known", [used.figures[0], used.plays().length > 0, isBuilt(used)], ["1", true, "start 58"]);
+    equal("known", [used.figures[0], used.plays().length > 0, isBuilt(used)], ["1", true, "start 90"]);
     second = Worker.last;
-    await second.answer({ bound: 58, positions: 35327, took: 900 });
+    await second.answer({ bound: 90, positions: 54264, took: 900 });
     equal("nothing of them stays", [used.figures, used.plays(), second.asked.length], [Array(4).fill("\u2026"), [], 1]);
 
     part = "a drill over a file of few pips";
@@ -471,11 +469,18 @@ async function wider() {
     await used.worker.answerAll(8);
     used.window.type("#at=1,0,0,0,0,0&drill=all&seed=3&ask=play");
     await used.worker.answerAll(8);
-    equal("needs more", [isBuilt(used), used.text("coach").includes("A drill needs 44 pips, more than your file has."), used.session.state.questions], ["start 58", true, null]);
+    equal("needs more", [isBuilt(used), used.text("coach").includes("A drill of this theme needs 44 pips, and the open database has 8."), used.session.state.questions], ["start 90", true, null]);
     await used.widened();
     equal("and has it", [used.text("coach").includes("Question 1 of 20."), used.session.state.questions.length], [true, 20]);
 
-    part = "the first worker dies while 58 pips are built";
+    part = "a drill of the whole board";
+    used = await open("#drill=stacks&seed=3&ask=effective", 5000);
+    equal("waits for it", [isBuilt(used), used.text("coach").includes("A drill of this theme needs 90 pips, and the open database has 44."), used.session.state.questions], ["start 90", true, null]);
+    await used.widened();
+    const drawn = used.session.state.questions;
+    equal("and has it", [used.text("coach").includes("Question 1 of 20."), drawn.length, drawn.every(({ points }) => pipsOf(points) > 44), drawn.some(({ points }) => pipsOf(points) > 70)], [true, 20, true, true]);
+
+    part = "the first worker dies while 90 pips are built";
     used = await open("#at=1,0,0,0,0,0", 100);
     second = Worker.last;
     used.click("Add 2");
@@ -737,9 +742,7 @@ async function plays() {
     equal("arcs with their halos", paths(), 4);
     equal("what is lost", used.text("plays").includes("3/off 1/0 loses nothing."), true);
     used.click("play 3/1 1/2");
-    equal("what isn't known yet", used.text("plays").includes("3/1 1/2 loses 1/18 of a roll, \u2026 pips of EPC."), true);
-    await used.worker.answerAll();
-    equal("exactly", used.text("plays").includes("3/1 1/2 loses 1/18 of a roll, 0.454 pips of EPC."), true);
+    equal("exactly, and at once", used.text("plays").includes("3/1 1/2 loses 1/18 of a roll, 0.454 pips of EPC."), true);
     equal("as decimals", used.find("play 3/1 1/2").textContent, "3/1 1/2 \u22120.056");
     equal("exactly, for a mouse that is held over it", [...used.find("play 3/1 1/2").querySelectorAll("*")].map((node) => node.getAttribute("title")).filter(Boolean), ["1/18 of a roll"]);
     equal("it is chosen", used.find("play 3/1 1/2").getAttribute("aria-pressed"), "true");
@@ -814,7 +817,7 @@ async function guesses() {
         used.click(`play ${roll[0]}/1 ${roll[1]}/2`);
     }
     await used.worker.answerAll();
-    equal("two at once", said.filter(Boolean), ["Which play of 3-1 is best?", "Which play of 4-1 is best?", "4/1 1/2 loses 0.056 of a roll; best is 4/off 1/0. 3 guesses have lost 0.167 of a roll."]);
+    equal("two at once", said.filter(Boolean), ["Which play of 3-1 is best?", "3/1 1/2 loses 0.056 of a roll; best is 3/off 1/0. 2 guesses have lost 0.111 of a roll.", "Which play of 4-1 is best?", "4/1 1/2 loses 0.056 of a roll; best is 4/off 1/0. 3 guesses have lost 0.167 of a roll."]);
     tell(used.at("guess"), "change", { target: { checked: false } });
     used.window.pass(1000);
     equal("not guessing", [used.text("plays").includes("guess"), used.find("roll 31").textContent.includes("/"), used.window.location.hash.includes("guess")], [false, true, false]);
@@ -945,30 +948,30 @@ async function addresses() {
     part = "a link that is set in an open page";
     const open = await Used.open();
     open.window.pass(1000);
-    open.window.type("#at=0,0,0,3,5,3&pips=58&p=1,1,0,0,0,0&c=first");
+    open.window.type("#at=0,0,0,3,5,3&pips=90&p=1,1,0,0,0,0&c=first");
     open.check("set");
     await open.worker.answerAll();
-    equal("it is built once", Worker.last.asked.map(({ question }) => [question.kind, question.bound].join(" ")), ["start 58"]);
+    equal("it is built once", Worker.last.asked.map(({ question }) => [question.kind, question.bound].join(" ")), ["start 90"]);
     equal("the bar", open.at("bar").hidden, false);
     await open.widened();
     equal("55 pips", [open.figures[0], open.rows.length], ["55", 1]);
     open.window.pass(1000);
     open.window.type("#at=0,0,0,1,0,0");
     await settled();
-    equal("58 pips stay", open.worker.asked.map(({ question }) => question.kind), ["ask"]);
-    await open.worker.answerAll(58);
+    equal("90 pips stay", open.worker.asked.map(({ question }) => question.kind), ["ask"]);
+    await open.worker.answerAll(90);
     open.window.pass(1000);
     equal("a link", [open.board.join(), open.window.location.hash], ["0,0,0,1,0,0", "#at=0,0,0,1,0,0"]);
     equal("which is one entry", open.window.entries.length, 3);
-    open.window.type("#at=0,0,0,1,0,0&pips=58&t=<b>T</b>");
+    open.window.type("#at=0,0,0,1,0,0&pips=90&t=<b>T</b>");
     equal("the title is text", [open.text("lesson"), [...open.at("lesson").querySelectorAll("*")].length, open.at("lesson").hidden], ["<b>T</b>", 0, false]);
     equal("twice the same", readLink("#p=1,0,0,0,0,0&c=a&p=2,0,0,0,0,0&p=1,0,0,0,0,0&c=b&p=9,9,0,0,0,0&c=x").kept.map(({ points, caption }) => `${points[0]} ${caption}`), ["1 a", "2 "]);
 
     const same = await Used.open();
     same.window.pass(1000);
-    same.window.type("#at=2,2,2,2,2,2&pips=58");
+    same.window.type("#at=2,2,2,2,2,2&pips=90");
     await settled();
-    equal("58 pips for the position that is there, once", [same.worker.asked.length, Worker.last.asked.map(({ question }) => question.kind)], [0, ["start"]]);
+    equal("90 pips for the position that is there, once", [same.worker.asked.length, Worker.last.asked.map(({ question }) => question.kind)], [0, ["start"]]);
 
     part = "a browser that takes no more addresses";
     const full = await Used.open("", { before: (window) => { window.history.pushState = () => { throw new Error("too many"); }; } });
@@ -1016,11 +1019,11 @@ async function older() {
     equal("and is set", [used.board[0], used.figures[0]], [3, "\u2013"]);
     used = new Used("", { before: (window) => { window.Worker = undefined; } });
     equal("no workers", used.text("trouble").startsWith("Nothing can be computed here: this browser runs no workers"), true);
-    for (const [hash, bound] of [["", 44], ["#pips=58", 44], ["#at=0,0,0,3,5,3", 58], ["#at=0,0,0,0,8,3", 58], ["#at=0,0,0,0,7,4", 44], ["#at=0,0,0,0,10,0", 58], ["#at=0,0,0,0,4,4", 44], ["#at=0,0,0,0,9,0", 58], ["#at=0,0,0,11,0,0", 44], ["#p=0,0,0,0,0,8&at=1,0,0,0,0,0", 44]]) {
+    for (const [hash, bound] of [["", 44], ["#pips=90", 44], ["#at=0,0,0,3,5,3", 90], ["#at=0,0,0,0,0,15", 90], ["#at=0,0,0,0,4,4", 44], ["#at=0,0,0,0,9,0", 90], ["#at=0,0,0,11,0,0", 44], ["#p=0,0,0,0,0,8&at=1,0,0,0,0,0", 44]]) {
         used = new Used(hash);
         // it is at work before the page is drawn
         const [{ question }] = used.worker.asked;
-        equal(`what is asked first of ${hash}`, [question.kind, question.bound, question.module.isPacked], ["start", bound, true]);
+        equal(`what is asked first of ${hash}`, [question.kind, question.bound, question.module], ["start", bound, "wide"]);
     }
     equal("the rolls", ROLLS.length, 21);
     equal("all rolls are answered", rollsFrom([1, 0, 0, 0, 0, 0]).length, 21);
@@ -1030,7 +1033,7 @@ async function older() {
 // What is drawn, and what a lesson's text says.
 function trained() {
     part = "what is drawn";
-    const all = positions();
+    const all = positions(44);
     equal("positions in the order of their ranks", [all.length, all.slice(0, 7).map(String)], [26314, ["0,0,0,0,0,0", "1,0,0,0,0,0", "0,1,0,0,0,0", "2,0,0,0,0,0", "0,0,1,0,0,0", "1,1,0,0,0,0", "3,0,0,0,0,0"]]);
     const numbers = numbersFrom(1);
     equal("numbers", [1, 2, 3].map(() => numbers.next().value), [48271, 182605794, 1291394886]);
@@ -1041,10 +1044,13 @@ function trained() {
     equal("another seed another", text(drill) === text({ ...drill, seed: 8 }), false);
     for (const { name, has } of THEMES) {
         const questions = drawQuestions({ ...drill, theme: name, ask: "effective" }, ROLLS, two);
-        equal(`${name}: of its theme`, [questions.length, questions.every(({ points, roll }) => has(points) && roll === null), new Set(questions.map(({ points }) => points.join())).size], [Math.min(20, all.filter(has).length), true, questions.length]);
+        equal(`${name}: of its theme`, [questions.length, questions.every(({ points, roll }) => has(points) && roll === null), new Set(questions.map(({ points }) => points.join())).size], [Math.min(20, positions(mostOf({ theme: name })).filter(has).length), true, questions.length]);
     }
+    equal("the whole board", [positions(90).length, positions(90).at(-1), THEMES.filter(({ most }) => most === 90).map(({ name }) => name)], [54264, [0, 0, 0, 0, 0, 15], ["board", "fifteen", "stacks"]]);
+    equal("older drills ask what they asked", ["all", "low", "gaps", "middle", "high", "few", "fewer"].map((theme) => mostOf({ theme })), Array(7).fill(44));
     const has = (name, points) => THEMES.find((theme) => theme.name === name).has(points);
-    equal("themes", [has("low", [4, 0, 1, 0, 0, 0]), has("low", [4, 0, 0, 1, 0, 0]), has("gaps", [2, 0, 3, 0, 0, 0]), has("gaps", [0, 2, 3, 0, 0, 0]), has("middle", [5, 0, 0, 0, 0, 0]), has("middle", [10, 0, 0, 0, 0, 0]), has("high", [0, 0, 0, 1, 1, 1]), has("high", [0, 0, 1, 1, 1, 1]), has("ace", [3, 0, 0, 0, 0, 0]), has("few", [0, 0, 0, 0, 0, 5])], [true, false, true, false, true, false, true, false, true, false]);
+    equal("themes", [has("low", [4, 0, 1, 0, 0, 0]), has("low", [4, 0, 0, 1, 0, 0]), has("gaps", [2, 0, 3, 0, 0, 0]), has("gaps", [0, 2, 3, 0, 0, 0]), has("middle", [5, 0, 0, 0, 0, 0]), has("middle", [10, 0, 0, 0, 0, 0]), has("high", [0, 0, 0, 1, 1, 1]), has("high", [0, 0, 1, 1, 1, 1]), has("ace", [3, 0, 0, 0, 0, 0]), has("few", [0, 0, 0, 0, 0, 5]), has("fifteen", [0, 0, 0, 3, 5, 7]), has("fifteen", [0, 0, 0, 3, 5, 6]), has("stacks", [0, 0, 0, 3, 5, 5]), has("stacks", [0, 0, 0, 3, 4, 5]), has("stacks", [0, 0, 1, 3, 5, 6])],
+        [true, false, true, false, true, false, true, false, true, false, true, false, true, false, false]);
     equal("one play is not asked", drawQuestions(drill, ROLLS, () => [{ isBest: true }]).length, 0);
     equal("nor a tie", drawQuestions(drill, ROLLS, (points) => [two(points)[0], { isBest: true }, { isBest: false }]).length, 0);
     equal("nor a gap that stays", drawQuestions(drill, ROLLS, (points) => [{ isBest: true, to: points }, { isBest: false }]).length, 0);
@@ -1212,7 +1218,7 @@ async function drills() {
     tell(used.find("estimate"), "keydown", { key: "Enter", target: { value: "-999" } });
     equal("below", String(used.session.state.estimates[1].error), String(other + 999000n));
     const small = { ...begin(readLink("#at=1,0,0,0,0,0&estimate=effective")), answers: new Map([["1,0,0,0,0,0", { ...answerTo([1, 0, 0, 0, 0, 0]), effective: { text: "8.167", thousandths: 8167n } }]]) };
-    equal("above", ["9", "7.167"].map((word) => String(giveEstimate({ ...small, decimals: new Map() }, word).estimates[0].error)), ["833", "1000"]);
+    equal("above", ["9", "7.167"].map((word) => String(giveEstimate(small, word).estimates[0].error)), ["833", "1000"]);
     tell(used.find("estimated"), "change", { target: { value: "" } });
     await used.worker.answerAll();
     equal("off", [used.session.state.estimate, used.figures.length], [null, 4]);
@@ -1469,6 +1475,15 @@ async function runs() {
     await used.clicked(`play ${asked[0].roll[0]}/1 ${asked[0].roll[1]}/2`);
     equal("a browser that keeps nothing", used.session.state.guesses.length, 1);
 
+    part = "a run over the whole board that goes on";
+    const stacks = drawFrom({ theme: "stacks", seed: 3, ask: "play" });
+    const high = JSON.stringify({ "stacks,3,play,any": { guesses: [[stacks[0].points, stacks[0].roll, `${stacks[0].roll[0]}/1 ${stacks[0].roll[1]}/2`]], again: [], estimates: [], estimatesAgain: [] } });
+    used = new Used("#drill=stacks&seed=3&ask=play&at=1,0,0,0,0,0", { before: (window) => { window.stored = new Map([["bearoff drills", high]]); } });
+    await used.ready(44, 100);
+    equal("nothing of it is asked of 44 pips", [used.session.state.picks !== null, used.session.state.guesses.length, used.text("open")], [true, 0, "44 pips"]);
+    await used.widened();
+    equal("but of the whole board", [used.session.state.picks, used.session.state.guesses.map(({ play }) => play.exact)], [null, ["1/18"]]);
+
     part = "a run of estimates that goes on";
     used = await Used.open("#drill=ace&seed=3&ask=wastage");
     used.find("estimate").value = "-1.5";
@@ -1526,7 +1541,8 @@ async function silence() {
         ["#at=99,0,0,0,0,0", "The link has at=99,0,0,0,0,0, which can't be taken: a position is six counts of at most 15 checkers."],
         ["#p=1,2", "The link has p=1,2, which can't be taken: a position is six counts of at most 15 checkers."],
         ["#roll=70", "The link has roll=70, which can't be taken: a roll is two digits from 1 to 6."],
-        ["#pips=90", "The link has pips=90, which can't be taken: the databases have 44 or 58 pips."],
+        ["#pips=59", "The link has pips=59, which can't be taken: the databases have 44 or 90 pips."],
+        ["#pips=", "The link has pips=, which can't be taken: the databases have 44 or 90 pips."],
         ["#guess=yes", "The link has guess=yes, which can't be taken: it is 1 or left out."],
         ["#view=all", "The link has view=all, which can't be taken: the only other view is board."],
         ["#drill=x&seed=1", "The link has drill=x, which can't be taken: there is no such theme."],
@@ -1551,7 +1567,7 @@ async function silence() {
         open.window.type("#at=1,0,0,0,0,0");
         equal("a right one after it", [open.at("notice").hidden, open.text("notice")], [true, ""]);
     }
-    for (const hash of ["", "#at=1,0,0,0,0,0&p=1,0,0,0,0,0&c=x&roll=13&guess=1&pips=58&t=T&view=board", "#drill=gaps&seed=7", "#drill=gaps&seed=7&ask=play&level=hard&question=3", "#drill=ace&seed=7&ask=pips", "#estimate=pips", "#lesson=2&step=1"]) {
+    for (const hash of ["", "#pips=44", "#pips=58", "#at=1,0,0,0,0,0&p=1,0,0,0,0,0&c=x&roll=13&guess=1&pips=90&t=T&view=board", "#drill=gaps&seed=7", "#drill=gaps&seed=7&ask=play&level=hard&question=3", "#drill=ace&seed=7&ask=pips", "#estimate=pips", "#lesson=2&step=1"]) {
         equal(`a right link, ${hash}`, new Used(hash, { lessons }).at("notice").hidden, true);
     }
 
@@ -1704,7 +1720,7 @@ for (const [name, body] of [
     ["what is drawn and what a lesson's text says", trained], ["drills", drills], ["lessons", lessons],
     ["the steps of plays", steps], ["plays on the board", making], ["runs that go on", runs], ["nothing in silence", silence], ["paper", paper],
     ["a lesson of one's own", editing],
-    ["pictures", pictures], ["the wrong moments", moments], ["58 pips", wider], ["a guess on the board", guessed], ["clicks", clicks], ["keys", keys],
+    ["pictures", pictures], ["the wrong moments", moments], ["90 pips", wider], ["a guess on the board", guessed], ["clicks", clicks], ["keys", keys],
     ["typed counts", typed], ["positions as players have them", pasted], ["plays", plays], ["guesses", guesses], ["keeping", keeping],
     ["addresses", addresses], ["browsers that can't", older],
 ]) test(name, body);
