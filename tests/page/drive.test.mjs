@@ -1425,6 +1425,9 @@ const LAID_OUT = `(() => {
 const PICTURED = [
     ["start", TEACHING, ".plays .cost", ""],
     ["lesson", "#lesson=3", "#board .source", ""],
+    ["beginning", "#at=0,0,0,3,5,7&roll=22", ".plays .cost", ""],
+    ["beginning lesson", "#lesson=16", '[data-key="answer"]', `document.querySelector('[data-key="answer"]').click()`, ".figures"],
+    ["beginning play", "#lesson=16&step=4", "#board .source", `document.querySelector("#board .source").dispatchEvent(new MouseEvent("click", { bubbles: true }))`, "#board .target"],
     ["drill", "#drill=all&seed=31&ask=play&level=hard", "#board .source", `document.querySelector(".plays button:last-child").click()`, "#steering .verdict"],
     ["estimate", "#drill=all&seed=31&ask=effective", ".estimate input", `document.querySelector(".estimate input").value = "40"; document.querySelector('[data-key="tell"]').click()`, "#numbers .verdict"],
     ["guess", "#at=2,2,2,2,2,2&roll=31&guess=1", "#board .source", `document.querySelector("#board .source").dispatchEvent(new MouseEvent("click", { bubbles: true }))`, "#board .target"],
