@@ -23,8 +23,9 @@
  * BEAROFF_BOARD_STACK, every other call less than 128 KB. Threads whose stack is smaller have to be
  * given more before they make such a call.
  *
- * Refusals. Each call but bearoff_thousandths returns a status; where it isn't BEAROFF_OK nothing
- * that the caller lends was changed, except for what the call's comment says.
+ * Refusals. Each call but bearoff_thousandths and bearoff_board_thousandths returns a status; where
+ * it isn't BEAROFF_OK nothing that the caller lends was changed, except for what the call's comment
+ * says.
  */
 #ifndef BEAROFF_H
 #define BEAROFF_H
@@ -500,6 +501,12 @@ uint32_t bearoff_board_mean(const bearoff_board *board, const bearoff_position *
 /* The effective pip count: 49/6 pips for each roll of the mean. The statuses of bearoff_board_mean. */
 uint32_t bearoff_board_epc(const bearoff_board *board, const bearoff_position *position,
                            bearoff_long_pips *pips);
+
+/*
+ * A fraction in thousandths, as bearoff_thousandths tells it: it is true where the denominator is not
+ * 0 and at most 6 * 36^33, and the fraction at most 180; else `*thousandths` stays as it was.
+ */
+bool bearoff_board_thousandths(const bearoff_long_fraction *fraction, uint64_t *thousandths);
 
 /*
  * The chance of each number of rolls, where each play is the recorded one. The statuses of

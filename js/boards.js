@@ -1,5 +1,5 @@
 // What the module has no call for where a board file is open, computed from what it has, and exactly.
-import { Rounded } from "./fractions.js";
+import { Fraction } from "./fractions.js";
 
 const MOST_CHECKERS = 15;
 const POINTS = 6;
@@ -10,13 +10,10 @@ function divisor(one, other) {
     return larger;
 }
 
-// A fraction in thousandths, to the nearest and a half up.
-export const nearest = (numerator, denominator) => Number((2000n * numerator + denominator) / (2n * denominator));
-
-// A numerator over the whole, in lowest terms and in thousandths.
-export function rounded(numerator, whole) {
+// A numerator over the whole, in lowest terms.
+export function lowest(numerator, whole) {
     const common = divisor(whole, numerator);
-    return new Rounded(numerator / common, whole / common, nearest(numerator, whole));
+    return new Fraction(numerator / common, whole / common);
 }
 
 // The positions of at most so many pips by rising rank, six bytes for each: fewer pips first, and of as many the smaller

@@ -2,10 +2,10 @@
 import {
     readBound, readBytes, readFraction, readLine, readModule, readPosition, readRange, readRank, readRoll, readRolls,
 } from "./checks.js";
-import { nearest, positionsByRank, rounded } from "./boards.js";
+import { lowest, positionsByRank } from "./boards.js";
 import { Engine, OUTPUT_BYTES } from "./engine.js";
 import { BearoffError, refusal } from "./errors.js";
-import { Fraction } from "./fractions.js";
+import { Fraction, Rounded } from "./fractions.js";
 import { BOARD } from "./kinds.js";
 
 // How many bytes the elements of a whole table have, with so many words a number.
@@ -119,7 +119,8 @@ export class Database {
     mean(position) {
         if (this.#isBoard) {
             const engine = this.#askOf("mean", "bearoff_board_mean", position);
-            return rounded(engine.numeral(engine.output), this.whole);
+            const { numerator, denominator } = lowest(engine.numeral(engine.output), this.whole);
+            return new Rounded(numerator, denominator, this.thousandths({ numerator, denominator }));
         }
         return this.#rounded("mean", "bearoff_rounded_mean", position);
     }
@@ -149,7 +150,8 @@ export class Database {
         if (this.#isBoard) {
             const [most, counts] = [readRolls(rolls), readPosition(position)];
             const shares = this.#sharesIn(this.#askOf("within", this.#kind.distribution, counts));
-            return { thousandths: nearest(shares.slice(0, most + 1).reduce((sum, share) => sum + share), this.whole) };
+            const numerator = shares.slice(0, most + 1).reduce((sum, share) => sum + share);
+            return { thousandths: this.thousandths({ numerator, denominator: this.whole }) };
         }
         const engine = this.#askOf("within", "bearoff_within", position, readRolls(rolls));
         return { thousandths: engine.number(engine.output) };
@@ -235,19 +237,13 @@ export class Database {
     }
 
     thousandths(fraction) {
-        const { words, rolls } = this.#kind;
+        const { words, rolls, thousandths } = this.#kind;
         const numbers = readFraction(fraction, 64 * words);
         const engine = this.#instance("thousandths");
-        const outside = `a fraction in thousandths is at most 180, and its denominator is 1 to 6 * 36^${rolls}`;
-        if (this.#isBoard) {
-            const [numerator, denominator] = numbers;
-            if (denominator === 0n || denominator > 6n * this.whole || numerator > 180n * denominator) {
-                throw new RangeError(outside);
-            }
-            return nearest(numerator, denominator);
-        }
         engine.setFraction(numbers);
-        if (!engine.call("bearoff_thousandths", BigInt(engine.fraction), engine.atTold)) throw new RangeError(outside);
+        if (!engine.call(thousandths, BigInt(engine.fraction), engine.atTold)) {
+            throw new RangeError(`a fraction in thousandths is at most 180, and its denominator is 1 to 6 * 36^${rolls}`);
+        }
         return engine.number(engine.told);
     }
 

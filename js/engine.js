@@ -56,7 +56,7 @@ export class Engine {
         this.end = Number(exports.__heap_base.value);
         this.position = this.#take(16);
         this.to = this.#take(16);
-        this.fraction = this.#take(32);
+        this.fraction = this.#take(48);
         this.told = this.#take(16);
         this.line = this.#take(LINE_BYTES);
         this.output = this.#take(OUTPUT_BYTES);
@@ -204,16 +204,19 @@ export class Engine {
         return this.bytes.slice(room, room + this.number(this.told));
     }
 
-    // Puts six counts at a place, and a fraction at its own.
+    // Puts six counts at a place, and a fraction of the open file's numbers at its own.
     setCounts(place, counts) {
         for (let point = 0; point < 6; point++) this.bytes[place + point] = counts[point];
     }
 
-    setFraction([numerator, denominator]) {
-        for (const [place, number] of [[0, numerator], [16, denominator]]) {
-            this.view.setBigUint64(this.fraction + place, number >> 64n, true);
-            this.view.setBigUint64(this.fraction + place + 8, number & 0xffffffffffffffffn, true);
-        }
+    setFraction(numbers) {
+        const { words } = this.kind;
+        numbers.forEach((number, place) => {
+            for (let word = 0; word < words; word++) {
+                const bits = BigInt.asUintN(64, number >> BigInt(64 * (words - 1 - word)));
+                this.view.setBigUint64(this.fraction + 8 * (words * place + word), bits, true);
+            }
+        });
     }
 
     // Puts a line where lines lie, and says how many bytes it has. Of one that is longer than any question its front is

@@ -1,6 +1,5 @@
 // Sums of fractions, rolls in pips, and their decimals: the numbers that the page's script works
 // out itself.
-import { nearest } from "../js/boards.js";
 import { decimal } from "./texts.js";
 
 const divisor = (one, other) => (other === 0n ? one : divisor(other, one % other));
@@ -23,5 +22,8 @@ export function inPips(rolls) {
     return lowest(49n * above, 6n * below);
 }
 
-// A text like "1/18" as a decimal, to the nearest thousandth.
-export const decimalOf = (fraction) => decimal(nearest(...fraction.split("/").map(BigInt)));
+// A text like "1/18" as a decimal, to the nearest thousandth and a half up.
+export function decimalOf(fraction) {
+    const [above, below] = fraction.split("/").map(BigInt);
+    return decimal((2000n * above + below) / (2n * below));
+}

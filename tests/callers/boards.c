@@ -188,6 +188,51 @@ static void ask_roll(const char *name, bearoff_position position, uint8_t one, u
     expect(bearoff_board_moves(&board, &position, one, other, results, 1, &less) == BEAROFF_FINISHED, "finished", 0);
 }
 
+typedef unsigned __int128 number;
+
+/* a number of three words times another one, and one more */
+static bearoff_long times(bearoff_long of, uint64_t factor, uint64_t more) {
+    for (int word = 2; word >= 0; word--) {
+        number product = (number)of.words[word] * factor + more;
+        of.words[word] = (uint64_t)product;
+        more = (uint64_t)(product >> 64);
+    }
+    return of;
+}
+
+/* a fraction in thousandths, or that it can't be told, which is -1 */
+static void round_off(bearoff_long numerator, bearoff_long denominator, int wanted, const char *what) {
+    bearoff_long_fraction fraction = {numerator, denominator};
+    uint64_t told = MARK;
+    bool is_told = bearoff_board_thousandths(&fraction, &told);
+    expect(is_told == (wanted >= 0) && told == (is_told ? (uint64_t)wanted : MARK), what, (long)told);
+}
+
+static void try_thousandths(void) {
+    bearoff_long zero = {{0}}, one = {{0, 0, 1}}, power = one, whole, most;
+    for (int k = 0; k < 30; k++) power = times(power, 36, 0);
+    whole = times(power, 36 * 36 * 36, 0);
+    most = times(whole, 6, 0);
+    round_off(zero, one, 0, "nothing");
+    round_off(one, times(one, 2000, 0), 1, "a half of a thousandth");
+    round_off(one, times(one, 2001, 0), 0, "less than a half of one");
+    round_off(times(one, 180, 0), one, 180000, "the most");
+    round_off(times(one, 181, 0), one, -1, "more than 180");
+    round_off(one, zero, -1, "no denominator");
+    round_off(zero, zero, -1, "nothing of nothing");
+    round_off(whole, whole, 1000, "one");
+    round_off(zero, most, 0, "nothing of the greatest denominator");
+    round_off(most, most, 1000, "all of it");
+    round_off(zero, times(most, 1, 1), -1, "a greater denominator");
+    round_off(times(most, 180, 0), most, 180000, "the most of it");
+    round_off(times(most, 180, 1), most, -1, "more than that");
+    round_off(power, times(power, 2000, 0), 1, "a half in long numbers");
+    round_off(power, times(power, 2000, 1), 0, "less than a half in these");
+    round_off(times(power, 3, 0), times(power, 2000, 0), 2, "a thousandth and a half");
+    round_off(times(power, 359999, 0), times(power, 2000, 0), 180000, "a half less than the most");
+    for (int k = 0; k <= 180; k++) round_off(times(whole, (uint64_t)k, 0), whole, 1000 * k, "so many wholes");
+}
+
 /* what the calls say of a position, which has to be what its lines are answered; and of its place in the tables */
 static void ask_position(const char *name) {
     char line[320];
@@ -200,6 +245,8 @@ static void ask_position(const char *name) {
         bearoff_board_mean(&board, &position, &mean)) return;
     expect(bearoff_board_epc(&board, &position, &pips) == BEAROFF_OK, name, 1);
     expect(fabs(bearoff_long_as_double(mean) * 49 / 6 * 1000 - (double)pips.thousandths) < 0.6, name, 2);
+    uint64_t told = 0;
+    expect(bearoff_board_thousandths(&pips.exact, &told) && told == pips.thousandths, name, 7);
     put(" epc ", 0);
     put_fraction(pips.exact);
     put(" %ld.", (long)(pips.thousandths / 1000));
@@ -289,6 +336,7 @@ int main(int count, char **words) {
     expect(build_in(bound, size, &needed) == BEAROFF_OK && needed == size, "exactly enough", bound);
     if (fwrite(room, 1, size, file) != size || fclose(file)) return 2;
     try_refusals(size);
+    try_thousandths();
     try_tables((uint16_t)(room[14] << 8 | room[15]));
     while (fgets(line, sizeof line, stdin)) {
         size_t length = strcspn(line, "\n");

@@ -1,5 +1,5 @@
 //! The least mean number of rolls of a position of the whole board, and its effective pip count.
-ghost use Rattle.std.specs.Prelude.{◌≡◌, ◌*◌, IfOk};
+ghost use Rattle.std.specs.Prelude.{◌≡◌, ◌*◌, ◌<◌, ◌≤◌, ◌↔◌, IsTrue, IfOk};
 ghost use Rattle.race_model.specs.Books.{mean_in, IsLeastIn};
 ghost use Rattle.race_model.specs.BoardFiles.{board_book};
 ghost use Rattle.race_model.specs.Fractions.{IsFraction, IsThousandths};
@@ -9,10 +9,10 @@ ghost use Rattle.bearoff_c.specs.Refusals.{position_refusal, refusal_in, status_
 
 use crate::board_positions::find_on_board;
 use crate::kept_board::Board;
-use crate::long_numbers::{Long, RoundedLong};
+use crate::long_numbers::{Long, LongFraction, RoundedLong};
 use crate::positions::Counts;
 use crate::statuses::{OK, Refusal};
-use fixed_fraction::BoardMean;
+use fixed_fraction::{BoardMean, wide_thousandths};
 
 /// The least mean number of rolls of a position, as a numerator over 36 ^ 33. Refused as
 /// `find_on_board` is.
@@ -78,5 +78,27 @@ pub extern "C" fn bearoff_board_epc(
             OK
         }
         Err(refusal) => refusal.status(),
+    }
+}
+
+/// A fraction in thousandths, rounded to the nearest, and a half upward, as of what another call
+/// about a board has answered. Whether it could be told: so it is where the denominator is not 0 and
+/// at most 6 * 36 ^ 33, and the fraction at most 180; else `thousandths` stays as it was.
+#[unsafe(no_mangle)]
+pub extern "C" fn bearoff_board_thousandths(fraction: &LongFraction, thousandths: &mut u64) -> bool
+    ensures value { IsTrue result → IsThousandths (long_number_of fraction.now.numerator)
+        (long_number_of fraction.now.denominator) thousandths.new }
+    ensures told { IsTrue result ↔ ((0 < long_number_of fraction.now.denominator)
+        × (long_number_of fraction.now.denominator ≤ 6 * board_whole)
+        × (long_number_of fraction.now.numerator
+        ≤ 180 * long_number_of fraction.now.denominator)) }
+    ensures left { ¬ IsTrue result → thousandths.new ≡ thousandths.old }
+{
+    match wide_thousandths(fraction.numerator.number(), fraction.denominator.number()) {
+        Some(told) => {
+            *thousandths = told;
+            true
+        }
+        None => false,
     }
 }

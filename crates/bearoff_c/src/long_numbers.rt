@@ -21,6 +21,14 @@ impl Long {
     /// No number of rolls, and no share.
     pub const ZERO: Long = Long { words: [0; 3] };
 
+    /// The number that the words stand for.
+    pub(crate) fn number(self) -> Wide
+        ensures { result ≡ long_number_of self }
+    {
+        let low = u128::from(self.words[1]) * WORD + u128::from(self.words[2]);
+        Wide::of_words(self.words[0], low)
+    }
+
     /// A number in three words.
     pub fn of(number: Wide) -> Long
         ensures { long_number_of result ≡ number }

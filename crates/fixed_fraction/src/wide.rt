@@ -1,5 +1,5 @@
 //! Numbers of 192 bits, as replies about the whole board print them.
-ghost use Rattle.std.specs.Prelude.{◌≡◌, ℕ, ◌+◌, ◌*◌, ◌/◌, ◌%◌, ◌^◌, ◌<◌, ◌≤◌};
+ghost use Rattle.std.specs.Prelude.{◌≡◌, ℕ, ◌+◌, ◌*◌, ◌/◌, ◌%◌, ◌^◌, ◌<◌, ◌≤◌, ◌↔◌, IsTrue};
 ghost use Rattle.fixed_fraction.specs.Board.{part};
 
 use std::marker::Model;
@@ -37,6 +37,20 @@ impl Wide {
             high: 0,
             low: number,
         }
+    }
+
+    /// The number with these bits from 128 on, and these below.
+    pub fn of_words(high: u64, low: u128) -> Wide
+        ensures { result ≡ high * 2 ^ 128 + low }
+    {
+        Wide { high, low }
+    }
+
+    /// Whether the number is less than another.
+    pub fn is_less(self, other: Wide) -> bool
+        ensures { IsTrue result ↔ (self < other) }
+    {
+        self.high < other.high || (self.high == other.high && self.low < other.low)
     }
 
     /// The number that two parts stand for.

@@ -1,13 +1,15 @@
 //! Fractions of the whole board in lowest terms, by twos and threes alone.
 ghost use Prim.Native.Nat.{◌∣◌};
-ghost use Rattle.std.specs.Prelude.{◌≡◌, ℕ, ◌+◌, ◌-◌, ◌*◌, ◌%◌, ◌^◌, ◌<◌, ◌≤◌};
+ghost use Rattle.std.specs.Prelude.{◌≡◌, ℕ, ◌+◌, ◌-◌, ◌*◌, ◌%◌, ◌^◌, ◌<◌, ◌≤◌, ◌↔◌};
+ghost use Rattle.std.specs.Prelude.{IsSome, IfSome};
 ghost use Rattle.std.specs.Int.{IsGcd};
-ghost use Rattle.race_model.specs.Fractions.{IsFraction};
+ghost use Rattle.race_model.specs.Fractions.{IsFraction, IsThousandths};
 ghost use Rattle.fixed_fraction.specs.Board.{board_whole};
 ghost use Rattle.fixed_fraction.specs.Ratios.{Ratio, IsDivided, AreApart};
 
 use crate::board_mean::BoardMean;
 use crate::counts::LongCount;
+use crate::scaled::WHOLE;
 use crate::wide::Wide;
 use std::marker::Model;
 
@@ -96,6 +98,45 @@ pub fn board_share(count: LongCount, k: u8) -> WideFraction
         threes: factors,
         twos: factors,
     }))
+}
+
+/// A numerator over a denominator in thousandths, rounded to the nearest, and a half upward (this
+/// project's profile); none exactly where the denominator is 0 or over 6 * 36 ^ 33, or the fraction
+/// is over 180. They need not be in lowest terms.
+pub fn wide_thousandths(numerator: Wide, denominator: Wide) -> Option<u64>
+    ensures some { IsSome result ↔ ((0 < denominator) × (denominator ≤ 6 * board_whole)
+        × (numerator ≤ 180 * denominator)) }
+    ensures value { IfSome result (λ told. IsThousandths numerator denominator told) }
+{
+    let most = Wide::of_parts(6 * WHOLE, 0);
+    if !Wide::of(0).is_less(denominator) || most.is_less(denominator) {
+        return None;
+    }
+    if denominator.times(180).is_less(numerator) {
+        return None;
+    }
+    Some(wide_thousandths_of(numerator, denominator))
+}
+
+/// The same, where it is told: the greatest number that is not over the fraction as it is rounded.
+fn wide_thousandths_of(numerator: Wide, denominator: Wide) -> u64
+    requires positive { 0 < denominator }
+    requires short { denominator ≤ 6 * board_whole }
+    requires within { numerator ≤ 180 * denominator }
+    ensures { IsThousandths numerator denominator result }
+{
+    let total = numerator.times(2000);
+    let mut least: u32 = 0;
+    let mut over: u32 = 180_001;
+    while over - least > 1 {
+        let middle = least + (over - least) / 2;
+        if total.is_less(denominator.times(2 * middle - 1)) {
+            over = middle;
+        } else {
+            least = middle;
+        }
+    }
+    u64::from(least)
 }
 
 /// The terms without the threes and the twos that both have.
