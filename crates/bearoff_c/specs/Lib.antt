@@ -10,6 +10,5 @@ pub mod Listed
 pub mod Closing
 pub mod Longs
 pub mod OpenedBoards
-pub mod BoardFaults
 pub mod BoardClosing
 pub mod BoardMoves

@@ -3,17 +3,16 @@ ghost use Rattle.std.specs.Prelude.{◌≡◌, ◌<◌, ◌≤◌, ◌↔◌, Is
 ghost use Rattle.race_model.specs.Files.{bound_of};
 ghost use Rattle.race_model.specs.RightBoards.{IsRightBoard};
 ghost use Rattle.board_check.specs.declared.fault.BoardFault.{BoardFault as Fault};
-ghost use Rattle.board_check.specs.Faults.{IsFirst};
+ghost use Rattle.board_check.specs.Faults.{IsFirst, told_as};
 ghost use Rattle.certificate.specs.CheckFaults.{line_of};
 ghost use Rattle.bearoff_c.specs.FileFaults.{fault_status as status_of_fault};
-ghost use Rattle.bearoff_c.specs.BoardFaults.{told_as};
 ghost use Rattle.bearoff_c.specs.BoardClosing.{IsElseSameBoard};
 ghost use Rattle.bearoff_c.specs.Buffers.{HasText};
 
 use crate::kept_board::Board;
 use crate::lines::put_text;
 use crate::statuses::{OK, fault_status};
-use board_check::{BoardFault, check_board};
+use board_check::check_board;
 use certificate::{CheckFault, fault_line};
 use ranking::RankTable;
 
@@ -55,23 +54,10 @@ pub extern "C" fn bearoff_board_open<'a>(
         }
         Err(fault) => {
             board.is_open = false;
-            let told = as_told(fault);
+            let told = CheckFault::from(fault);
             put_text(fault_line(&told).as_str().as_bytes(), line, needed);
             fault_status(&told)
         }
-    }
-}
-
-/// A fault of a board file as the same one of a database, which has a line and a status.
-fn as_told(fault: BoardFault) -> CheckFault
-    ensures { result ≡ told_as fault }
-{
-    match fault {
-        BoardFault::Header(fault) => CheckFault::Header(fault),
-        BoardFault::Play { rank, roll } => CheckFault::Play { rank, roll },
-        BoardFault::NotLeast { rank, roll } => CheckFault::NotLeast { rank, roll },
-        BoardFault::Mean { rank } => CheckFault::Mean { rank },
-        BoardFault::Spread { rank, k } => CheckFault::Spread { rank, k },
     }
 }
 

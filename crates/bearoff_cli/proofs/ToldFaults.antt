@@ -14,10 +14,10 @@ use Rattle.certificate.specs.declared.check_fault.CheckFault.TheVariants.{Read a
 use Rattle.epc_query.specs.declared.run_fault.RunFault.{RunFault}
 use Rattle.epc_query.specs.declared.run_fault.RunFault.TheVariants.{Read as InputRead, Write as OutputWrite, Table}
 use Rattle.epc_query.specs.declared.run_fault.RunFault.TheVariants.{Memory as NoMemoryLeft, Turns as NoTurns}
-use Rattle.board_check.specs.Faults.{IsFirst as IsFirstOnBoard}
+use Rattle.board_check.specs.Faults.{IsFirst as IsFirstOnBoard, told_as}
 use Rattle.board_check.specs.declared.fault.BoardFault.{BoardFault}
 use Rattle.epc_query.specs.AnyFiles.{AnyFile, database_file, board_file}
-use Rattle.exit_status.specs.Causes.{of_check, of_run, of_upgrade, of_board}
+use Rattle.exit_status.specs.Causes.{of_check, of_run, of_upgrade}
 use Rattle.exit_status.specs.Lines.{error_line}
 use Rattle.exit_status.specs.Statuses.{status_of}
 use Rattle.exit_status.specs.declared.fault.Fault.{Fault}
@@ -55,7 +55,7 @@ first_in file fault (cause, first, is) = rw is (check_in file cause first)
 
 -- .. of a board file
 pub first_on_board : (file : List ℕ) (fault : Fault)
-    → (cause : BoardFault) × IsFirstOnBoard file cause × (fault ≡ Refused (of_board cause))
+    → (cause : BoardFault) × IsFirstOnBoard file cause × (fault ≡ Refused (told_as cause))
     → IsFaultIn (board_file file) fault
 first_on_board file fault (cause, first, is) = rw is (cause, first, refl)
 

@@ -6,9 +6,8 @@ use Rattle.race_model.specs.RightFiles.{IsRight}
 use Rattle.certificate.specs.CheckFaults.{IsFirst}
 use Rattle.certificate.specs.declared.check_fault.CheckFault.{CheckFault}
 use Rattle.epc_query.specs.AnyFiles.{AnyFile, database_file, board_file}
-use Rattle.board_check.specs.Faults.{IsFirst as IsFirstOnBoard}
+use Rattle.board_check.specs.Faults.{IsFirst as IsFirstOnBoard, told_as}
 use Rattle.board_check.specs.declared.fault.BoardFault.{BoardFault}
-use Rattle.exit_status.specs.Causes.{of_board}
 use Rattle.command_line.specs.declared.words.Request.{Request}
 use Rattle.command_line.specs.declared.words.Request.TheVariants.{Default, Build, Check, Query, Audit}
 use Rattle.command_line.specs.declared.words.Request.TheVariants.{Upgrade, Board}
@@ -24,7 +23,7 @@ use Rattle.bearoff_cli.specs.FileAnswers.{IsReadFrom}
 abbrev pub IsFirstBy : AnyFile → CheckFault → Type 0
 IsFirstBy (database_file f) cause = IsFirst f cause
 IsFirstBy (board_file f) cause =
-    (fault : BoardFault) × IsFirstOnBoard f fault × (cause ≡ of_board fault)
+    (fault : BoardFault) × IsFirstOnBoard f fault × (cause ≡ told_as fault)
 
 -- the file is a right database of version 2
 abbrev pub IsNotOld : AnyFile → Type 0

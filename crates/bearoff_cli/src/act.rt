@@ -7,13 +7,13 @@ ghost use Rattle.race_model.specs.Files.{version_of, bound_of};
 ghost use Rattle.race_model.specs.Versions.{version_number};
 ghost use Rattle.race_model.specs.RightFiles.{IsRight};
 ghost use Rattle.race_model.specs.RightBoards.{IsRightBoard};
-ghost use Rattle.board_check.specs.Faults.{IsFirst as IsFirstOnBoard};
+ghost use Rattle.board_check.specs.Faults.{IsFirst as IsFirstOnBoard, told_as};
 ghost use Rattle.board_check.specs.declared.fault.BoardFault.{BoardFault};
 ghost use Rattle.epc_query.specs.AnyFiles.{database_file, board_file};
 ghost use Rattle.race_model.specs.Ranks.{count_to};
 ghost use Rattle.db_reader.specs.Telling.{WhereTold};
 ghost use Rattle.db_layout.specs.Writes.{AppendsPart};
-ghost use Rattle.exit_status.specs.Causes.{of_check, of_board};
+ghost use Rattle.exit_status.specs.Causes.{of_check};
 ghost use Rattle.exit_status.specs.Lines.{error_line};
 ghost use Rattle.exit_status.specs.Statuses.{status_of};
 ghost use Rattle.exit_status.specs.declared.fault.Fault.{Fault};
@@ -559,7 +559,7 @@ fn accept_board(bytes: &[u8]) -> Result<BoardHeader, Fault>
     ensures bound { IfOk result (λ header. header.bound ≡ bound_of bytes.now) }
     ensures exactly { IsRightBoard bytes.now → IsOk result }
     ensures fault { IfErr result (λ fault. (cause : BoardFault) × IsFirstOnBoard bytes.now cause
-        × (fault ≡ Refused (of_board cause))) }
+        × (fault ≡ Refused (told_as cause))) }
 {
     match check_board(bytes) {
         Ok(header) => Ok(header),

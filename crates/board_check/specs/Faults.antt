@@ -8,6 +8,10 @@ use Rattle.race_model.specs.BoardFiles.{board_book}
 use Rattle.race_model.specs.BoardHeaders.{IsBoardFile, IsFirstBoardHeaderFault}
 use Rattle.race_model.specs.RightBoards.{HoldsOnBoard, AsksOnBoard, IsFirstBoardFault}
 use Rattle.db_layout.specs.HeaderFaults.{test_of}
+use Rattle.certificate.specs.declared.check_fault.CheckFault.{CheckFault}
+use Rattle.certificate.specs.declared.check_fault.CheckFault.TheVariants.{Header as ToldHeader, Play as ToldPlay}
+use Rattle.certificate.specs.declared.check_fault.CheckFault.TheVariants.{NotLeast as ToldNotLeast, Mean as ToldMean}
+use Rattle.certificate.specs.declared.check_fault.CheckFault.TheVariants.{Spread as ToldSpread}
 use Rattle.board_check.specs.Tested.{Holds, MeanHolds, CountHolds}
 use Rattle.board_check.specs.declared.fault.BoardFault.{BoardFault}
 use Rattle.board_check.specs.declared.fault.BoardFault.TheVariants.{Header, Play, NotLeast, Mean, Spread}
@@ -22,6 +26,14 @@ IsFirst f (Play rank roll) = IsBoardFile f × IsFirstBoardFault f (play_test ran
 IsFirst f (NotLeast rank roll) = IsBoardFile f × IsFirstBoardFault f (least_test rank roll)
 IsFirst f (Mean rank) = IsBoardFile f × IsFirstBoardFault f (mean_test rank)
 IsFirst f (Spread rank k) = IsBoardFile f × IsFirstBoardFault f (spread_test rank k)
+
+-- a fault as the same one of a database: both have the same line and the same status
+abbrev pub told_as : BoardFault → CheckFault
+told_as (Header fault) = ToldHeader fault
+told_as (Play rank roll) = ToldPlay rank roll
+told_as (NotLeast rank roll) = ToldNotLeast rank roll
+told_as (Mean rank) = ToldMean rank
+told_as (Spread rank k) = ToldSpread rank k
 
 -- a fault of the record of a rank, as a fault of the file
 abbrev pub of_record_at : ℕ → RecordFault → BoardFault

@@ -1,4 +1,8 @@
 //! Why bytes are refused.
+ghost use Rattle.std.specs.Prelude.{◌≡◌};
+ghost use Rattle.board_check.specs.Faults.{told_as};
+
+use certificate::CheckFault;
 use db_layout::HeaderFault;
 
 /// The first fault of bytes that are no right board file, in the order of the check: its header,
@@ -21,6 +25,22 @@ pub enum BoardFault {
     /// The count of sequences of exactly `k` throws of this rank is not the expected one, or not
     /// written in the one way.
     Spread { rank: u16, k: u8 },
+}
+
+/// A fault of a board file is told as the same one of a database: its line and its status are those
+/// of that one.
+impl From<BoardFault> for CheckFault {
+    ghost from_gives = { λ fault told. told ≡ told_as fault };
+
+    fn from(fault: BoardFault) -> Self {
+        match fault {
+            BoardFault::Header(fault) => CheckFault::Header(fault),
+            BoardFault::Play { rank, roll } => CheckFault::Play { rank, roll },
+            BoardFault::NotLeast { rank, roll } => CheckFault::NotLeast { rank, roll },
+            BoardFault::Mean { rank } => CheckFault::Mean { rank },
+            BoardFault::Spread { rank, k } => CheckFault::Spread { rank, k },
+        }
+    }
 }
 
 /// The first fault of a record.

@@ -11,10 +11,6 @@ use Rattle.retrograde.specs.declared.build_fault.BuildFault.TheVariants.{Write a
 use Rattle.epc_query.specs.declared.run_fault.RunFault.{RunFault}
 use Rattle.epc_query.specs.declared.run_fault.RunFault.TheVariants.{Read as InputRead, Write as OutputWrite, Table}
 use Rattle.epc_query.specs.declared.run_fault.RunFault.TheVariants.{Memory as NoMemoryLeft, Turns as NoTurns}
-use Rattle.board_check.specs.declared.fault.BoardFault.{BoardFault}
-use Rattle.board_check.specs.declared.fault.BoardFault.TheVariants.{Header as BoardHeader, Play as BoardPlay}
-use Rattle.board_check.specs.declared.fault.BoardFault.TheVariants.{NotLeast as NotLeastOnBoard}
-use Rattle.board_check.specs.declared.fault.BoardFault.TheVariants.{Mean as BoardMean, Spread as BoardSpread}
 use Rattle.exit_status.specs.declared.fault.Fault.{Fault}
 use Rattle.exit_status.specs.declared.fault.Fault.TheVariants.{File, Read, Write, Memory, Turns, OverBound, Refused}
 use Rattle.exit_status.specs.declared.fault.Fault.TheVariants.{NotOld}
@@ -27,14 +23,6 @@ of_check (NotLeast rank roll) = Refused (NotLeast rank roll)
 of_check (Mean rank) = Refused (Mean rank)
 of_check (Spread rank k) = Refused (Spread rank k)
 of_check TableRead = File
-
--- the fault of a board file as that of a database: both have the same line
-abbrev pub of_board : BoardFault → CheckFault
-of_board (BoardHeader fault) = Header fault
-of_board (BoardPlay rank roll) = Play rank roll
-of_board (NotLeastOnBoard rank roll) = NotLeast rank roll
-of_board (BoardMean rank) = Mean rank
-of_board (BoardSpread rank k) = Spread rank k
 
 -- the refusals of the builder
 abbrev pub of_build : BuildFault → Fault

@@ -2,8 +2,9 @@
 //! standard error.
 ghost use Rattle.std.specs.Prelude.{◌≡◌, ◌≤◌, length, OnOk};
 ghost use Rattle.std.specs.Io.KnownBytes.{Appends};
+ghost use Rattle.board_check.specs.Faults.{told_as};
 ghost use Rattle.db_layout.specs.Writes.{AppendsPart};
-ghost use Rattle.exit_status.specs.Causes.{of_check, of_board, of_build, of_upgrade, of_run};
+ghost use Rattle.exit_status.specs.Causes.{of_check, of_build, of_upgrade, of_run};
 ghost use Rattle.exit_status.specs.Lines.{word_of, error_line};
 ghost use Rattle.exit_status.specs.Statuses.{status_of};
 ghost use Rattle.exit_status.specs.declared.fault.Fault.TheVariants.{Memory, Refused};
@@ -112,16 +113,10 @@ impl From<CheckFault> for Fault {
 }
 
 impl From<BoardFault> for Fault {
-    ghost from_gives = { λ cause fault. fault ≡ Refused (of_board cause) };
+    ghost from_gives = { λ cause fault. fault ≡ Refused (told_as cause) };
 
     fn from(fault: BoardFault) -> Self {
-        Fault::Refused(match fault {
-            BoardFault::Header(fault) => CheckFault::Header(fault),
-            BoardFault::Play { rank, roll } => CheckFault::Play { rank, roll },
-            BoardFault::NotLeast { rank, roll } => CheckFault::NotLeast { rank, roll },
-            BoardFault::Mean { rank } => CheckFault::Mean { rank },
-            BoardFault::Spread { rank, k } => CheckFault::Spread { rank, k },
-        })
+        Fault::Refused(CheckFault::from(fault))
     }
 }
 
