@@ -11,7 +11,7 @@ pub enum Difference {
     /// The results of a roll and those of the plain program.
     Results,
 
-    /// The mean of a position and that of its best results.
+    /// The mean of a position and that of its best results, or of its record.
     Means,
 
     /// A text of a position and the position that is read from it.
@@ -20,8 +20,18 @@ pub enum Difference {
     /// What the checker says of a file in memory and by pages.
     Verdicts,
 
-    /// The replies to an input in memory and by pages, or in parts.
+    /// The replies to an input in memory and by pages, in parts, or over a board file.
     Replies,
+
+    /// What the checker says of a board file and what a plain one says; or the file of a bound and
+    /// the whole board.
+    Boards,
+
+    /// A record of the whole board and what a plain program wants there.
+    Records,
+
+    /// The counts that a board file says and those in its record.
+    Counts,
 
     /// There was no memory.
     Memory,
@@ -37,6 +47,9 @@ impl Difference {
             Difference::Texts => "texts",
             Difference::Verdicts => "verdicts",
             Difference::Replies => "replies",
+            Difference::Boards => "boards",
+            Difference::Records => "records",
+            Difference::Counts => "counts",
             Difference::Memory => "memory",
         }
     }
