@@ -36,6 +36,7 @@ LOSSES = "crates/epc_query/src/losses.rt"
 RUNNING = "crates/epc_query/src/running.rt"
 LINES = "crates/epc_query/src/lines.rt"
 ACT = "crates/bearoff_cli/src/act.rt"
+KINDS = "crates/bearoff_cli/src/kinds.rt"
 FILES = "crates/bearoff_cli/src/files.rt"
 BOARD_LINES = "crates/board_query/src/lines.rt"
 CHECKED = "crates/certificate/src/checked.rt"
@@ -288,8 +289,10 @@ PLANTED = [
     (
         "the_query_reads_another_file",
         ACT,
-        "Request::Query { path, cache: None } => answer_file(rt, alloc, path, input, output)",
-        'Request::Query { path: _, cache: None } => answer_file(rt, alloc, "race.db", input, output)',
+        "Request::Query { path, cache: None } => {\n"
+        "            answer_file::<Databases, _, _, _>(rt, alloc, path, input, output)",
+        "Request::Query { path: _, cache: None } => {\n"
+        '            answer_file::<Databases, _, _, _>(rt, alloc, "race.db", input, output)',
         "rows TestCommands",
     ),
     (
@@ -438,7 +441,7 @@ PLANTED = [
     ),
     (
         "the_audit_of_a_board_gives_up_at_90_pips",
-        ACT,
+        KINDS,
         "        let Some(level) = board_level(board, pips) else {",
         "        if pips == 90 { return Err(Fault::File); }\n"
         "        let Some(level) = board_level(board, pips) else {",
@@ -447,8 +450,8 @@ PLANTED = [
     (
         "the_query_of_a_board_reads_another_file",
         ACT,
-        "            BoardCommand::Query => answer_board_file(rt, alloc, path, input, output),",
-        '            BoardCommand::Query => answer_board_file(rt, alloc, "eight", input, output),',
+        "answer_file::<Boards, _, _, _>(rt, alloc, path, input, output)",
+        'answer_file::<Boards, _, _, _>(rt, alloc, "eight", input, output)',
         "rows TestBoards",
     ),
     (

@@ -7,16 +7,18 @@ use Rattle.certificate.specs.declared.upgrade_fault.UpgradeFault.{UpgradeFault}
 use Rattle.certificate.specs.declared.upgrade_fault.UpgradeFault.TheVariants.{NotOld as IsNotOld, Read as OldRead}
 use Rattle.certificate.specs.declared.upgrade_fault.UpgradeFault.TheVariants.{Write as NewWrite}
 use Rattle.db_layout.proofs.Known.{appends_none}
-use Rattle.certificate.specs.CheckFaults.{IsFirst}
 use Rattle.certificate.specs.declared.check_fault.CheckFault.{CheckFault}
 use Rattle.certificate.specs.declared.check_fault.CheckFault.TheVariants.{Header, Play, NotLeast, Mean, Spread}
 use Rattle.certificate.specs.declared.check_fault.CheckFault.TheVariants.{Read as TableRead}
 use Rattle.epc_query.specs.declared.run_fault.RunFault.{RunFault}
 use Rattle.epc_query.specs.declared.run_fault.RunFault.TheVariants.{Read as InputRead, Write as OutputWrite, Table}
 use Rattle.epc_query.specs.declared.run_fault.RunFault.TheVariants.{Memory as NoMemoryLeft, Turns as NoTurns}
-use Rattle.board_check.specs.Faults.{IsFirst as IsFirstOnBoard, told_as}
+use Rattle.board_check.specs.Faults.{told_as}
 use Rattle.board_check.specs.declared.fault.BoardFault.{BoardFault}
-use Rattle.epc_query.specs.AnyFiles.{AnyFile, database_file, board_file}
+use Rattle.board_check.specs.declared.fault.BoardFault.TheVariants.{Header as BoardHeader, Play as BoardPlay}
+use Rattle.board_check.specs.declared.fault.BoardFault.TheVariants.{NotLeast as NotLeastOnBoard}
+use Rattle.board_check.specs.declared.fault.BoardFault.TheVariants.{Mean as BoardMean, Spread as BoardSpread}
+use Rattle.epc_query.specs.AnyFiles.{AnyFile}
 use Rattle.exit_status.specs.Causes.{of_check, of_run, of_upgrade}
 use Rattle.exit_status.specs.Lines.{error_line}
 use Rattle.exit_status.specs.Statuses.{status_of}
@@ -30,7 +32,7 @@ use Rattle.command_line.specs.declared.words.Request.TheVariants.{Upgrade, Board
 use Rattle.command_line.specs.declared.words.BoardCommand.{BoardCommand}
 use Rattle.command_line.specs.declared.words.BoardCommand.TheVariants.{Build as BuildBoard, Check as CheckBoard}
 use Rattle.command_line.specs.declared.words.BoardCommand.TheVariants.{Query as QueryBoard, Audit as AuditBoard}
-use Rattle.bearoff_cli.specs.Faults.{IsFaultIn, IsOwnFault, IsFaultOf, IsRefused}
+use Rattle.bearoff_cli.specs.Faults.{IsFaultIn, IsFirstBy, IsOwnFault, IsFaultOf, IsRefused}
 use Rattle.bearoff_cli.specs.StoppedRuns.{IsRefusalOf, Leaves}
 use Rattle.bearoff_cli.specs.Tellings.{IsToldBy}
 use Rattle.bearoff_cli.specs.declared.act.ProgramFault.{ProgramFault}
@@ -38,8 +40,8 @@ use Rattle.bearoff_cli.specs.declared.act.ProgramFault.TheVariants.{Words, Faile
 use Rattle.bearoff_cli.proofs.Requests.{IsSame, of_same}
 
 -- the first fault that a check found
-pub check_in : (file : List ℕ) (cause : CheckFault) → IsFirst file cause
-    → IsFaultIn (database_file file) (of_check cause)
+pub check_in : (file : AnyFile) (cause : CheckFault) → IsFirstBy file cause
+    → IsFaultIn file (of_check cause)
 check_in file (Header fault) is = is
 check_in file (Play rank roll) is = is
 check_in file (NotLeast rank roll) is = is
@@ -48,16 +50,18 @@ check_in file (Spread rank k) is = is
 check_in file TableRead is = tt
 
 -- .. as the fault that is told
-pub first_in : (file : List ℕ) (fault : Fault)
-    → (cause : CheckFault) × IsFirst file cause × (fault ≡ of_check cause)
-    → IsFaultIn (database_file file) fault
+pub first_in : (file : AnyFile) (fault : Fault)
+    → (cause : CheckFault) × IsFirstBy file cause × (fault ≡ of_check cause)
+    → IsFaultIn file fault
 first_in file fault (cause, first, is) = rw is (check_in file cause first)
 
--- .. of a board file
-pub first_on_board : (file : List ℕ) (fault : Fault)
-    → (cause : BoardFault) × IsFirstOnBoard file cause × (fault ≡ Refused (told_as cause))
-    → IsFaultIn (board_file file) fault
-first_on_board file fault (cause, first, is) = rw is (cause, first, refl)
+-- a fault of a board file refuses it
+pub board_refused : (fault : BoardFault) → of_check (told_as fault) ≡ Refused (told_as fault)
+board_refused (BoardHeader fault) = refl
+board_refused (BoardPlay rank roll) = refl
+board_refused (NotLeastOnBoard rank roll) = refl
+board_refused (BoardMean rank) = refl
+board_refused (BoardSpread rank k) = refl
 
 -- what failed is no database
 pub status_in : (file : AnyFile) (fault : Fault) → status_of fault ≡ 1 → IsFaultIn file fault

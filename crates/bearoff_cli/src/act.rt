@@ -1,15 +1,8 @@
 //! The whole program, over the files of a system, a reader and two writers.
-ghost use Rattle.std.specs.Prelude.{◌≡◌, ℕ, ◌<◌, ◌≤◌, ◌⊎◌, List, map, Some, Ok, Err, IfOk, IfErr, IsOk, OnOk};
-ghost use Rattle.std.specs.Prelude.{OnErr, suc};
+ghost use Rattle.std.specs.Prelude.{◌≡◌, ℕ, ◌<◌, ◌≤◌, ◌⊎◌, List, map, Some, Ok, Err, IfOk, IfErr, OnOk, OnErr};
 ghost use Rattle.std.specs.Io.KnownBytes.{Appends};
 ghost use Rattle.race_model.specs.BuiltFile.{IsBuilt};
-ghost use Rattle.race_model.specs.Files.{version_of, bound_of};
-ghost use Rattle.race_model.specs.Versions.{version_number};
-ghost use Rattle.race_model.specs.RightFiles.{IsRight};
-ghost use Rattle.race_model.specs.RightBoards.{IsRightBoard};
-ghost use Rattle.board_check.specs.Faults.{IsFirst as IsFirstOnBoard, told_as};
-ghost use Rattle.board_check.specs.declared.fault.BoardFault.{BoardFault};
-ghost use Rattle.epc_query.specs.AnyFiles.{database_file, board_file};
+ghost use Rattle.epc_query.specs.AnyFiles.{database_file, IsRightBy};
 ghost use Rattle.race_model.specs.Ranks.{count_to};
 ghost use Rattle.db_reader.specs.Telling.{WhereTold};
 ghost use Rattle.db_layout.specs.Writes.{AppendsPart};
@@ -17,7 +10,7 @@ ghost use Rattle.exit_status.specs.Causes.{of_check};
 ghost use Rattle.exit_status.specs.Lines.{error_line};
 ghost use Rattle.exit_status.specs.Statuses.{status_of};
 ghost use Rattle.exit_status.specs.declared.fault.Fault.{Fault};
-ghost use Rattle.exit_status.specs.declared.fault.Fault.TheVariants.{OverBound, Refused};
+ghost use Rattle.exit_status.specs.declared.fault.Fault.TheVariants.{OverBound};
 ghost use Rattle.command_line.specs.declared.words.Request.{Request};
 ghost use Rattle.certificate.specs.CheckFaults.{IsFirst};
 ghost use Rattle.certificate.specs.declared.check_fault.CheckFault.{CheckFault};
@@ -27,12 +20,11 @@ ghost use Rattle.bearoff_cli.specs.InputAnswers.{AreAnswered, AreAnsweredOver};
 ghost use Rattle.bearoff_cli.specs.FileAnswers.{AreAnsweredFrom, IsHandedTo, SaysRight, SaysUpgraded, SaysLevels};
 ghost use Rattle.retrograde.specs.BuiltBytes.{WritesBuilt};
 ghost use Rattle.retrograde.specs.UsualVersion.{usual_version};
-ghost use Rattle.bearoff_cli.specs.FileAnswers.{WritesBuiltBoard, WritesLevels, count_line, count_text};
+ghost use Rattle.bearoff_cli.specs.FileAnswers.{WritesBuiltBoard, count_line, count_text};
 ghost use Rattle.bearoff_cli.specs.RefusedFiles.{KeepsIfRefused, KeepsIfTold};
 ghost use Rattle.bearoff_cli.specs.Requests.{Asks, IsDone};
 ghost use Rattle.bearoff_cli.specs.StoppedRuns.{AreStopped, IsNothingOr, IsRefusalOf, Leaves, LeavesLevels};
-ghost use Rattle.bearoff_cli.specs.StoppedRuns.{LeavesLine, LeavesReplies};
-ghost use Rattle.bearoff_cli.specs.StoppedRuns.{SaysRightPart, SaysUpgradedPart, WritesLevelPart};
+ghost use Rattle.bearoff_cli.specs.StoppedRuns.{LeavesLine, LeavesReplies, SaysUpgradedPart};
 ghost use Rattle.bearoff_cli.specs.declared.act.Done.TheVariants.{Built};
 ghost use Rattle.bearoff_cli.specs.declared.act.ProgramFault.TheVariants.{Failed};
 
@@ -40,24 +32,19 @@ use crate::files::{
     WHOLE_BOARD, affordable, build_board_file, build_file, flush, probe_stack, read_file,
     stack_room, upgrade_file,
 };
+use crate::kinds::{Boards, Databases, Kind, TURNS};
 use arrayvec::ArrayString;
-use board::Board;
-use board_check::check_board;
-use board_layout::BoardHeader;
-use board_query::{BoardLines, BoardText, board_level, put_board_level};
 use certificate::{CheckFault, Checked, check};
 use clap::Error;
 use clap::error::ErrorKind;
 use command_line::{BoardCommand, Request, read_words};
-use database::{Accepted, Database, accept};
 use db_layout::{COMPACT_VERSION, WriteFault, write_bytes};
 use db_reader::{FileSource, Paged, Table, Whole};
-use epc_query::laws::law_level_text;
-use epc_query::{run, run_lines, write_level, write_line};
+use epc_query::run;
 use exit_status::{Fault, write_fault};
 use home_board::MAX_BOUND;
 use itoa::Buffer;
-use ranking::{RankTable, Ranks};
+use ranking::Ranks;
 use retrograde::build;
 use std::alloc::Global;
 use std::convert::AsStr;
@@ -67,9 +54,6 @@ use std::rt::Files;
 
 /// The pip bound of the database that is built where no word is given.
 const DEFAULT_BOUND: u8 = 8;
-
-/// How many reads of standard input there are at most.
-const TURNS: u64 = 1 << 40;
 
 /// The whole program: does what the words (those after the program's own name) ask for, and gives
 /// the exit status. With no words it answers each line of the input over the database of 8 pips,
@@ -222,19 +206,23 @@ fn fulfil<R: Files, I: Read, O: Write>(
     match request {
         Request::Default => answer_default(alloc, input, output),
         Request::Build { pips, path } => write_database(rt, alloc, pips, path, output),
-        Request::Check { path } => check_database(rt, alloc, path, output),
-        Request::Query { path, cache: None } => answer_file(rt, alloc, path, input, output),
+        Request::Check { path } => check_file::<Databases, _, _>(rt, alloc, path, output),
+        Request::Query { path, cache: None } => {
+            answer_file::<Databases, _, _, _>(rt, alloc, path, input, output)
+        }
         Request::Query {
             path,
             cache: Some(records),
         } => answer_pages(rt, alloc, path, records, input, output),
-        Request::Audit { path } => audit_database(rt, alloc, path, output),
+        Request::Audit { path } => audit_file::<Databases, _, _>(rt, alloc, path, output),
         Request::Upgrade { old, new } => upgrade_database(rt, alloc, old, new, output),
         Request::Board { command, path } => match command {
             BoardCommand::Build => write_board(rt, alloc, path, output),
-            BoardCommand::Check => check_board_file(rt, alloc, path, output),
-            BoardCommand::Query => answer_board_file(rt, alloc, path, input, output),
-            BoardCommand::Audit => audit_board_file(rt, alloc, path, output),
+            BoardCommand::Check => check_file::<Boards, _, _>(rt, alloc, path, output),
+            BoardCommand::Query => {
+                answer_file::<Boards, _, _, _>(rt, alloc, path, input, output)
+            }
+            BoardCommand::Audit => audit_file::<Boards, _, _>(rt, alloc, path, output),
         },
     }
 }
@@ -259,11 +247,12 @@ fn answer_default<I: Read, O: Write>(
     probe_stack(alloc)?;
     let mut bytes = Vec::new(alloc);
     build(alloc, DEFAULT_BOUND, &mut bytes)?;
-    answer_bytes(alloc, bytes.as_slice(), input, output)
+    answer_bytes::<Databases, _, _>(alloc, bytes.as_slice(), input, output)
 }
 
-/// Answers each line of the input over the database in a file, which is read whole.
-fn answer_file<R: Files, I: Read, O: Write>(
+/// Answers each line of the input over a file, which is read whole.
+#[inline(never)]
+fn answer_file<K: Kind, R: Files, I: Read, O: Write>(
     rt: &R,
     alloc: Global,
     path: &str,
@@ -271,18 +260,15 @@ fn answer_file<R: Files, I: Read, O: Write>(
     output: &mut O,
 ) -> Result<(), Fault>
     ensures refused { KeepsIfRefused result (O.contents output.old) (O.contents output.new) }
-    ensures fault { IfErr result (λ fault. IsOwnFault database_file R.File.remaining fault) }
-    ensures left { WhereTold (I.remaining input.old) (λ given. IfErr result
-        (λ fault. IsNothingOr database_file R.File.remaining
-        (λ file. AreStopped (database_file file) given (I.remaining input.new)
-        (O.contents output.old) (O.contents output.new) fault)
-        (O.contents output.old) (O.contents output.new))) }
+    ensures fault { IfErr result (λ fault. IsOwnFault K.kind R.File.remaining fault) }
+    ensures left { IfErr result (LeavesReplies K.kind R.File.remaining (I.remaining input.old)
+        (I.remaining input.new) (O.contents output.old) (O.contents output.new)) }
     ensures answers { WhereTold (I.remaining input.old)
-        (λ given. IfOk result (λ _. AreAnsweredFrom database_file R.File.remaining given
+        (λ given. IfOk result (λ _. AreAnsweredFrom K.kind R.File.remaining given
         (I.remaining input.new) (O.contents output.old) (O.contents output.new))) }
 {
     let file = read_file(rt, alloc, path)?;
-    answer_bytes(alloc, file.as_slice(), input, output)
+    answer_bytes::<K, _, _>(alloc, file.as_slice(), input, output)
 }
 
 /// Answers each line of the input over the database in a file, of which at most so many records
@@ -311,69 +297,26 @@ fn answer_pages<R: Files, I: Read, O: Write>(
     }
 }
 
-/// Answers each line of the input over the database in bytes.
-fn answer_bytes<I: Read, O: Write>(
+/// Answers each line of the input over the file in bytes.
+fn answer_bytes<K: Kind, I: Read, O: Write>(
     alloc: Global,
     bytes: &[u8],
     input: &mut I,
     output: &mut O,
 ) -> Result<(), Fault>
     ensures refused { KeepsIfRefused result (O.contents output.old) (O.contents output.new) }
-    ensures right { IsRight bytes.now → IfErr result (λ fault. status_of fault ≡ 1) }
-    ensures fault { IfErr result (λ fault. IsFaultIn (database_file bytes.now) fault) }
+    ensures right { IsRightBy (K.kind bytes.now) → IfErr result (λ fault. status_of fault ≡ 1) }
+    ensures fault { IfErr result (λ fault. IsFaultIn (K.kind bytes.now) fault) }
     ensures left { WhereTold (I.remaining input.old) (λ given. IfErr result
         (λ fault. (O.contents output.new ≡ O.contents output.old)
-        ⊎ AreStopped (database_file bytes.now) given (I.remaining input.new) (O.contents output.old)
+        ⊎ AreStopped (K.kind bytes.now) given (I.remaining input.new) (O.contents output.old)
         (O.contents output.new) fault)) }
     ensures answers { WhereTold (I.remaining input.old) (λ given. IfOk result
-        (λ _. AreAnswered (database_file bytes.now) given (I.remaining input.new)
+        (λ _. AreAnswered (K.kind bytes.now) given (I.remaining input.new)
         (O.contents output.old) (O.contents output.new))) }
 {
-    let accepted = accept_bytes(bytes)?;
-    answer_accepted(alloc, bytes, accepted, input, output)
-}
-
-/// What is kept of bytes that are a right database.
-fn accept_bytes(bytes: &[u8]) -> Result<Accepted, Fault>
-    ensures right { OnOk result (IsRight bytes.now) }
-    ensures version { IfOk result (λ accepted.
-        accepted.version ≡ version_number (version_of bytes.now)) }
-    ensures bound { IfOk result (λ accepted. accepted.bound ≡ bound_of bytes.now) }
-    ensures exactly { IsRight bytes.now → IsOk result }
-    ensures fault { IfErr result (λ fault. (cause : CheckFault) × IsFirst bytes.now cause
-        × (fault ≡ of_check cause)) }
-{
-    match accept(bytes) {
-        Ok(accepted) => Ok(accepted),
-        Err(fault) => Err(Fault::from(fault)),
-    }
-}
-
-/// Answers each line of the input over the database in bytes that were accepted.
-// so that its room is not on the stack while the bytes are checked
-#[inline(never)]
-fn answer_accepted<I: Read, O: Write>(
-    alloc: Global,
-    bytes: &[u8],
-    accepted: Accepted,
-    input: &mut I,
-    output: &mut O,
-) -> Result<(), Fault>
-    requires right { IsRight bytes.now }
-    requires version { accepted.version ≡ version_number (version_of bytes.now) }
-    requires bound { accepted.bound ≡ bound_of bytes.now }
-    ensures status { IfErr result (λ fault. status_of fault ≡ 1) }
-    ensures left { WhereTold (I.remaining input.old) (λ given. IfErr result
-        (AreStopped (database_file bytes.now) given (I.remaining input.new) (O.contents output.old)
-        (O.contents output.new))) }
-    ensures answers { WhereTold (I.remaining input.old) (λ given. IfOk result
-        (λ _. AreAnswered (database_file bytes.now) given (I.remaining input.new)
-        (O.contents output.old) (O.contents output.new))) }
-{
-    let ranks = RankTable::new();
-    let mut database = Database::kept(bytes, accepted, &ranks);
-    run_lines(alloc, &mut database, input, output, TURNS)?;
-    Ok(())
+    let kept = K::accept(bytes)?;
+    kept.answer(alloc, bytes, input, output)
 }
 
 /// Answers each line of the input over the database of a table that isn't in memory.
@@ -455,82 +398,44 @@ fn write_database<R: Files, O: Write>(
     write_count(Done::Built, pips, output)
 }
 
-/// Checks the database in a file, and says that it was accepted.
+/// Checks a file, and says that it was accepted.
 #[inline(never)]
-fn check_database<R: Files, O: Write>(
+fn check_file<K: Kind, R: Files, O: Write>(
     rt: &R,
     alloc: Global,
     path: &str,
     output: &mut O,
 ) -> Result<(), Fault>
     ensures refused { KeepsIfRefused result (O.contents output.old) (O.contents output.new) }
-    ensures fault { IfErr result (λ fault. IsOwnFault database_file R.File.remaining fault) }
-    ensures left { OnErr result (LeavesLine database_file R.File.remaining
+    ensures fault { IfErr result (λ fault. IsOwnFault K.kind R.File.remaining fault) }
+    ensures left { OnErr result (LeavesLine K.kind R.File.remaining
         (O.contents output.old) (O.contents output.new)) }
     ensures right { OnOk result
-        (SaysRight database_file R.File.remaining (O.contents output.old) (O.contents output.new)) }
+        (SaysRight K.kind R.File.remaining (O.contents output.old) (O.contents output.new)) }
 {
     let bytes = read_file(rt, alloc, path)?;
-    let accepted = accept_bytes(bytes.as_slice())?;
-    write_count(Done::Checked, accepted.bound, output)
+    let kept = K::accept(bytes.as_slice())?;
+    write_count(Done::Checked, kept.bound(), output)
 }
 
-/// Checks the database in a file, and writes a line for each pip count.
+/// Checks a file, and writes a line for each pip count.
 #[inline(never)]
-fn audit_database<R: Files, O: Write>(
+fn audit_file<K: Kind, R: Files, O: Write>(
     rt: &R,
     alloc: Global,
     path: &str,
     output: &mut O,
 ) -> Result<(), Fault>
     ensures refused { KeepsIfRefused result (O.contents output.old) (O.contents output.new) }
-    ensures fault { IfErr result (λ fault. IsOwnFault database_file R.File.remaining fault) }
-    ensures left { OnErr result (LeavesLevels database_file R.File.remaining
+    ensures fault { IfErr result (λ fault. IsOwnFault K.kind R.File.remaining fault) }
+    ensures left { OnErr result (LeavesLevels K.kind R.File.remaining
         (O.contents output.old) (O.contents output.new)) }
-    ensures levels { OnOk result (SaysLevels database_file R.File.remaining
-        (O.contents output.old) (O.contents output.new)) }
+    ensures levels { OnOk result
+        (SaysLevels K.kind R.File.remaining (O.contents output.old) (O.contents output.new)) }
 {
     let bytes = read_file(rt, alloc, path)?;
-    let accepted = accept_bytes(bytes.as_slice())?;
-    write_levels(bytes.as_slice(), accepted, output)
-}
-
-/// Writes a line for each pip count of the database in bytes that were accepted.
-// so that its room is not on the stack while the bytes are checked
-#[inline(never)]
-fn write_levels<O: Write>(bytes: &[u8], accepted: Accepted, output: &mut O) -> Result<(), Fault>
-    requires right { IsRight bytes.now }
-    requires version { accepted.version ≡ version_number (version_of bytes.now) }
-    requires bound { accepted.bound ≡ bound_of bytes.now }
-    ensures status { IfErr result (λ fault. status_of fault ≡ 1) }
-    ensures part { OnErr result (WritesLevelPart (database_file bytes.now)
-        (O.contents output.old) (O.contents output.new)) }
-    ensures levels { OnOk result (WritesLevels (database_file bytes.now) (suc (bound_of bytes.now))
-        (O.contents output.old) (O.contents output.new)) }
-{
-    let ranks = RankTable::new();
-    write_each_level(&Database::kept(bytes, accepted, &ranks), output)?;
-    flush(output)
-}
-
-/// Writes a line for each pip count of a database.
-fn write_each_level<O: Write>(database: &Database<'_>, output: &mut O) -> Result<(), Fault>
-    ensures status { IfErr result (λ fault. status_of fault ≡ 1) }
-    ensures part { OnErr result (WritesLevelPart (database_file database.now)
-        (O.contents output.old) (O.contents output.new)) }
-    ensures levels { OnOk result (WritesLevels (database_file database.now)
-        (suc (bound_of database.now)) (O.contents output.old) (O.contents output.new)) }
-{
-    law_level_text();
-    for pips in 0..database.bound() + 1 {
-        let Some(level) = database.level(pips) else {
-            return Err(Fault::File);
-        };
-        if write_level(&level, output).is_err() {
-            return Err(Fault::Write);
-        }
-    }
-    Ok(())
+    let kept = K::accept(bytes.as_slice())?;
+    kept.write_levels(bytes.as_slice(), output)
 }
 
 /// Writes the board file of 90 pips into a file, and says so.
@@ -551,150 +456,6 @@ fn write_board<R: Files, O: Write>(
 {
     build_board_file(rt, alloc, path)?;
     write_count(Done::Built, WHOLE_BOARD, output)
-}
-
-/// What is kept of bytes that are a right board file.
-fn accept_board(bytes: &[u8]) -> Result<BoardHeader, Fault>
-    ensures right { OnOk result (IsRightBoard bytes.now) }
-    ensures bound { IfOk result (λ header. header.bound ≡ bound_of bytes.now) }
-    ensures exactly { IsRightBoard bytes.now → IsOk result }
-    ensures fault { IfErr result (λ fault. (cause : BoardFault) × IsFirstOnBoard bytes.now cause
-        × (fault ≡ Refused (told_as cause))) }
-{
-    match check_board(bytes) {
-        Ok(header) => Ok(header),
-        Err(refused) => Err(Fault::from(refused)),
-    }
-}
-
-/// Checks the board file in a file, and says that it was accepted.
-#[inline(never)]
-fn check_board_file<R: Files, O: Write>(
-    rt: &R,
-    alloc: Global,
-    path: &str,
-    output: &mut O,
-) -> Result<(), Fault>
-    ensures refused { KeepsIfRefused result (O.contents output.old) (O.contents output.new) }
-    ensures fault { IfErr result (λ fault. IsOwnFault board_file R.File.remaining fault) }
-    ensures left { OnErr result (LeavesLine board_file R.File.remaining
-        (O.contents output.old) (O.contents output.new)) }
-    ensures right { OnOk result
-        (SaysRight board_file R.File.remaining (O.contents output.old) (O.contents output.new)) }
-{
-    let bytes = read_file(rt, alloc, path)?;
-    let header = accept_board(bytes.as_slice())?;
-    write_count(Done::Checked, header.bound, output)
-}
-
-/// Answers each line of the input over the board file in a file.
-#[inline(never)]
-fn answer_board_file<R: Files, I: Read, O: Write>(
-    rt: &R,
-    alloc: Global,
-    path: &str,
-    input: &mut I,
-    output: &mut O,
-) -> Result<(), Fault>
-    ensures refused { KeepsIfRefused result (O.contents output.old) (O.contents output.new) }
-    ensures fault { IfErr result (λ fault. IsOwnFault board_file R.File.remaining fault) }
-    ensures left { IfErr result (LeavesReplies board_file R.File.remaining (I.remaining input.old)
-        (I.remaining input.new) (O.contents output.old) (O.contents output.new)) }
-    ensures answers { WhereTold (I.remaining input.old)
-        (λ given. IfOk result (λ _. AreAnsweredFrom board_file R.File.remaining given
-        (I.remaining input.new) (O.contents output.old) (O.contents output.new))) }
-{
-    let bytes = read_file(rt, alloc, path)?;
-    let header = accept_board(bytes.as_slice())?;
-    answer_board(alloc, bytes.as_slice(), header, input, output)
-}
-
-/// Answers each line of the input over the board file in bytes that were accepted.
-// so that its room is not on the stack while the bytes are checked
-#[inline(never)]
-fn answer_board<I: Read, O: Write>(
-    alloc: Global,
-    bytes: &[u8],
-    header: BoardHeader,
-    input: &mut I,
-    output: &mut O,
-) -> Result<(), Fault>
-    requires right { IsRightBoard bytes.now }
-    requires bound { header.bound ≡ bound_of bytes.now }
-    ensures status { IfErr result (λ fault. status_of fault ≡ 1) }
-    ensures left { WhereTold (I.remaining input.old) (λ given. IfErr result
-        (AreStopped (board_file bytes.now) given (I.remaining input.new) (O.contents output.old)
-        (O.contents output.new))) }
-    ensures answers { WhereTold (I.remaining input.old) (λ given. IfOk result
-        (λ _. AreAnswered (board_file bytes.now) given (I.remaining input.new)
-        (O.contents output.old) (O.contents output.new))) }
-{
-    let ranks = RankTable::new();
-    let mut lines = BoardLines::new(Board::accepted(bytes, header, &ranks));
-    run_lines(alloc, &mut lines, input, output, TURNS)?;
-    Ok(())
-}
-
-/// Checks the board file in a file, and writes a line for each pip count.
-#[inline(never)]
-fn audit_board_file<R: Files, O: Write>(
-    rt: &R,
-    alloc: Global,
-    path: &str,
-    output: &mut O,
-) -> Result<(), Fault>
-    ensures refused { KeepsIfRefused result (O.contents output.old) (O.contents output.new) }
-    ensures fault { IfErr result (λ fault. IsOwnFault board_file R.File.remaining fault) }
-    ensures left { OnErr result (LeavesLevels board_file R.File.remaining
-        (O.contents output.old) (O.contents output.new)) }
-    ensures levels { OnOk result
-        (SaysLevels board_file R.File.remaining (O.contents output.old) (O.contents output.new)) }
-{
-    let bytes = read_file(rt, alloc, path)?;
-    let header = accept_board(bytes.as_slice())?;
-    write_board_levels(bytes.as_slice(), header, output)
-}
-
-/// Writes a line for each pip count of the board file in bytes that were accepted.
-// so that its room is not on the stack while the bytes are checked
-#[inline(never)]
-fn write_board_levels<O: Write>(
-    bytes: &[u8],
-    header: BoardHeader,
-    output: &mut O,
-) -> Result<(), Fault>
-    requires right { IsRightBoard bytes.now }
-    requires bound { header.bound ≡ bound_of bytes.now }
-    ensures status { IfErr result (λ fault. status_of fault ≡ 1) }
-    ensures part { OnErr result (WritesLevelPart (board_file bytes.now)
-        (O.contents output.old) (O.contents output.new)) }
-    ensures levels { OnOk result (WritesLevels (board_file bytes.now) (suc (bound_of bytes.now))
-        (O.contents output.old) (O.contents output.new)) }
-{
-    let ranks = RankTable::new();
-    write_each_board_level(&Board::accepted(bytes, header, &ranks), output)?;
-    flush(output)
-}
-
-/// Writes a line for each pip count of a board file.
-fn write_each_board_level<O: Write>(board: &Board<'_>, output: &mut O) -> Result<(), Fault>
-    ensures status { IfErr result (λ fault. status_of fault ≡ 1) }
-    ensures part { OnErr result (WritesLevelPart (board_file board.now)
-        (O.contents output.old) (O.contents output.new)) }
-    ensures levels { OnOk result (WritesLevels (board_file board.now) (suc (bound_of board.now))
-        (O.contents output.old) (O.contents output.new)) }
-{
-    let mut text = BoardText::new();
-    for pips in 0..board.bound() + 1 {
-        let Some(level) = board_level(board, pips) else {
-            return Err(Fault::File);
-        };
-        put_board_level(&mut text, &level);
-        if write_line(&mut text, output).is_err() {
-            return Err(Fault::Write);
-        }
-    }
-    Ok(())
 }
 
 /// Checks the database in an old file, writes it into a new one as a file of version 2, and says

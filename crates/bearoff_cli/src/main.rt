@@ -13,6 +13,7 @@ use std::{env, fs, io};
 pub mod act;
 pub mod draft;
 pub mod files;
+pub mod kinds;
 
 fn main(rt: HostRuntime) -> ExitCode {
     let _standing = stand_ins(&rt);

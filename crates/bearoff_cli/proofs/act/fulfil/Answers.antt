@@ -35,14 +35,14 @@ returns-in-Query-default-None-clause-left g c =
     (g.I.Read.remaining c.args.input.now) (g.I.Read.remaining c.answer_file.new.input)
     (g.O.Write.contents c.args.output.now) (g.O.Write.contents c.answer_file.new.output)))
     (sym (here.is ∙ ap (λ cache. Query here.path cache) none))
-    (told_left c.answer_file.result _ _ c.answer_file.ensures.left)
+    c.answer_file.ensures.left
 
 pub returns-in-Query-clause-done : goal.returns-in-Query-clause-done
 returns-in-Query-clause-done g c =
     let here = c.in-Board in
-    subst (λ request. OnOk c.answer_board_file.result (IsDone g.R.File.Read.remaining
+    subst (λ request. OnOk c.answer_file-in-Query.result (IsDone g.R.File.Read.remaining
     (writer_contents g.R.File.Write.contents) request
-    (g.I.Read.remaining c.args.input.now) (g.I.Read.remaining c.answer_board_file.new.input)
-    (g.O.Write.contents c.args.output.now) (g.O.Write.contents c.answer_board_file.new.output)))
+    (g.I.Read.remaining c.args.input.now) (g.I.Read.remaining c.answer_file-in-Query.new.input)
+    (g.O.Write.contents c.args.output.now) (g.O.Write.contents c.answer_file-in-Query.new.output)))
     (sym (here.is ∙ ap (λ command. Board command here.path) c.in-Query.is))
-    (told_done c.answer_board_file.result _ _ c.answer_board_file.ensures.answers)
+    (told_done c.answer_file-in-Query.result _ _ c.answer_file-in-Query.ensures.answers)

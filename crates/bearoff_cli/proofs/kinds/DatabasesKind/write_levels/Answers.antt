@@ -5,7 +5,7 @@ use Rattle.race_model.specs.Files.{bound_of}
 use Rattle.epc_query.specs.AnyFiles.{database_file}
 use Rattle.bearoff_cli.proofs.Levels.{levels_then_kept}
 use Rattle.bearoff_cli.proofs.StoppedRuns.{levels_part}
-use Rattle.bearoff_cli.proofs.act.write_levels.Goals as goal
+use Rattle.bearoff_cli.proofs.kinds.DatabasesKind.write_levels.Goals as goal
 
 pub returns-clause-part : goal.returns-clause-part
 returns-clause-part g c =

@@ -1,7 +1,7 @@
 -- The replies over bytes that were accepted.
 use Rattle.std.proofs.Common.{◌≡◌, Some, Err, refl, ap, rules}
 use Rattle.exit_status.specs.Causes.{of_run}
-use Rattle.bearoff_cli.proofs.act.answer_accepted.Goals as goal
+use Rattle.bearoff_cli.proofs.kinds.DatabasesKind.answer.Goals as goal
 
 pub returns-in_err-run_lines-clause-left : goal.returns-in_err-run_lines-clause-left
 returns-in_err-run_lines-clause-left g c given read =

@@ -1,21 +1,24 @@
--- The levels of the bytes that were read, which are a right database.
+-- The levels of the bytes that were read, which are a right file.
 use Rattle.std.proofs.Common.{◌≡◌, ◌∙◌, Err, inr, subst, sym, rules}
-use Rattle.epc_query.specs.AnyFiles.{database_file}
 use Rattle.bearoff_cli.specs.FileAnswers.{IsReadFrom}
 use Rattle.bearoff_cli.specs.StoppedRuns.{WritesLevelPart}
 use Rattle.bearoff_cli.proofs.OpenedFiles.{levels_read}
 use Rattle.bearoff_cli.proofs.StoppedRuns.{read_part}
 use Rattle.bearoff_cli.proofs.ToldFaults.{first_in}
-use Rattle.bearoff_cli.proofs.act.audit_database.Goals as goal
+use Rattle.bearoff_cli.proofs.act.audit_file.Goals as goal
 
-pub returns-in_err-accepted-clause-fault : goal.returns-in_err-accepted-clause-fault
-returns-in_err-accepted-clause-fault g c =
+pub returns-in_err-kept-clause-fault : goal.returns-in_err-kept-clause-fault
+returns-in_err-kept-clause-fault g c =
     let file = c.as_slice.result.now in
     let read = subst (λ bytes. IsReadFrom g.R.File.Read.remaining bytes)
     (sym c.as_slice.ensures.value) c.in_ok-bytes.ensures.read in
-    let same : c.from_residual-in_err-accepted.result ≡ Err c.in_err-accepted.field-0.0 =
+    let same : c.from_residual-in_err-kept.result ≡ Err c.in_err-kept.field-0.0 =
     search rules in
-    rw same (inr (file, read, first_in file _ c.in_err-accepted.ensures.fault))
+    rw same (inr (
+      file,
+      read,
+      first_in (g.K.Kind.kind file) _ c.in_err-kept.ensures.fault,
+    ))
 
 pub returns-clause-levels : goal.returns-clause-levels
 returns-clause-levels g c =
@@ -23,8 +26,8 @@ returns-clause-levels g c =
     let read = subst (λ bytes. IsReadFrom g.R.File.Read.remaining bytes)
     (sym c.as_slice.ensures.value) c.in_ok-bytes.ensures.read in
     let same = c.as_slice-2.ensures.value ∙ sym c.as_slice.ensures.value in
-    levels_read database_file g.R.File.Read.remaining file _ _ c.write_levels.result read
-    c.in_ok-accepted.ensures.right (rw same at c.write_levels.ensures.levels)
+    levels_read g.K.Kind.kind g.R.File.Read.remaining file _ _ c.write_levels.result read
+    c.in_ok-kept.ensures.right (rw same at c.write_levels.ensures.levels)
 
 pub returns-clause-left : goal.returns-clause-left
 returns-clause-left g c =
@@ -34,7 +37,7 @@ returns-clause-left g c =
     let same = c.as_slice-2.ensures.value ∙ sym c.as_slice.ensures.value in
     let old = g.O.Write.contents c.args.output.now in
     let new = g.O.Write.contents c.write_levels.new.output in
-    read_part database_file g.R.File.Read.remaining
-    (λ f. WritesLevelPart (database_file f) old new) file old new
-    c.write_levels.result read c.in_ok-accepted.ensures.right
+    read_part g.K.Kind.kind g.R.File.Read.remaining
+    (λ f. WritesLevelPart (g.K.Kind.kind f) old new) file old new
+    c.write_levels.result read c.in_ok-kept.ensures.right
     (rw same at c.write_levels.ensures.part)

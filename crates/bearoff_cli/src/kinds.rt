@@ -1,0 +1,213 @@
+//! The two kinds of file that a command is given, a database and a board file, and what is done
+//! with the bytes of each.
+ghost use Rattle.std.specs.Prelude.{◌≡◌, ℕ, suc, List, IfOk, IfErr, IsOk, OnOk, OnErr};
+ghost use Rattle.race_model.specs.Files.{version_of, bound_of};
+ghost use Rattle.race_model.specs.Versions.{version_number};
+ghost use Rattle.db_reader.specs.Telling.{WhereTold};
+ghost use Rattle.certificate.specs.declared.check_fault.CheckFault.{CheckFault};
+ghost use Rattle.epc_query.specs.AnyFiles.{AnyFile, database_file, board_file, IsRightBy};
+ghost use Rattle.exit_status.specs.Causes.{of_check};
+ghost use Rattle.exit_status.specs.Statuses.{status_of};
+ghost use Rattle.bearoff_cli.specs.Faults.{IsFirstBy};
+ghost use Rattle.bearoff_cli.specs.FileAnswers.{WritesLevels};
+ghost use Rattle.bearoff_cli.specs.InputAnswers.{AreAnswered};
+ghost use Rattle.bearoff_cli.specs.StoppedRuns.{AreStopped, WritesLevelPart};
+
+use crate::files::flush;
+use board::Board;
+use board_check::check_board;
+use board_layout::BoardHeader;
+use board_query::{BoardLines, BoardText, board_level, put_board_level};
+use database::{Accepted, Database, accept};
+use epc_query::laws::law_level_text;
+use epc_query::{run_lines, write_level, write_line};
+use exit_status::Fault;
+use ranking::RankTable;
+use std::alloc::Global;
+use std::io::{Read, Write};
+
+/// How many reads of standard input there are at most.
+pub const TURNS: u64 = 1 << 40;
+
+/// A kind of file: a value is what is kept of bytes that were accepted as one of this kind.
+pub trait Kind: Copy {
+    // the file of these bytes
+    ghost kind: { List ℕ → AnyFile };
+
+    // this is what is kept of these bytes
+    ghost keeps: { Self → List ℕ → Type 0 };
+
+    /// What is kept of bytes that are a right file of this kind.
+    fn accept(bytes: &[u8]) -> Result<Self, Fault>
+        ensures right { OnOk result (IsRightBy (kind bytes.now)) }
+        ensures kept { IfOk result (λ kept. keeps kept bytes.now) }
+        ensures exactly { IsRightBy (kind bytes.now) → IsOk result }
+        ensures fault { IfErr result (λ fault. (cause : CheckFault)
+            × IsFirstBy (kind bytes.now) cause × (fault ≡ of_check cause)) };
+
+    /// The pip bound of the bytes.
+    fn bound(&self) -> u8
+        ensures { (bytes : List ℕ) → keeps self.now bytes → result ≡ bound_of bytes };
+
+    /// Answers each line of the input over the bytes.
+    fn answer<I: Read, O: Write>(
+        self,
+        alloc: Global,
+        bytes: &[u8],
+        input: &mut I,
+        output: &mut O,
+    ) -> Result<(), Fault>
+        requires right { IsRightBy (kind bytes.now) }
+        requires kept { keeps self bytes.now }
+        ensures status { IfErr result (λ fault. status_of fault ≡ 1) }
+        ensures left { WhereTold (I.remaining input.old) (λ given. IfErr result
+            (AreStopped (kind bytes.now) given (I.remaining input.new) (O.contents output.old)
+            (O.contents output.new))) }
+        ensures answers { WhereTold (I.remaining input.old) (λ given. IfOk result
+            (λ _. AreAnswered (kind bytes.now) given (I.remaining input.new)
+            (O.contents output.old) (O.contents output.new))) };
+
+    /// Writes a line for each pip count of the bytes.
+    fn write_levels<O: Write>(self, bytes: &[u8], output: &mut O) -> Result<(), Fault>
+        requires right { IsRightBy (kind bytes.now) }
+        requires kept { keeps self bytes.now }
+        ensures status { IfErr result (λ fault. status_of fault ≡ 1) }
+        ensures part { OnErr result (WritesLevelPart (kind bytes.now)
+            (O.contents output.old) (O.contents output.new)) }
+        ensures levels { OnOk result (WritesLevels (kind bytes.now) (suc (bound_of bytes.now))
+            (O.contents output.old) (O.contents output.new)) };
+}
+
+/// The databases, each by what is kept of its bytes.
+#[derive(Clone, Copy)]
+pub struct Databases {
+    accepted: Accepted,
+}
+
+impl Kind for Databases {
+    ghost kind = { database_file };
+
+    ghost keeps = { λ kept bytes. (kept.accepted.version ≡ version_number (version_of bytes))
+        × (kept.accepted.bound ≡ bound_of bytes) };
+
+    fn accept(bytes: &[u8]) -> Result<Self, Fault> {
+        match accept(bytes) {
+            Ok(accepted) => Ok(Databases { accepted }),
+            Err(fault) => Err(Fault::from(fault)),
+        }
+    }
+
+    fn bound(&self) -> u8 {
+        self.accepted.bound
+    }
+
+    // so that its room is not on the stack while the bytes are checked
+    #[inline(never)]
+    fn answer<I: Read, O: Write>(
+        self,
+        alloc: Global,
+        bytes: &[u8],
+        input: &mut I,
+        output: &mut O,
+    ) -> Result<(), Fault> {
+        let ranks = RankTable::new();
+        let mut database = Database::kept(bytes, self.accepted, &ranks);
+        run_lines(alloc, &mut database, input, output, TURNS)?;
+        Ok(())
+    }
+
+    // so that its room is not on the stack while the bytes are checked
+    #[inline(never)]
+    fn write_levels<O: Write>(self, bytes: &[u8], output: &mut O) -> Result<(), Fault> {
+        let ranks = RankTable::new();
+        write_each_level(&Database::kept(bytes, self.accepted, &ranks), output)?;
+        flush(output)
+    }
+}
+
+/// Writes a line for each pip count of a database.
+fn write_each_level<O: Write>(database: &Database<'_>, output: &mut O) -> Result<(), Fault>
+    ensures status { IfErr result (λ fault. status_of fault ≡ 1) }
+    ensures part { OnErr result (WritesLevelPart (database_file database.now)
+        (O.contents output.old) (O.contents output.new)) }
+    ensures levels { OnOk result (WritesLevels (database_file database.now)
+        (suc (bound_of database.now)) (O.contents output.old) (O.contents output.new)) }
+{
+    law_level_text();
+    for pips in 0..database.bound() + 1 {
+        let Some(level) = database.level(pips) else {
+            return Err(Fault::File);
+        };
+        if write_level(&level, output).is_err() {
+            return Err(Fault::Write);
+        }
+    }
+    Ok(())
+}
+
+/// The board files, each by what is kept of its bytes.
+#[derive(Clone, Copy)]
+pub struct Boards {
+    header: BoardHeader,
+}
+
+impl Kind for Boards {
+    ghost kind = { board_file };
+
+    ghost keeps = { λ kept bytes. kept.header.bound ≡ bound_of bytes };
+
+    fn accept(bytes: &[u8]) -> Result<Self, Fault> {
+        match check_board(bytes) {
+            Ok(header) => Ok(Boards { header }),
+            Err(refused) => Err(Fault::from(refused)),
+        }
+    }
+
+    fn bound(&self) -> u8 {
+        self.header.bound
+    }
+
+    // so that its room is not on the stack while the bytes are checked
+    #[inline(never)]
+    fn answer<I: Read, O: Write>(
+        self,
+        alloc: Global,
+        bytes: &[u8],
+        input: &mut I,
+        output: &mut O,
+    ) -> Result<(), Fault> {
+        let ranks = RankTable::new();
+        let mut lines = BoardLines::new(Board::accepted(bytes, self.header, &ranks));
+        run_lines(alloc, &mut lines, input, output, TURNS)?;
+        Ok(())
+    }
+
+    // so that its room is not on the stack while the bytes are checked
+    #[inline(never)]
+    fn write_levels<O: Write>(self, bytes: &[u8], output: &mut O) -> Result<(), Fault> {
+        let ranks = RankTable::new();
+        write_each_board_level(&Board::accepted(bytes, self.header, &ranks), output)?;
+        flush(output)
+    }
+}
+
+/// Writes a line for each pip count of a board file.
+fn write_each_board_level<O: Write>(board: &Board<'_>, output: &mut O) -> Result<(), Fault>
+    ensures status { IfErr result (λ fault. status_of fault ≡ 1) }
+    ensures part { OnErr result (WritesLevelPart (board_file board.now)
+        (O.contents output.old) (O.contents output.new)) }
+    ensures levels { OnOk result (WritesLevels (board_file board.now) (suc (bound_of board.now))
+        (O.contents output.old) (O.contents output.new)) }
+{
+    let mut text = BoardText::new();
+    for pips in 0..board.bound() + 1 {
+        let Some(level) = board_level(board, pips) else {
+            return Err(Fault::File);
+        };
+        put_board_level(&mut text, &level);
+        if write_line(&mut text, output).is_err() {
+            return Err(Fault::Write);
+        }
+    }
+    Ok(())
+}
