@@ -82,8 +82,8 @@ pub extern "C" fn bearoff_board_epc(
 }
 
 /// A fraction in thousandths, rounded to the nearest, and a half upward, as of what another call
-/// about a board has answered. Whether it could be told: so it is where the denominator is not 0 and
-/// at most 6 * 36 ^ 33, and the fraction at most 180; else `thousandths` stays as it was.
+/// about a board has answered. Whether it could be told: so it is where the denominator is not 0
+/// and at most 6 * 36 ^ 33, and the fraction at most 180; else `thousandths` stays as it was.
 #[unsafe(no_mangle)]
 pub extern "C" fn bearoff_board_thousandths(fraction: &LongFraction, thousandths: &mut u64) -> bool
     ensures value { IsTrue result → IsThousandths (long_number_of fraction.now.numerator)

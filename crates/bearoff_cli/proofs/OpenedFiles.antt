@@ -79,16 +79,18 @@ pub upgrade_read : {A E F W : Type 0} (remaining : F → Option (List ℕ))
     → positions ≡ count_to (bound_of file)
     → OnOk r (Appends old new (count_line Upgraded pips positions))
     → OnOk r (SaysUpgraded remaining contents old new)
-upgrade_read remaining contents file old new (Ok x) pips positions read right version handed p q h = record {
-  file = file;
-  read = read;
-  right = right;
-  version_is = version;
-  handed = handed;
-  written = subst (λ n. Appends old new (count_line Upgraded (bound_of file) n)) q
-      (subst (λ n. Appends old new (count_line Upgraded n positions)) p h);
-}
-upgrade_read remaining contents file old new (Err e) pips positions read right version handed p q h = tt
+upgrade_read remaining contents file old new (Ok x) pips positions read right version handed p q
+    h = record {
+      file = file;
+      read = read;
+      right = right;
+      version_is = version;
+      handed = handed;
+      written = subst (λ n. Appends old new (count_line Upgraded (bound_of file) n)) q
+          (subst (λ n. Appends old new (count_line Upgraded n positions)) p h);
+    }
+upgrade_read remaining contents file old new (Err e) pips positions read right version handed p q
+    h = tt
 
 -- what was handed to a writer, where the end of the file is Ok only if that is
 pub handed : {W A B E : Type 0} (contents : W → Option (List ℕ))

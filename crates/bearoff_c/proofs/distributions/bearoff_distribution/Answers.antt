@@ -26,7 +26,8 @@ returns-in-Ok-clause-shares c = λ ok k few.
     let x = c.in-Ok.found.position in
     let right = c.bound-bound.ensures.right in
     subst₂ (λ (g : List ℕ) (y : Board).
-    slice_index (map number_of c.shares_in-distribution.result) k ≡ count_of (follow g 22 y) k) told.bytes told.position
+    slice_index (map number_of c.shares_in-distribution.result) k ≡ count_of (follow g 22 y) k)
+    told.bytes told.position
     (read (goal.at.returns-in-Ok-clause-shares c).After-shares_in-distribution k few
     ∙ (known_right f right x c.record.ensures.position told.within).spread_is k few)
 
@@ -34,5 +35,6 @@ pub returns-in-Ok-clause-recorded : goal.returns-in-Ok-clause-recorded
 returns-in-Ok-clause-recorded c = λ ok k few.
     let told = c.in-Ok.ensures {u = tt} in
     subst₂ (λ (g : List ℕ) (y : Board).
-    slice_index (map number_of c.shares_in-distribution.result) k ≡ spread g y k) told.bytes told.position
+    slice_index (map number_of c.shares_in-distribution.result) k ≡ spread g y k)
+    told.bytes told.position
     (read (goal.at.returns-in-Ok-clause-recorded c).After-shares_in-distribution k few)
