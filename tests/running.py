@@ -15,6 +15,9 @@ ROOT = Path(__file__).resolve().parent.parent
 HERE = ROOT / "tests"
 CALLERS = HERE / "callers"
 
+# how many times as long a command may take, as of a program that is made without a proof
+SLOWER = int(os.environ.get("SLOWER", "1"))
+
 Done = collections.namedtuple("Done", "words folder input status output errors")
 
 
@@ -32,7 +35,7 @@ def run(*words, input=b"", cwd=None, timeout=120, **more):
     given = as_bytes(input)
     try:
         done = subprocess.run(
-            words, input=given, capture_output=True, cwd=cwd, timeout=timeout, **more
+            words, input=given, capture_output=True, cwd=cwd, timeout=timeout * SLOWER, **more
         )
     except subprocess.TimeoutExpired as late:
         pytest.fail(f"ran:    {shlex.join(words)}\ncame:   no end within {late.timeout} s")

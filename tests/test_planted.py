@@ -544,7 +544,7 @@ def tried(place, words):
             stdin=subprocess.DEVNULL,
             capture_output=True,
             text=True,
-            env=without_xdist(),
+            env={**without_xdist(), "SLOWER": "30"},
         )
         said = done.stdout + done.stderr
         # pytest ends with 1 where a test failed, and with more where none could be run

@@ -1032,7 +1032,7 @@ async function driveLessons(browser) {
     const page = await browser.open(address);
     await page.until(READY);
     const count = await page.value('document.querySelectorAll(".lessons a").length');
-    equal("how many lessons", count, 15);
+    equal("how many lessons", count, 16);
     for (let number = 1; number <= count; number += 1) {
         const title = await page.value(`document.querySelector('[data-key="lesson ${number}"]').textContent`);
         await page.click(`[data-key="lesson ${number}"]`);
