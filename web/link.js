@@ -114,6 +114,7 @@ export function readLink(hash) {
         title: text(words.get("t")),
         roll: roll && roll.sort((one, other) => other - one),
         guess: words.get("guess") === "1",
+        // older links ask for 58
         bound: ["90", "58"].includes(words.get("pips")) ? GREATEST : FIRST,
         isPlaced: words.has("at"),
         isCompact: words.get("view") === "board",

@@ -1,4 +1,5 @@
-//! The least mean number of rolls of a position of the whole board, and its effective pip count.
+//! The least mean number of rolls of a position of the whole board, its effective pip count, and
+//! the thousandths of such numbers.
 ghost use Rattle.std.specs.Prelude.{◌≡◌, ◌*◌, ◌<◌, ◌≤◌, ◌↔◌, IsTrue, IfOk};
 ghost use Rattle.race_model.specs.Books.{mean_in, IsLeastIn};
 ghost use Rattle.race_model.specs.BoardFiles.{board_book};

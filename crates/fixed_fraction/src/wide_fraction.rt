@@ -118,7 +118,8 @@ pub fn wide_thousandths(numerator: Wide, denominator: Wide) -> Option<u64>
     Some(wide_thousandths_of(numerator, denominator))
 }
 
-/// The same, where it is told: the greatest number that is not over the fraction as it is rounded.
+/// The thousandths of a fraction that has some: they are searched between 0 and 180,000, by whether
+/// half a thousandth less than those in the middle is over the fraction.
 fn wide_thousandths_of(numerator: Wide, denominator: Wide) -> u64
     requires positive { 0 < denominator }
     requires short { denominator ≤ 6 * board_whole }
