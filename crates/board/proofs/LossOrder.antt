@@ -44,7 +44,8 @@ module _ (choices : List BoardChoice) (place : ℕ) (choice : BoardChoice)
     (fits : place ≤ length choices) (ordered : IsByLoss choices)
     (fresh : All (λ other. other.rank ≢ choice.rank) choices)
     (before : (k : ℕ) (d : BoardChoice) → k < place → ComesFirst (get_or choices k d) choice)
-    (after : (d : BoardChoice) → place < length choices → ¬ ComesFirst (get_or choices place d) choice)
+    (after : (d : BoardChoice) → place < length choices →
+    ¬ ComesFirst (get_or choices place d) choice)
   where
     -- it comes before those from its place on
     precedes : (k : ℕ) (d : BoardChoice) → place ≤ k → k < length choices →
@@ -152,9 +153,11 @@ one_more_of loss found i choices more choice low at ranked lost members were = r
         was.2,
       )
       | inr new ↦ subst
-          (λ (c : BoardChoice). Contains (take (i + 1) found) c.to × (c.rank ≡ rank c.to) × (c.loss ≡ loss c.to))
+          (λ (c : BoardChoice). Contains (take (i + 1) found) c.to × (c.rank ≡ rank c.to)
+          × (c.loss ≡ loss c.to))
           (sym new) (
-            subst (λ ys. Contains ys choice.to) (sym longer) (Contains-push (take i found) choice.to),
+            subst (λ ys. Contains ys choice.to) (sym longer)
+                (Contains-push (take i found) choice.to),
             ranked,
             lost,
           )

@@ -1,8 +1,8 @@
 //! A program that lets one call fail at each place in turn, the first, then the second and so on
-//! until none fails: each read of a source, each write, each read of an input; and that damages
-//! a database at each of its bytes. For each place it prints how many calls failed and were
-//! answered as they have to be, or where one was not. With a word it does one thing alone, while
-//! a growth of memory is refused from outside, and prints what came of it: `tests/test_refused_calls.py`
+//! until none fails: each read of a source, each write, each read of an input; and that damages a
+//! database at each of its bytes. For each place it prints how many calls failed and were answered
+//! as they have to be, or where one was not. With a word it does one thing alone, while a growth
+//! of memory is refused from outside, and prints what came of it: `tests/test_refused_calls.py`
 //! starts it so. It rests on `epc_query` and `retrograde`; nothing stands on it.
 #![tactic(auto)]
 

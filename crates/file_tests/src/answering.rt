@@ -1,8 +1,8 @@
 //! Lines and what is answered to them. The expected numbers come from the rules of backgammon,
 //! worked out by hand and with exact fractions, and not from this program. The lines of 44 pips,
-//! lines of a million bytes and the levels of an audit are asked of the program (`tests/test_program.py`);
-//! inputs in parts, and reads, writes and tables that fail at each of their calls are in
-//! `failing_calls`.
+//! lines of a million bytes and the levels of an audit are asked of the program
+//! (`tests/test_program.py`); inputs in parts, and reads, writes and tables that fail at each of
+//! their calls are in `failing_calls`.
 use crate::given::{accepted, answers, database, put};
 use db_reader::Whole;
 use epc_query::{Text, put_loss};

@@ -41,7 +41,8 @@ loop-index-preserved c =
           c.mean.ensures.value) in
           subst (λ (ones : List Choice). All (HasCost cost) ones)
           (sym (take_more_set room i one low))
-          (All-push (HasCost cost) (take i room) one (c.loop-index.invariant.costs cost are) priced);
+          (All-push (HasCost cost) (take i room) one (c.loop-index.invariant.costs cost are)
+          priced);
       rest =
           drop-set-lt (i + 1) room i one (omega arith)
           ∙ rest_stays room c.args.room.now i one one low less c.loop-index.invariant.rest;

@@ -15,7 +15,8 @@ recorded_mean-requires g c =
 pub returns-in-Some-clause-recorded : goal.returns-in-Some-clause-recorded
 returns-in-Some-clause-recorded g c = λ file t.
     let least = (c.in_ok-least.ensures {u = tt}).recorded file t in
-    let after = (c.in_ok-after.ensures {u = tt}).recorded file (c.least_mean.ensures.stays.told ∙ t) in
+    let after = (c.in_ok-after.ensures {u = tt}).recorded file
+    (c.least_mean.ensures.stays.told ∙ t) in
     let difference = (c.in-Some.ensures {u = tt}).value in
     let same : c.in-Some.difference ≡ loss file c.args.position.now c.args.roll c.args.to.now =
     omega (arith, least, after, difference) in
@@ -23,7 +24,8 @@ returns-in-Some-clause-recorded g c = λ file t.
     c.mean.ensures.value
 
 pub returns-in-None-clause-stays : goal.returns-in-None-clause-stays
-returns-in-None-clause-stays g c = stays_by c.least_mean.ensures.stays c.recorded_mean.ensures.stays (λ file t.
+returns-in-None-clause-stays g c =
+    stays_by c.least_mean.ensures.stays c.recorded_mean.ensures.stays (λ file t.
     let right = c.bound-bound.ensures.right file t in
     let within : pips c.args.position.now ≤ bound_of file = omega (
       arith,
@@ -34,6 +36,7 @@ returns-in-None-clause-stays g c = stays_by c.least_mean.ensures.stays c.recorde
     right.0 c.args.position.now c.requires.position within
     c.args.roll c.args.to.now c.requires.legal in
     let least = (c.in_ok-least.ensures {u = tt}).recorded file t in
-    let after = (c.in_ok-after.ensures {u = tt}).recorded file (c.least_mean.ensures.stays.told ∙ t) in
+    let after = (c.in_ok-after.ensures {u = tt}).recorded file
+    (c.least_mean.ensures.stays.told ∙ t) in
     let none = (c.in-None.ensures {u = tt}).some.1 (omega (arith, low, least, after)) in
     cc)

@@ -33,7 +33,8 @@ loop-k-preserved c =
     c.record.ensures.position c.pips-pips.ensures.value
     (found (goal.at.loop-k-preserved c).After-pips-pips) in
     record {
-      size = length-set c.loop-k.counts c.from.result c.in_ok-counts.field-0 ∙ c.loop-k.invariant.size;
+      size = length-set c.loop-k.counts c.from.result c.in_ok-counts.field-0
+          ∙ c.loop-k.invariant.size;
       counted = one_more_cell (count_at f (rank x)) c.loop-k.counts c.loop-k.k c.from.result
           c.in_ok-counts.field-0 c.from.ensures (omega (arith, c.loop-k.invariant.size))
           c.loop-k.invariant.counted ((c.in_ok-counts.ensures {u = tt}).value ∙ same);

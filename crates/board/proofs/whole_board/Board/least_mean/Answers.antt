@@ -10,7 +10,8 @@ returns-clause-recorded c =
     let f = c.args.self.now in
     let x = c.args.position.now in
     let v = c.args.roll in
-    IfSome_then c.mean_after.result {P = λ mean. mean ≡ mean_in (board_book f) c.in_ok-answer.answer.1}
+    IfSome_then c.mean_after.result
+    {P = λ mean. mean ≡ mean_in (board_book f) c.in_ok-answer.answer.1}
     {Q = λ mean. mean ≡ (board_book f).means (play_in (board_book f) x v)}
     c.mean_after.ensures.recorded
     (λ mean said. said ∙ ap (mean_in (board_book f)) (c.in_ok-answer.ensures {u = tt}).recorded

@@ -10,5 +10,6 @@ abbrev pub invariant-loop-to : goal.invariant-loop-to
 invariant-loop-to l = record {
   ordered : IsByLoss l.choices.items;
   few : length l.choices.items ≡ l.to-index;
-  are : AreOf (loss_in (board_book l.self) l.position l.roll) (take l.to-index l.to-items) l.choices.items;
+  are : AreOf (loss_in (board_book l.self) l.position l.roll) (take l.to-index l.to-items)
+      l.choices.items;
 }

@@ -23,7 +23,8 @@ returns-clause-record c =
     subst₂
     (λ (y : Board) (r : ℕ). IfSome c.record_at.result (λ (seen : Stored).
     seen ≡ record { pips = pips y; bytes = board_record c.args.self.now r }))
-    (ap at_rank c.rank.ensures.value ∙ at_rank-rank c.args.position.now c.pips-pips.ensures.position)
+    (ap at_rank c.rank.ensures.value
+    ∙ at_rank-rank c.args.position.now c.pips-pips.ensures.position)
     c.rank.ensures.value
     (subst
     (λ (f : List ℕ). IfSome c.record_at.result (λ (seen : Stored).
