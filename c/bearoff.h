@@ -19,13 +19,13 @@
  * Threads. Each call may be made from any thread; calls that only read a database may share it.
  *
  * Stack. bearoff_open and bearoff_upgrade need less than BEAROFF_OPEN_STACK bytes of stack,
- * bearoff_build less than BEAROFF_BUILD_STACK, bearoff_board_open and bearoff_board_build less than
- * BEAROFF_BOARD_STACK, every other call less than 128 KB. Threads whose stack is smaller have to be
- * given more before they make such a call.
+ * bearoff_build less than BEAROFF_BUILD_STACK, bearoff_board_open and bearoff_board_build less
+ * than BEAROFF_BOARD_STACK, every other call less than 128 KB. Threads whose stack is smaller have
+ * to be given more before they make such a call.
  *
- * Refusals. Each call but bearoff_thousandths and bearoff_board_thousandths returns a status; where
- * it isn't BEAROFF_OK nothing that the caller lends was changed, except for what the call's comment
- * says.
+ * Refusals. Each call but bearoff_thousandths and bearoff_board_thousandths returns a status;
+ * where it isn't BEAROFF_OK nothing that the caller lends was changed, except for what the call's
+ * comment says.
  */
 #ifndef BEAROFF_H
 #define BEAROFF_H
@@ -38,37 +38,37 @@
 extern "C" {
 #endif
 
-/* The version of this header and of what came with it; bearoff_library_version is the library's. */
+/* The version of this header and of what came with it; the library tells its own. */
 #define BEAROFF_VERSION "1.0.0"
 
-/* The statuses, in the order of the tests. What is said of each is its text in bearoff_status_text. */
+/* The statuses, in the order of the tests, each with its text in bearoff_status_text. */
 enum {
     BEAROFF_OK = 0,         /* success */
-    BEAROFF_NOT_OPEN = 1,   /* the database was never opened, or its bytes were refused */
+    BEAROFF_NOT_OPEN = 1,   /* the database or board was never opened, or its bytes were refused */
     BEAROFF_BAD_ROLL = 2,   /* a die is not 1 to 6 */
     BEAROFF_TOO_MANY = 3,   /* a position has more than 15 checkers */
-    BEAROFF_OVER_BOUND = 4, /* the position has more pips than the bound, or the bound is over 58 */
+    BEAROFF_OVER_BOUND = 4, /* more pips than the bound, or a bound over the greatest */
     BEAROFF_FINISHED = 5,   /* a play is asked for and no checker is left */
     BEAROFF_NOT_LEGAL = 6,  /* the roll doesn't lead to that position */
     BEAROFF_CHANGED = 7,    /* the bytes were changed since they were checked */
     BEAROFF_SHORT = 8,      /* the room that was lent is too small */
     BEAROFF_NOT_OLD = 9,    /* the file that is to be upgraded is of version 2 already */
-    BEAROFF_NO_RANK = 10,   /* the database has no position of that rank, or fewer than asked */
+    BEAROFF_NO_RANK = 10,   /* there is no position of that rank, or there are fewer than asked */
     BEAROFF_BAD_TEXT = 11,  /* the text is not six counts with commas between them */
 
-    /* bearoff_open and bearoff_upgrade alone: the first fault of the bytes */
+    /* where bytes are checked, and nowhere else: their first fault */
     BEAROFF_TOO_SHORT = 16,        /* fewer than 32 bytes */
     BEAROFF_BAD_MAGIC = 17,        /* the bytes don't begin with EPCTABLE */
-    BEAROFF_BAD_VERSION = 18,      /* the version is not 1 or 2 */
-    BEAROFF_BAD_BOUND = 19,        /* the pip bound is over the greatest of its version, 44 or 58 */
+    BEAROFF_BAD_VERSION = 18,      /* the version is not 1 or 2, or that of a board file not 3 */
+    BEAROFF_BAD_BOUND = 19,        /* the bound is over its version's greatest, 44, 58 or 90 */
     BEAROFF_BAD_COUNT = 20,        /* the count isn't that of the bound */
-    BEAROFF_BAD_RECORD_BYTES = 21, /* the field for record bytes is not 426, or 0 in version 2 */
+    BEAROFF_BAD_RECORD_BYTES = 21, /* the field for record bytes is not its version's, 426 or 0 */
     BEAROFF_BAD_RESERVED = 22,     /* a reserved byte is not zero */
     BEAROFF_BAD_LENGTH = 23,       /* more or fewer bytes than the header says */
     BEAROFF_BAD_PLAY = 24,         /* a recorded play is not legal */
     BEAROFF_NOT_LEAST = 25,        /* a recorded play doesn't reach the least mean */
     BEAROFF_BAD_MEAN = 26,         /* a recorded mean is not that of the recorded plays */
-    BEAROFF_BAD_SPREAD = 27,       /* a recorded share is not that of the recorded plays */
+    BEAROFF_BAD_SPREAD = 27,       /* a share or count is not that of the recorded plays */
 };
 
 /*
@@ -85,7 +85,7 @@ typedef struct bearoff_wide {
     uint64_t low;
 } bearoff_wide;
 
-/* A numerator over 36^22 as a number of rolls, or as a chance: near to it, and no more than that. */
+/* A numerator over 36^22 as a number of rolls or a chance: near to it, and no more than that. */
 static inline double bearoff_as_double(bearoff_wide numerator) {
     return ((double)numerator.high * 18446744073709551616.0 + (double)numerator.low) /
            17324272922341479351919144385642496.0;
@@ -97,7 +97,7 @@ typedef struct bearoff_fraction {
     bearoff_wide denominator;
 } bearoff_fraction;
 
-/* An effective pip count, in pips: exact, and in thousandths, rounded to the nearest and a half up. */
+/* An effective pip count in pips: exact, and in thousandths, rounded to the nearest, a half up. */
 typedef struct bearoff_pips {
     bearoff_fraction exact;
     uint64_t thousandths;
@@ -116,7 +116,7 @@ typedef struct bearoff_wasted {
     bool is_below;
 } bearoff_wasted;
 
-/* The chances of being off in exactly 0 to 22 rolls, as numerators over 36^22. They add up to 36^22. */
+/* The chances of being off in exactly 0 to 22 rolls, as numerators over 36^22, their sum. */
 typedef struct bearoff_shares {
     bearoff_wide shares[23];
 } bearoff_shares;
@@ -185,11 +185,11 @@ typedef struct bearoff_database {
 uint32_t bearoff_library_version(uint16_t *major, uint16_t *minor, uint16_t *patch);
 
 /*
- * What a status says, in the words that stand beside it above, as in `a die is not 1 to 6`; of 28 it
- * says that the bytes were changed while they were read, and of a number that no call returns
- * `unknown status`. The words stand in `text` without a zero at their end, and `*needed` is how many
- * bytes they have, at most BEAROFF_STATUS_TEXT. BEAROFF_OK, and BEAROFF_SHORT where `room` is less
- * than `*needed`: then nothing is written into `text`.
+ * What a status says, in the words that stand beside it above, as in `a die is not 1 to 6`; of 28
+ * it says that the bytes were changed while they were read, and of a number that no call returns
+ * `unknown status`. The words stand in `text` without a zero at their end, and `*needed` is how
+ * many bytes they have, at most BEAROFF_STATUS_TEXT. BEAROFF_OK, and BEAROFF_SHORT where `room` is
+ * less than `*needed`: then nothing is written into `text`.
  */
 uint32_t bearoff_status_text(uint32_t status, uint8_t *text, size_t room, size_t *needed);
 
@@ -245,7 +245,7 @@ uint32_t bearoff_mean(const bearoff_database *database, const bearoff_position *
 uint32_t bearoff_epc(const bearoff_database *database, const bearoff_position *position,
                      bearoff_pips *pips);
 
-/* The mean of bearoff_mean as a fraction and in thousandths of a roll. The statuses of bearoff_mean. */
+/* That mean as a fraction and in thousandths of a roll. The statuses of bearoff_mean. */
 uint32_t bearoff_rounded_mean(const bearoff_database *database, const bearoff_position *position,
                               bearoff_rolls *rolls);
 
@@ -266,16 +266,17 @@ uint32_t bearoff_distribution(const bearoff_database *database, const bearoff_po
 
 /*
  * The chance that all checkers are off within `rolls` rolls, where each play is the recorded one:
- * the shares of bearoff_distribution up to `rolls`, added up, in thousandths, rounded to the nearest
- * and a half up. From 22 rolls on it is 1000. The statuses of bearoff_mean; BEAROFF_CHANGED comes
- * only where the bytes were changed after they were checked: where these shares are over 1.
+ * the shares of bearoff_distribution up to `rolls`, added up, in thousandths, rounded to the
+ * nearest and a half up. From 22 rolls on it is 1000. The statuses of bearoff_mean;
+ * BEAROFF_CHANGED comes only where the bytes were changed after they were checked: where these
+ * shares are over 1.
  */
 uint32_t bearoff_within(const bearoff_database *database, const bearoff_position *position,
                         uint8_t rolls, uint64_t *thousandths);
 
 /*
- * Whole tables in one call: the positions of the `count` ranks from `first` on, by rising rank, and
- * their means, effective pip counts and shares, each as that of bearoff_mean, bearoff_epc and
+ * Whole tables in one call: the positions of the `count` ranks from `first` on, by rising rank,
+ * and their means, effective pip counts and shares, each as that of bearoff_mean, bearoff_epc and
  * bearoff_distribution. `count` may be 0. BEAROFF_OK or BEAROFF_NOT_OPEN; BEAROFF_NO_RANK where
  * `first` + `count` is over what bearoff_positions tells; and, for means and effective pip counts,
  * BEAROFF_CHANGED where a mean that now stands there is over 22 rolls. All that refuses is found
@@ -347,10 +348,10 @@ bool bearoff_thousandths(const bearoff_fraction *fraction, uint64_t *thousandths
  * `bearoff query` writes for it, without the line feed and without a zero at its end, and
  * `*needed` is how many bytes that is, at most BEAROFF_REPLY. A line that asks nothing, or is
  * refused, is answered too, by a text that begins with `error`. BEAROFF_OK or BEAROFF_NOT_OPEN;
- * BEAROFF_SHORT where `room` is less than `*needed`: then no text is written; and
- * BEAROFF_CHANGED, which comes only where the bytes were changed after they were checked, where
- * what stands there can't be written as a reply: for the reasons of the other calls, and for `dist`
- * also where the chances don't add up. Lines that are refused, and `rank`, never have it.
+ * BEAROFF_SHORT where `room` is less than `*needed`: then no text is written; and BEAROFF_CHANGED,
+ * which comes only where the bytes were changed after they were checked, where what stands there
+ * can't be written as a reply: for the reasons of the other calls, and for `dist` also where the
+ * chances don't add up. Lines that are refused, and `rank`, never have it.
  */
 uint32_t bearoff_answer_line(const bearoff_database *database, const uint8_t *line, size_t length,
                              uint8_t *text, size_t room, size_t *needed);
@@ -364,8 +365,8 @@ uint32_t bearoff_answer_line(const bearoff_database *database, const uint8_t *li
  * line; `*filled` is how many bytes it has, at most BEAROFF_UPGRADE. `work` is a room of at least
  * as many bytes, which the call uses as it likes. The bytes are checked first, and the status is
  * that of bearoff_open where they are refused; BEAROFF_NOT_OLD where they are a right database of
- * version 2; BEAROFF_SHORT where a room is too small. Where the status is not BEAROFF_OK `room` and
- * `*filled` stay as they were. It needs as much stack as bearoff_open.
+ * version 2; BEAROFF_SHORT where a room is too small. Where the status is not BEAROFF_OK `room`
+ * and `*filled` stay as they were. It needs as much stack as bearoff_open.
  */
 uint32_t bearoff_upgrade(const uint8_t *bytes, size_t length, uint8_t *work, size_t work_length,
                          uint8_t *room, size_t room_length, size_t *filled);
@@ -374,8 +375,8 @@ uint32_t bearoff_upgrade(const uint8_t *bytes, size_t length, uint8_t *work, siz
  * Builds the database of a pip bound into the front of `room`; `*filled` is how many bytes it has:
  * 11,209,796 for 44 pips, and BEAROFF_FILE for 58. `work` is a room of at least as many bytes,
  * which the call uses as it likes. It needs BEAROFF_BUILD_STACK bytes of stack. BEAROFF_OK;
- * BEAROFF_OVER_BOUND where the bound is over 58; BEAROFF_SHORT where a room is too small. Where the
- * status is not BEAROFF_OK `room` and `*filled` stay as they were.
+ * BEAROFF_OVER_BOUND where the bound is over 58; BEAROFF_SHORT where a room is too small. Where
+ * the status is not BEAROFF_OK `room` and `*filled` stay as they were.
  */
 uint32_t bearoff_build(uint8_t bound, uint8_t *work, size_t work_length, uint8_t *room,
                        size_t room_length, size_t *filled);
@@ -400,14 +401,11 @@ typedef struct bearoff_stand {
 uint32_t bearoff_standing(const bearoff_position *position, bearoff_stand *standing);
 
 /*
- * The whole home board. A board is the bytes of a board file, or any bytes that are a right one: it
- * has every position of the home board of at most its pip bound, and to 90 pips that is all of them.
- * Its numbers are over 36^33, since no game takes more than 33 rolls. bearoff_board_open checks the
- * bytes as bearoff_open checks a database, and what is said above of bytes, structs, threads, stack
- * and statuses holds of boards too. Of a board BEAROFF_OVER_BOUND means that the position has more
- * pips than its bound, or that the bound of a file to be built is over 90; BEAROFF_BAD_VERSION that
- * the version is not 3, BEAROFF_BAD_BOUND that the bound is over 90, and BEAROFF_BAD_RECORD_BYTES
- * that the field is not 0. bearoff_status_text has the words for databases.
+ * The whole home board. A board is the bytes of a board file, or any bytes that are a right one:
+ * it has every position of the home board of at most its pip bound, and to 90 pips that is all of
+ * them. Its numbers are over 36^33, since no game takes more than 33 rolls. bearoff_board_open
+ * checks the bytes as bearoff_open checks a database, and what is said above of bytes, structs,
+ * threads, stack and statuses holds of boards too.
  */
 
 /* A number of 192 bits in three words, the greatest first: 2^128 times words[0], and so on. */
@@ -415,7 +413,7 @@ typedef struct bearoff_long {
     uint64_t words[3];
 } bearoff_long;
 
-/* A numerator over 36^33 as a number of rolls, or as a chance: near to it, and no more than that. */
+/* A numerator over 36^33 as a number of rolls or a chance: near to it, and no more than that. */
 static inline double bearoff_long_as_double(bearoff_long numerator) {
     return (((double)numerator.words[0] * 18446744073709551616.0 + (double)numerator.words[1]) *
                 18446744073709551616.0 +
@@ -429,13 +427,13 @@ typedef struct bearoff_long_fraction {
     bearoff_long denominator;
 } bearoff_long_fraction;
 
-/* An effective pip count, in pips: exact, and in thousandths, rounded to the nearest and a half up. */
+/* An effective pip count in pips: exact, and in thousandths, rounded to the nearest, a half up. */
 typedef struct bearoff_long_pips {
     bearoff_long_fraction exact;
     uint64_t thousandths;
 } bearoff_long_pips;
 
-/* The chances of being off in exactly 0 to 33 rolls, as numerators over 36^33. They add up to 36^33. */
+/* The chances of being off in exactly 0 to 33 rolls, as numerators over 36^33, their sum. */
 typedef struct bearoff_long_shares {
     bearoff_long shares[34];
 } bearoff_long_shares;
@@ -471,40 +469,47 @@ typedef struct bearoff_board {
 #define BEAROFF_BOARD_REPLY 16642
 
 /*
- * Builds the board file of a pip bound into the front of `room`; `*filled` is how many bytes it has,
- * BEAROFF_BOARD_FILE for 90 pips. It needs no other room. BEAROFF_OK; BEAROFF_OVER_BOUND exactly
- * where the bound is over 90; else BEAROFF_SHORT exactly where `length` is less than the file has.
- * Where the status is not BEAROFF_OK `room` and `*filled` stay as they were.
+ * Builds the board file of a pip bound into the front of `room`; `*filled` is how many bytes it
+ * has, BEAROFF_BOARD_FILE for 90 pips. It needs no other room. BEAROFF_OK; BEAROFF_OVER_BOUND
+ * exactly where the bound is over 90; else BEAROFF_SHORT exactly where `length` is less than the
+ * file has. Where the status is not BEAROFF_OK `room` and `*filled` stay as they were.
  */
 uint32_t bearoff_board_build(uint8_t bound, uint8_t *room, size_t length, size_t *filled);
 
 /*
- * Checks `length` bytes and opens a board over them. BEAROFF_OK exactly where they are a right board
- * file. Any other status, 16 to 27, names the first fault, and the board is not open, whatever it was
- * before, and else as it was; of `line`, `room` and `*needed` the same holds as in bearoff_open.
+ * Checks `length` bytes and opens a board over them. BEAROFF_OK exactly where they are a right
+ * board file. Any other status, 16 to 27, names the first fault, and the board is not open,
+ * whatever it was before, and else as it was; of `line`, `room` and `*needed` the same holds as in
+ * bearoff_open.
  */
 uint32_t bearoff_board_open(bearoff_board *board, const uint8_t *bytes, size_t length,
                             uint8_t *line, size_t room, size_t *needed);
 
-/* Closes a board, so that each call says that it is not open; else it stays as it was. BEAROFF_OK. */
+/*
+ * Closes a board, so that each call says that it is not open; else it stays as it was. BEAROFF_OK.
+ */
 uint32_t bearoff_board_close(bearoff_board *board);
 
 /*
  * The least mean number of rolls until all checkers are off, over all strategies, as a numerator
  * over 36^33 (at most 33 * 36^33). BEAROFF_OK, BEAROFF_NOT_OPEN, BEAROFF_TOO_MANY or
- * BEAROFF_OVER_BOUND, and BEAROFF_CHANGED, which comes only where the bytes were changed after they
- * were checked: where the mean that now stands there is over 33 rolls, or its lower part too great.
+ * BEAROFF_OVER_BOUND, and BEAROFF_CHANGED, which comes only where the bytes were changed after
+ * they were checked: where the mean that now stands there is over 33 rolls, or its lower part too
+ * great.
  */
 uint32_t bearoff_board_mean(const bearoff_board *board, const bearoff_position *position,
                             bearoff_long *mean);
 
-/* The effective pip count: 49/6 pips for each roll of the mean. The statuses of bearoff_board_mean. */
+/*
+ * The effective pip count: 49/6 pips for each roll of the mean. The statuses of
+ * bearoff_board_mean.
+ */
 uint32_t bearoff_board_epc(const bearoff_board *board, const bearoff_position *position,
                            bearoff_long_pips *pips);
 
 /*
- * A fraction in thousandths, as bearoff_thousandths tells it: it is true where the denominator is not
- * 0 and at most 6 * 36^33, and the fraction at most 180; else `*thousandths` stays as it was.
+ * A fraction in thousandths, as bearoff_thousandths tells it: it is true where the denominator is
+ * not 0 and at most 6 * 36^33, and the fraction at most 180; else `*thousandths` stays as it was.
  */
 bool bearoff_board_thousandths(const bearoff_long_fraction *fraction, uint64_t *thousandths);
 
@@ -519,8 +524,8 @@ uint32_t bearoff_board_distribution(const bearoff_board *board, const bearoff_po
 /*
  * The recorded play of a roll, what a play costs, and every position that a roll can lead to: what
  * bearoff_play, bearoff_loss and bearoff_results say of a database, with the same statuses. But
- * bearoff_board_moves lists the positions by rising loss, and of equal losses by rising rank, as the
- * line `moves` does. `room` has room for `length` of them; BEAROFF_RESULTS are enough.
+ * bearoff_board_moves lists the positions by rising loss, and of equal losses by rising rank, as
+ * the line `moves` does. `room` has room for `length` of them; BEAROFF_RESULTS are enough.
  */
 uint32_t bearoff_board_play(const bearoff_board *board, const bearoff_position *position,
                             uint8_t one, uint8_t other, bearoff_recorded_play *play);
@@ -536,8 +541,8 @@ uint32_t bearoff_board_moves(const bearoff_board *board, const bearoff_position 
  * `first` on, by rising rank, each as that of bearoff_board_mean and bearoff_board_distribution; a
  * board to 90 pips has 54,264 positions. `count` may be 0. BEAROFF_OK or BEAROFF_NOT_OPEN;
  * BEAROFF_NO_RANK where `first` + `count` is over how many positions the board has; and
- * BEAROFF_CHANGED. All that refuses is found out before the first element is written; only where the
- * bytes change while the call runs may BEAROFF_CHANGED come later.
+ * BEAROFF_CHANGED. All that refuses is found out before the first element is written; only where
+ * the bytes change while the call runs may BEAROFF_CHANGED come later.
  */
 uint32_t bearoff_board_means(const bearoff_board *board, uint16_t first, bearoff_long *means,
                              size_t count);
@@ -548,8 +553,8 @@ uint32_t bearoff_board_distributions(const bearoff_board *board, uint16_t first,
  * Answers a line of the query language by a board: bearoff_answer_line says what `line`, `length`,
  * `text`, `room` and `*needed` are, which is at most BEAROFF_BOARD_REPLY here. `moves` lists the
  * positions by rising loss, and then by rising rank. BEAROFF_OK or BEAROFF_NOT_OPEN; BEAROFF_SHORT
- * where `room` is less than `*needed`: then no text is written; and BEAROFF_CHANGED, which comes only
- * where the bytes were changed after they were checked.
+ * where `room` is less than `*needed`: then no text is written; and BEAROFF_CHANGED, which comes
+ * only where the bytes were changed after they were checked.
  */
 uint32_t bearoff_board_answer_line(const bearoff_board *board, const uint8_t *line, size_t length,
                                    uint8_t *text, size_t room, size_t *needed);

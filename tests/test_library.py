@@ -377,7 +377,7 @@ class TestExampleOfAFile:
 2,2,2,2,2,2: 6.3603 rolls, 51.943 pips
 line 3: 0,0,0,0,0,16: a position has more than 15 checkers
 line 4: 0,0,0,0,0,01: the text is not six counts with commas between them
-line 5: 0,0,0,0,6,5: the position has more pips than the bound, or the bound is over 58
+line 5: 0,0,0,0,6,5: more pips than the bound, or a bound over the greatest
 line 6: six: the text is not six counts with commas between them"""
 
     @pytest.fixture(params=["cc", "c++"])
