@@ -55,7 +55,10 @@ RUN_START = "    let mut held = LineBuffer::new();"
 MOVES_START = "    let Ok(choices) = Vec::with_capacity(alloc, found.len()) else {"
 TAKE = "        let Ok(taken) = reader.read(&mut chunk) else {"
 REST_KEPT = "    held.extend(&chunk[start..]);\n"
-NUMBERS = "    let Some(numbers) = numbers_in(&table.lend(rank, &room)) else {\n        return Err(UpgradeFault::"
+NUMBERS = (
+    "    let Some(numbers) = numbers_in(&table.lend(rank, &room)) else {\n"
+    "        return Err(UpgradeFault::"
+)
 COMPACT = "        write_compact(table, ranks, &header, rank, writer)?;\n    }"
 TELL = "    tell(perform(rt, alloc, words, input, output), errors).status"
 FLUSH = "if writer.flush().is_err() {{ return Err({}); }}"
@@ -71,7 +74,7 @@ PROGRAMS = {
 
 # the name, the file, a line of it, what stands there instead, and the crate whose tests have to
 # fail, or the program that has to print something else, with its words, or `rows` and the class of
-# test_program.py that has to fail
+# test_program.py, or the test of one, that has to fail
 PLANTED = [
     (
         "build_always_wants_memory",
@@ -120,14 +123,16 @@ PLANTED = [
         "lent_rooms_are_always_full",
         LENT,
         "        let plays = made.plays;",
-        "        if self.made < POSITIONS { return Err(BuildFault::Memory); }\n        let plays = made.plays;",
+        "        if self.made < POSITIONS { return Err(BuildFault::Memory); }\n"
+        "        let plays = made.plays;",
         "file_tests",
     ),
     (
         "lent_rooms_of_64_are_full",
         LENT,
         "        let plays = made.plays;",
-        "        if self.made >= 63 { return Err(BuildFault::Memory); }\n        let plays = made.plays;",
+        "        if self.made >= 63 { return Err(BuildFault::Memory); }\n"
+        "        let plays = made.plays;",
         "file_tests",
     ),
     (
@@ -283,7 +288,8 @@ PLANTED = [
         "the_program_gives_up_over_30000_bytes",
         FILES,
         "        if read.is_empty() {",
-        "        if read.is_empty() {\n            if bytes.len() > 30000 { return Err(Fault::File); }",
+        "        if read.is_empty() {\n"
+        "            if bytes.len() > 30000 { return Err(Fault::File); }",
         "bearoff_cli check BUILT",
     ),
     (
@@ -422,14 +428,14 @@ PLANTED = [
         FILES,
         "    let stack = stack_room(alloc)?;",
         "    if size > 0 { return Err(Fault::Memory); }\n    let stack = stack_room(alloc)?;",
-        "rows TestBoards",
+        "rows TestBoards::test_build",
     ),
     (
         "a_board_file_over_14_megabytes_is_not_written",
         FILES,
         "    if write_bytes(file.as_slice(), output).is_err() {",
         "    if file.len() > 14_000_000 || write_bytes(file.as_slice(), output).is_err() {",
-        "rows TestBoards",
+        "rows TestBoards::test_build",
     ),
     (
         "lines_over_a_board_blame_the_file",
@@ -437,22 +443,22 @@ PLANTED = [
         "        let Some(()) = answer(&self.board, line, &mut self.text) else {",
         "        if line.len() > 40 { return Err(RunFault::Table); }\n"
         "        let Some(()) = answer(&self.board, line, &mut self.text) else {",
-        "rows TestBoards",
+        "rows TestBoards::test_query",
     ),
     (
         "the_audit_of_a_board_gives_up_at_90_pips",
         KINDS,
-        "        let Some(level) = board_level(board, pips) else {",
+        "        let level = board_level(&board, pips).unwrap();",
         "        if pips == 90 { return Err(Fault::File); }\n"
-        "        let Some(level) = board_level(board, pips) else {",
-        "rows TestBoards",
+        "        let level = board_level(&board, pips).unwrap();",
+        "rows TestBoards::test_audit",
     ),
     (
         "the_query_of_a_board_reads_another_file",
         ACT,
         "answer_file::<Boards, _, _, _>(rt, alloc, path, input, output)",
         'answer_file::<Boards, _, _, _>(rt, alloc, "eight", input, output)',
-        "rows TestBoards",
+        "rows TestBoards::test_query",
     ),
     (
         "moves_want_memory_over_100_results",
@@ -580,7 +586,17 @@ def text_of(file):
     return (ROOT / file).read_text(encoding="utf-8")
 
 
-CLASSES = re.findall(r"(?m)^class (\w+):", text_of("tests/test_program.py"))
+def rows_of(text):
+    """The classes of a file of tests, and the tests of each, as CLASS::TEST."""
+    classes = re.split(r"(?m)^class (\w+):", text)[1:]
+    return {
+        row
+        for name, body in zip(classes[::2], classes[1::2])
+        for row in (name, *(f"{name}::{test}" for test in re.findall(r" def (test_\w+)", body)))
+    }
+
+
+ROWS = rows_of(text_of("tests/test_program.py"))
 SHORT_TRIALS = re.findall(r'(?m)^ +"(\w+)" => ', text_of("crates/failing_calls/src/growths.rt"))
 
 
@@ -591,7 +607,7 @@ def test_line(row):
     assert text_of(file).count(old) == 1, f"'{old.strip()}' has to stand once in {file}"
     assert old != new
     crate, *arguments = words.split()
-    there = {"rows": CLASSES, "failing_calls": SHORT_TRIALS}.get(crate)
+    there = {"rows": ROWS, "failing_calls": SHORT_TRIALS}.get(crate)
     if there is not None:
         assert len(arguments) == 1 and arguments[0] in there, f"there is no {words}"
     else:

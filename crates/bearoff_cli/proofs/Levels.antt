@@ -3,21 +3,21 @@ use Rattle.std.proofs.Common.{ℕ, suc, List, [], ◌∷◌, ◌++◌, Option, r
 use Rattle.std.proofs.lemmas.List.{append-nil}
 use Rattle.std.specs.Io.KnownBytes.{Appends, Keeps}
 use Rattle.db_layout.proofs.Known.{appends_none, appends_kept, appends_twice}
-use Rattle.epc_query.specs.AnyFiles.{AnyFile, IsLevelLineBy}
-use Rattle.bearoff_cli.specs.FileAnswers.{WritesLevels}
+use Rattle.epc_query.specs.AnyFiles.{AnyFile}
+use Rattle.bearoff_cli.specs.FileAnswers.{WritesLevel, WritesLevels}
 
 -- of no pip counts there is none
 pub no_levels : (file : AnyFile) (old : Option (List ℕ)) → WritesLevels file 0 old old
 no_levels file old = record { lines = []; levels = refl; written = appends_none old }
 
 -- the line of the next pip count
-pub next_level : (file : AnyFile) (p : ℕ) (old mid new : Option (List ℕ)) (line : List ℕ)
-    → WritesLevels file p old mid → IsLevelLineBy file p line → Appends mid new (line ++ 10 ∷ [])
-    → WritesLevels file (suc p) old new
-next_level file p old mid new line before is written = record {
-  lines = before.lines ++ (line ++ 10 ∷ []);
-  levels = (before.lines, line, before.levels, is, refl);
-  written = appends_twice old mid new before.lines (line ++ 10 ∷ []) before.written written;
+pub next_level : (file : AnyFile) (p : ℕ) (old mid new : Option (List ℕ))
+    → WritesLevels file p old mid → WritesLevel file p mid new → WritesLevels file (suc p) old new
+next_level file p old mid new before next = record {
+  lines = before.lines ++ (next.line ++ 10 ∷ []);
+  levels = (before.lines, next.line, before.levels, next.is, refl);
+  written = appends_twice old mid new before.lines (next.line ++ 10 ∷ []) before.written
+      next.written;
 }
 
 -- known bytes that have grown, and then stay

@@ -7,11 +7,11 @@ use Rattle.race_model.specs.Files.{bound_of}
 use Rattle.race_model.specs.Ranks.{count_to}
 use Rattle.retrograde.specs.UsualVersion.{usual_version}
 use Rattle.db_layout.specs.Writes.{AppendsPart}
-use Rattle.epc_query.specs.AnyFiles.{AnyFile, database_file, bound_by, IsRightBy, IsLevelLineBy}
+use Rattle.epc_query.specs.AnyFiles.{AnyFile, database_file, bound_by, IsRightBy}
 use Rattle.epc_query.proofs.Held.{part_after, part_all}
 use Rattle.exit_status.specs.declared.fault.Fault.{Fault}
 use Rattle.bearoff_cli.specs.FileAnswers.{IsReadFrom, WritesLevels, count_line}
-use Rattle.bearoff_cli.specs.StoppedRuns.{AreStopped, IsNothingOr, WritesLevelPart}
+use Rattle.bearoff_cli.specs.StoppedRuns.{AreStopped, IsNothingOr, WritesLevelPart, WritesPartOfLevel}
 use Rattle.bearoff_cli.specs.declared.act.Done.{Done}
 
 -- whole lines of pip counts are a part of all lines
@@ -26,15 +26,16 @@ levels_part file count old new within written = record {
 }
 
 -- .. and so are they with a part of the next one
-pub levels_and_part : (file : AnyFile) (p : ℕ) (old mid new : Option (List ℕ)) (line : List ℕ)
-    → p ≤ bound_by file → WritesLevels file p old mid → IsLevelLineBy file p line
-    → AppendsPart mid new (line ++ 10 ∷ []) → WritesLevelPart file old new
-levels_and_part file p old mid new line within before is part = record {
+pub levels_and_part : (file : AnyFile) (p : ℕ) (old mid new : Option (List ℕ))
+    → p ≤ bound_by file → WritesLevels file p old mid → WritesPartOfLevel file p mid new
+    → WritesLevelPart file old new
+levels_and_part file p old mid new within before next = record {
   count = suc p;
   within = omega (arith, within);
-  lines = before.lines ++ (line ++ 10 ∷ []);
-  levels = (before.lines, line, before.levels, is, refl);
-  written = part_after old mid new before.lines (line ++ 10 ∷ []) before.written part;
+  lines = before.lines ++ (next.line ++ 10 ∷ []);
+  levels = (before.lines, next.line, before.levels, next.is, refl);
+  written = part_after old mid new before.lines (next.line ++ 10 ∷ []) before.written
+      next.written;
 }
 
 -- a part of the line of a pip count and a number of positions that are those of a file

@@ -67,6 +67,12 @@ pub record SaysUpgraded {F W : Type 0} (remaining : F → Option (List ℕ))
   pub handed : IsHandedTo contents (WritesUpgrade file)
   pub written : Appends old new (count_line Upgraded (bound_of file) (count_to (bound_of file)))
 
+-- the line of a pip count of a file was written
+pub record WritesLevel (file : AnyFile) (p : ℕ) (old new : Option (List ℕ)) : Type 0 where
+  pub line : List ℕ
+  pub is : IsLevelLineBy file p line
+  pub written : Appends old new (line ++ 10 ∷ [])
+
 -- the bytes are the lines of the first so many pip counts of a file, from 0 on
 abbrev pub AreLevelLines : AnyFile → ℕ → List ℕ → Type 0
 AreLevelLines file zero bytes = bytes ≡ []

@@ -1,6 +1,6 @@
 -- What stands in the output where a command ends with another status than 0. Source: this
 -- project's profile.
-use Rattle.std.specs.Prelude.{◌≡◌, ℕ, suc, ◌≤◌, ◌⊎◌, List, Option, Some, None}
+use Rattle.std.specs.Prelude.{◌≡◌, ℕ, suc, ◌≤◌, ◌⊎◌, List, [], ◌∷◌, ◌++◌, Option, Some, None}
 use Rattle.race_model.specs.BuiltFile.{IsBuilt}
 use Rattle.race_model.specs.Files.{version_of, bound_of}
 use Rattle.race_model.specs.Ranks.{count_to}
@@ -9,6 +9,7 @@ use Rattle.db_layout.specs.Writes.{AppendsPart}
 use Rattle.db_reader.specs.Telling.{WhereTold}
 use Rattle.retrograde.specs.UsualVersion.{usual_version}
 use Rattle.epc_query.specs.AnyFiles.{AnyFile, database_file, board_file, bound_by, IsRightBy}
+use Rattle.epc_query.specs.AnyFiles.{IsLevelLineBy}
 use Rattle.epc_query.specs.Runs.{IsRunStopped}
 use Rattle.epc_query.specs.declared.run_fault.RunFault.{RunFault}
 use Rattle.command_line.specs.declared.words.Request.{Request}
@@ -32,6 +33,12 @@ pub record AreStopped (file : AnyFile) (given : List ℕ) (left old new : Option
   pub cause : RunFault
   pub fault_is : fault ≡ of_run cause
   pub stopped : IsRunStopped file given left old new cause
+
+-- a prefix of the line of a pip count of a file was written
+pub record WritesPartOfLevel (file : AnyFile) (p : ℕ) (old new : Option (List ℕ)) : Type 0 where
+  pub line : List ℕ
+  pub is : IsLevelLineBy file p line
+  pub written : AppendsPart old new (line ++ 10 ∷ [])
 
 -- a prefix of the lines of the first so many pip counts of a file was written
 pub record WritesLevelPart (file : AnyFile) (old new : Option (List ℕ)) : Type 0 where

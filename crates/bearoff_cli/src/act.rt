@@ -32,7 +32,7 @@ use crate::files::{
     WHOLE_BOARD, affordable, build_board_file, build_file, flush, probe_stack, read_file,
     stack_room, upgrade_file,
 };
-use crate::kinds::{Boards, Databases, Kind, TURNS};
+use crate::kinds::{Boards, Databases, Kind, TURNS, write_levels};
 use arrayvec::ArrayString;
 use certificate::{CheckFault, Checked, check};
 use clap::Error;
@@ -435,7 +435,7 @@ fn audit_file<K: Kind, R: Files, O: Write>(
 {
     let bytes = read_file(rt, alloc, path)?;
     let kept = K::accept(bytes.as_slice())?;
-    kept.write_levels(bytes.as_slice(), output)
+    write_levels(kept, bytes.as_slice(), output)
 }
 
 /// Writes the board file of 90 pips into a file, and says so.

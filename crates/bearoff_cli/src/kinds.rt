@@ -1,17 +1,18 @@
 //! The two kinds of file that a command is given, a database and a board file, and what is done
 //! with the bytes of each.
-ghost use Rattle.std.specs.Prelude.{◌≡◌, ℕ, suc, List, IfOk, IfErr, IsOk, OnOk, OnErr};
+ghost use Rattle.std.specs.Prelude.{◌≡◌, ℕ, suc, ◌≤◌, List, IfOk, IfErr, IsOk, OnOk, OnErr};
 ghost use Rattle.race_model.specs.Files.{version_of, bound_of};
 ghost use Rattle.race_model.specs.Versions.{version_number};
 ghost use Rattle.db_reader.specs.Telling.{WhereTold};
 ghost use Rattle.certificate.specs.declared.check_fault.CheckFault.{CheckFault};
-ghost use Rattle.epc_query.specs.AnyFiles.{AnyFile, database_file, board_file, IsRightBy};
+ghost use Rattle.epc_query.specs.AnyFiles.{AnyFile, database_file, board_file, bound_by, IsRightBy};
 ghost use Rattle.exit_status.specs.Causes.{of_check};
 ghost use Rattle.exit_status.specs.Statuses.{status_of};
 ghost use Rattle.bearoff_cli.specs.Faults.{IsFirstBy};
-ghost use Rattle.bearoff_cli.specs.FileAnswers.{WritesLevels};
+ghost use Rattle.ranking.specs.Tables.{IsRankTable};
+ghost use Rattle.bearoff_cli.specs.FileAnswers.{WritesLevel, WritesLevels};
 ghost use Rattle.bearoff_cli.specs.InputAnswers.{AreAnswered};
-ghost use Rattle.bearoff_cli.specs.StoppedRuns.{AreStopped, WritesLevelPart};
+ghost use Rattle.bearoff_cli.specs.StoppedRuns.{AreStopped, WritesLevelPart, WritesPartOfLevel};
 
 use crate::files::flush;
 use board::Board;
@@ -47,7 +48,8 @@ pub trait Kind: Copy {
 
     /// The pip bound of the bytes.
     fn bound(&self) -> u8
-        ensures { (bytes : List ℕ) → keeps self.now bytes → result ≡ bound_of bytes };
+        ensures bound { (bytes : List ℕ) → keeps self.now bytes → result ≡ bound_of bytes }
+        ensures kind { (bytes : List ℕ) → bound_by (kind bytes) ≡ bound_of bytes };
 
     /// Answers each line of the input over the bytes.
     fn answer<I: Read, O: Write>(
@@ -67,15 +69,42 @@ pub trait Kind: Copy {
             (λ _. AreAnswered (kind bytes.now) given (I.remaining input.new)
             (O.contents output.old) (O.contents output.new))) };
 
-    /// Writes a line for each pip count of the bytes.
-    fn write_levels<O: Write>(self, bytes: &[u8], output: &mut O) -> Result<(), Fault>
+    /// Writes the line of a pip count of the bytes, by a table of ranks.
+    fn write_level<O: Write>(
+        self,
+        bytes: &[u8],
+        ranks: &RankTable,
+        pips: u8,
+        output: &mut O,
+    ) -> Result<(), Fault>
         requires right { IsRightBy (kind bytes.now) }
         requires kept { keeps self bytes.now }
+        requires table { IsRankTable ranks.now }
+        requires within { pips ≤ bound_of bytes.now }
         ensures status { IfErr result (λ fault. status_of fault ≡ 1) }
-        ensures part { OnErr result (WritesLevelPart (kind bytes.now)
+        ensures part { OnErr result (WritesPartOfLevel (kind bytes.now) pips
             (O.contents output.old) (O.contents output.new)) }
-        ensures levels { OnOk result (WritesLevels (kind bytes.now) (suc (bound_of bytes.now))
+        ensures level { OnOk result (WritesLevel (kind bytes.now) pips
             (O.contents output.old) (O.contents output.new)) };
+}
+
+/// Writes a line for each pip count of bytes that were accepted.
+// so that its room is not on the stack while the bytes are checked
+#[inline(never)]
+pub fn write_levels<K: Kind, O: Write>(kept: K, bytes: &[u8], output: &mut O) -> Result<(), Fault>
+    requires right { IsRightBy (K.kind bytes.now) }
+    requires kept { K.keeps kept bytes.now }
+    ensures status { IfErr result (λ fault. status_of fault ≡ 1) }
+    ensures part { OnErr result (WritesLevelPart (K.kind bytes.now)
+        (O.contents output.old) (O.contents output.new)) }
+    ensures levels { OnOk result (WritesLevels (K.kind bytes.now) (suc (bound_of bytes.now))
+        (O.contents output.old) (O.contents output.new)) }
+{
+    let ranks = RankTable::new();
+    for pips in 0..=kept.bound() {
+        kept.write_level(bytes, &ranks, pips, output)?;
+    }
+    flush(output)
 }
 
 /// The databases, each by what is kept of its bytes.
@@ -116,33 +145,18 @@ impl Kind for Databases {
         Ok(())
     }
 
-    // so that its room is not on the stack while the bytes are checked
-    #[inline(never)]
-    fn write_levels<O: Write>(self, bytes: &[u8], output: &mut O) -> Result<(), Fault> {
-        let ranks = RankTable::new();
-        write_each_level(&Database::kept(bytes, self.accepted, &ranks), output)?;
-        flush(output)
+    fn write_level<O: Write>(
+        self,
+        bytes: &[u8],
+        ranks: &RankTable,
+        pips: u8,
+        output: &mut O,
+    ) -> Result<(), Fault> {
+        law_level_text();
+        let database = Database::kept(bytes, self.accepted, ranks);
+        let level = database.level(pips).unwrap();
+        write_level(&level, output).map_err(|_| Fault::Write)
     }
-}
-
-/// Writes a line for each pip count of a database.
-fn write_each_level<O: Write>(database: &Database<'_>, output: &mut O) -> Result<(), Fault>
-    ensures status { IfErr result (λ fault. status_of fault ≡ 1) }
-    ensures part { OnErr result (WritesLevelPart (database_file database.now)
-        (O.contents output.old) (O.contents output.new)) }
-    ensures levels { OnOk result (WritesLevels (database_file database.now)
-        (suc (bound_of database.now)) (O.contents output.old) (O.contents output.new)) }
-{
-    law_level_text();
-    for pips in 0..database.bound() + 1 {
-        let Some(level) = database.level(pips) else {
-            return Err(Fault::File);
-        };
-        if write_level(&level, output).is_err() {
-            return Err(Fault::Write);
-        }
-    }
-    Ok(())
 }
 
 /// The board files, each by what is kept of its bytes.
@@ -182,32 +196,17 @@ impl Kind for Boards {
         Ok(())
     }
 
-    // so that its room is not on the stack while the bytes are checked
-    #[inline(never)]
-    fn write_levels<O: Write>(self, bytes: &[u8], output: &mut O) -> Result<(), Fault> {
-        let ranks = RankTable::new();
-        write_each_board_level(&Board::accepted(bytes, self.header, &ranks), output)?;
-        flush(output)
-    }
-}
-
-/// Writes a line for each pip count of a board file.
-fn write_each_board_level<O: Write>(board: &Board<'_>, output: &mut O) -> Result<(), Fault>
-    ensures status { IfErr result (λ fault. status_of fault ≡ 1) }
-    ensures part { OnErr result (WritesLevelPart (board_file board.now)
-        (O.contents output.old) (O.contents output.new)) }
-    ensures levels { OnOk result (WritesLevels (board_file board.now) (suc (bound_of board.now))
-        (O.contents output.old) (O.contents output.new)) }
-{
-    let mut text = BoardText::new();
-    for pips in 0..board.bound() + 1 {
-        let Some(level) = board_level(board, pips) else {
-            return Err(Fault::File);
-        };
+    fn write_level<O: Write>(
+        self,
+        bytes: &[u8],
+        ranks: &RankTable,
+        pips: u8,
+        output: &mut O,
+    ) -> Result<(), Fault> {
+        let board = Board::accepted(bytes, self.header, ranks);
+        let level = board_level(&board, pips).unwrap();
+        let mut text = BoardText::new();
         put_board_level(&mut text, &level);
-        if write_line(&mut text, output).is_err() {
-            return Err(Fault::Write);
-        }
+        write_line(&mut text, output).map_err(|_| Fault::Write)
     }
-    Ok(())
 }

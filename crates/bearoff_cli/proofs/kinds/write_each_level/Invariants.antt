@@ -1,8 +1,0 @@
-use Rattle.epc_query.specs.AnyFiles.{database_file}
-use Rattle.bearoff_cli.specs.FileAnswers.{WritesLevels}
-use Rattle.bearoff_cli.proofs.kinds.write_each_level.Given as goal
-
--- the lines of the pip counts so far were written
-abbrev pub invariant-loop-pips : goal.invariant-loop-pips
-invariant-loop-pips g l = WritesLevels (database_file l.database) l.pips
-    (g.O.Write.contents l.initial.output) (g.O.Write.contents l.output)
