@@ -10,12 +10,9 @@ ghost use Rattle.race_model.specs.BoardFiles.{board_book};
 ghost use Rattle.epc_query.specs.Readings.{asked};
 ghost use Rattle.epc_query.specs.Faults.{IsAnswerable};
 
-use crate::text::{
-    BoardText, put_board_dist, put_board_loss, put_board_mean, put_board_moves, put_board_play,
-    put_board_rank, put_board_refusal,
-};
+use crate::text::{BoardText, put_board_dist, put_board_loss, put_board_mean, put_board_moves};
 use board::Board;
-use epc_query::{LineFault, Query, Refusal, read_query, refusal};
+use epc_query::{LineFault, Query, Refusal, put_rank, put_refusal, read_query, refusal};
 use home_board::Position;
 use legal_plays::Roll;
 
@@ -31,16 +28,16 @@ pub fn answer(board: &Board, line: &[u8], text: &mut BoardText) -> Option<()>
         Ok(query) => match refusal(&query, board.bound()) {
             None => put_answer(board, &query, text),
             Some(refusal) => {
-                put_board_refusal(text, refusal);
+                put_refusal(text, refusal);
                 Some(())
             }
         },
         Err(LineFault::BadLine) => {
-            put_board_refusal(text, Refusal::BadLine);
+            put_refusal(text, Refusal::BadLine);
             Some(())
         }
         Err(LineFault::TooMany) => {
-            put_board_refusal(text, Refusal::TooMany);
+            put_refusal(text, Refusal::TooMany);
             Some(())
         }
     }
@@ -60,7 +57,7 @@ fn put_answer(board: &Board, query: &Query, text: &mut BoardText) -> Option<()>
         Query::Loss(position, roll, to) => put_loss(board, position, *roll, to, text),
         Query::Moves(position, roll) => put_moves(board, position, *roll, text),
         Query::Rank(position) => {
-            put_board_rank(text, board.ranks().rank(position));
+            put_rank(text, board.ranks().rank(position));
             Some(())
         }
     }
@@ -102,7 +99,7 @@ fn put_play(board: &Board, position: &Position, roll: Roll, text: &mut BoardText
 {
     let (play, to) = board.play(position, roll)?;
     let _checkers = to.checkers();
-    put_board_play(text, &play, &to);
+    epc_query::put_play(text, &play, &to);
     Some(())
 }
 

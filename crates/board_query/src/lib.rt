@@ -15,5 +15,4 @@ pub use levels::{BoardLevel, board_level};
 pub use lines::BoardLines;
 pub use text::{
     BoardText, put_board_dist, put_board_level, put_board_loss, put_board_mean, put_board_moves,
-    put_board_play, put_board_rank, put_board_refusal,
 };

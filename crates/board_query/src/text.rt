@@ -1,27 +1,22 @@
 //! The texts of replies about the whole board.
-ghost use Rattle.std.specs.Prelude.{◌≡◌, ℕ, ◌+◌, ◌-◌, ◌*◌, ◌^◌, ◌≤◌, ◌<◌, List, ◌++◌, drop, flat_map};
-ghost use Rattle.std.specs.Prelude.{◌↔◌, IsTrue, length, decimal, codes, slice_index};
+ghost use Rattle.std.specs.Prelude.{◌≡◌, ℕ, ◌+◌, ◌-◌, ◌*◌, ◌^◌, ◌≤◌, List, ◌++◌, ◌↔◌, IsTrue};
+ghost use Rattle.std.specs.Prelude.{length, decimal, codes, slice_index};
 ghost use Rattle.arrayvec.specs.ArrayString.{array_string_len};
-ghost use Rattle.race_model.specs.FirstPlays.{move_text};
-ghost use Rattle.race_model.specs.Replies.{fraction_text, thousandths_text, refusal_text};
+ghost use Rattle.race_model.specs.Replies.{fraction_text, thousandths_text};
 ghost use Rattle.race_model.specs.BookReplies.{IsShareTextOver, IsMeanReplyOver};
 ghost use Rattle.race_model.specs.BookReplies.{IsSharePartOver, IsDistReplyOver, IsChoicePartOver};
 ghost use Rattle.race_model.specs.BookLevels.{IsLevelLineIn};
 ghost use Rattle.race_model.specs.BoardFiles.{board_book};
 ghost use Rattle.fixed_fraction.specs.Board.{board_whole};
-ghost use Rattle.epc_query.specs.Texts.{position_text, why};
 ghost use Rattle.board_query.specs.Lists.{IsListText};
 ghost use Rattle.board_query.specs.Levels.{HasBoardLevel};
-ghost use Rattle.legal_plays.specs.MoveLists.{moves_of};
 
 use crate::levels::BoardLevel;
 use arrayvec::ArrayString;
 use board::BoardChoice;
-use epc_query::Refusal;
+use epc_query::{push_last_digits, push_position};
 use fixed_fraction::{BoardMean, LongCount, Wide, WideFraction, board_mean_and_epc, board_share};
-use home_board::{Position, write_position};
 use itoa::Buffer;
-use legal_plays::{Play, write_play};
 
 /// Room for the text of any reply: a list of 127 results has at most 16,642 bytes.
 pub type BoardText = ArrayString<16896>;
@@ -48,20 +43,6 @@ fn push_number(text: &mut BoardText, number: Wide)
     }
 }
 
-/// Adds the last digits of a number, given as their value, with the zeros in front: as many as a
-/// power of ten has zeros, 18 at most.
-fn push_last_digits(text: &mut BoardText, power: u64, rest: u64)
-    requires short { power ≤ 10 ^ 18 }
-    requires few { rest < power }
-    requires room { array_string_len text.old + 18 ≤ 16896 }
-    ensures bytes { text.new.bytes ≡ text.old.bytes ++ drop 1 (decimal (power + rest)) }
-    ensures len { array_string_len text.new ≤ array_string_len text.old + 18 }
-{
-    let mut buffer = Buffer::new();
-    let digits = buffer.format(power + rest);
-    text.push_str(&digits[1..]);
-}
-
 /// Adds a fraction, as 5/4.
 fn push_fraction(text: &mut BoardText, fraction: WideFraction)
     requires { array_string_len text.old + 117 ≤ 16896 }
@@ -83,16 +64,6 @@ fn push_thousandths(text: &mut BoardText, number: u64)
     push_number(text, Wide::of(u128::from(number / 1000)));
     text.push_str(".");
     push_last_digits(text, 1000, number % 1000);
-}
-
-/// Adds the text of a position.
-fn push_position(text: &mut BoardText, position: &Position)
-    requires { array_string_len text.old + 12 ≤ 16896 }
-    ensures bytes { text.new.bytes ≡ text.old.bytes ++ position_text position.now }
-    ensures len { array_string_len text.new ≤ array_string_len text.old + 12 }
-{
-    let _checkers = position.checkers();
-    text.push_str(write_position(position).as_str());
 }
 
 /// Makes a text that of a mean, and of its effective pip count.
@@ -197,44 +168,6 @@ pub fn put_board_moves(text: &mut BoardText, choices: &[BoardChoice])
     }
 }
 
-/// Adds the moves of a play, each after a space.
-fn push_play(text: &mut BoardText, play: &Play)
-    requires { array_string_len text.old + 24 ≤ 16896 }
-    ensures bytes { text.new.bytes
-        ≡ text.old.bytes ++ flat_map (λ m. codes " " ++ move_text m) (moves_of play.now.items) }
-    ensures len { array_string_len text.new ≤ array_string_len text.old + 24 }
-{
-    if play.is_empty() {
-        return;
-    }
-    text.push_str(" ");
-    text.push_str(write_play(play).as_str());
-}
-
-/// Makes a text that of a play and the position that it leads to.
-pub fn put_board_play(text: &mut BoardText, play: &Play, to: &Position)
-    ensures text { text.new.bytes ≡ codes "play"
-        ++ flat_map (λ m. codes " " ++ move_text m)
-        (moves_of play.now.items) ++ codes " to " ++ position_text to.now }
-    ensures len { array_string_len text.new ≤ 4200 }
-{
-    text.clear();
-    text.push_str("play");
-    push_play(text, play);
-    text.push_str(" to ");
-    push_position(text, to);
-}
-
-/// Makes a text that of a rank.
-pub fn put_board_rank(text: &mut BoardText, rank: u16)
-    ensures text { text.new.bytes ≡ codes "rank " ++ decimal rank }
-    ensures len { array_string_len text.new ≤ 4200 }
-{
-    text.clear();
-    text.push_str("rank ");
-    push_number(text, Wide::of(u128::from(rank)));
-}
-
 /// Makes a text the line that an audit writes of a level.
 pub fn put_board_level(text: &mut BoardText, level: &BoardLevel)
     ensures text { (f : List ℕ) (p : ℕ) → HasBoardLevel f p level.now
@@ -250,19 +183,4 @@ pub fn put_board_level(text: &mut BoardText, level: &BoardLevel)
     push_rolls(text, level.least);
     text.push_str(" greatest ");
     push_rolls(text, level.greatest);
-}
-
-/// Makes a text that of a refusal.
-pub fn put_board_refusal(text: &mut BoardText, refusal: Refusal)
-    ensures text { text.new.bytes ≡ refusal_text (why refusal) }
-    ensures len { array_string_len text.new ≤ 4200 }
-{
-    text.clear();
-    text.push_str(match refusal {
-        Refusal::BadLine => "error bad-line",
-        Refusal::TooMany => "error too-many",
-        Refusal::OverBound => "error over-bound",
-        Refusal::Finished => "error finished",
-        Refusal::NotLegal => "error not-legal",
-    });
 }

@@ -36,6 +36,7 @@ pub use reply::{Choice, Level, Refusal, Reply};
 pub use run_fault::RunFault;
 pub use running::{run, run_lines};
 pub use text::{
-    Text, push_choice, put_dist, put_loss, put_mean, put_moves, put_play, put_rank, put_refusal,
+    Text, push_choice, push_last_digits, push_position, put_dist, put_loss, put_mean, put_moves,
+    put_play, put_rank, put_refusal,
 };
 pub use writing::{write_level, write_line, write_reply};

@@ -37,10 +37,10 @@ fn push_number(text: &mut Text, number: u128)
 
 /// Adds the last digits of a number, given as their value, with the zeros in front: as many as a
 /// power of ten has zeros, 18 at most.
-fn push_last_digits(text: &mut Text, power: u64, rest: u64)
+pub fn push_last_digits<const ROOM: usize>(text: &mut ArrayString<ROOM>, power: u64, rest: u64)
     requires short { power ≤ 10 ^ 18 }
     requires few { rest < power }
-    requires room { array_string_len text.old + 18 ≤ 12288 }
+    requires room { array_string_len text.old + 18 ≤ ROOM }
     ensures bytes { text.new.bytes ≡ text.old.bytes ++ drop 1 (decimal (power + rest)) }
     ensures len { array_string_len text.new ≤ array_string_len text.old + 18 }
 {
@@ -72,9 +72,9 @@ fn push_thousandths(text: &mut Text, number: u128)
     push_last_digits(text, 1000, (number % 1000) as u64);
 }
 
-/// Adds the text of a position.
-fn push_position(text: &mut Text, position: &Position)
-    requires { array_string_len text.old + 12 ≤ 12288 }
+/// Adds the text of a position, at most 12 bytes.
+pub fn push_position<const ROOM: usize>(text: &mut ArrayString<ROOM>, position: &Position)
+    requires { array_string_len text.old + 12 ≤ ROOM }
     ensures bytes { text.new.bytes ≡ text.old.bytes ++ position_text position.now }
     ensures len { array_string_len text.new ≤ array_string_len text.old + 12 }
 {
@@ -99,8 +99,8 @@ fn push_share(text: &mut Text, spread: &Spread, k: u8)
 }
 
 /// Adds the moves of a play, each after a space.
-fn push_play(text: &mut Text, play: &Play)
-    requires { array_string_len text.old + 24 ≤ 12288 }
+fn push_play<const ROOM: usize>(text: &mut ArrayString<ROOM>, play: &Play)
+    requires { array_string_len text.old + 24 ≤ ROOM }
     ensures bytes { text.new.bytes
         ≡ text.old.bytes ++ flat_map (λ m. codes " " ++ move_text m) (moves_of play.now.items) }
     ensures len { array_string_len text.new ≤ array_string_len text.old + 24 }
@@ -160,12 +160,13 @@ pub fn put_dist(text: &mut Text, spread: &Spread)
     }
 }
 
-/// Makes a text that of a play and the position that it leads to.
-pub fn put_play(text: &mut Text, play: &Play, to: &Position)
+/// Makes a text that of a play and the position that it leads to, at most 44 bytes.
+pub fn put_play<const ROOM: usize>(text: &mut ArrayString<ROOM>, play: &Play, to: &Position)
+    requires { 44 ≤ ROOM }
     ensures text { text.new.bytes ≡ codes "play"
         ++ flat_map (λ m. codes " " ++ move_text m)
         (moves_of play.now.items) ++ codes " to " ++ position_text to.now }
-    ensures len { array_string_len text.new ≤ 4000 }
+    ensures len { array_string_len text.new ≤ 44 }
 {
     text.clear();
     text.push_str("play");
@@ -184,20 +185,22 @@ pub fn put_loss(text: &mut Text, loss: Fraction)
     push_fraction(text, loss);
 }
 
-/// Makes a text that of a rank.
-pub fn put_rank(text: &mut Text, rank: u16)
+/// Makes a text that of a rank, at most 10 bytes.
+pub fn put_rank<const ROOM: usize>(text: &mut ArrayString<ROOM>, rank: u16)
+    requires { 10 ≤ ROOM }
     ensures text { text.new.bytes ≡ codes "rank " ++ decimal rank }
-    ensures len { array_string_len text.new ≤ 4000 }
+    ensures len { array_string_len text.new ≤ 10 }
 {
     text.clear();
     text.push_str("rank ");
-    push_number(text, u128::from(rank));
+    text.push_str(Buffer::new().format(rank));
 }
 
-/// Makes a text that of a refusal.
-pub fn put_refusal(text: &mut Text, refusal: Refusal)
+/// Makes a text that of a refusal, at most 16 bytes.
+pub fn put_refusal<const ROOM: usize>(text: &mut ArrayString<ROOM>, refusal: Refusal)
+    requires { 16 ≤ ROOM }
     ensures text { text.new.bytes ≡ refusal_text (why refusal) }
-    ensures len { array_string_len text.new ≤ 4000 }
+    ensures len { array_string_len text.new ≤ 16 }
 {
     text.clear();
     text.push_str(match refusal {

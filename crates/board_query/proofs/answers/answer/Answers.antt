@@ -23,16 +23,16 @@ returns-in-Some-clause-reply c =
     refused_in (why c.in-Some.refusal)
     (subst (λ n. IsRefused n line (why c.in-Some.refusal)) c.bound.ensures.bound
     ((c.in-Some.ensures {u = tt}) line reading.0 reading.1))
-    (ap (λ t. t ++ 10 ∷ []) c.put_board_refusal.ensures.text)
+    (ap (λ t. t ++ 10 ∷ []) c.put_refusal.ensures.text)
 
 pub returns-in-Err-BadLine-clause-reply : goal.returns-in-Err-BadLine-clause-reply
 returns-in-Err-BadLine-clause-reply c =
     let reading = rw c.in-Err-BadLine.field-0-is at (c.in-Err-BadLine.ensures {u = tt}) in
     refused_in bad_line (no_query reading)
-    (ap (λ t. t ++ 10 ∷ []) c.put_board_refusal-in-Err-BadLine.ensures.text)
+    (ap (λ t. t ++ 10 ∷ []) c.put_refusal-in-Err-BadLine.ensures.text)
 
 pub returns-in-Err-TooMany-clause-reply : goal.returns-in-Err-TooMany-clause-reply
 returns-in-Err-TooMany-clause-reply c =
     let reading = rw c.in-Err-TooMany.field-0-is at (c.in-Err-TooMany.ensures {u = tt}) in
     refused_in too_many (of_too_many reading.0 reading.1 reading.2)
-    (ap (λ t. t ++ 10 ∷ []) c.put_board_refusal-in-Err-TooMany.ensures.text)
+    (ap (λ t. t ++ 10 ∷ []) c.put_refusal-in-Err-TooMany.ensures.text)

@@ -10,12 +10,12 @@ returns-clause-answer c =
     let told = c.in_ok-play.ensures {u = tt} in
     let to = c.in_ok-play.to in
     subst
-    (λ y. IsPlayReply c.args.position.now c.args.roll y c.put_board_play.new.text.bytes)
+    (λ y. IsPlayReply c.args.position.now c.args.roll y c.put_play.new.text.bytes)
     told.recorded
     (record {
       moves = moves_of c.in_ok-play.play.items;
       first = told.first;
       position = position_text to;
       position_is = position_text_states to c.checkers-checkers.ensures.position;
-      written = c.put_board_play.ensures.text;
+      written = c.put_play.ensures.text;
     })

@@ -1,4 +1,4 @@
-use Rattle.std.proofs.Common.{◌≡◌, ◌<◌, ◌≤◌, ◌-◌, refl, ap, ◌∙◌, subst, arith}
+use Rattle.std.proofs.Common.{◌≡◌, ◌<◌, ◌≤◌, ◌-◌, refl, arith}
 use Rattle.std.proofs.Math.Path.{ap₂}
 use Rattle.race_model.specs.Ranks.{first_of, count_to}
 use Rattle.race_model.specs.Files.{bound_of}

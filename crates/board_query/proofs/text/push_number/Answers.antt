@@ -15,12 +15,12 @@ front c =
       length-decimal-le_wide 22 first (omega arith) (omega arith) (omega arith),
     )
 
-pub push_last_digits-requires-then-first-gt0-clause-room :
-    goal.push_last_digits-requires-then-first-gt0-clause-room
-push_last_digits-requires-then-first-gt0-clause-room c =
+pub push_last_digits-requires-then-first-gt0 :
+    goal.push_last_digits-requires-then-first-gt0
+push_last_digits-requires-then-first-gt0 c =
     omega (
       arith,
-      front (goal.at.push_last_digits-requires-then-first-gt0-clause-room c).After-push_str,
+      front (goal.at.push_last_digits-requires-then-first-gt0 c).After-push_str,
       c.push_str.ensures.len,
       c.push_last_digits.ensures.len,
     )

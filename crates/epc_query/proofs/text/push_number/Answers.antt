@@ -15,11 +15,11 @@ front c =
       length-decimal-le_wide 22 high (omega arith) (omega arith) (omega arith),
     )
 
-pub push_last_digits-requires-clause-room : goal.push_last_digits-requires-clause-room
-push_last_digits-requires-clause-room c =
+pub push_last_digits-requires : goal.push_last_digits-requires
+push_last_digits-requires c =
     omega (
       arith,
-      front (goal.at.push_last_digits-requires-clause-room c).After-push_str-2,
+      front (goal.at.push_last_digits-requires c).After-push_str-2,
       c.push_str-2.ensures.len,
     )
 

@@ -7,7 +7,7 @@ use Rattle.epc_query.proofs.Texts.{spaces_before}
 use Rattle.epc_query.proofs.text.push_play.Goals as goal
 
 pub returns-clause-bytes : goal.returns-clause-bytes
-returns-clause-bytes c =
+returns-clause-bytes g c =
     let moves = moves_of c.args.play.now.items in
     let none = eqb-false _ _ (sym c.if-is_empty.ensures) in
     let some : 0 < length moves = omega (arith, length-map c.args.play.now.items move_of) in

@@ -3,7 +3,7 @@ use Rattle.epc_query.proofs.Texts.{position_text_is}
 use Rattle.epc_query.proofs.text.push_position.Goals as goal
 
 pub returns-clause-bytes : goal.returns-clause-bytes
-returns-clause-bytes c =
+returns-clause-bytes g c =
     c.push_str.ensures.bytes
     ∙ ap (λ t. c.args.text.now.bytes ++ t)
     (c.as_str.ensures.value
