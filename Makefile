@@ -20,8 +20,12 @@ TESTED := $(OUT)/tested/ready
 
 WORK_PAGE := $(OUT)/work.html
 
+# the scripts in Python; the mutants of the page are rows of one line each
+SCRIPTS := git ls-files '*.py' && \
+	git grep -lE '^\#!.*python3' -- packaging tests tools ':!*.py' ':!tests/page/mutants'
+
 .PHONY: help needs prove library page work-page js tested install uninstall release reference
-.PHONY: test test-python test-node
+.PHONY: format test test-python test-node
 .DELETE_ON_ERROR:
 
 help:
@@ -32,6 +36,7 @@ help:
 	@echo 'make work-page          $(WORK_PAGE), the same with source maps, for work on it'
 	@echo 'make js                 $(PACKAGE)'
 	@echo 'make reference          docs/ref, of the comments and contracts of the sources'
+	@echo 'make format             lays out the Python and the C of tests, by black and clang-format'
 	@echo 'make install            into PREFIX ($(PREFIX)), below DESTDIR where that is set'
 	@echo 'make uninstall          takes that away'
 	@echo 'make release DIR=DIR    the files of a release, in a new folder'
@@ -68,6 +73,10 @@ $(PACKAGE): $(MODULES) $(wildcard js/*.js js/*.d.ts js/*.json) js/README.md VERS
 
 reference:
 	tools/reference
+
+format:
+	black --quiet --line-length 99 $$($(SCRIPTS))
+	clang-format -i $$(git ls-files '*.c' '*.cpp')
 
 install:
 	DESTDIR='$(DESTDIR)' packaging/install '$(PREFIX)'

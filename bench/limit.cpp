@@ -1,12 +1,17 @@
-// What plain code can do: a program that builds a database, checks one and answers `mean` lines, written to be as fast
-// as can be without vector instructions, and proved in nothing. `bench/run limit` counts its instructions beside those
-// of bearoff, and compares what the two write.
+// What plain code can do: a program that builds a database, checks one and answers `mean` lines,
+// written to be as fast as can be without vector instructions, and proved in nothing. `bench/run
+// limit` counts its instructions beside those of bearoff, and compares what the two write.
+//
 // usage: limit build PIPS FILE        a file of version 1, of at most 44 pips
-//        limit check FILE             such a file: says `ok`, or the first rank whose record has a fault
-//        limit answer FILE <lines     without a check; each line is a `mean` line of a position within the bound
-// What it does otherwise than bearoff: it keeps the distributions of all records decoded, in halves of 57 bits, so that
-// sums are additions of 64 bits; it compares means by their first 48 bits, having tested that these tell all means apart;
-// a step is a chain of moves by one pip, each looked up; and it trusts its memory, its sizes and its lines.
+//        limit check FILE             such a file: says `ok`, or the first rank whose record has a
+//                                     fault
+//        limit answer FILE <lines     without a check; each line is a `mean` line of a position
+//                                     within the bound
+//
+// What it does otherwise than bearoff: it keeps the distributions of all records decoded, in
+// halves of 57 bits, so that sums are additions of 64 bits; it compares means by their first 48
+// bits, having tested that these tell all means apart; a step is a chain of moves by one pip, each
+// looked up; and it trusts its memory, its sizes and its lines.
 #include <algorithm>
 #include <cstdint>
 #include <cstdio>
@@ -19,7 +24,8 @@
 typedef unsigned __int128 wide;
 typedef std::uint64_t half;
 
-static const int ROLLS = 21, SHARES = 23, RECORD = 426, HEADER = 32, MOST_PIPS = 44, POSITIONS = 26314;
+static const int ROLLS = 21, SHARES = 23, RECORD = 426, HEADER = 32, MOST_PIPS = 44,
+                 POSITIONS = 26314;
 static const half LOW = (half(1) << 57) - 1;
 static const wide WHOLE = ((wide)0x0003562710dff031ull << 64) | 0x8727100000000000ull;
 static const wide NINTH = ((wide)0x38e38e38e38e38e3ull << 64) | 0x8e38e38e38e38e39ull;
@@ -33,8 +39,10 @@ static const wide NINTH = ((wide)0x38e38e38e38e38e3ull << 64) | 0x8e38e38e38e38e
 struct release {
     void operator()(void *room) const { std::free(room); }
 };
-template <class number> using room = std::unique_ptr<number[], release>;
-template <class number> static room<number> zeros(std::size_t count) {
+template <class number>
+using room = std::unique_ptr<number[], release>;
+template <class number>
+static room<number> zeros(std::size_t count) {
     void *given = std::calloc(count, sizeof(number));
     if (!given) fail("memory");
     return room<number>((number *)given);
@@ -46,7 +54,9 @@ static half read_half(const unsigned char *from) {
     return __builtin_bswap64(value);
 }
 
-static wide read_wide(const unsigned char *from) { return ((wide)read_half(from) << 64) | read_half(from + 8); }
+static wide read_wide(const unsigned char *from) {
+    return ((wide)read_half(from) << 64) | read_half(from + 8);
+}
 
 static void write_half(unsigned char *to, half value) {
     value = __builtin_bswap64(value);
@@ -61,14 +71,15 @@ static void write_wide(unsigned char *to, wide value) {
 // a 36th of a multiple of 36, by the inverse of 9 to 128 bits
 static wide thirty_sixth(wide value) { return (value >> 2) * NINTH; }
 
-static int roll_of(int high, int low) { return high * (high + 1) / 2 + low; } // dice from 0
+static int roll_of(int high, int low) { return high * (high + 1) / 2 + low; }  // dice from 0
 
 // what is known of the positions, in the order of their ranks
 struct positions {
-    room<std::uint16_t> by_counts; // the rank of six counts, four bits each
+    room<std::uint16_t> by_counts;  // the rank of six counts, four bits each
     std::vector<std::uint32_t> counts;
     std::vector<std::uint8_t> checkers;
-    std::vector<std::uint16_t> one_pip; // six for each: where a checker goes from a point by one pip
+    std::vector<std::uint16_t>
+        one_pip;  // six for each: where a checker goes from a point by one pip
     int count = 0, first_of[MOST_PIPS + 2] = {};
 
     void add(int point, int pips, std::uint32_t key, int left) {
@@ -83,7 +94,8 @@ struct positions {
         }
         if (pips > 6 * left) return;
         for (int here = 0; here <= left && here * (point + 1) <= pips; here++)
-            add(point + 1, pips - here * (point + 1), key | (std::uint32_t)here << (4 * point), left - here);
+            add(point + 1, pips - here * (point + 1), key | (std::uint32_t)here << (4 * point),
+                left - here);
     }
 
     explicit positions(int bound) : by_counts(zeros<std::uint16_t>(1 << 24)) {
@@ -103,13 +115,16 @@ struct positions {
     }
 };
 
-// the best plays by the recorded means: after one to four steps of a die, as the first bits of a mean with a rank
+// the best plays by the recorded means: after one to four steps of a die, as the first bits of a
+// mean with a rank
 struct best_plays {
     const positions &all;
-    room<half> keys, after; // 24 for each position: die * 4 + steps - 1
+    room<half> keys, after;  // 24 for each position: die * 4 + steps - 1
 
     best_plays(const positions &positions)
-        : all(positions), keys(zeros<half>(all.count)), after(zeros<half>(24 * (size_t)all.count)) {}
+        : all(positions),
+          keys(zeros<half>(all.count)),
+          after(zeros<half>(24 * (size_t)all.count)) {}
 
     void accept(int rank, wide mean) { keys[rank] = (half)(mean >> 71) << 16 | (half)rank; }
 
@@ -126,7 +141,8 @@ struct best_plays {
             if ((all.counts[rank] >> (4 * point) & 15) == 0) continue;
             sources[many++] = highest = point;
             std::uint16_t at = (std::uint16_t)rank;
-            for (int down = point; down >= 0; down--) chains[point][point - down] = at = all.one_pip[6 * at + down];
+            for (int down = point; down >= 0; down--)
+                chains[point][point - down] = at = all.one_pip[6 * at + down];
         }
         half *own = &after[24 * (size_t)rank];
         for (int die = 0; die < 6; die++) {
@@ -143,8 +159,10 @@ struct best_plays {
                     break;
                 }
                 least[0] = std::min(least[0], keys[to]);
-                for (int step = 1; step < 4; step++) least[step] = std::min(least[step], there[4 * die + step - 1]);
-                for (int second = 0; second < 6; second++) other[second] = std::min(other[second], there[4 * second]);
+                for (int step = 1; step < 4; step++)
+                    least[step] = std::min(least[step], there[4 * die + step - 1]);
+                for (int second = 0; second < 6; second++)
+                    other[second] = std::min(other[second], there[4 * second]);
             }
             std::copy(least, least + 4, own + 4 * die);
             for (int second = 0; second < die; second++) {
@@ -165,7 +183,8 @@ struct best_plays {
         for (int rank = 0; rank < all.count; rank++) order[rank] = rank;
         std::sort(order.begin(), order.end(), [&](int a, int b) { return keys[a] < keys[b]; });
         for (int i = 1; i < all.count; i++)
-            if (keys[order[i]] >> 16 == keys[order[i - 1]] >> 16 && means[order[i]] != means[order[i - 1]])
+            if (keys[order[i]] >> 16 == keys[order[i - 1]] >> 16 &&
+                means[order[i]] != means[order[i - 1]])
                 fail("two means have the same first bits");
     }
 };
@@ -173,10 +192,13 @@ struct best_plays {
 // the distributions of all records, decoded
 struct distributions {
     room<half> low, high;
-    std::vector<std::uint8_t> first, last; // the least and the greatest number of rolls with a share
+    std::vector<std::uint8_t> first,
+        last;  // the least and the greatest number of rolls with a share
 
     explicit distributions(int count)
-        : low(zeros<half>(SHARES * (size_t)count)), high(zeros<half>(SHARES * (size_t)count)), first(count),
+        : low(zeros<half>(SHARES * (size_t)count)),
+          high(zeros<half>(SHARES * (size_t)count)),
+          first(count),
           last(count) {}
 
     void accept(int rank, int rolls, wide share) {
@@ -185,7 +207,8 @@ struct distributions {
     }
 };
 
-// sums of what is recorded for the rolls: those of doubles, and those of the other rolls, which count twice
+// sums of what is recorded for the rolls: those of doubles, and those of the other rolls, which
+// count twice
 struct sums {
     half low[2][SHARES + 1] = {}, high[2][SHARES + 1] = {};
     wide mean[2] = {};
@@ -193,7 +216,8 @@ struct sums {
 
     void add(const distributions &of, const std::vector<wide> &means, int rank, int weight) {
         mean[weight - 1] += means[rank];
-        const half *here = &of.low[SHARES * (size_t)rank], *there = &of.high[SHARES * (size_t)rank];
+        const half *here = &of.low[SHARES * (size_t)rank],
+                   *there = &of.high[SHARES * (size_t)rank];
         int from = of.first[rank], to = of.last[rank];
         half *lows = low[weight - 1], *highs = high[weight - 1];
         for (int rolls = from; rolls <= to; rolls++) {
@@ -205,13 +229,14 @@ struct sums {
     }
 
     wide share(int rolls) const {
-        return ((wide)(high[0][rolls] + 2 * high[1][rolls]) << 57) + low[0][rolls] + ((wide)low[1][rolls] << 1);
+        return ((wide)(high[0][rolls] + 2 * high[1][rolls]) << 57) + low[0][rolls] +
+               ((wide)low[1][rolls] << 1);
     }
 
     wide total() const { return mean[0] + 2 * mean[1]; }
 };
 
-static int weight_of(int roll) { // 2, but 1 for a double
+static int weight_of(int roll) {  // 2, but 1 for a double
     return roll == 0 || roll == 2 || roll == 5 || roll == 9 || roll == 14 || roll == 20 ? 1 : 2;
 }
 
@@ -219,7 +244,8 @@ struct file_bytes {
     room<unsigned char> bytes;
     std::size_t count;
 
-    explicit file_bytes(const char *path) : bytes(zeros<unsigned char>(HEADER + RECORD * (size_t)POSITIONS + 1)) {
+    explicit file_bytes(const char *path)
+        : bytes(zeros<unsigned char>(HEADER + RECORD * (size_t)POSITIONS + 1)) {
         std::FILE *file = std::fopen(path, "rb");
         if (!file) fail("open");
         count = std::fread(bytes.get(), 1, HEADER + RECORD * (size_t)POSITIONS + 1, file);
@@ -276,7 +302,8 @@ static void build(int bound, const char *path) {
     }
     plays.test(means);
     std::FILE *file = std::fopen(path, "wb");
-    if (!file || std::fwrite(bytes.get(), 1, length, file) != length || std::fclose(file) != 0) fail("write");
+    if (!file || std::fwrite(bytes.get(), 1, length, file) != length || std::fclose(file) != 0)
+        fail("write");
 }
 
 // whether some order of the dice leads from a position to another, by steps that are looked up
@@ -285,21 +312,26 @@ static bool leads(const positions &all, int from, int to, const int *dice, int l
     int highest = 5;
     while ((all.counts[from] >> (4 * highest) & 15) == 0) highest--;
     for (int point = 0; point <= highest; point++) {
-        if ((all.counts[from] >> (4 * point) & 15) == 0 || (point < dice[0] && point != highest)) continue;
+        if ((all.counts[from] >> (4 * point) & 15) == 0 || (point < dice[0] && point != highest))
+            continue;
         int at = from;
-        for (int down = point; down >= std::max(0, point - dice[0]); down--) at = all.one_pip[6 * at + down];
+        for (int down = point; down >= std::max(0, point - dice[0]); down--)
+            at = all.one_pip[6 * at + down];
         if (leads(all, at, to, dice + 1, left - 1)) return true;
     }
     return false;
 }
 
 // another recorded play than the best of the lowest rank: a result with the same mean
-static bool is_as_good(const positions &all, const std::vector<wide> &means, int rank, int roll, int best, int to) {
+static bool is_as_good(const positions &all, const std::vector<wide> &means, int rank, int roll,
+                       int best, int to) {
     int high = 0;
     while (roll_of(high + 1, 0) <= roll) high++;
-    int low = roll - roll_of(high, 0), once[2] = {high, low}, back[2] = {low, high}, four[4] = {low, low, low, low};
+    int low = roll - roll_of(high, 0), once[2] = {high, low}, back[2] = {low, high},
+        four[4] = {low, low, low, low};
     if (to >= rank || means[to] != means[best]) return false;
-    return high == low ? leads(all, rank, to, four, 4) : leads(all, rank, to, once, 2) || leads(all, rank, to, back, 2);
+    return high == low ? leads(all, rank, to, four, 4)
+                       : leads(all, rank, to, once, 2) || leads(all, rank, to, back, 2);
 }
 
 static int check(const char *path) {
@@ -310,7 +342,8 @@ static int check(const char *path) {
     positions all(bound);
     unsigned char header[HEADER];
     put_header(header, bound, all.count);
-    if (std::memcmp(header, bytes, HEADER) != 0 || file.count != HEADER + RECORD * (size_t)all.count)
+    if (std::memcmp(header, bytes, HEADER) != 0 ||
+        file.count != HEADER + RECORD * (size_t)all.count)
         fail("header");
     best_plays plays(all);
     distributions spread(all.count);
@@ -321,17 +354,21 @@ static int check(const char *path) {
         plays.find(rank, best);
         sums of;
         for (int roll = 0; roll < ROLLS; roll++) {
-            int to = record[16 + 2 * roll] << 8 | record[17 + 2 * roll], least = (int)(best[roll] & 65535);
+            int to = record[16 + 2 * roll] << 8 | record[17 + 2 * roll],
+                least = (int)(best[roll] & 65535);
             if (to != least && !is_as_good(all, means, rank, roll, least, to)) return rank;
             if (rank > 0) of.add(spread, means, to, weight_of(roll));
         }
         wide mean = read_wide(record);
-        if (mean > 22 * WHOLE || (rank == 0 ? mean != 0 : 36 * mean != 36 * WHOLE + of.total())) return rank;
+        if (mean > 22 * WHOLE || (rank == 0 ? mean != 0 : 36 * mean != 36 * WHOLE + of.total()))
+            return rank;
         int first = SHARES, last = -1;
         for (int rolls = 0; rolls < SHARES; rolls++) {
             const unsigned char *at = record + 58 + 16 * rolls;
             wide share = read_wide(at), sum = rolls == 0 ? 0 : of.share(rolls - 1);
-            if (share > WHOLE || (rank == 0 ? share != (rolls == 0 ? WHOLE : 0) : 36 * share != sum)) return rank;
+            if (share > WHOLE ||
+                (rank == 0 ? share != (rolls == 0 ? WHOLE : 0) : 36 * share != sum))
+                return rank;
             if (share == 0) continue;
             spread.accept(rank, rolls, share);
             first = std::min(first, rolls);
@@ -346,7 +383,7 @@ static int check(const char *path) {
     return -1;
 }
 
-static char pairs[200]; // 00 to 99
+static char pairs[200];  // 00 to 99
 
 // numbers in decimal, at the end of a text
 struct text {
@@ -385,13 +422,15 @@ struct text {
 };
 
 // a numerator over 2^twos 3^threes in lowest terms
-static void put_fraction(text &to, wide numerator, int twos, int threes, const std::vector<std::string> &denominators) {
+static void put_fraction(text &to, wide numerator, int twos, int threes,
+                         const std::vector<std::string> &denominators) {
     while (twos > 0 && ((half)numerator & 1) == 0) {
         int some = std::min(twos, __builtin_ctzll((half)numerator | half(1) << 63));
         numerator >>= some;
         twos -= some;
     }
-    static const wide third = ((wide)0xaaaaaaaaaaaaaaaaull << 64) | 0xaaaaaaaaaaaaaaabull, most = ~(wide)0 / 3;
+    static const wide third = ((wide)0xaaaaaaaaaaaaaaaaull << 64) | 0xaaaaaaaaaaaaaaabull,
+                      most = ~(wide)0 / 3;
     while (threes > 0 && numerator * third <= most) {
         numerator *= third;
         threes--;
@@ -436,7 +475,8 @@ static void answer(const char *path) {
         wide mean = read_wide(&bytes[HEADER + RECORD * (size_t)all.by_counts[key]]);
         wide under = 6 * WHOLE, over = 49 * mean;
         half pips = (half)(over / under);
-        half thousandths = pips * 1000 + (half)(((over - pips * under) * 1000 + under / 2) / under);
+        half thousandths =
+            pips * 1000 + (half)(((over - pips * under) * 1000 + under / 2) / under);
         to.put("mean ", 5);
         put_fraction(to, mean, 44, 44, denominators);
         to.put(" epc ", 5);
@@ -451,7 +491,8 @@ static void answer(const char *path) {
             to.end = out.data();
         }
     }
-    if (to.end > out.data() && std::fwrite(out.data(), 1, to.end - out.data(), stdout) == 0) fail("write");
+    if (to.end > out.data() && std::fwrite(out.data(), 1, to.end - out.data(), stdout) == 0)
+        fail("write");
 }
 
 int main(int count, char **words) {

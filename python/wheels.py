@@ -1,6 +1,7 @@
-"""Makes wheels of the package: for pip, whose build backend this is, and, with the library and the program in it, for
-packaging/wheel.py. It needs Python alone, so neither a network nor another package, and writes into no folder but the one
-that it is given. Where SOURCE_DATE_EPOCH is set the times are that, so the same files give the same bytes."""
+"""Makes wheels of the package: for pip, whose build backend this is, and, with the library and the
+program in it, for packaging/wheel.py. It needs Python alone, so neither a network nor another
+package, and writes into no folder but the one that it is given. Where SOURCE_DATE_EPOCH is set the
+times are that, so the same files give the same bytes."""
 import base64
 import hashlib
 import os
@@ -20,7 +21,9 @@ def field(name):
 
 def sources():
     """The package's own files, by their places in the wheel."""
-    files = [file for file in sorted((FOLDER / "bearoff").iterdir()) if file.suffix in (".py", ".typed")]
+    files = [
+        file for file in sorted((FOLDER / "bearoff").iterdir()) if file.suffix in (".py", ".typed")
+    ]
     return {f"bearoff/{file.name}": (file.read_bytes(), 0o644) for file in files}
 
 
@@ -42,7 +45,11 @@ Description-Content-Type: text/x-rst
     tags = "".join(f"Tag: {python}-{abi}-{platform}\n" for platform in platforms.split("."))
     is_pure = str(platforms == "any").lower()
     wheel = f"Wheel-Version: 1.0\nGenerator: bearoff\nRoot-Is-Purelib: {is_pure}\n{tags}"
-    parts = {**parts, f"{info}/METADATA": (metadata.encode(), 0o644), f"{info}/WHEEL": (wheel.encode(), 0o644)}
+    parts = {
+        **parts,
+        f"{info}/METADATA": (metadata.encode(), 0o644),
+        f"{info}/WHEEL": (wheel.encode(), 0o644),
+    }
     record = ""
     for path, (content, _) in parts.items():
         digest = base64.urlsafe_b64encode(hashlib.sha256(content).digest()).rstrip(b"=").decode()
@@ -60,7 +67,8 @@ Description-Content-Type: text/x-rst
 
 
 def build_wheel(to, _settings=None, _metadata=None):
-    """What pip asks for: the package, which looks for the library where the system keeps its own."""
+    """What pip asks for: the package, which looks for the library where the system keeps its
+    own."""
     return write_wheel(to, "py3-none-any", sources())
 
 

@@ -48,6 +48,8 @@ NEEDS = (
     Need("xdist", ["python3-pytest-xdist"], has_module("xdist")),
     Need("git", ["git"], has("git")),
     Need("make", ["make"], has("make")),
+    Need("black", ["black"], has("black"), True),
+    Need("clang-format", ["clang-format"], has("clang-format"), True),
     # the library, its callers and releases
     Need("cc", ["gcc", "libc6-dev"], has_static_library),
     Need("c++", ["g++"], has("c++")),

@@ -1,20 +1,39 @@
-/* A tool for tests, preloaded before the C library: it counts the calls of one kind that a program makes, and
- * refuses one of them, or all from one on. REFUSED_CALL names the kind and the number, as `growth:3` or `growth:3+`;
- * the number 0 refuses none. At the end of the program the number of calls is written into the file REFUSED_COUNT.
- * The kinds: growth (of memory), open (no file can be opened any more) and closed-open (that file or folder may not be),
- * seek, link (what a link says), tell (about a file), mode (of a file), sync (of a file or a folder) and unable-sync
- * (the file system can't), rename; input, output and errors (reads and writes of the standard streams), load and store
- * (those of other files); idle-store and idle-output, which take nothing where they are refused; slow-input,
- * slow-output, slow-load and slow-store, which move one byte; and interrupted-open, interrupted-mode, interrupted-sync,
- * interrupted-input, interrupted-output, interrupted-load and interrupted-store, which a signal interrupts before
- * anything is done. */
-/* No header is included, so that the kit's own clang compiles it: the declarations and numbers are those of Linux on
- * x86-64. */
+/* A tool for tests, preloaded before the C library: it counts the calls of one kind that a program
+ * makes, and refuses one of them, or all from one on. REFUSED_CALL names the kind and the number,
+ * as `growth:3` or `growth:3+`; the number 0 refuses none. At the end of the program the number of
+ * calls is written into the file REFUSED_COUNT. The kinds: growth (of memory), open (no file can
+ * be opened any more) and closed-open (that file or folder may not be), seek, link (what a link
+ * says), tell (about a file), mode (of a file), sync (of a file or a folder) and unable-sync (the
+ * file system can't), rename; input, output and errors (reads and writes of the standard streams),
+ * load and store (those of other files); idle-store and idle-output, which take nothing where they
+ * are refused; slow-input, slow-output, slow-load and slow-store, which move one byte; and
+ * interrupted-open, interrupted-mode, interrupted-sync, interrupted-input, interrupted-output,
+ * interrupted-load and interrupted-store, which a signal interrupts before anything is done. */
+/* No header is included, so that the kit's own clang compiles it: the declarations and numbers are
+ * those of Linux on x86-64. */
 typedef __SIZE_TYPE__ size_t;
 typedef long ssize_t, off_t;
-enum { READ = 0, WRITE = 1, OPEN = 2, CLOSE = 3, LSEEK = 8, FSYNC = 74, RENAME = 82, READLINK = 89, FCHMOD = 91, STATX = 332 };
+enum {
+    READ = 0,
+    WRITE = 1,
+    OPEN = 2,
+    CLOSE = 3,
+    LSEEK = 8,
+    FSYNC = 74,
+    RENAME = 82,
+    READLINK = 89,
+    FCHMOD = 91,
+    STATX = 332
+};
 enum { MAKE_ANEW = 01 | 0100 | 01000 };
-enum { INTERRUPTED = 4, NO_INPUT_OUTPUT = 5, NO_MEMORY = 12, NO_LEAVE = 13, NO_SENSE = 22, NO_NUMBER = 24 };
+enum {
+    INTERRUPTED = 4,
+    NO_INPUT_OUTPUT = 5,
+    NO_MEMORY = 12,
+    NO_LEAVE = 13,
+    NO_SENSE = 22,
+    NO_NUMBER = 24
+};
 
 extern long syscall(long number, ...);
 extern int *__errno_location(void);
@@ -40,7 +59,8 @@ __attribute__((destructor)) static void finish(void) {
     const char *path = getenv("REFUSED_COUNT");
     char digits[24];
     int length = 0;
-    for (long left = calls; left > 0 || length == 0; left /= 10) digits[sizeof digits - ++length] = '0' + left % 10;
+    for (long left = calls; left > 0 || length == 0; left /= 10)
+        digits[sizeof digits - ++length] = '0' + left % 10;
     if (!path) return;
     int file = syscall(OPEN, path, MAKE_ANEW, 0600);
     if (file < 0) return;

@@ -73,8 +73,8 @@ def steps(stand, die):
 
 
 def plain_records():
-    """The mean, the plays and the counts of each rank, by a plain program: of all results of a roll
-    the one of least mean and, of equal means, of the lowest rank."""
+    """The mean, the plays and the counts of each rank, by a plain program: of all results of a
+    roll the one of least mean and, of equal means, of the lowest rank."""
     ranks = {stand: rank for rank, stand in enumerate(stands())}
     moved, means, counted = [], [], []
     rolls = [(high, low) for high in range(1, 7) for low in range(1, high + 1)]
@@ -356,9 +356,9 @@ def test_each_kind_refuses_the_other(program, board, built):
         expect(done, status=3, errors="bearoff: refused header bad-version\n")
 
 
-# the first fault where bits of a byte in the record of rank 5 are turned round: a byte of the upper
-# and of the lower part of its mean, of the first and the last play, and of the counts of one and
-# two throws; and in that of rank 9 the play of 3-1, which then leads to another result
+# the first fault where bits of a byte in the record of rank 5 are turned round: a byte of the
+# upper and of the lower part of its mean, of the first and the last play, and of the counts of one
+# and two throws; and in that of rank 9 the play of 3-1, which then leads to another result
 DAMAGES = [
     (5, 0, 0x80, "mean rank 5"),
     (5, 15, 1, "mean rank 5"),

@@ -1,11 +1,11 @@
 """Kills the built program before each of its system calls, and fails each of them, one in a run,
 by strace: under a build over a good file, a build of a new one, both through a link too, an
 upgrade in place, and a build of the whole board. After each run the file is the whole old or the
-whole new one, or absent where there was none. After a kill there is at most one new file beside it; after a failed call
-there is none, and the status and the line are those of the fault. Tries also that the bytes are
-brought to the disk before the file gets its name, eight builds and checks of one file at once, a
-whole build within each system call of another run, a run that a limit ends, and the kinds of file
-that a database can be written into."""
+whole new one, or absent where there was none. After a kill there is at most one new file beside
+it; after a failed call there is none, and the status and the line are those of the fault. Tries
+also that the bytes are brought to the disk before the file gets its name, eight builds and checks
+of one file at once, a whole build within each system call of another run, a run that a limit ends,
+and the kinds of file that a database can be written into."""
 
 import collections
 import concurrent.futures

@@ -34,9 +34,11 @@ LISTED = sorted(name.replace("$lib", "lib") for name in [*LISTED, "share/bearoff
 
 def files_of(folder):
     """The files below a folder."""
-    found = [os.path.relpath(os.path.join(place, name), folder)
-             for place, folders, names in os.walk(folder)
-             for name in [*names, *(it for it in folders if os.path.islink(f"{place}/{it}"))]]
+    found = [
+        os.path.relpath(os.path.join(place, name), folder)
+        for place, folders, names in os.walk(folder)
+        for name in [*names, *(it for it in folders if os.path.islink(f"{place}/{it}"))]
+    ]
     return sorted(found)
 
 
@@ -83,8 +85,9 @@ class TestAPrefixWithASpace:
                 assert mode in (0o644, 0o755), name
 
     def test_over_a_program_that_runs(self, prefix):
-        with subprocess.Popen([prefix / "bin/bearoff"], stdin=subprocess.PIPE,
-                              stdout=subprocess.PIPE) as child:
+        with subprocess.Popen(
+            [prefix / "bin/bearoff"], stdin=subprocess.PIPE, stdout=subprocess.PIPE
+        ) as child:
             installed(prefix)
             output, _ = child.communicate(f"{QUESTION}\n".encode(), timeout=60)
         assert (child.returncode, output.decode()) == (0, ANSWER + "\n")
@@ -101,8 +104,13 @@ class TestAPrefixWithASpace:
 
 def test_destdir(room, listed):
     stage = room / "stage"
-    done = run("sh", "-c", 'umask 077 && "$0" /usr/local', INSTALL,
-               env={**os.environ, "DESTDIR": str(stage)})
+    done = run(
+        "sh",
+        "-c",
+        'umask 077 && "$0" /usr/local',
+        INSTALL,
+        env={**os.environ, "DESTDIR": str(stage)},
+    )
     expect_that(done.status == 0, done, "an installation")
     assert files_of(stage / "usr/local") == listed
     lines = (stage / "usr/local/lib/pkgconfig/bearoff.pc").read_text().splitlines()
@@ -170,8 +178,21 @@ class TestLists:
     """A list that leads elsewhere is not followed; one of an older version is gone through too,
     and one that is cut."""
 
-    @pytest.mark.parametrize("name", ["../outside", "@/outside", "bin/../../outside", "bin/..",
-                                      ".", "..", "/", "", "bin//bearoff", "./bin/bearoff"])
+    @pytest.mark.parametrize(
+        "name",
+        [
+            "../outside",
+            "@/outside",
+            "bin/../../outside",
+            "bin/..",
+            ".",
+            "..",
+            "/",
+            "",
+            "bin//bearoff",
+            "./bin/bearoff",
+        ],
+    )
     def test_elsewhere(self, room, listed, name):
         name = name.replace("@", str(room))
         (room / "outside").write_text("theirs\n")
@@ -202,9 +223,30 @@ class TestLists:
 class TestOddPrefixes:
     """The guide's line, behind eval, takes a prefix with an odd character, or it is refused."""
 
-    @pytest.mark.parametrize("name", [
-        "a b", " ab", "a\\b", "ab\\", "a*b", "a?b", "a[b]c", "a!b", "a%b", "a@b", "a^b", "a=b",
-        "a+b", "a~b", "~ab", "-ab", "aäb", "@LIB@", "@PREFIX@"])
+    @pytest.mark.parametrize(
+        "name",
+        [
+            "a b",
+            " ab",
+            "a\\b",
+            "ab\\",
+            "a*b",
+            "a?b",
+            "a[b]c",
+            "a!b",
+            "a%b",
+            "a@b",
+            "a^b",
+            "a=b",
+            "a+b",
+            "a~b",
+            "~ab",
+            "-ab",
+            "aäb",
+            "@LIB@",
+            "@PREFIX@",
+        ],
+    )
     def test_taken(self, room, built, name):
         need("pkg-config")
         page = (ROOT / "docs/embedding.md").read_text(encoding="utf-8")
@@ -217,9 +259,35 @@ class TestOddPrefixes:
         succeed("bash", "-c", f'eval "{line}"', env=environment)
         expect(run("./a.out"), 0, PRINTED)
 
-    @pytest.mark.parametrize("name", [
-        "ab ", "a\tb", "ab\t", "a\nb", "a\rb", "a\x01b", 'a"b', "a'b", "a$b", "a${b}", "a`b",
-        "a#b", "a #b", "a(b", "a)b", "a{b", "a}b", "a;b", "a&b", "a|b", "a<b", "a>b", "a,b", "a:b"])
+    @pytest.mark.parametrize(
+        "name",
+        [
+            "ab ",
+            "a\tb",
+            "ab\t",
+            "a\nb",
+            "a\rb",
+            "a\x01b",
+            'a"b',
+            "a'b",
+            "a$b",
+            "a${b}",
+            "a`b",
+            "a#b",
+            "a #b",
+            "a(b",
+            "a)b",
+            "a{b",
+            "a}b",
+            "a;b",
+            "a&b",
+            "a|b",
+            "a<b",
+            "a>b",
+            "a,b",
+            "a:b",
+        ],
+    )
     def test_refused(self, room, name):
         said = "pkg-config can tell a compiler no folder whose name has"
         expect_refused(run(INSTALL, room / "odd" / name), 1, said)

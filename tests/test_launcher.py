@@ -16,8 +16,10 @@ import pytest
 from running import ROOT, expect_that, run
 
 # what the launcher and tools/prove call beside the kit
-COMMANDS = ("sh bash cat sed find awk head tail dirname readlink mktemp date touch grep rm wc env"
-            " python3").split()
+COMMANDS = (
+    "sh bash cat sed find awk head tail dirname readlink mktemp date touch grep rm wc env"
+    " python3"
+).split()
 
 RT = """#!/bin/sh
 # what it was called with, and where, and then its input, what `SAYS` has, and the status
@@ -47,8 +49,10 @@ while [ "$1" != -o ]; do shift; done
 printf '#!/bin/sh\\necho proved "$@"\\n' >"$2" && chmod +x "$2"
 """
 
-NOTE = ("bearoff: nothing was proved here yet: this answer is by the program as it is written*"
-        "./bearoff --prove*")
+NOTE = (
+    "bearoff: nothing was proved here yet: this answer is by the program as it is written*"
+    "./bearoff --prove*"
+)
 CHANGED = "bearoff: a source has changed since the program was proved here: *"
 TRIED = "in bearoff_cli: <try> <--seconds> <600> <-->"
 ENDED = "checked: ended status=0\nrun=ended status=0 runners=1 proved=no\n"
@@ -89,8 +93,15 @@ class Copy:
 
     def run(self, *words, input="a line", says="", status=0, failing="", has_kit=True, by=None):
         path = f"{self.work}/kit/bin:{os.environ['PATH']}" if has_kit else f"{self.work}/none"
-        environment = {**os.environ, "PATH": path, "KIT": f"{self.work}/kit", "SAYS": says,
-                       "TOLD": str(self.told_file), "STATUS": str(status), "FAILING": failing}
+        environment = {
+            **os.environ,
+            "PATH": path,
+            "KIT": f"{self.work}/kit",
+            "SAYS": says,
+            "TOLD": str(self.told_file),
+            "STATUS": str(status),
+            "FAILING": failing,
+        }
         return run(by or self.launcher, *words, input=input, env=environment, cwd=self.here)
 
     def told(self):
@@ -138,18 +149,31 @@ class TestBeforeAProof:
         expect(done, 3, "", NOTE + "\nbearoff: refused mean rank 1")
         assert copy.told() == [f"{TRIED} <check> <{copy.here}/a file>"]
 
-    @pytest.mark.parametrize("words, wanted", [
-        ("build --pips 8 x", "build --pips 8 @x"), ("build --pips=8 /x", "build --pips=8 /x"),
-        ("build x --pips 8", "build @x --pips 8"), ("query --cache 3 x", "query --cache 3 @x"),
-        ("audit --help", "audit --help"), ("query x --cache=3", "query @x --cache=3"),
-        ("query --cache=3 -- x", "query --cache=3 -- @x"), ("audit -- x", "audit -- @x"),
-        ("check -- -x", "check -- @-x"), ("check -- /x", "check -- /x"), ("check -", "check @-"),
-        ("check a:/x", "check @a:/x"), ("build --pips 8 -- --pips", "build --pips 8 -- @--pips"),
-        ("build --board x", "build --board @x"), ("query x --board", "query @x --board"),
-        ("check -- --board", "check -- @--board"),
-        ("upgrade x y", "upgrade @x @y"), ("upgrade -- -x --", "upgrade -- @-x @--"),
-        ("help build", "help build"), ("unknown x", "unknown x"),
-    ])
+    @pytest.mark.parametrize(
+        "words, wanted",
+        [
+            ("build --pips 8 x", "build --pips 8 @x"),
+            ("build --pips=8 /x", "build --pips=8 /x"),
+            ("build x --pips 8", "build @x --pips 8"),
+            ("query --cache 3 x", "query --cache 3 @x"),
+            ("audit --help", "audit --help"),
+            ("query x --cache=3", "query @x --cache=3"),
+            ("query --cache=3 -- x", "query --cache=3 -- @x"),
+            ("audit -- x", "audit -- @x"),
+            ("check -- -x", "check -- @-x"),
+            ("check -- /x", "check -- /x"),
+            ("check -", "check @-"),
+            ("check a:/x", "check @a:/x"),
+            ("build --pips 8 -- --pips", "build --pips 8 -- @--pips"),
+            ("build --board x", "build --board @x"),
+            ("query x --board", "query @x --board"),
+            ("check -- --board", "check -- @--board"),
+            ("upgrade x y", "upgrade @x @y"),
+            ("upgrade -- -x --", "upgrade -- @-x @--"),
+            ("help build", "help build"),
+            ("unknown x", "unknown x"),
+        ],
+    )
     def test_whole_paths(self, copy, words, wanted):
         copy.run(*words.split(), says="run=ended status=0 runners=2 proved=no\n")
         wanted = wanted.replace("@", f"{copy.here}/").split()
@@ -197,8 +221,10 @@ class TestWithoutAKit:
 
 class TestProve:
     def test_a_proof_that_fails(self, copy):
-        said = ("*error: no proof of other*prove: other was not proved;"
-                " what the prover said is in *")
+        said = (
+            "*error: no proof of other*prove: other was not proved;"
+            " what the prover said is in *"
+        )
         done = copy.prove(failing="other")
         expect(done, 1, "", said)
         log = Path(re.search(r"what the prover said is in (.*)", done.errors.decode())[1])
@@ -208,8 +234,10 @@ class TestProve:
         assert not copy.fresh.exists(), "a proof that failed counts as one"
 
     def test_side_by_side(self, copy):
-        said = ("bearoff: proving the program*prove: 3 crates, with up to 5 jobs*1 of 3 crates are"
-                " proved*3 of 3 crates are proved (bearoff_cli)*is proved and built*")
+        said = (
+            "bearoff: proving the program*prove: 3 crates, with up to 5 jobs*1 of 3 crates are"
+            " proved*3 of 3 crates are proved (bearoff_cli)*is proved and built*"
+        )
         expect(copy.prove(), 0, "", said)
         told = copy.told()
         assert sorted(told[:2]) == ["begin low (2): std", "begin other (3): std"]

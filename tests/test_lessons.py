@@ -1,14 +1,14 @@
 """Compares the lessons of the page with the program.
 
 Each number in a lesson that has three decimals or is a fraction has to be one of the step's own:
-the mean, the effective pip count or the wastage of its position, a number of the program's replies to
-the lines that stand behind `from:` in the step, or one that an earlier step of the lesson had. Any
-other number in digits has to be a pip count of such a position, or what the ace-stack rule says of
-it; and so many checkers, or so many on a point, have to be there. A difference stands behind
-`from:`, as in `51.943 - 49.679 > 2` or `158/81 - 1/1 = 77/81`, and has to hold of such numbers. A
-roll that is asked has to have more than one play. The page, docs/lessons.md, has to name the
-lessons in their order. What the ace-stack rule is off over all stacks is compared too, and what a third
-checker costs at most."""
+the mean, the effective pip count or the wastage of its position, a number of the program's replies
+to the lines that stand behind `from:` in the step, or one that an earlier step of the lesson had.
+Any other number in digits has to be a pip count of such a position, or what the ace-stack rule
+says of it; and so many checkers, or so many on a point, have to be there. A difference stands
+behind `from:`, as in `51.943 - 49.679 > 2` or `158/81 - 1/1 = 77/81`, and has to hold of such
+numbers. A roll that is asked has to have more than one play. The page, docs/lessons.md, has to
+name the lessons in their order. What the ace-stack rule is off over all stacks is compared too,
+and what a third checker costs at most."""
 
 import itertools
 import re

@@ -21,7 +21,18 @@ from pathlib import Path
 
 import pytest
 
-from running import CALLERS, HERE, ROOT, as_bytes, code_blocks, expect, expect_that, need, run, succeed
+from running import (
+    CALLERS,
+    HERE,
+    ROOT,
+    as_bytes,
+    code_blocks,
+    expect,
+    expect_that,
+    need,
+    run,
+    succeed,
+)
 from test_boards import FILES as BOARDS
 
 FLAGS = ["-O2", "-Wall", "-Wextra", "-Werror", f"-I{ROOT}/c"]
@@ -35,8 +46,12 @@ STATIC = ["libbearoff.a"]
 CALLER_WORDS = {
     "lines_c": ("cc", ["-std=c11"], "lines.c", [*STATIC, "-lpthread"]),
     "lines_cpp": ("c++", AS_CPP, "lines.c", ["-x", "none", *STATIC, "-lpthread"]),
-    "lines_shared": ("cc", ["-std=c11"], "lines.c",
-                     ["-L.", "-lbearoff", "-lpthread", "-Wl,-rpath,$ORIGIN"]),
+    "lines_shared": (
+        "cc",
+        ["-std=c11"],
+        "lines.c",
+        ["-L.", "-lbearoff", "-lpthread", "-Wl,-rpath,$ORIGIN"],
+    ),
     "refusals_c": ("cc", ["-std=c11", "-g"], "refusals.c", STATIC),
     "refusals_cpp": ("c++", AS_CPP, "refusals.c", ["-x", "none", *STATIC]),
     "refusals_asan": ("cc", ["-std=c11", *SANITIZED], "refusals.c", STATIC),
@@ -64,25 +79,57 @@ def library(request, store):
 @pytest.fixture(scope="session")
 def caller(library):
     """A caller, compiled once."""
+
     def compiled(name):
         compiler, before, source, behind = CALLER_WORDS[name]
         if not (library / name).exists():
             words = [compiler, *before, *FLAGS, "-o", name, CALLERS / source, *behind]
             expect(run(*words, cwd=library), 0)
         return library / name
+
     return compiled
 
 
-BAD = [b"", b" "] + [line.encode() for line in (
-    "mean", "mean ", " mean 0,0,0,0,0,1", "mean  0,0,0,0,0,1", "mean 0,0,0,0,0,1 ",
-    "Mean 0,0,0,0,0,1", "mean 0,0,0,0,0,01", "mean 0,0,0,0,0,1000", "mean 0,0,0,0,0,-1",
-    "mean 0,0,0,0,1", "mean 0,0,0,0,0,0,1", "play 0,0,0,0,0,1", "play 0,0,0,0,0,1 2",
-    "play 0,0,0,0,0,1 07", "play 0,0,0,0,0,16 07", "play 0,0,0,0,0,16 21", "loss 0,0,0,0,0,1 21",
-    "loss 0,0,0,0,0,1 21 0,0,0,0,0", "loss 0,0,0,0,0,1 21 0,0,0,0,0,16",
-    "loss 0,0,0,0,0,0 21 0,0,0,0,0,0", "loss 0,0,0,0,0,16 21 0,0,0,0,0", "moves 0,0,0,0,0,0 21",
-    "moves 15,0,0,0,0,0 66", "rank 0,0,0,0,0,0", "rank 0,0,0,0,0,1", "rank 0,0,0,0,4,4",
-    "rank 9,0,0,0,1,5", "rank 0,0,0,0,0,15", "rank 0,0,0,0,0,16", "mean 0,0,0,0,0,1\tx",
-    "mean\t0,0,0,0,0,1")] + [b"\377\376", b"mean 0,0,0,0,0,1\0", b"\0", b"mean 0,0,0,0,0,1\r "]
+BAD = (
+    [b"", b" "]
+    + [
+        line.encode()
+        for line in (
+            "mean",
+            "mean ",
+            " mean 0,0,0,0,0,1",
+            "mean  0,0,0,0,0,1",
+            "mean 0,0,0,0,0,1 ",
+            "Mean 0,0,0,0,0,1",
+            "mean 0,0,0,0,0,01",
+            "mean 0,0,0,0,0,1000",
+            "mean 0,0,0,0,0,-1",
+            "mean 0,0,0,0,1",
+            "mean 0,0,0,0,0,0,1",
+            "play 0,0,0,0,0,1",
+            "play 0,0,0,0,0,1 2",
+            "play 0,0,0,0,0,1 07",
+            "play 0,0,0,0,0,16 07",
+            "play 0,0,0,0,0,16 21",
+            "loss 0,0,0,0,0,1 21",
+            "loss 0,0,0,0,0,1 21 0,0,0,0,0",
+            "loss 0,0,0,0,0,1 21 0,0,0,0,0,16",
+            "loss 0,0,0,0,0,0 21 0,0,0,0,0,0",
+            "loss 0,0,0,0,0,16 21 0,0,0,0,0",
+            "moves 0,0,0,0,0,0 21",
+            "moves 15,0,0,0,0,0 66",
+            "rank 0,0,0,0,0,0",
+            "rank 0,0,0,0,0,1",
+            "rank 0,0,0,0,4,4",
+            "rank 9,0,0,0,1,5",
+            "rank 0,0,0,0,0,15",
+            "rank 0,0,0,0,0,16",
+            "mean 0,0,0,0,0,1\tx",
+            "mean\t0,0,0,0,0,1",
+        )
+    ]
+    + [b"\377\376", b"mean 0,0,0,0,0,1\0", b"\0", b"mean 0,0,0,0,0,1\r "]
+)
 for length in (127, 128, 129, 130, 131, 5000):
     BAD += [b" " * length, b"mean " + b"0,0,0,0,0,1".rjust(length)]
 BAD = b"".join(line + b"\n" for line in BAD)
@@ -103,6 +150,7 @@ def asked(program, built):
             assert replies.count(b"\n") == lines.count(b"\n")
             kept[bound, with_bad] = lines, replies
         return kept[bound, with_bad]
+
     return of
 
 
@@ -155,8 +203,9 @@ def test_refusals_under_valgrind(caller, built):
     expect(run(*words, timeout=600))
 
 
-@pytest.mark.parametrize("with_bad, words", [(False, ["2"]), (True, ["--text"])],
-                         ids=["two threads", "text"])
+@pytest.mark.parametrize(
+    "with_bad, words", [(False, ["2"]), (True, ["--text"])], ids=["two threads", "text"]
+)
 def test_lines_under_valgrind(caller, program, built, asked, with_bad, words):
     need("valgrind")
     lines = b"".join(asked(8)[0].splitlines(True)[:300]) + (BAD if with_bad else b"")
@@ -177,10 +226,18 @@ def test_rooms(caller):
     expect(run(caller("rooms"), timeout=600), 0)
 
 
-@pytest.mark.parametrize("name, source", [
-    ("LINE", "opening.rt"), ("STATUS_TEXT", "status_texts.rt"), ("RESULTS", "results.rt"),
-    ("REPLY", "lines.rt"), ("LINE", "board_opening.rt"), ("RESULTS", "board_plays.rt"),
-    ("BOARD_REPLY", "board_lines.rt")])
+@pytest.mark.parametrize(
+    "name, source",
+    [
+        ("LINE", "opening.rt"),
+        ("STATUS_TEXT", "status_texts.rt"),
+        ("RESULTS", "results.rt"),
+        ("REPLY", "lines.rt"),
+        ("LINE", "board_opening.rt"),
+        ("RESULTS", "board_plays.rt"),
+        ("BOARD_REPLY", "board_lines.rt"),
+    ],
+)
 def test_sizes(name, source):
     """The rooms that the header names are as large as the contracts say is enough, and no larger;
     the package for JavaScript has them too."""
@@ -208,8 +265,8 @@ def test_board_room():
 @pytest.mark.parametrize("bound", [8, 90])
 @pytest.mark.parametrize("name", ["boards", "boards_asan"])
 def test_boards(caller, room, name, bound):
-    """A board file that was built in a room has the bytes that were computed outside, and its lines
-    the replies."""
+    """A board file that was built in a room has the bytes that were computed outside, and its
+    lines the replies."""
     rows = (HERE / "board_rows.txt").read_text().splitlines(keepends=True)
     asked = "".join(rows[::2]) if bound == 90 else "mean 0,0,0,0,0,1\n"
     replies = "".join(rows[1::2]) if bound == 90 else "mean 5/4 epc 245/24 10.208\n"
@@ -259,8 +316,12 @@ def databases(store, built):
     folder = store / "databases"
     folder.mkdir(exist_ok=True)
     for name, bound, is_new in (
-            ("eight", 8, False), ("race.db", 44, False), ("large.db", 58, False),
-            ("eight_new", 8, True), ("race_new.db", 44, True)):
+        ("eight", 8, False),
+        ("race.db", 44, False),
+        ("large.db", 58, False),
+        ("eight_new", 8, True),
+        ("race_new.db", 44, True),
+    ):
         if not (folder / name).exists():
             os.symlink(built(bound, is_new), folder / name)
     return folder
@@ -282,20 +343,28 @@ def matches(store):
     folder = store / "matches"
     if not folder.exists():
         done = run(sys.executable, "-I", CALLERS / "play_gnubg.py", folder, timeout=900)
-        expect_that(done.status in (0, 3), done, "matches of GNU Backgammon, or that there is none")
+        expect_that(
+            done.status in (0, 3), done, "matches of GNU Backgammon, or that there is none"
+        )
     return folder if folder.exists() and any(folder.iterdir()) else None
 
 
 @pytest.fixture
 def python(library, program, databases):
     """Runs Debian's Python with the package of this repository."""
+
     def run_it(*words, cwd=ROOT / "python", path=ROOT / "python", **more):
         environment = {
-            **os.environ, "PYTHONPATH": str(path),
+            **os.environ,
+            "PYTHONPATH": str(path),
             "BEAROFF_LIBRARY": str(library / "libbearoff.so"),
-            "BEAROFF_PROGRAM": str(program), "BEAROFF_DATABASES": str(databases),
-            "PYTHONDONTWRITEBYTECODE": "1", **more}
+            "BEAROFF_PROGRAM": str(program),
+            "BEAROFF_DATABASES": str(databases),
+            "PYTHONDONTWRITEBYTECODE": "1",
+            **more,
+        }
         return run("/usr/bin/python3", *words, cwd=cwd, env=environment, timeout=900)
+
     return run_it
 
 
@@ -398,11 +467,15 @@ line 6: six: the text is not six counts with commas between them"""
 
     def test_no_database(self, positions):
         done = run(positions, "positions.txt", "positions.txt")
-        expect_that(done.output + done.errors == b"positions.txt: header bad-magic\n", done, "the fault")
+        expect_that(
+            done.output + done.errors == b"positions.txt: header bad-magic\n", done, "the fault"
+        )
 
     def test_one_word(self, positions):
         done = run(positions, "race.db")
-        expect_that(done.output + done.errors == b"usage: positions DATABASE FILE\n", done, "the usage")
+        expect_that(
+            done.output + done.errors == b"usage: positions DATABASE FILE\n", done, "the usage"
+        )
 
     def test_valgrind(self, positions):
         need("valgrind")
@@ -439,8 +512,13 @@ def test_install(program, example):
     prefix = example / "prefix"
     done = run(ROOT / "packaging/install", prefix, timeout=3600)
     expect_that(done.status == 0, done, "an installation")
-    told = succeed("pkg-config", "--cflags", "--libs", "bearoff",
-                   env={**os.environ, "PKG_CONFIG_PATH": f"{prefix}/lib/pkgconfig"}).decode()
+    told = succeed(
+        "pkg-config",
+        "--cflags",
+        "--libs",
+        "bearoff",
+        env={**os.environ, "PKG_CONFIG_PATH": f"{prefix}/lib/pkgconfig"},
+    ).decode()
     words = ["-o", "installed", "example.c", *told.split(), f"-Wl,-rpath,{prefix}/lib"]
     expect(run("cc", "-std=c11", *words), 0)
     expect(run("./installed"), 0, PRINTED)

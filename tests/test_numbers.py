@@ -63,9 +63,7 @@ def wide(number):
 
 
 def weighted(choices, numbers):
-    return sum(
-        weight * numbers[choices // 3**index % 3] for index, weight in enumerate(WEIGHTS)
-    )
+    return sum(weight * numbers[choices // 3**index % 3] for index, weight in enumerate(WEIGHTS))
 
 
 def rounded(numerator, denominator):

@@ -134,7 +134,10 @@ def contract(text, function):
     lines = text.split("\n")
     for place, line in enumerate(lines):
         head = re.match(
-            r"( *)(?:pub(?:\(crate\))? )?(?:const )?(?:extern \"C\" )?fn " + re.escape(function) + r"\b", line
+            r"( *)(?:pub(?:\(crate\))? )?(?:const )?(?:extern \"C\" )?fn "
+            + re.escape(function)
+            + r"\b",
+            line,
         )
         if head:
             end = place
@@ -251,7 +254,7 @@ def public_functions(crate):
     for path in files(f"crates/{crate}/src", ".rt"):
         text, heads = read(path), r"(?m)^( *)pub (?:const )?(?:extern \"C\" )?fn (\w+)"
         for head in re.finditer(heads, text):
-            rest = text[head.start():]
+            rest = text[head.start() :]
             body = re.search(rf"(?m)^{head.group(1)}(\{{|\S.*\{{\}}?$)", rest)
             if re.search(r"(?m)^ *(ensures|requires)\b", rest[: body.start()]):
                 found.append((path, head.group(2)))
@@ -272,8 +275,10 @@ def compare_clauses(page, crate):
         wrong.append(f"{page}: {crate} has {len(there)} functions, and not {len(told)}")
     shown = re.sub(r"\s+", " ", " ".join(blocks))
     for path, name in there:
-        clauses = [re.findall(r"(?:ensures|requires)\*? ?\w* \{.*", text)
-                   for text in contract(read(path), name)]
+        clauses = [
+            re.findall(r"(?:ensures|requires)\*? ?\w* \{.*", text)
+            for text in contract(read(path), name)
+        ]
         if not any(all(each.strip() in shown for each in some) for some in clauses):
             wrong.append(f"{page}: a clause of {name} of {path} is missing")
 
@@ -287,8 +292,10 @@ def compare_reference(made):
         fresh = made / name
         wanted = fresh.read_text(encoding="utf-8").split("\n") if fresh.exists() else []
         if lines != wanted:
-            at = next((at for at, pair in enumerate(zip(lines, wanted)) if len({*pair}) > 1),
-                      min(len(lines), len(wanted)))
+            at = next(
+                (at for at, pair in enumerate(zip(lines, wanted)) if len({*pair}) > 1),
+                min(len(lines), len(wanted)),
+            )
             wrong.append(
                 f"docs/ref/{name}, line {at + 1}: the sources say otherwise, and"
                 f" `make reference` makes the page anew\n  there: {lines[at:at + 1]}\n"
@@ -352,7 +359,9 @@ def compare_sentences(pages):
 
 # facts of the subject and of the files, which any page may name
 FACTS = {
-    "26314", "46062", "54264",  # positions of at most 44, 58 and 90 pips
+    "26314",
+    "46062",
+    "54264",  # positions of at most 44, 58 and 90 pips
 }
 UNITS = "ms|ns|s|seconds?|minutes?|hours?|KB|MB|GB|MiB|bytes|%"
 
@@ -382,10 +391,25 @@ def compare_figures(pages):
 @functools.cache
 def source_words():
     """Every name that the sources have, and those of tests, and of what makes and measures."""
-    folders = ("crates", "c", "python", "js", "web", "tests", "packaging", "tools", "bench",
-               "completions", ".ci")
-    paths = [path for folder in folders for path in files(folder, "")
-             if not re.search(r"__pycache__|node_modules|\.(png|wasm)$", path)]
+    folders = (
+        "crates",
+        "c",
+        "python",
+        "js",
+        "web",
+        "tests",
+        "packaging",
+        "tools",
+        "bench",
+        "completions",
+        ".ci",
+    )
+    paths = [
+        path
+        for folder in folders
+        for path in files(folder, "")
+        if not re.search(r"__pycache__|node_modules|\.(png|wasm)$", path)
+    ]
     found = set()
     for path in [*paths, "Makefile", "bearoff", "crates.txt", "CHANGELOG.md", "VERSION"]:
         text = (ROOT / path).read_text(encoding="utf-8", errors="ignore")
@@ -422,15 +446,20 @@ def compare_replies(page, program, database):
     pairs += re.findall(r"`((?:mean|dist|play|loss|moves|rank) [^`]*)` gives `([^`]*)`", text)
     waste = table(page, "Position", "Pips", "Line", "Effective pip count", "Wastage")
     asked = [line for line, _ in pairs] + [row[2].strip("`") for row in waste]
-    done = subprocess.run([program, "query", database], input="\n".join(asked) + "\n", text=True,
-                          capture_output=True, check=True)
+    done = subprocess.run(
+        [program, "query", database],
+        input="\n".join(asked) + "\n",
+        text=True,
+        capture_output=True,
+        check=True,
+    )
     replies = done.stdout.splitlines()
     if len(replies) != len(asked) or not len(pairs) > 6 or not waste:
         wrong.append(f"{page}: {len(asked)} lines have {len(replies)} replies")
     for (line, told), reply in zip(pairs, replies):
         if told != reply:
             wrong.append(f"{page}: {line} is answered with {reply}, and not {told}")
-    for (about, pips, line, epc, wastage), reply in zip(waste, replies[len(pairs):]):
+    for (about, pips, line, epc, wastage), reply in zip(waste, replies[len(pairs) :]):
         counts = map(int, line.strip("`").split()[1].split(","))
         summed = sum(point * count for point, count in enumerate(counts, 1))
         thousandths = int(reply.split()[-1].replace(".", ""))
@@ -470,11 +499,17 @@ def compare_headline(page):
         return
     told = re.findall(r"(?m)^\d+\. \[(\w+)\.antt\]", part.group(1))
     compare_names(page, "file below IsRight", told, found)
-    lines = [line for text in found.values() for line in text.split("\n")
-             if line.strip() and not line.startswith(("--", "use "))]
+    lines = [
+        line
+        for text in found.values()
+        for line in text.split("\n")
+        if line.strip() and not line.startswith(("--", "use "))
+    ]
     stated = re.search(r"(\w+) files, (\d+) lines", part.group(1))
-    counted = (["no", *"one two three four five six seven eight nine ten eleven".split()]
-               [len(found)], str(len(lines)))
+    counted = (
+        ["no", *"one two three four five six seven eight nine ten eleven".split()][len(found)],
+        str(len(lines)),
+    )
     if not stated or stated.groups() != counted:
         wrong.append(f"{page}: {' files, '.join(counted)} lines are what IsRight rests on")
 
@@ -846,8 +881,11 @@ def test_laws_have_rows():
 
 
 def test_edits_have_rows():
-    there = [os.path.relpath(path, ROOT) for crate in crates()
-             for path in (ROOT / "crates" / crate).glob("must-fail/*.edit")]
+    there = [
+        os.path.relpath(path, ROOT)
+        for crate in crates()
+        for path in (ROOT / "crates" / crate).glob("must-fail/*.edit")
+    ]
     told = re.findall(r"(?m)^\| \[[^\]]*\]\(\.\./\.\./([^)]*)\)", read("docs/ref/edits.md"))
     none_wrong(compare_names, "docs/ref/edits.md", "edit", told, there)
 

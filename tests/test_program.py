@@ -813,7 +813,10 @@ class TestBoards:
             ("build --board .", 1, "open"),
             ("build --board nowhere/newer", 1, "open"),
             ("build --board /dev/full", 1, "write"),
-            *((f"{command} --board nothing", 1, "open") for command in ("check", "query", "audit")),
+            *(
+                (f"{command} --board nothing", 1, "open")
+                for command in ("check", "query", "audit")
+            ),
             *((f"{command} --board .", 1, "file") for command in ("check", "query", "audit")),
             *(
                 (f"{command} --board {file}", 3, "refused header bad-version")

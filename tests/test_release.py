@@ -129,8 +129,11 @@ def test_the_sums_in_a_package(release, room, name):
     succeed("dpkg-deb", "-x", release.packages[name], room / "alone")
     succeed("md5sum", "--quiet", "-c", room / "control/md5sums", cwd=room / "alone")
     lines = (room / "control/md5sums").read_text(encoding="utf-8").splitlines()
-    there = [str(path.relative_to(room / "alone")) for path in (room / "alone").rglob("*")
-             if path.is_file() and not path.is_symlink()]
+    there = [
+        str(path.relative_to(room / "alone"))
+        for path in (room / "alone").rglob("*")
+        if path.is_file() and not path.is_symlink()
+    ]
     assert sorted(line[34:] for line in lines) == sorted(there)
 
 
@@ -167,8 +170,10 @@ def test_a_c_program(release, room, which):
         environment["PKG_CONFIG_PATH"] = f"{release.tree}/lib/pkgconfig"
     else:
         folder = release.unpacked / "usr/lib/x86_64-linux-gnu/pkgconfig"
-        environment |= {"PKG_CONFIG_PATH": str(folder),
-                        "PKG_CONFIG_SYSROOT_DIR": str(release.unpacked)}
+        environment |= {
+            "PKG_CONFIG_PATH": str(folder),
+            "PKG_CONFIG_SYSROOT_DIR": str(release.unpacked),
+        }
     succeed("bash", "-c", line, env=environment)
     expect(run("./a.out"), 0, PRINTED)
 
@@ -179,8 +184,19 @@ class TestWheel:
         need("pip")
         folder = tmp_path_factory.mktemp("site")
         wheel = next(release.one.glob("*.whl"))
-        succeed("/usr/bin/python3", "-m", "pip", "install", "-q", "--no-index", "--no-deps",
-                "--target", folder, wheel, timeout=300)
+        succeed(
+            "/usr/bin/python3",
+            "-m",
+            "pip",
+            "install",
+            "-q",
+            "--no-index",
+            "--no-deps",
+            "--target",
+            folder,
+            wheel,
+            timeout=300,
+        )
         yield folder
         shutil.rmtree(folder)
 
@@ -194,8 +210,9 @@ class TestWheel:
         text = code_blocks("docs/embedding.md", "python")[0]
         Path("example.py").write_text(text, encoding="utf-8")
         os.symlink(release.database, "race.db")
-        environment = {name: value for name, value in os.environ.items()
-                       if name != "BEAROFF_LIBRARY"} | {"PYTHONPATH": str(site)}
+        environment = {
+            name: value for name, value in os.environ.items() if name != "BEAROFF_LIBRARY"
+        } | {"PYTHONPATH": str(site)}
         expect(run("/usr/bin/python3", "example.py", env=environment), 0, PRINTED)
 
     def test_version(self, site):

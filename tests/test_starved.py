@@ -43,7 +43,11 @@ for bound in (8, 44, 58):
     COMMANDS[f"query of {bound} pips"] = ["query", f"db_{bound}"]
     for records in (5, 100, 65535):
         COMMANDS[f"query of {bound} pips by pages of {records} records"] = [
-            "query", "--cache", str(records), f"db_{bound}"]
+            "query",
+            "--cache",
+            str(records),
+            f"db_{bound}",
+        ]
     COMMANDS[f"audit of {bound} pips"] = ["audit", f"db_{bound}"]
 for bound in (8, 44):
     COMMANDS[f"upgrade of {bound} pips"] = ["upgrade", f"db_{bound}", "made"]
@@ -54,9 +58,16 @@ for bound in (8, 90):
         COMMANDS[f"{command} of a board file of {bound} pips"] = words
 
 # what docs/using.md promises with the least address space
-PROMISED = ("no words", "help", "build of 8 pips", "check of 8 pips", "query of 8 pips",
-            "audit of 8 pips", "query of 8 pips by pages of 100 records",
-            "query of 44 pips by pages of 100 records")
+PROMISED = (
+    "no words",
+    "help",
+    "build of 8 pips",
+    "check of 8 pips",
+    "query of 8 pips",
+    "audit of 8 pips",
+    "query of 8 pips by pages of 100 records",
+    "query of 44 pips by pages of 100 records",
+)
 
 # over 8 pips, and what has no database
 LOW_COMMANDS = [name for name, words in COMMANDS.items() if {"8", "db_8", "board_8"} & {*words}]
@@ -77,9 +88,11 @@ def starved(program, built, board):
 def limited(starved, limit, size, words):
     """The program under a limit, with no environment, in a folder of its own where it writes a
     file; and what it leaves there."""
+
     def lower():
         if size is not None:
             resource.setrlimit(limit, (1024 * size, 1024 * size))
+
     with tempfile.TemporaryDirectory(dir=starved.work) as folder:
         for name in words:
             kind, _, bound = name.partition("_")
@@ -123,8 +136,10 @@ def starve(starved, name, sizes, note):
             wrong.append(f"{name} with {size} KB is not done")
     assert not wrong, "\n".join(wrong)
     done = [size for size, came in zip(sizes, outcomes) if came == "done"]
-    note(f"{name}: done with {min(done, default='none')} KB of address space;"
-         f" {len(sizes)} runs without a signal")
+    note(
+        f"{name}: done with {min(done, default='none')} KB of address space;"
+        f" {len(sizes)} runs without a signal"
+    )
 
 
 @pytest.mark.parametrize("name", LOW_COMMANDS)

@@ -9,8 +9,10 @@ import pytest
 from running import ROOT, expect_that, run
 
 PAGE = "docs/promises.md"
-START = {"bearoff_cli": "The proof of the program assumes",
-         "bearoff_c": "The proof of the library for C assumes"}
+START = {
+    "bearoff_cli": "The proof of the program assumes",
+    "bearoff_c": "The proof of the library for C assumes",
+}
 
 
 def assumed(crate):

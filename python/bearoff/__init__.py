@@ -1,22 +1,22 @@
 """Exact answers of a proved backgammon bearoff database.
 
-A database is a file that ``bearoff build`` writes, or what `Database.build` makes; a board file, which
-``bearoff build --board`` writes, is one with the whole home board. `Database.open` checks it once, and accepts
-it exactly where it is right: every mean in it is the least over all strategies, the recorded plays reach these
-means, and the recorded shares are those of these plays. That is proved of the library that this package calls,
-and so is what the library answers; this package only hands numbers over, and lists the positions of a board file
-by itself.
+A database is a file that ``bearoff build`` writes, or what `Database.build` makes; a board file,
+which ``bearoff build --board`` writes, is one with the whole home board. `Database.open` checks it
+once, and accepts it exactly where it is right: every mean in it is the least over all strategies,
+the recorded plays reach these means, and the recorded shares are those of these plays. That is
+proved of the library that this package calls, and so is what the library answers; this package
+only hands numbers over, and lists the positions of a board file by itself.
 
     >>> database = Database.open("race.db")
     >>> database.mean("0,0,0,0,0,1")
     Fraction(5, 4)
 
-A position is six counts of checkers, that of the ace point first, or a text of them. A roll is its two dice,
-in either order. All numbers are exact: `fractions.Fraction`, in rolls, in pips, or a chance. Whole tables
-come as arrays, by rising rank, which `memoryview` and numpy read without a copy, exact or as floats, and
-`Database.ranks` finds the rows of many positions in them. `bearoff.notation` reads and writes positions as
-other programs have them. `grade`, and ``python -m bearoff grade``, tells what the bearoff plays of a match have
-lost.
+A position is six counts of checkers, that of the ace point first, or a text of them. A roll is its
+two dice, in either order. All numbers are exact: `fractions.Fraction`, in rolls, in pips, or a
+chance. Whole tables come as arrays, by rising rank, which `memoryview` and numpy read without a
+copy, exact or as floats, and `Database.ranks` finds the rows of many positions in them.
+`bearoff.notation` reads and writes positions as other programs have them. `grade`, and
+``python -m bearoff grade``, tells what the bearoff plays of a match have lost.
 """
 
 from ._library import __version__

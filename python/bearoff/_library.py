@@ -1,4 +1,5 @@
-"""The shared library: what its calls take, where it is found, and a stack that is large enough for it."""
+"""The shared library: what its calls take, where it is found, and a stack that is large enough for
+it."""
 
 from __future__ import annotations
 
@@ -106,8 +107,8 @@ _LONG_CALLS: _Calls = {
     "board_distributions": (_POINTER, _RANK, _POINTER, _SIZE),
 }
 
-# .. and those that are over before another thread could have begun; what takes pointers alone is given them as they
-# are, since to convert them would cost a third of the call
+# .. and those that are over before another thread could have begun; what takes pointers alone is
+# given them as they are, since to convert them would cost a third of the call
 _SHORT_CALLS: _Calls = {
     "version": None,
     "bound": None,
@@ -134,7 +135,8 @@ _SHORT_CALLS: _Calls = {
 
 
 class Library:
-    """The calls of the shared library by their names, without ``bearoff_``. Each gives a status."""
+    """The calls of the shared library by their names, without ``bearoff_``. Each gives a
+    status."""
 
     def __init__(self, path: str) -> None:
         try:
@@ -144,7 +146,9 @@ class Library:
         self._declare(short, {"library_version": None})
         release = self._release()
         if not _is_enough(release, __version__):
-            raise NoLibrary(f"{path} is of version {release}, and this package of version {__version__}")
+            raise NoLibrary(
+                f"{path} is of version {release}, and this package of version {__version__}"
+            )
         self._declare(short, _SHORT_CALLS)
         self._declare(long, _LONG_CALLS)
 
@@ -199,8 +203,8 @@ _setting_stack = threading.Lock()
 
 
 def on_stack(size: int, call: Callable[..., int], *arguments: Any) -> int:
-    """The status of a call that runs in a thread of its own, with at least so much stack, whatever the caller's
-    thread has.
+    """The status of a call that runs in a thread of its own, with at least so much stack, whatever
+    the caller's thread has.
     """
     told: List[int] = []
     failed: List[BaseException] = []

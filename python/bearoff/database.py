@@ -194,10 +194,12 @@ class Database:
         return (Position._make(counts[at : at + 6]) for at in range(0, len(counts), 6))
 
     @overload
-    def __getitem__(self, rank: SupportsIndex) -> Position: ...
+    def __getitem__(self, rank: SupportsIndex) -> Position:
+        ...
 
     @overload
-    def __getitem__(self, rank: slice) -> List[Position]: ...
+    def __getitem__(self, rank: slice) -> List[Position]:
+        ...
 
     def __getitem__(self, rank: Union[SupportsIndex, slice]) -> Union[Position, List[Position]]:
         """The position of a rank, or the positions of a slice of the ranks; -1 is the last rank.
@@ -229,7 +231,8 @@ class Database:
         if self.closed:
             return "<bearoff.Database: closed>"
         path = f", {self._path!r}" if self._path else ""
-        return f"<bearoff.Database: {self.bound} pips, {len(self)} positions, version {self.version}{path}>"
+        kind = f"{self.bound} pips, {len(self)} positions, version {self.version}"
+        return f"<bearoff.Database: {kind}{path}>"
 
     def __copy__(self: _Self) -> _Self:
         """Another one of the same bytes, which closing this one leaves open."""

@@ -279,8 +279,8 @@ class _Reader:
         )
 
     def steps(self, words: str) -> Iterator[Tuple[int, int, bool]]:
-        """The moves of single checkers: from, to, and whether a checker is said to be hit there.
-        """
+        """The moves of single checkers: from, to, and whether a checker is said to be hit
+        there."""
         if words == _NOTHING:
             return
         for word in words.split():

@@ -77,8 +77,8 @@ class Rounded(NamedTuple):
 
 
 class EffectivePips(Rounded):
-    """An effective pip count, in pips: 49/6 for each roll of the mean (the GNU Backgammon manual).
-    """
+    """An effective pip count, in pips: 49/6 for each roll of the mean (the GNU Backgammon
+    manual)."""
 
     __slots__ = ()
 
@@ -123,15 +123,18 @@ class Choice(NamedTuple):
 class Numbers(Protocol):
     """Whole numbers in an order: a tuple, a list, or an array of numpy in one dimension."""
 
-    def __len__(self) -> int: ...
+    def __len__(self) -> int:
+        ...
 
-    def __getitem__(self, place: int, /) -> SupportsIndex: ...
+    def __getitem__(self, place: int, /) -> SupportsIndex:
+        ...
 
 
 class Array(Protocol):
     """What numpy takes as an array, as its own arrays and the frames of pandas."""
 
-    def __array__(self) -> Any: ...
+    def __array__(self) -> Any:
+        ...
 
 
 AnyPosition = Union[str, Numbers]
@@ -240,7 +243,9 @@ def number_of(number: Any, what: str) -> int:
 
 def _numbers(items: Any, count: int) -> Tuple[int, ...]:
     """So many whole numbers of something that has an order and a length, or none at all."""
-    if isinstance(items, Mapping) or not (hasattr(items, "__len__") and hasattr(items, "__getitem__")):
+    if isinstance(items, Mapping) or not (
+        hasattr(items, "__len__") and hasattr(items, "__getitem__")
+    ):
         return ()
     try:
         numbers = tuple(map(index, islice(items, count + 1))) if len(items) == count else ()

@@ -1,8 +1,8 @@
-"""What the tests are given: the program, the databases, and positions that are counted here and not asked of the
-library.
+"""What the tests are given: the program, the databases, and positions that are counted here and
+not asked of the library.
 
-BEAROFF_LIBRARY names the shared library, BEAROFF_PROGRAM the program, and BEAROFF_DATABASES a folder with the
-databases `eight`, of 8 pips, `race.db`, of 44, and `large.db`, of 58.
+BEAROFF_LIBRARY names the shared library, BEAROFF_PROGRAM the program, and BEAROFF_DATABASES a
+folder with the databases `eight`, of 8 pips, `race.db`, of 44, and `large.db`, of 58.
 """
 
 import os

@@ -51,7 +51,9 @@ class Answers(unittest.TestCase):
                 self.compare_plays(bound, position, roll, told)
         self.assertRaises(StopIteration, next, told)
 
-    def compare_numbers(self, bound: int, at: Counts, told: Iterator[List[str]], tables: "Tables") -> None:
+    def compare_numbers(
+        self, bound: int, at: Counts, told: Iterator[List[str]], tables: "Tables"
+    ) -> None:
         here = database(bound)
         _, mean, _, epc, rounded = next(told)
         shares = [Fraction(0)] * 23
@@ -74,13 +76,18 @@ class Answers(unittest.TestCase):
         self.assertEqual(tables.epc(rank), (pips.exact, pips.thousandths), at)
         self.assertEqual(tables.distribution(rank), shares, at)
 
-    def compare_plays(self, bound: int, at: Counts, roll: Tuple[int, int], told: Iterator[List[str]]) -> None:
+    def compare_plays(
+        self, bound: int, at: Counts, roll: Tuple[int, int], told: Iterator[List[str]]
+    ) -> None:
         here = database(bound)
         *moves, _, to = next(told)[1:]
         play = here.play(at, roll)
         self.assertEqual(play.moves, tuple(Move(*map(point, move.split("/"))) for move in moves))
         self.assertEqual(play.to, counts(to))
-        choices = [Choice(counts(to), Fraction(loss)) for to, loss in (part.split(":") for part in next(told)[1:])]
+        choices = [
+            Choice(counts(to), Fraction(loss))
+            for to, loss in (part.split(":") for part in next(told)[1:])
+        ]
         self.assertEqual(here.moves(at, roll), choices)
         for choice in choices:
             self.assertEqual(here.loss(at, roll[::-1], choice.to), choice.loss)
@@ -89,7 +96,9 @@ class Answers(unittest.TestCase):
         chance = random.Random(bound)
         found = positions(bound)
         some = [(chance.choice(found), [chance.choice(ROLLS)]) for _ in range(1000)]
-        self.compare(bound, [(position, rolls if any(position) else []) for position, rolls in some])
+        self.compare(
+            bound, [(position, rolls if any(position) else []) for position, rolls in some]
+        )
 
     def test_every_position_of_8_pips(self) -> None:
         self.compare(8, [(position, ROLLS if any(position) else []) for position in positions(8)])
@@ -113,32 +122,62 @@ class Answers(unittest.TestCase):
         self.assertEqual(eight.loss("0,0,0,2,0,0", [1, 2], "0,1,1,0,0,0"), Fraction(1, 9))
         self.assertEqual(Position.parse("0,0,0,2,0,1"), (0, 0, 0, 2, 0, 1))
         self.assertEqual(str(Position(0, 0, 0, 2, 0, 1)), "0,0,0,2,0,1")
-        self.assertEqual((Position(1, 0, 0, 2, 0, 1).pips, Position(1, 0, 0, 2, 0, 1).checkers), (15, 4))
+        self.assertEqual(
+            (Position(1, 0, 0, 2, 0, 1).pips, Position(1, 0, 0, 2, 0, 1).checkers), (15, 4)
+        )
 
     def test_fractions_are_like_others(self) -> None:
         """They are in lowest terms, though no common divisor was looked for."""
         told = database(44).mean((1, 2, 3, 0, 2, 1))
         made = Fraction(told.numerator * 6, told.denominator * 6)
         self.assertIsInstance(told, Fraction)
-        self.assertEqual((told, hash(told), repr(told), float(told)), (made, hash(made), repr(made), float(made)))
+        self.assertEqual(
+            (told, hash(told), repr(told), float(told)),
+            (made, hash(made), repr(made), float(made)),
+        )
         self.assertEqual((told + 1, 2 * told, told < made + 1), (made + 1, 2 * made, True))
-        for share in (told, *database(44).distribution("1,2,3,0,2,1"), database(44).epc("1,2,3,0,2,1").exact):
-            self.assertEqual(share.denominator, Fraction(share.numerator, share.denominator).denominator)
+        for share in (
+            told,
+            *database(44).distribution("1,2,3,0,2,1"),
+            database(44).epc("1,2,3,0,2,1").exact,
+        ):
+            self.assertEqual(
+                share.denominator, Fraction(share.numerator, share.denominator).denominator
+            )
 
     def test_lines(self) -> None:
         lines = ["rank 0,0,0,0,0,1", "loss 0,0,0,2,0,0 21 0,1,1,0,0,0", "mean 0,0,0,0,0,16"]
         lines += ["mean 0,0,1,0,0,1", "play 0,0,0,0,0,0 11", "loss 0,0,0,0,0,1 21 0,0,0,0,0,1"]
-        lines += ["play 0,0,0,0,0,1 17", "mean", "dist 0,0,0", "nothing 1", " ", "mean 0,0,0,0,0,1 "]
-        lines += ["mean 0,0,0,0,0,\N{DIGIT ONE}\N{COMBINING ENCLOSING KEYCAP}", "m" * 5000, "\0", "mean \u0661"]
+        lines += [
+            "play 0,0,0,0,0,1 17",
+            "mean",
+            "dist 0,0,0",
+            "nothing 1",
+            " ",
+            "mean 0,0,0,0,0,1 ",
+        ]
+        lines += [
+            "mean 0,0,0,0,0,\N{DIGIT ONE}\N{COMBINING ENCLOSING KEYCAP}",
+            "m" * 5000,
+            "\0",
+            "mean \u0661",
+        ]
         for line, reply in zip(lines, replies(8, lines)):
             self.assertEqual(database(8).answer(line), reply, line)
         self.assertEqual(database(8).answer("mean 0,0,0,0,0,1"), "mean 5/4 epc 245/24 10.208")
-        for line in ("", "mean 0,0,0,0,0,1\n", "mean 0,0,0,0,0,1\r", "mean 0,0,0,0,0,1\0", "\ud800", "mean ?"):
+        for line in (
+            "",
+            "mean 0,0,0,0,0,1\n",
+            "mean 0,0,0,0,0,1\r",
+            "mean 0,0,0,0,0,1\0",
+            "\ud800",
+            "mean ?",
+        ):
             self.assertEqual(database(8).answer(line), "error bad-line", line)
 
     def test_rooms(self) -> None:
-        """The longest list of results of 58 pips, and the longest reply: with the rooms that the header names, with one
-        less, with exactly enough, and with one less than that."""
+        """The longest list of results of 58 pips, and the longest reply: with the rooms that the
+        header names, with one less, with exactly enough, and with one less than that."""
         here, at, line = database(58), (3, 3, 2, 2, 2, 3), "moves 2,2,2,3,3,3 11"
         calls: List[Tuple[str, int, Callable[[], Any]]] = [
             ("RESULTS", 108, lambda: here.moves(at, (1, 1))),
@@ -150,7 +189,9 @@ class Answers(unittest.TestCase):
             for room in (getattr(_library, name) - 1, enough):
                 with mock.patch.object(_library, name, room):
                     self.assertEqual(ask(), told)
-            with mock.patch.object(_library, name, enough - 1), self.assertRaises(Refused) as refused:
+            with mock.patch.object(_library, name, enough - 1), self.assertRaises(
+                Refused
+            ) as refused:
                 ask()
             self.assertEqual(refused.exception.status, 8)
         self.assertEqual([here.answer(line)], replies(58, [line]))
@@ -197,7 +238,10 @@ class Tables:
 
     def distribution(self, rank: int) -> List[Fraction]:
         table = self.distributions
-        return [Fraction(wide(table[rank, rolls, 0], table[rank, rolls, 1]), WHOLE) for rolls in range(23)]
+        return [
+            Fraction(wide(table[rank, rolls, 0], table[rank, rolls, 1]), WHOLE)
+            for rolls in range(23)
+        ]
 
 
 class WholeTables(unittest.TestCase):
@@ -211,7 +255,9 @@ class WholeTables(unittest.TestCase):
                 (here.epcs(), "Q", (count, 5)),
                 (here.distributions(), "Q", (count, 23, 2)),
             ):
-                self.assertEqual((table.format, table.shape, table.c_contiguous), (format, shape, True))
+                self.assertEqual(
+                    (table.format, table.shape, table.c_contiguous), (format, shape, True)
+                )
 
     def test_every_row_of_58_pips(self) -> None:
         here, found = database(58), positions(58)
@@ -221,12 +267,15 @@ class WholeTables(unittest.TestCase):
             self.assertEqual(here.mean(position), Fraction(wide(high, low), WHOLE))
 
     def test_weights(self) -> None:
-        """Floats by the weights are as near to the exact numbers as the page says, also where one half is nothing."""
+        """Floats by the weights are as near to the exact numbers as the page says, also where one
+        half is nothing."""
         here = database(58)
         halves = [*pairs(here.means()), *pairs(here.distributions())[::29]]
         for high, low in halves:
             about = high * WEIGHTS[0] + low * WEIGHTS[1]
-            self.assertLessEqual(abs(about - wide(high, low) / WHOLE), 1e-15 * wide(high, low) / WHOLE)
+            self.assertLessEqual(
+                abs(about - wide(high, low) / WHOLE), 1e-15 * wide(high, low) / WHOLE
+            )
         self.assertTrue(any(high == 0 < low for high, low in halves))
 
     def test_a_table_belongs_to_the_caller(self) -> None:

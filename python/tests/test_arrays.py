@@ -88,13 +88,29 @@ class RanksOfRows(Rows):
         self.same(ranks.tolist(), [here.rank(counts) for counts in inside])
         for counts in all_of_them:
             if pips(counts) > 58:
-                self.refused([inside[0], counts], 4, f"more pips than the bound: {text(counts)} in row 1", 58)
+                self.refused(
+                    [inside[0], counts],
+                    4,
+                    f"more pips than the bound: {text(counts)} in row 1",
+                    58,
+                )
 
     def test_each_way_to_give_positions(self) -> None:
         here, rows = database(8), positions(8)
         wanted = list(range(64))
-        ways: List[Any] = [rows, [list(row) for row in rows], [text(row) for row in rows], tuple(rows), list(here)]
-        ways += [[bytes(row) for row in rows], here.positions(), here, [Position(*row) for row in rows]]
+        ways: List[Any] = [
+            rows,
+            [list(row) for row in rows],
+            [text(row) for row in rows],
+            tuple(rows),
+            list(here),
+        ]
+        ways += [
+            [bytes(row) for row in rows],
+            here.positions(),
+            here,
+            [Position(*row) for row in rows],
+        ]
         for way in ways:
             self.assertEqual(here.ranks(way).tolist(), wanted)
         self.assertEqual(here.ranks(iter(rows)).tolist(), wanted)  # type: ignore[arg-type]
@@ -104,13 +120,30 @@ class RanksOfRows(Rows):
 
     def test_refused(self) -> None:
         six, none = (0, 0, 0, 0, 0, 1), (0,) * 6
-        self.refused([six, none, (0, 0, 0, 0, 0, 16)], 3, "more than 15 checkers: 0,0,0,0,0,16 in row 2")
+        self.refused(
+            [six, none, (0, 0, 0, 0, 0, 16)], 3, "more than 15 checkers: 0,0,0,0,0,16 in row 2"
+        )
         self.refused([six, (1, 15, 0, 0, 0, 0)], 3, "more than 15 checkers: 1,15,0,0,0,0 in row 1")
         self.refused([(999,) * 6], 3, "more than 15 checkers: 999,999,999,999,999,999 in row 0")
-        self.refused([(1, 0, 0, 2, 0, 0), "9,0,0,0,0,0"], 4, "more pips than the bound: 1,0,0,2,0,0 in row 0")
+        self.refused(
+            [(1, 0, 0, 2, 0, 0), "9,0,0,0,0,0"],
+            4,
+            "more pips than the bound: 1,0,0,2,0,0 in row 0",
+        )
         for wrong in ((1,) * 5, None, "x", (0, 0, 0, 0, 0, -1), (0.0,) * 6, 7):
             self.bad([six, wrong], "in row 1")
-        for rows in (None, 5, 1.5, "0,0,0,0,0,1", b"\0" * 6, bytearray(6), object, memoryview(bytes(6)), {1: 2}, six):
+        for rows in (
+            None,
+            5,
+            1.5,
+            "0,0,0,0,0,1",
+            b"\0" * 6,
+            bytearray(6),
+            object,
+            memoryview(bytes(6)),
+            {1: 2},
+            six,
+        ):
             self.bad(rows)
 
     def test_a_table_of_its_own(self) -> None:
@@ -137,11 +170,15 @@ class RanksOfRows(Rows):
                     self.assertEqual((ranks.format, ranks.shape), ("H", (size,)))
                     self.same(ranks.tolist(), wanted)
             inside = numpy.array([counts for counts in every() if pips(counts) <= bound])
-            self.same(here.ranks(inside).tolist(), [here.rank(counts) for counts in inside.tolist()])
+            self.same(
+                here.ranks(inside).tolist(), [here.rank(counts) for counts in inside.tolist()]
+            )
             wide = numpy.zeros((100, 12), "int32")
             wide[:, ::2] = numpy.asarray(rows[:100] if bound > 8 else rows[:50] * 2)
             for way in (wide[:, ::2], numpy.asfortranarray(wide[:, ::2]), wide[::-1, ::2][::-1]):
-                self.same(here.ranks(way).tolist(), [here.rank(row) for row in wide[:, ::2].tolist()])
+                self.same(
+                    here.ranks(way).tolist(), [here.rank(row) for row in wide[:, ::2].tolist()]
+                )
         here, ones = database(8), numpy.eye(6, dtype=int)[:, ::-1]
         ranks_of_ones = [here.rank(row) for row in ones.tolist()]
         for other in ("bool", "object"):
@@ -159,7 +196,8 @@ class RanksOfRows(Rows):
                 table[place, 2] = 16
                 table[size - 1, 3] = most
                 first = table[place].tolist()
-                line = f"more than 15 checkers: {text([min(count, 999) for count in first])} in row {place}"
+                shown = text([min(count, 999) for count in first])
+                line = f"more than 15 checkers: {shown} in row {place}"
                 if max(first) > 999:
                     self.bad(table, f"in row {place}")
                 else:
@@ -171,7 +209,12 @@ class RanksOfRows(Rows):
                     with self.assertRaises((Refused, BadArgument)) as refused:
                         database(58).ranks(table)
                     self.assertIn("in row 1", str(refused.exception))
-            many = [(15, 1, 0, 0, 0, 0), (0, 0, 1, 15, 0, 0), (8, 0, 0, 0, 0, 8), (0, 0, 15, 15, 0, 0)]
+            many = [
+                (15, 1, 0, 0, 0, 0),
+                (0, 0, 1, 15, 0, 0),
+                (8, 0, 0, 0, 0, 8),
+                (0, 0, 15, 15, 0, 0),
+            ]
             for counts in (*many, (15,) * 6):
                 line = f"more than 15 checkers: {text(counts)} in row 0"
                 self.refused(numpy.array([counts], kind), 3, line, 58)
@@ -182,8 +225,17 @@ class RanksOfRows(Rows):
                 table = numpy.zeros((2, 6), kind)
                 table[1, point] = count
                 self.bad(table, "in row 1")
-        wrong = [numpy.zeros((2, 6)), numpy.zeros((2, 5), int), numpy.zeros((2, 7), int), numpy.zeros(6, int)]
-        wrong += [numpy.zeros((2, 6, 1), int), numpy.zeros((2, 6), complex), numpy.array([["0"] * 6])]
+        wrong = [
+            numpy.zeros((2, 6)),
+            numpy.zeros((2, 5), int),
+            numpy.zeros((2, 7), int),
+            numpy.zeros(6, int),
+        ]
+        wrong += [
+            numpy.zeros((2, 6, 1), int),
+            numpy.zeros((2, 6), complex),
+            numpy.array([["0"] * 6]),
+        ]
         for table in [*wrong, numpy.zeros((), int), numpy.zeros((2, 6), "datetime64[s]")]:
             self.bad(table, "not an array of six whole numbers in each row")
 
@@ -208,11 +260,17 @@ class RanksOfRows(Rows):
             sys.modules.pop("numpy", None)
             here = Database.build(8)
             self.assertEqual(here.ranks(here.positions()).tolist(), list(range(64)))
-            wide = memoryview(array("q", [0, 0, 0, 0, 0, 1, 1, 0, 0, 0, 0, 0])).cast("B").cast("q", (2, 6))
+            wide = (
+                memoryview(array("q", [0, 0, 0, 0, 0, 1, 1, 0, 0, 0, 0, 0]))
+                .cast("B")
+                .cast("q", (2, 6))
+            )
             self.assertEqual(here.ranks(wide).tolist(), [here.rank("0,0,0,0,0,1"), 1])
             with self.assertRaises(Refused) as refused:
                 here.ranks(memoryview(bytes([0] * 6 + [1, 15, 0, 0, 0, 0])).cast("B", (2, 6)))
-            self.assertEqual(str(refused.exception), "more than 15 checkers: 1,15,0,0,0,0 in row 1")
+            self.assertEqual(
+                str(refused.exception), "more than 15 checkers: 1,15,0,0,0,0 in row 1"
+            )
             for shape in ((2, 3, 2), (2, 5), (6,)):
                 wrong = memoryview(bytes(math.prod(shape))).cast("B", shape)
                 self.assertRaises(BadArgument, here.ranks, wrong)
@@ -227,9 +285,14 @@ class Floats(Rows):
                 (here.means(), here.means(floats=True)),
                 (here.epcs(), here.epcs(floats=True)),
                 (here.wastages(), here.wastages(floats=True)),
-                *((here.withins(rolls), here.withins(rolls, floats=True)) for rolls in (0, 1, 5, 7, 21, 22)),
+                *(
+                    (here.withins(rolls), here.withins(rolls, floats=True))
+                    for rolls in (0, 1, 5, 7, 21, 22)
+                ),
             ):
-                self.assertEqual((floats.format, floats.shape, floats.c_contiguous), ("d", (count,), True))
+                self.assertEqual(
+                    (floats.format, floats.shape, floats.c_contiguous), ("d", (count,), True)
+                )
                 self.same(floats.tolist(), [float(number) for number in exact(table)])
             shares = here.distributions(floats=True)
             self.assertEqual((shares.format, shares.shape), ("d", (count, 23)))
@@ -245,7 +308,10 @@ class Floats(Rows):
         self.assertEqual((table.format, table.shape), ("Q", (46062, 5)))
         told = exact(table)
         self.same(told, [epc - pips(row) for epc, row in zip(epcs, rows)])
-        flat, of_epcs = table.cast("B").cast("Q").tolist(), here.epcs().cast("B").cast("Q").tolist()
+        flat, of_epcs = (
+            table.cast("B").cast("Q").tolist(),
+            here.epcs().cast("B").cast("Q").tolist(),
+        )
         self.same(flat[4::5], [told - 1000 * pips(row) for told, row in zip(of_epcs[4::5], rows)])
         self.same(flat[2::5], of_epcs[2::5])
         self.same(flat[3::5], of_epcs[3::5])
@@ -255,22 +321,36 @@ class Floats(Rows):
         chance = random.Random(4)
         for rank in [0, 1, 6, *(chance.randrange(46062) for _ in range(1000))]:
             wastage = here.wastage(rows[rank])
-            self.assertEqual((wastage.exact, wastage.thousandths), (told[rank], flat[5 * rank + 4]))
+            self.assertEqual(
+                (wastage.exact, wastage.thousandths), (told[rank], flat[5 * rank + 4])
+            )
         self.assertEqual(here.wastage("0,0,0,0,0,1"), (Fraction(101, 24), 4208))
 
     def test_withins(self) -> None:
         for bound in (8, 44):
             here, rows = database(bound), positions(bound)
-            some = sorted({0, 1, 2, len(rows) - 1, *(random.Random(5).randrange(len(rows)) for _ in range(300))})
+            some = sorted(
+                {
+                    0,
+                    1,
+                    2,
+                    len(rows) - 1,
+                    *(random.Random(5).randrange(len(rows)) for _ in range(300)),
+                }
+            )
             for rolls in range(24):
                 table = here.withins(rolls)
                 self.assertEqual((table.format, table.shape), ("Q", (len(rows), 2)))
                 told = exact(table)
                 for rank in some:
                     wanted = sum(here.distribution(rows[rank])[: rolls + 1])
-                    self.assertEqual((told[rank], here.within(rows[rank], rolls)), (wanted, wanted))
+                    self.assertEqual(
+                        (told[rank], here.within(rows[rank], rolls)), (wanted, wanted)
+                    )
         self.assertEqual(database(8).within("5,0,0,0,0,0", 2), Fraction(11, 36))
-        self.assertEqual([database(8).within("5,0,0,0,0,0", rolls) for rolls in (0, 1, 3, 22)], [0, 0, 1, 1])
+        self.assertEqual(
+            [database(8).within("5,0,0,0,0,0", rolls) for rolls in (0, 1, 3, 22)], [0, 0, 1, 1]
+        )
         self.assertEqual(database(8).within((0,) * 6, 0), 1)
 
     def test_a_table_belongs_to_the_caller(self) -> None:
@@ -285,7 +365,9 @@ class Floats(Rows):
 class Singles(Rows):
     def test_standing(self) -> None:
         for counts in every():
-            self.assertEqual(Database.standing(counts), (pips(counts), sum(counts), 15 - sum(counts)))
+            self.assertEqual(
+                Database.standing(counts), (pips(counts), sum(counts), 15 - sum(counts))
+            )
         standing = database(8).standing("0,0,0,0,9,6")
         self.assertEqual((standing.pips, standing.checkers, standing.off), (81, 15, 0))
 
@@ -308,7 +390,9 @@ class Singles(Rows):
                 recorded = here.play(position, roll)
                 self.assertEqual(here.play_to(position, roll, recorded.to), recorded)
         self.assertEqual(here.play_to("0,0,0,2,0,0", "12", "0,1,1,0,0,0").text, "4/2 4/3")
-        self.assertEqual(here.play_to("0,0,0,0,0,15", "66", "0,0,0,0,0,11").text, "6/off 6/off 6/off 6/off")
+        self.assertEqual(
+            here.play_to("0,0,0,0,0,15", "66", "0,0,0,0,0,11").text, "6/off 6/off 6/off 6/off"
+        )
 
     def test_texts(self) -> None:
         """Blanks may stand around and between counts and dice."""

@@ -25,12 +25,31 @@ def made(numerator: int, denominator: int) -> Fraction:
 
 # a fraction, how it is to be written, and the text
 WRITTEN = (
-    *((5, 4, ".3f", "1.250"), (5, 4, ".1f", "1.2"), (15, 4, ".1f", "3.8"), (1, 2, ".0f", "0"), (3, 2, ".0f", "2")),
+    *(
+        (5, 4, ".3f", "1.250"),
+        (5, 4, ".1f", "1.2"),
+        (15, 4, ".1f", "3.8"),
+        (1, 2, ".0f", "0"),
+        (3, 2, ".0f", "2"),
+    ),
     *((-1, 8, ".2f", "-0.12"), (-3, 8, ".2f", "-0.38"), (2, 3, ".0f", "1"), (0, 1, ".2f", "0.00")),
     (1, 3, "f", "0.333333"),
-    *((-1, 1000, ".2f", "-0.00"), (1, 3, ".1%", "33.3%"), (1, 3, "%", "33.333333%"), (1, 8, ".0%", "12%")),
-    *((245, 24, "10.3f", "    10.208"), (245, 24, "<10.3f", "10.208    "), (245, 24, "^10.2f", "  10.21   ")),
-    *((245, 24, "*>9.2f", "****10.21"), (245, 24, "08.3f", "0010.208"), (245, 24, "+.1f", "+10.2")),
+    *(
+        (-1, 1000, ".2f", "-0.00"),
+        (1, 3, ".1%", "33.3%"),
+        (1, 3, "%", "33.333333%"),
+        (1, 8, ".0%", "12%"),
+    ),
+    *(
+        (245, 24, "10.3f", "    10.208"),
+        (245, 24, "<10.3f", "10.208    "),
+        (245, 24, "^10.2f", "  10.21   "),
+    ),
+    *(
+        (245, 24, "*>9.2f", "****10.21"),
+        (245, 24, "08.3f", "0010.208"),
+        (245, 24, "+.1f", "+10.2"),
+    ),
     *((245, 24, " .1f", " 10.2"), (123456789, 4, ",.2f", "30,864,197.25"), (5, 4, ".3F", "1.250")),
     *((999, 1000, ".2f", "1.00"), (199, 2, ".0f", "100"), (5, 4, "", "5/4"), (5, 4, "g", "1.25")),
     *((5, 4, "e", "1.250000e+00"), (5, 4, ".2E", "1.25E+00"), (1, 3, ".3g", "0.333")),
@@ -65,12 +84,17 @@ class Written(unittest.TestCase):
 
     def test_every_number_of_the_package(self) -> None:
         here, six = database(8), "0,0,0,0,0,1"
-        self.assertEqual(f"{here.mean(six):.3f} {here.epc(six):.3f} {here.wastage(six):.3f}", "1.250 10.208 4.208")
+        self.assertEqual(
+            f"{here.mean(six):.3f} {here.epc(six):.3f} {here.wastage(six):.3f}",
+            "1.250 10.208 4.208",
+        )
         self.assertEqual((float(here.epc(six)), float(here.wastage(six))), (245 / 24, 101 / 24))
         self.assertEqual(f"{here.within('5,0,0,0,0,0', 2):.1%}", "30.6%")
         self.assertEqual(f"{here.distribution('5,0,0,0,0,0')[3]:.4f}", "0.6944")
         self.assertEqual(f"{here.loss('0,0,0,2,0,0', '21', '0,1,1,0,0,0'):.2f}", "0.11")
-        self.assertEqual([f"{choice.loss:.2f}" for choice in here.moves("0,0,0,2,0,0", "21")], ["0.00", "0.11"])
+        self.assertEqual(
+            [f"{choice.loss:.2f}" for choice in here.moves("0,0,0,2,0,0", "21")], ["0.00", "0.11"]
+        )
         self.assertEqual(f"{here.epc(six)}", str(here.epc(six)))
         self.assertEqual(f"{here.epc(six):.30f}", "10.208" + "3" * 27)
         self.assertEqual(f"{share_of_whole(0, 0):.1f}", "0.0")
@@ -97,9 +121,15 @@ class Computed(unittest.TestCase):
                 (7, one, operator(7, plain)),
             ):
                 told = operator(left, right)
-                self.assertEqual((told, hash(told), repr(told)), (wanted, hash(wanted), repr(wanted)))
-                self.assertEqual(format(told, ".1f"), format(made(told.numerator, told.denominator), ".1f"))
-            self.assertEqual((type(operator(one, 0.5)), operator(one, 0.5)), (float, operator(plain, 0.5)))
+                self.assertEqual(
+                    (told, hash(told), repr(told)), (wanted, hash(wanted), repr(wanted))
+                )
+                self.assertEqual(
+                    format(told, ".1f"), format(made(told.numerator, told.denominator), ".1f")
+                )
+            self.assertEqual(
+                (type(operator(one, 0.5)), operator(one, 0.5)), (float, operator(plain, 0.5))
+            )
         unary: List[Callable[[Any], Any]] = [lambda it: -it, lambda it: +it, abs]
         unary += [lambda it: it**3, lambda it: round(it, 1)]
         for call in unary:
@@ -107,16 +137,22 @@ class Computed(unittest.TestCase):
                 told = call(number)
                 self.assertEqual((told, repr(told)), (call(same), repr(call(same))))
                 self.assertRegex(f"{told:.3f}", r"^-?[0-9]+\.[0-9]{3}$")
-        self.assertEqual((round(one), int(one), float(one), one // 1, one == plain), (1, 1, 1.25, 1, True))
+        self.assertEqual(
+            (round(one), int(one), float(one), one // 1, one == plain), (1, 1, 1.25, 1, True)
+        )
         shares = database(44).distribution("1,2,3,0,2,1")
-        self.assertEqual(f"{sum(shares):.2f} {sum(shares[:3]):.2f} {max(shares):.2f}".split()[0], "1.00")
+        self.assertEqual(
+            f"{sum(shares):.2f} {sum(shares[:3]):.2f} {max(shares):.2f}".split()[0], "1.00"
+        )
         pips = f"{database(44).mean('1,2,3,0,2,1') * 49 / 6:.6f}"
         self.assertEqual(pips, f"{database(44).epc('1,2,3,0,2,1'):.6f}")
 
     def test_copies(self) -> None:
         for number in (made(5, 4), *(database(44).mean(at) for at in positions(8))):
             for other in (copy(number), deepcopy(number), pickle.loads(pickle.dumps(number))):
-                self.assertEqual((other, repr(other), f"{other:.3f}"), (number, repr(number), f"{number:.3f}"))
+                self.assertEqual(
+                    (other, repr(other), f"{other:.3f}"), (number, repr(number), f"{number:.3f}")
+                )
             self.assertIsInstance(number, fractions.Fraction)
             self.assertEqual(repr(number), repr(Fraction(number.numerator, number.denominator)))
 

@@ -32,10 +32,26 @@ NAMES = ("long", "short", "three", "money")
 # the bearoff plays of the stored match: the move, the player, the position, the roll and where it
 # led to
 WANTED = (
-    ("15 1 2,3,3,3,3,1 51 1,3,3,3,2,1", "16 1 1,3,3,3,2,1 63 1,3,2,3,2,0", "17 1 1,3,2,3,2,0 41 0,3,2,2,2,0"),
-    ("18 0 0,2,1,1,5,3 63 0,2,0,1,5,2", "18 1 0,3,2,2,2,0 63 0,3,1,2,1,0", "19 0 0,2,0,1,5,2 51 1,1,0,1,4,2"),
-    ("19 1 0,3,1,2,1,0 32 0,2,0,2,1,0", "20 0 1,1,0,1,4,2 42 1,0,0,0,4,2", "20 1 0,2,0,2,1,0 22 0,0,0,1,1,0"),
-    ("21 0 1,0,0,0,4,2 32 1,0,0,0,3,2", "21 1 0,0,0,1,1,0 21 0,1,0,1,0,0", "22 0 1,0,0,0,3,2 53 1,0,1,0,2,1"),
+    (
+        "15 1 2,3,3,3,3,1 51 1,3,3,3,2,1",
+        "16 1 1,3,3,3,2,1 63 1,3,2,3,2,0",
+        "17 1 1,3,2,3,2,0 41 0,3,2,2,2,0",
+    ),
+    (
+        "18 0 0,2,1,1,5,3 63 0,2,0,1,5,2",
+        "18 1 0,3,2,2,2,0 63 0,3,1,2,1,0",
+        "19 0 0,2,0,1,5,2 51 1,1,0,1,4,2",
+    ),
+    (
+        "19 1 0,3,1,2,1,0 32 0,2,0,2,1,0",
+        "20 0 1,1,0,1,4,2 42 1,0,0,0,4,2",
+        "20 1 0,2,0,2,1,0 22 0,0,0,1,1,0",
+    ),
+    (
+        "21 0 1,0,0,0,4,2 32 1,0,0,0,3,2",
+        "21 1 0,0,0,1,1,0 21 0,1,0,1,0,0",
+        "22 0 1,0,0,0,3,2 53 1,0,1,0,2,1",
+    ),
     ("22 1 0,1,0,1,0,0 32 1,0,0,0,0,0",),
 )
 
@@ -61,13 +77,16 @@ def played() -> Dict[str, Tuple[str, List[Dict[str, Any]], str]]:
 
 def rows(graded: Graded) -> List[str]:
     return [
-        f"{play.move} {play.player} {play.position} {play.dice[0]}{play.dice[1]} {play.to}" for play in graded.plays
+        f"{play.move} {play.player} {play.position} {play.dice[0]}{play.dice[1]} {play.to}"
+        for play in graded.plays
     ]
 
 
 def asked(graded: Graded) -> List[str]:
     """What the program is asked of each play."""
-    return [f"loss {play.position} {play.dice[0]}{play.dice[1]} {play.to}" for play in graded.plays]
+    return [
+        f"loss {play.position} {play.dice[0]}{play.dice[1]} {play.to}" for play in graded.plays
+    ]
 
 
 def of_text(match: str, bound: int = 58) -> Graded:
@@ -87,7 +106,13 @@ def as_xg(match: str) -> str:
     """The same match as XG spells it: words for the bar and for off, moves that are alike once,
     moves of one checker joined, wider columns, and another head.
     """
-    lines = ['; [Site "Somewhere"]', '; [Player 1 "A"]', '; [Variation "Backgammon"]', '; [CubeLimit "1024"]', ""]
+    lines = [
+        '; [Site "Somewhere"]',
+        '; [Player 1 "A"]',
+        '; [Variation "Backgammon"]',
+        '; [CubeLimit "1024"]',
+        "",
+    ]
     for line in match.split("\n"):
         told = re.fullmatch(r"( *\d+\))(.{28})(.*)", line)
         if not told:
@@ -116,11 +141,18 @@ def spelt(move: str) -> str:
 class Stored(unittest.TestCase):
     def test_what_it_has(self) -> None:
         match = read_match(SHORT)
-        self.assertEqual((match.length, match.names, match.games, len(match.plays)), (1, ("gnubg", "root"), 1, 43))
+        self.assertEqual(
+            (match.length, match.names, match.games, len(match.plays)),
+            (1, ("gnubg", "root"), 1, 43),
+        )
         first = match.plays[0]
-        self.assertEqual((first.game, first.move, first.line, first.player, first.dice), (1, 1, 7, 1, (6, 4)))
+        self.assertEqual(
+            (first.game, first.move, first.line, first.player, first.dice), (1, 1, 7, 1, (6, 4))
+        )
         self.assertEqual((first.text, first.is_bearoff), ("24/18 18/14", False))
-        self.assertEqual([point for point in range(26) if first.before[point] != first.after[point]], [14, 24])
+        self.assertEqual(
+            [point for point in range(26) if first.before[point] != first.after[point]], [14, 24]
+        )
         graded = grade(match, database(58))
         self.assertEqual(rows(graded), [row for part in WANTED for row in part])
         self.assertEqual([graded.length, graded.games, graded.bound], [1, 1, 58])
@@ -130,18 +162,26 @@ class Stored(unittest.TestCase):
         self.assertEqual([player.losing for player in graded.players], [1, 0])
         self.assertEqual([player.over_bound for player in graded.players], [1, 0])
         lost = [play for play in graded.plays if play.loss]
-        self.assertEqual([(play.move, play.text, play.best.text) for play in lost], [(19, "5/0 2/1", "5/off 5/4")])
+        self.assertEqual(
+            [(play.move, play.text, play.best.text) for play in lost],
+            [(19, "5/0 2/1", "5/off 5/4")],
+        )
 
     def test_losses_are_those_of_the_program(self) -> None:
         for bound in (44, 58):
             graded = of_text(SHORT, bound)
             told = [Fraction(reply.split()[1]) for reply in replies(bound, asked(graded))]
             self.assertEqual([play.loss for play in graded.plays], told)
-            self.assertEqual([play.pips for play in graded.plays], [loss * 49 / 6 for loss in told])
+            self.assertEqual(
+                [play.pips for play in graded.plays], [loss * 49 / 6 for loss in told]
+            )
             for side, player in enumerate(graded.players):
                 lost = sum(loss for play, loss in zip(graded.plays, told) if play.player == side)
                 self.assertEqual((player.loss, player.pips), (lost, lost * Fraction(49, 6)))
-                over = sum(row.split()[1] == str(side) for part in WANTED for row in part) - player.plays
+                over = (
+                    sum(row.split()[1] == str(side) for part in WANTED for row in part)
+                    - player.plays
+                )
                 self.assertEqual(player.over_bound, over + (side == 0))
 
     def test_over_the_bound(self) -> None:
@@ -149,10 +189,14 @@ class Stored(unittest.TestCase):
         out.
         """
         for bound in (8, 44, 58):
-            graded, turns = of_text(SHORT, bound), [play for play in read_match(SHORT).plays if play.is_bearoff]
+            graded, turns = of_text(SHORT, bound), [
+                play for play in read_match(SHORT).plays if play.is_bearoff
+            ]
             for side in (0, 1):
                 pips = [turn.position.pips for turn in turns if turn.player == side]
-                self.assertEqual(graded.players[side].over_bound, sum(count > bound for count in pips))
+                self.assertEqual(
+                    graded.players[side].over_bound, sum(count > bound for count in pips)
+                )
                 self.assertEqual(graded.players[side].plays, sum(count <= bound for count in pips))
 
     def test_other_spellings(self) -> None:
@@ -173,9 +217,13 @@ class Stored(unittest.TestCase):
         for other in others:
             graded = of_text(other)
             self.assertEqual(rows(graded), rows(wanted))
-            self.assertEqual([play.loss for play in graded.plays], [play.loss for play in wanted.plays])
+            self.assertEqual(
+                [play.loss for play in graded.plays], [play.loss for play in wanted.plays]
+            )
             self.assertEqual(graded.players, wanted.players)
-        named = of_text(SHORT.replace("gnubg : 0", "A: 5  B : 0").replace(" root : 0", "J\u00fcrgen N. : 12"))
+        named = of_text(
+            SHORT.replace("gnubg : 0", "A: 5  B : 0").replace(" root : 0", "J\u00fcrgen N. : 12")
+        )
         self.assertEqual([player.name for player in named.players], ["A: 5  B", "J\u00fcrgen N."])
 
     def test_what_is_saved(self) -> None:
@@ -190,16 +238,19 @@ class Stored(unittest.TestCase):
             self.assertIn("WB"[play.player] + "[{}{}".format(*play.dice), lines[play.line - 1])
         twice = SAVED.rstrip() + SAVED.rstrip().replace("PW[gnubg]", "PW[gnu\\bg]")
         self.assertEqual((read_match(twice).games, len(read_match(twice).plays)), (2, 86))
-        self.assertEqual(read_match("\ufeff\n " + SAVED).plays, tuple(
-            play._replace(line=play.line + 1) for play in other.plays
-        ))
+        self.assertEqual(
+            read_match("\ufeff\n " + SAVED).plays,
+            tuple(play._replace(line=play.line + 1) for play in other.plays),
+        )
         unplayed = SAVED.rstrip().rstrip(")") + ";PL[W]DI[54])\n"
         self.assertEqual(read_match(unplayed), other)
 
     def test_two_checkers_that_hit(self) -> None:
         begun = "\n".join(SHORT.split("\n")[:6])
         for hits in ("6/2* 6/2", "6/2*(2)", "6/2 6/2"):
-            match = read_match(f"{begun}\n  1) 21: 24/23 13/11             44: {hits} 8/4(2)\n  2) 11:")
+            match = read_match(
+                f"{begun}\n  1) 21: 24/23 13/11             44: {hits} 8/4(2)\n  2) 11:"
+            )
             self.assertEqual((match.plays[1].after[2], match.plays[2].before[23:]), (2, (0, 1, 1)))
 
     def test_a_roll_without_a_play(self) -> None:
@@ -208,7 +259,10 @@ class Stored(unittest.TestCase):
         """
         resigned = changed(28, "53: 5/0 6/3                 32: 2/0 4/1", "53: ")
         self.assertEqual(rows(of_text(resigned)), rows(of_text(SHORT))[:-2])
-        again = resigned + "\n\n Game 2\n gnubg : 0                      root : 0\n  1) 21: 13/11 24/23\n"
+        again = (
+            resigned
+            + "\n\n Game 2\n gnubg : 0                      root : 0\n  1) 21: 13/11 24/23\n"
+        )
         self.assertEqual(rows(of_text(again)), rows(of_text(SHORT))[:-2])
         with self.assertRaises(BadMatch) as refused:
             of_text(changed(28, "5/0 6/3", "       "))
@@ -262,15 +316,35 @@ class Refusals(unittest.TestCase):
             (changed(5, "Game 1", "Game 2"), 5, "it should be game 1"),
             (changed(5, "Game 1", ""), 6, "a game begins with its number"),
             (changed(6, "root : 0", "root 0"), 6, "names both players"),
-            (changed(6, "gnubg : 0                      root : 0", "  1) 31: 8/5 6/5"), 6, "names both players"),
+            (
+                changed(6, "gnubg : 0                      root : 0", "  1) 31: 8/5 6/5"),
+                6,
+                "names both players",
+            ),
             (changed(6, "gnubg", "A : 5 B"), 6, "where one name ends can't be told"),
             (changed(8, " 2)", " 3)"), 8, "it should be move 2"),
             (changed(8, " 2)", " 1)"), 8, "it should be move 2"),
             (changed(8, " 2)", " 2"), 8, "neither a numbered move nor the end of a game"),
-            (changed(8, " 2) 32", " 2)      32"), 8, "whose column the move stands in can't be told"),
-            (changed(8, "43: 25/21 24/21", "43: 25/21 24/21 65: 24/13"), 8, "there are more entries than columns"),
-            (changed(7, "64: 24/18 18/14", "64: 24/18 18/14 11:"), 7, "there are more entries than columns"),
-            (changed(9, "21/20 24/20", "21/20 24/x"), 9, "neither a roll nor a double nor what answers one: 24/x"),
+            (
+                changed(8, " 2) 32", " 2)      32"),
+                8,
+                "whose column the move stands in can't be told",
+            ),
+            (
+                changed(8, "43: 25/21 24/21", "43: 25/21 24/21 65: 24/13"),
+                8,
+                "there are more entries than columns",
+            ),
+            (
+                changed(7, "64: 24/18 18/14", "64: 24/18 18/14 11:"),
+                7,
+                "there are more entries than columns",
+            ),
+            (
+                changed(9, "21/20 24/20", "21/20 24/x"),
+                9,
+                "neither a roll nor a double nor what answers one: 24/x",
+            ),
             (changed(9, "41:", "47:"), 9, "neither a roll nor a double nor what answers one: 47:"),
             (changed(9, "41: 21/20 24/20", "41: ????"), 9, "neither a roll nor a double"),
             (changed(9, "41: 21/20 24/20", "Doubles => two"), 9, "neither a roll nor a double"),
@@ -278,8 +352,16 @@ class Refusals(unittest.TestCase):
             (changed(9, "24/20", "24/24"), 9, "no checker moves so: 24/24"),
             (changed(9, "24/20", "26/22"), 9, "no checker moves so: 26/22"),
             (changed(9, "24/20", "Cannot Move"), 9, "not a move: Cannot"),
-            (SHORT + "\n Game 2\n gnubg : 0          boot : 1\n", end + 1, "are others than those before"),
-            (SHORT + "\n Game 2\n\n Game 3\n", end + 2, "the players of the game before aren't named"),
+            (
+                SHORT + "\n Game 2\n gnubg : 0          boot : 1\n",
+                end + 1,
+                "are others than those before",
+            ),
+            (
+                SHORT + "\n Game 2\n\n Game 3\n",
+                end + 2,
+                "the players of the game before aren't named",
+            ),
             (SHORT + "\n Game 2\n", end + 2, "the file ends before a game has begun"),
             (SHORT + "\n 5 point match\n", end, "a second match begins"),
         ):
@@ -291,17 +373,49 @@ class Refusals(unittest.TestCase):
             (changed(8, "24/21 13/11*", "24/21 22/20"), 8, "gnubg has no checker on point 22"),
             (changed(8, "25/21 24/21", "13/9 13/10"), 8, "root moves with a checker on the bar"),
             (changed(9, "21/20 24/20", "25/24 24/20"), 9, "gnubg has no checker on the bar"),
-            (changed(7, "24/18 18/14", "13/7 24/19"), 7, "on point 19 stand 5 checkers of the other player"),
+            (
+                changed(7, "24/18 18/14", "13/7 24/19"),
+                7,
+                "on point 19 stand 5 checkers of the other player",
+            ),
             (changed(7, "24/18 18/14", "24/18* 18/14"), 7, "no checker can be hit on point 18"),
-            (changed(7, "24/18 18/14", "24/18 6/1"), 7, "on point 1 stand 2 checkers of the other player"),
+            (
+                changed(7, "24/18 18/14", "24/18 6/1"),
+                7,
+                "on point 1 stand 2 checkers of the other player",
+            ),
             (changed(10, "15/9 15/9", "15/9 15/2"), 10, "the play is of more pips than the roll"),
-            (changed(22, "12/9 9/6 3/0 3/0", "12/8 3/0"), 22, "gnubg bears off with a checker outside the home board"),
+            (
+                changed(22, "12/9 9/6 3/0 3/0", "12/8 3/0"),
+                22,
+                "gnubg bears off with a checker outside the home board",
+            ),
             (changed(7, "24/18 18/14", "24/13"), 7, "the play is of more pips than the roll"),
-            (changed(10, "21/15 21/15 15/9 15/9", "21/15(4)"), 10, "root has no checker on point 21"),
-            (changed(20, "13/11 11/5", "6/0 6/4"), 20, "gnubg bears off with a checker outside the home board"),
-            (changed(25, "5/0 2/1", "5/0"), 25, "no play of 51 leads from 0,2,0,1,5,2 to 0,2,0,1,4,2"),
-            (changed(28, "2/0 4/1", "4/2"), 28, "no play of 32 leads from 0,1,0,1,0,0 to 0,2,0,0,0,0"),
-            (changed(28, "5/0 6/3", "Cannot Move"), 28, "no play of 53 leads from 1,0,0,0,3,2 to 1,0,0,0,3,2"),
+            (
+                changed(10, "21/15 21/15 15/9 15/9", "21/15(4)"),
+                10,
+                "root has no checker on point 21",
+            ),
+            (
+                changed(20, "13/11 11/5", "6/0 6/4"),
+                20,
+                "gnubg bears off with a checker outside the home board",
+            ),
+            (
+                changed(25, "5/0 2/1", "5/0"),
+                25,
+                "no play of 51 leads from 0,2,0,1,5,2 to 0,2,0,1,4,2",
+            ),
+            (
+                changed(28, "2/0 4/1", "4/2"),
+                28,
+                "no play of 32 leads from 0,1,0,1,0,0 to 0,2,0,0,0,0",
+            ),
+            (
+                changed(28, "5/0 6/3", "Cannot Move"),
+                28,
+                "no play of 53 leads from 1,0,0,0,3,2 to 1,0,0,0,3,2",
+            ),
         ):
             self.refused(match, "illegal", line, what)
 
@@ -324,9 +438,24 @@ class Refusals(unittest.TestCase):
             (other("GM[6]", "GM[1]"), "variation", 1, "and not the game 1"),
             (other("DT[", "RU[NackGammon]DT["), "variation", 1, "and not NackGammon"),
             (other("DT[", "RU[Crawford:Jacoby:X]DT["), "variation", 1, "and not X"),
-            (other("[length:1]", "[length:x]"), "malformed", 1, "the length of the match isn't told"),
-            (SAVED.rstrip() + other("[length:1]", "[length:3]"), "malformed", end, "or is another one"),
-            (SAVED.rstrip() + other("PB[root]", "PB[Bob]"), "malformed", end, "are others than those"),
+            (
+                other("[length:1]", "[length:x]"),
+                "malformed",
+                1,
+                "the length of the match isn't told",
+            ),
+            (
+                SAVED.rstrip() + other("[length:1]", "[length:3]"),
+                "malformed",
+                end,
+                "or is another one",
+            ),
+            (
+                SAVED.rstrip() + other("PB[root]", "PB[Bob]"),
+                "malformed",
+                end,
+                "are others than those",
+            ),
             (head + "\n;W[31hefe](;B[21])", "malformed", 2, "a game has variations"),
             (head + "\n;AE[a:y])", "malformed", 2, "a position is set up"),
             (head + "\n;W[31hefe]\n;W[31hefe])", "turn", 3, "the same player rolls twice"),
@@ -349,12 +478,21 @@ class Refusals(unittest.TestCase):
         done = "\n 23) 31: 1/0 3/0                 62: 1/0\n 24) 65: 5/0 5/0\n"
         again = SHORT.rstrip("\n").rpartition("\n")[0] + done
         self.refused(again, "turn", again.count("\n"), "a player has borne off all checkers")
-        self.refused(changed(8, "32: 24/21 13/11*", " " * 16), "turn", 8, "the same player rolls twice")
+        self.refused(
+            changed(8, "32: 24/21 13/11*", " " * 16), "turn", 8, "the same player rolls twice"
+        )
 
     def test_other_games(self) -> None:
         for variation in ("NackGammon", "Hypergammon (3)", ""):
-            self.refused(f'; [Variation "{variation}"]\n{SHORT}', "variation", 1, "only backgammon is graded")
-        self.assertEqual(rows(of_text(f'; [Variation "Backgammon"]\n{SHORT}')), rows(of_text(SHORT)))
+            self.refused(
+                f'; [Variation "{variation}"]\n{SHORT}',
+                "variation",
+                1,
+                "only backgammon is graded",
+            )
+        self.assertEqual(
+            rows(of_text(f'; [Variation "Backgammon"]\n{SHORT}')), rows(of_text(SHORT))
+        )
 
     def test_any_text(self) -> None:
         """Whatever stands in a line, the match is read or refused by that line or a later one."""
@@ -379,7 +517,9 @@ class Played(unittest.TestCase):
             for play, turn in zip(told.plays, turns):
                 with self.subTest(match=name, line=play.line):
                     mine, other = notation._sides_of(turn["board"], "")
-                    self.assertEqual(("XO"[play.player], list(play.dice)), (turn["player"], turn["dice"]))
+                    self.assertEqual(
+                        ("XO"[play.player], list(play.dice)), (turn["player"], turn["dice"])
+                    )
                     sides = list(play.before[1:]), list(play.other[1:])
                     self.assertEqual((play.game, *sides), (turn["game"], mine, other))
 
@@ -390,13 +530,17 @@ class Played(unittest.TestCase):
                 graded = of_text(match, bound)
                 told = [Fraction(reply.split()[1]) for reply in replies(bound, asked(graded))]
                 self.assertEqual([play.loss for play in graded.plays], told, name)
-                best = [f"play {play.position} {play.dice[0]}{play.dice[1]}" for play in graded.plays]
+                best = [
+                    f"play {play.position} {play.dice[0]}{play.dice[1]}" for play in graded.plays
+                ]
                 written = [f"play {play.best.text} to {play.best.to}" for play in graded.plays]
                 self.assertEqual(written, replies(bound, best), name)
                 for side in (0, 1):
                     mine = [loss for play, loss in zip(graded.plays, told) if play.player == side]
                     player = graded.players[side]
-                    self.assertEqual((player.plays, player.losing), (len(mine), sum(loss > 0 for loss in mine)))
+                    self.assertEqual(
+                        (player.plays, player.losing), (len(mine), sum(loss > 0 for loss in mine))
+                    )
                     self.assertEqual(player.loss, sum(mine))
                 count, lost = count + len(told), lost + sum(loss > 0 for loss in told)
         self.assertGreater(count, 100)
@@ -419,7 +563,9 @@ class Played(unittest.TestCase):
                 last = number + 1 == len(turns) or turns[number + 1]["game"] != turn["game"]
                 high = max(point for point in range(25) if mine[point])
                 # the points of the other player from this one's side; the bar is behind them
-                is_past = all(23 - point > high for point in range(24) if other[point]) and not other[24]
+                is_past = (
+                    all(23 - point > high for point in range(24) if other[point]) and not other[24]
+                )
                 pips = sum((point + 1) * count for point, count in enumerate(mine))
                 if high < 6 and is_past and pips <= 58 and not (last and not plays[number].text):
                     wanted.append(text(mine[:6]))
@@ -427,7 +573,9 @@ class Played(unittest.TestCase):
 
 
 class Command(unittest.TestCase):
-    def run_it(self, *words: str, environment: Optional[Dict[str, str]] = None) -> "subprocess.CompletedProcess[str]":
+    def run_it(
+        self, *words: str, environment: Optional[Dict[str, str]] = None
+    ) -> "subprocess.CompletedProcess[str]":
         return subprocess.run(
             [sys.executable, "-m", "bearoff", *words],
             cwd=ROOT / "python",
@@ -443,7 +591,9 @@ class Command(unittest.TestCase):
         self.assertEqual((run.returncode, run.stdout, run.stderr), (0, graded.table(), ""))
         lines = run.stdout.split("\n")
         self.assertEqual(lines[0].split()[:5], ["game", "move", "player", "position", "roll"])
-        self.assertEqual(lines[6].split(), "1 19 gnubg 0,2,0,1,5,2 51 5/0 2/1 0.0249 0.203 5/off 5/4".split())
+        self.assertEqual(
+            lines[6].split(), "1 19 gnubg 0,2,0,1,5,2 51 5/0 2/1 0.0249 0.203 5/off 5/4".split()
+        )
         self.assertEqual(lines[7].split(), "1 19 root 0,3,1,2,1,0 32 3/0 2/0 0.0000 0.000".split())
         self.assertEqual(lines[-6].split(), "gnubg 5 5 1 0.0249 0.203 1".split())
         self.assertEqual(lines[-5].split(), "root 8 8 0 0.0000 0.000 0".split())
@@ -465,23 +615,35 @@ class Command(unittest.TestCase):
         graded, told = of_text(SHORT), json.loads(run.stdout)
         self.assertEqual((run.returncode, run.stderr), (0, ""))
         self.assertEqual(
-            [told["match_length"], told["games"], told["bound"], told["note"]], [1, 1, 58, grading.NOTE]
+            [told["match_length"], told["games"], told["bound"], told["note"]],
+            [1, 1, 58, grading.NOTE],
         )
         self.assertEqual(len(told["plays"]), len(graded.plays))
         for row, play in zip(told["plays"], graded.plays):
-            self.assertEqual((row["game"], row["move"], row["line"]), (play.game, play.move, play.line))
+            self.assertEqual(
+                (row["game"], row["move"], row["line"]), (play.game, play.move, play.line)
+            )
             told_of = (play.player, [*play.position], [*play.dice])
             self.assertEqual((row["player"], row["position"], row["roll"]), told_of)
-            self.assertEqual((row["play"], row["to"], row["choices"]), (play.text, [*play.to], play.choices))
+            self.assertEqual(
+                (row["play"], row["to"], row["choices"]), (play.text, [*play.to], play.choices)
+            )
             self.assertEqual((row["best"], row["best_to"]), (play.best.text, [*play.best.to]))
             self.compare_losses(row, play.loss)
         for row, player in zip(told["players"], graded.players):
-            self.assertEqual((row["name"], row["plays"], row["losing"]), (player.name, player.plays, player.losing))
-            self.assertEqual((row["with_a_choice"], row["over_the_bound"]), (player.choices, player.over_bound))
+            self.assertEqual(
+                (row["name"], row["plays"], row["losing"]),
+                (player.name, player.plays, player.losing),
+            )
+            self.assertEqual(
+                (row["with_a_choice"], row["over_the_bound"]), (player.choices, player.over_bound)
+            )
             self.compare_losses(row, player.loss)
 
     def compare_losses(self, row: Dict[str, Any], loss: Fraction) -> None:
-        self.assertEqual((Fraction(row["rolls_lost"]), row["rolls_lost_float"]), (loss, float(loss)))
+        self.assertEqual(
+            (Fraction(row["rolls_lost"]), row["rolls_lost_float"]), (loss, float(loss))
+        )
         self.assertIn("/", row["rolls_lost"])
         self.assertEqual(row["pips_lost_float"], float(loss * 49 / 6))
 
@@ -494,8 +656,16 @@ class Command(unittest.TestCase):
             what = "line 25: no play of 51 leads from 0,2,0,1,5,2 to 0,2,0,1,4,2: 5/0"
             for words, status, line in (
                 ((str(bad), large), 3, f"bearoff: {bad}: {what}"),
-                ((str(STORED), str(empty)), 3, f"bearoff: {empty}: no right database: header too-short"),
-                ((str(STORED), f"{folder}/none"), 1, "bearoff: [Errno 2] No such file or directory"),
+                (
+                    (str(STORED), str(empty)),
+                    3,
+                    f"bearoff: {empty}: no right database: header too-short",
+                ),
+                (
+                    (str(STORED), f"{folder}/none"),
+                    1,
+                    "bearoff: [Errno 2] No such file or directory",
+                ),
                 ((f"{folder}/none", race), 1, "bearoff: [Errno 2] No such file or directory"),
                 ((folder, race), 1, "bearoff: [Errno 21] Is a directory"),
                 ((str(STORED),), 2, "usage: python -m bearoff grade"),
@@ -506,7 +676,12 @@ class Command(unittest.TestCase):
                 self.assertTrue(run.stderr.startswith(line), run.stderr)
                 self.assertNotIn("Traceback", run.stderr)
             self.assertEqual(self.run_it().returncode, 2)
-            run = self.run_it("grade", str(STORED), race, environment={**os.environ, "BEAROFF_LIBRARY": str(empty)})
+            run = self.run_it(
+                "grade",
+                str(STORED),
+                race,
+                environment={**os.environ, "BEAROFF_LIBRARY": str(empty)},
+            )
             self.assertEqual((run.returncode, run.stdout), (1, ""))
             self.assertIn("is no library", run.stderr)
         with open("/dev/full", "w") as full:
@@ -514,7 +689,10 @@ class Command(unittest.TestCase):
             full_run = subprocess.run(
                 command, cwd=ROOT / "python", stdout=full, stderr=subprocess.PIPE, encoding="utf-8"
             )
-        self.assertEqual((full_run.returncode, full_run.stderr), (1, "bearoff: [Errno 28] No space left on device\n"))
+        self.assertEqual(
+            (full_run.returncode, full_run.stderr),
+            (1, "bearoff: [Errno 28] No space left on device\n"),
+        )
 
     def test_names_that_are_of_another_code(self) -> None:
         with tempfile.TemporaryDirectory() as folder:
@@ -522,7 +700,10 @@ class Command(unittest.TestCase):
                 file = Path(folder, code)
                 file.write_text(SHORT.replace("gnubg", "J\u00fcrg "), code)
                 self.assertEqual(grade(file, database(8)).players[0].name, "J\u00fcrg")
-                self.assertEqual(grade(str(file), database(8)), grade(read_match(file.read_text(code)), database(8)))
+                self.assertEqual(
+                    grade(str(file), database(8)),
+                    grade(read_match(file.read_text(code)), database(8)),
+                )
         self.assertRaises(FileNotFoundError, grade, "nothing.mat", database(8))
 
     def test_a_closed_database(self) -> None:

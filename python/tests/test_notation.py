@@ -1,7 +1,8 @@
-"""Positions as players have them: what is read, what is refused, and what GNU Backgammon says of the same texts.
+"""Positions as players have them: what is read, what is refused, and what GNU Backgammon says of
+the same texts.
 
-BEAROFF_GNUBG names a file that tests/callers/ask_gnubg.py has written; without it the test asks GNU Backgammon itself,
-and leaves the comparison out where there is none.
+BEAROFF_GNUBG names a file that tests/callers/ask_gnubg.py has written; without it the test asks
+GNU Backgammon itself, and leaves the comparison out where there is none.
 """
 
 import doctest
@@ -36,14 +37,21 @@ def gnubg() -> Dict[str, List[Said]]:
     with tempfile.TemporaryDirectory() as folder:
         file = named or os.path.join(folder, "said")
         if not named:
-            run = subprocess.run([sys.executable, "-I", str(ROOT / "tests/callers/ask_gnubg.py"), file])
+            run = subprocess.run(
+                [sys.executable, "-I", str(ROOT / "tests/callers/ask_gnubg.py"), file]
+            )
             if run.returncode == 3:
                 return {}
         told: Dict[str, List[Said]] = json.loads(Path(file).read_text("ascii"))
     return told
 
 
-def race_of(mine: List[int], theirs: Optional[List[int]], dice: Optional[List[int]], on_roll: Optional[OnRoll]) -> Race:
+def race_of(
+    mine: List[int],
+    theirs: Optional[List[int]],
+    dice: Optional[List[int]],
+    on_roll: Optional[OnRoll],
+) -> Race:
     other = None if theirs is None else Position._make(theirs)
     return Race(Position._make(mine), other, None if dice is None else (dice[0], dice[1]), on_roll)
 
@@ -120,7 +128,8 @@ class Texts(unittest.TestCase):
             self.assertLess(len(str(error.exception)), 300)
 
     def test_without_library(self) -> None:
-        script = "from bearoff.notation import read, to_xgid; print(to_xgid(read('xwQAgHY8AAAAAA:MAEFAAAAAAAE')))"
+        read = "read('xwQAgHY8AAAAAA:MAEFAAAAAAAE')"
+        script = f"from bearoff.notation import read, to_xgid; print(to_xgid({read}))"
         run = subprocess.run(
             [sys.executable, "-c", script],
             cwd=ROOT / "python",
@@ -194,7 +203,8 @@ class Written(unittest.TestCase):
 @unittest.skipUnless(gnubg(), "GNU Backgammon is not installed, so nothing is compared with it")
 class AgainstGnubg(unittest.TestCase):
     def test_races(self) -> None:
-        """A thousand random pairs, each with both on roll, with and without dice, written and read."""
+        """A thousand random pairs, each with both on roll, with and without dice, written and
+        read."""
         races = gnubg()["races"]
         self.assertEqual(len(races), 4000)
         kinds = [(race["bottom"], race["dice"] != [0, 0]) for race in races]
@@ -202,10 +212,14 @@ class AgainstGnubg(unittest.TestCase):
             self.assertEqual(kinds.count(kind), 1000)
         for said in races:
             dice = said["dice"] if said["dice"] != [0, 0] else None
-            race = race_of(said["mine"], said["theirs"], dice, "bottom" if said["bottom"] else "top")
+            race = race_of(
+                said["mine"], said["theirs"], dice, "bottom" if said["bottom"] else "top"
+            )
             ids = f"{said['position']}:{said['match']}"
             # what GNU Backgammon says that it was told is what it was told
-            self.assertEqual([saying(said["says"]), saying(said["xgid_says"])], [said_of(race)] * 2)
+            self.assertEqual(
+                [saying(said["says"]), saying(said["xgid_says"])], [said_of(race)] * 2
+            )
             self.assertEqual(said["says"]["turn"], int(said["bottom"]))
             self.assertEqual([from_gnubg(ids), from_xgid(said["xgid"])], [race] * 2)
             self.assertEqual(from_gnubg(said["position"]), Race(race.mine, race.theirs))
@@ -236,8 +250,8 @@ class AgainstGnubg(unittest.TestCase):
 
 
 def on_roll_of(said: Said) -> Optional[str]:
-    """Who is on roll by GNU Backgammon, which puts that player at the bottom where it reads an XGID, and tells who
-    has to answer where something is offered.
+    """Who is on roll by GNU Backgammon, which puts that player at the bottom where it reads an
+    XGID, and tells who has to answer where something is offered.
     """
     if said["text"].count(":") > 2 or ":" not in said["text"] or said["says"]["offered"]:
         return None

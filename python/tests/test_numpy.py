@@ -1,4 +1,5 @@
-"""Whole tables as arrays of numpy, without a copy. Where numpy is missing these tests are left out."""
+"""Whole tables as arrays of numpy, without a copy. Where numpy is missing these tests are left
+out."""
 
 import importlib
 import unittest
@@ -25,16 +26,22 @@ class Arrays(unittest.TestCase):
             (here.distributions(), "uint64"),
         ):
             array, flat = numpy.asarray(table), numpy.frombuffer(table, kind)
-            self.assertEqual((array.shape, str(array.dtype), array.flags.writeable), (table.shape, kind, True))
+            self.assertEqual(
+                (array.shape, str(array.dtype), array.flags.writeable), (table.shape, kind, True)
+            )
             self.assertTrue(numpy.shares_memory(array, table) and numpy.shares_memory(flat, table))
             self.assertTrue((flat.reshape(table.shape) == array).all())
 
     def test_numbers(self) -> None:
         here, found = database(44), positions(44)
-        self.assertEqual(numpy.asarray(here.positions()).tolist(), [list(position) for position in found])
+        self.assertEqual(
+            numpy.asarray(here.positions()).tolist(), [list(position) for position in found]
+        )
         exact = [here.mean(position) for position in found]
         means = numpy.asarray(here.means())
-        self.assertEqual([(int(high) << 64) + int(low) for high, low in means], [mean * WHOLE for mean in exact])
+        self.assertEqual(
+            [(int(high) << 64) + int(low) for high, low in means], [mean * WHOLE for mean in exact]
+        )
         self.assertLess((abs(means @ WEIGHTS - [float(mean) for mean in exact])).max(), 1e-14)
         sums = (numpy.asarray(here.distributions()) @ WEIGHTS).sum(axis=1)
         self.assertLess(abs(sums - 1).max(), 1e-14)
@@ -43,7 +50,11 @@ class Arrays(unittest.TestCase):
 
     def test_a_row_is_a_position(self) -> None:
         here = database(44)
-        for row in (numpy.asarray(here.positions())[9], numpy.array([1, 2, 0, 0, 1, 0]), numpy.zeros(6, "int8")):
+        for row in (
+            numpy.asarray(here.positions())[9],
+            numpy.array([1, 2, 0, 0, 1, 0]),
+            numpy.zeros(6, "int8"),
+        ):
             self.assertEqual(here.mean(row), here.mean(tuple(map(int, row))))
         for row in (numpy.zeros(6), numpy.zeros(5, int), numpy.zeros((6, 1), int)):
             self.assertRaises(ValueError, here.mean, row)

@@ -1,4 +1,5 @@
-"""A database as an object of Python: its length, copies and pickles, threads and their stacks, and the version."""
+"""A database as an object of Python: its length, copies and pickles, threads and their stacks, and
+the version."""
 
 import collections.abc
 import copy
@@ -25,15 +26,16 @@ from .given import FOLDER, ROOT, database, positions, run_alone
 SIX = (0, 0, 0, 0, 0, 1)
 SMALL_STACK = 256 << 10
 
-# each call that wants stack, in a thread of one megabyte; what it prints is right, and the stack of later threads is as
-# it was
+# each call that wants stack, in a thread of one megabyte; what it prints is right, and the stack
+# of later threads is as it was
 IN_SMALL_THREAD = """
 import sys, threading
 from bearoff import Database
 told = []
 def run():
     large, old = Database.open(sys.argv[1]), Database.open(sys.argv[2])
-    told.append((large.bound, len(large), Database.build(58).bound, Database(old.upgrade()).version))
+    built, new = Database.build(58), Database(old.upgrade())
+    told.append((large.bound, len(large), built.bound, new.version))
 threading.stack_size(1 << 20)
 thread = threading.Thread(target=run)
 thread.start()
@@ -54,8 +56,13 @@ class Objects(unittest.TestCase):
 
     def test_how_it_is_shown(self) -> None:
         file = str(FOLDER / "race.db")
-        self.assertEqual(repr(database(44)), f"<bearoff.Database: 44 pips, 26314 positions, version 1, {file!r}>")
-        self.assertEqual(repr(Database.build(8)), "<bearoff.Database: 8 pips, 64 positions, version 1>")
+        self.assertEqual(
+            repr(database(44)),
+            f"<bearoff.Database: 44 pips, 26314 positions, version 1, {file!r}>",
+        )
+        self.assertEqual(
+            repr(Database.build(8)), "<bearoff.Database: 8 pips, 64 positions, version 1>"
+        )
 
     def test_with_closes(self) -> None:
         with Database.open(FOLDER / "eight") as here:
@@ -127,7 +134,9 @@ class Pickles(unittest.TestCase):
         asked = positions(12)
         for way in ("fork", "spawn"):
             with ProcessPoolExecutor(1, multiprocessing.get_context(way)) as pool:
-                self.assertEqual(list(pool.map(here.mean, asked, chunksize=100)), list(map(here.mean, asked)))
+                self.assertEqual(
+                    list(pool.map(here.mean, asked, chunksize=100)), list(map(here.mean, asked))
+                )
                 with self.assertRaises(Refused) as refused:
                     pool.submit(here.mean, "16,0,0,0,0,0").result()
             self.assertEqual(str(refused.exception), "more than 15 checkers: 16,0,0,0,0,0")
@@ -174,10 +183,25 @@ class Threads(unittest.TestCase):
         def answer() -> Any:
             here = Database.open(FOLDER / "race.db")
             most = (9, 0, 0, 0, 1, 5)
-            plays = [here.play(most, (6, 5)), here.moves("3,3,3,3,0,0", (1, 1)), here.answer("moves 3,3,3,3,0,0 11")]
-            calls: List[Callable[[], memoryview]] = [here.positions, here.means, here.epcs, here.distributions]
+            plays = [
+                here.play(most, (6, 5)),
+                here.moves("3,3,3,3,0,0", (1, 1)),
+                here.answer("moves 3,3,3,3,0,0 11"),
+            ]
+            calls: List[Callable[[], memoryview]] = [
+                here.positions,
+                here.means,
+                here.epcs,
+                here.distributions,
+            ]
             tables = [bytes(call()) for call in calls]
-            return plays, tables, here.epc(most), here.distribution(most), [here.mean(at) for at in positions(16)]
+            return (
+                plays,
+                tables,
+                here.epc(most),
+                here.distribution(most),
+                [here.mean(at) for at in positions(16)],
+            )
 
         first, *others = self.in_threads(*[answer] * 4)
         self.assertIsInstance(first, tuple)
@@ -192,7 +216,11 @@ class Threads(unittest.TestCase):
         def ask() -> bool:
             mine = asked[:]
             random.Random(threading.get_ident()).shuffle(mine)
-            return all(here.mean(at) == wanted[at] and here.play(at, (2, 1)).to in here for at in mine if any(at))
+            return all(
+                here.mean(at) == wanted[at] and here.play(at, (2, 1)).to in here
+                for at in mine
+                if any(at)
+            )
 
         self.assertEqual(self.in_threads(*[ask] * 4), [True] * 4)
 
@@ -204,7 +232,10 @@ class Threads(unittest.TestCase):
             def ask() -> int:
                 try:
                     while True:
-                        if here.mean(SIX) != Fraction(5, 4) or bytes(here.distributions()) != table:
+                        if (
+                            here.mean(SIX) != Fraction(5, 4)
+                            or bytes(here.distributions()) != table
+                        ):
                             return 0
                 except Refused as refused:
                     return refused.status
@@ -236,7 +267,9 @@ except bearoff.NoLibrary as error:
 class Versions(unittest.TestCase):
     def test_the_version_is_that_of_the_project(self) -> None:
         self.assertEqual(bearoff.__version__, (ROOT / "VERSION").read_text().strip())
-        self.assertIn(f'version = "{bearoff.__version__}"\n', (ROOT / "python/pyproject.toml").read_text())
+        self.assertIn(
+            f'version = "{bearoff.__version__}"\n', (ROOT / "python/pyproject.toml").read_text()
+        )
 
     def test_sizes_are_those_of_the_header(self) -> None:
         header = (ROOT / "c/bearoff.h").read_text()
@@ -244,13 +277,20 @@ class Versions(unittest.TestCase):
         for name in (*sizes, "BOARD_FILE", "BOARD_REPLY", "BOARD_STACK"):
             told = re.findall(rf"(?m)^#define BEAROFF_{name} (\d+)$", header)
             self.assertEqual(told, [str(getattr(_library, name))], name)
-        statuses = {name: int(number) for name, number in re.findall(r"BEAROFF_([A-Z_]+) = (\d+),", header)}
+        statuses = {
+            name: int(number) for name, number in re.findall(r"BEAROFF_([A-Z_]+) = (\d+),", header)
+        }
         for name in ("NOT_OPEN", "TOO_MANY", "OVER_BOUND", "SHORT"):
             self.assertEqual(getattr(bearoff.errors, name), statuses[name], name)
 
     def test_which_versions_are_enough(self) -> None:
         for told, wanted, enough in (
-            *(("1.0.0", "1.0.0", True), ("1.0.1", "1.0.0", True), ("1.1.0", "1.0.9", True), ("1.10.0", "1.9.0", True)),
+            *(
+                ("1.0.0", "1.0.0", True),
+                ("1.0.1", "1.0.0", True),
+                ("1.1.0", "1.0.9", True),
+                ("1.10.0", "1.9.0", True),
+            ),
             *(("1.0.0", "1.0.1", False), ("1.0.9", "1.1.0", False), ("2.0.0", "1.0.0", False)),
             ("0.9.9", "1.0.0", False),
         ):
@@ -258,12 +298,20 @@ class Versions(unittest.TestCase):
 
     def test_other_libraries(self) -> None:
         with tempfile.TemporaryDirectory() as folder:
-            source, later, empty = (Path(folder, name) for name in ("library.c", "later.so", "empty.so"))
+            source, later, empty = (
+                Path(folder, name) for name in ("library.c", "later.so", "empty.so")
+            )
             for library, version in (later, "2.3.4"), (empty, bearoff.__version__):
                 source.write_text(OTHER_LIBRARY % tuple(version.split(".")))
-                subprocess.run(["cc", "-shared", "-fPIC", "-o", str(library), str(source)], check=True)
+                subprocess.run(
+                    ["cc", "-shared", "-fPIC", "-o", str(library), str(source)], check=True
+                )
             for path, told in (
-                (later, f"{later} is of version 2.3.4, and this package of version {bearoff.__version__}"),
+                (
+                    later,
+                    f"{later} is of version 2.3.4, "
+                    f"and this package of version {bearoff.__version__}",
+                ),
                 (empty, f"{empty} has no function bearoff_version"),
                 (source, f"{source} is no library: "),
                 (Path(folder, "missing.so"), f"{folder}/missing.so is no library: "),

@@ -1,11 +1,22 @@
-"""What is refused, and by which error: hostile arguments of each kind, damaged bytes, closed databases."""
+"""What is refused, and by which error: hostile arguments of each kind, damaged bytes, closed
+databases."""
 
 import pickle
 import unittest
 from fractions import Fraction
 from typing import Any, Callable, Tuple, Type
 
-from bearoff import BadArgument, BearoffError, Changed, Damaged, Database, NoLibrary, OutOfRange, Position, Refused
+from bearoff import (
+    BadArgument,
+    BearoffError,
+    Changed,
+    Damaged,
+    Database,
+    NoLibrary,
+    OutOfRange,
+    Position,
+    Refused,
+)
 
 from .given import FOLDER, database
 
@@ -51,13 +62,43 @@ NO_POSITIONS: Tuple[Any, ...] = (
     *((), (1, 2, 3), (0,) * 5, (0,) * 7, [0] * 1000, range(5), [[0] * 6]),
     *((0, 0, 0, 0, 0, -1), [-1] * 6, (0, 0, 0, 0, 0, HUGE), (0, 0, 0, 0, 0, 1000), [HUGE] * 6),
     Position(0, 0, 0, 0, 0, -1),
-    *((0.0,) * 6, (0, 0, 0, 0, 0, 1.0), [None] * 6, ("0",) * 6, (0, 0, 0, 0, 0, "1"), (Fraction(1),) * 6, (1j,) * 6),
+    *(
+        (0.0,) * 6,
+        (0, 0, 0, 0, 0, 1.0),
+        [None] * 6,
+        ("0",) * 6,
+        (0, 0, 0, 0, 0, "1"),
+        (Fraction(1),) * 6,
+        (1j,) * 6,
+    ),
     *(None, 0, 1, 6, 1.5, True, HUGE, object(), type, len, print, Ellipsis, float("nan")),
-    *({0, 1, 2, 3, 4, 5}, frozenset(range(6)), {0: 0, 1: 0, 2: 0, 3: 0, 4: 0, 5: 0}, iter(SIX), (c for c in SIX)),
+    *(
+        {0, 1, 2, 3, 4, 5},
+        frozenset(range(6)),
+        {0: 0, 1: 0, 2: 0, 3: 0, 4: 0, 5: 0},
+        iter(SIX),
+        (c for c in SIX),
+    ),
     *("", " ", "0", "0,0,0,0,0", "0,0,0,0,0,0,0", "0 0 0 0 0 1", "0,0,0,0,0,1 0"),
     *("0,0,0,0,0,1\f", "0,0,0,0,0,1\u2003"),
-    *("0,0,0,0,0,-1", "0,0,0,0,0,+1", "0,0,0,0,0,01", "0,0,0,0,0,1000", "0,0,0,0,0,1.0", "0,0,0,0,0,", ",0,0,0,0,0"),
-    *("0;0;0;0;0;1", "000001", "0,0,0,0,0,\u0661", "0,0,0,0,0,1\0", "\ud800", "a" * 10**6, "mean 0,0,0,0,0,1"),
+    *(
+        "0,0,0,0,0,-1",
+        "0,0,0,0,0,+1",
+        "0,0,0,0,0,01",
+        "0,0,0,0,0,1000",
+        "0,0,0,0,0,1.0",
+        "0,0,0,0,0,",
+        ",0,0,0,0,0",
+    ),
+    *(
+        "0;0;0;0;0;1",
+        "000001",
+        "0,0,0,0,0,\u0661",
+        "0,0,0,0,0,1\0",
+        "\ud800",
+        "a" * 10**6,
+        "mean 0,0,0,0,0,1",
+    ),
     *(b"", b"0,0,0,0,0,1", bytearray(5), memoryview(bytes(48)), Long([1, 2]), Endless()),
 )
 
@@ -68,11 +109,34 @@ NO_ROLLS: Tuple[Any, ...] = (
 )
 
 BAD_ROLLS: Tuple[Any, ...] = (
-    *((0, 1), (1, 7), (-1, 2), (257, 258), (1, HUGE), [255, 255], (65537, 1), (2**64 + 1, 2), (False, 1)),
+    *(
+        (0, 1),
+        (1, 7),
+        (-1, 2),
+        (257, 258),
+        (1, HUGE),
+        [255, 255],
+        (65537, 1),
+        (2**64 + 1, 2),
+        (False, 1),
+    ),
     *("01", "17", "70", "99", " 2 7 "),
 )
 
-NO_RANKS: Tuple[Any, ...] = (-1, -HUGE, 1.0, None, "1", b"1", (1,), [1], object(), float("inf"), Fraction(1), 1j)
+NO_RANKS: Tuple[Any, ...] = (
+    -1,
+    -HUGE,
+    1.0,
+    None,
+    "1",
+    b"1",
+    (1,),
+    [1],
+    object(),
+    float("inf"),
+    Fraction(1),
+    1j,
+)
 
 
 class Refusals(unittest.TestCase):
@@ -91,7 +155,14 @@ class Refusals(unittest.TestCase):
     def test_what_is_no_position(self) -> None:
         here = database(8)
         for wrong in NO_POSITIONS:
-            for call in (here.mean, here.epc, here.wastage, here.distribution, here.rank, here.standing):
+            for call in (
+                here.mean,
+                here.epc,
+                here.wastage,
+                here.distribution,
+                here.rank,
+                here.standing,
+            ):
                 self.bad(call, wrong)
             self.assertIs(wrong in here, False)
             self.bad(here.play, wrong, (2, 1))
@@ -100,7 +171,9 @@ class Refusals(unittest.TestCase):
             for with_target in (here.loss, here.play_to):
                 self.bad(with_target, wrong, (2, 1), SIX)
                 self.bad(with_target, SIX, (2, 1), wrong)
-        for wrong in (text for text in NO_POSITIONS if isinstance(text, (str, bytes, type(None), int))):
+        for wrong in (
+            text for text in NO_POSITIONS if isinstance(text, (str, bytes, type(None), int))
+        ):
             self.bad(Position.parse, wrong)
 
     def test_what_is_no_roll(self) -> None:
@@ -172,7 +245,13 @@ class Refusals(unittest.TestCase):
         for call in (here.mean, here.epc, here.wastage, here.distribution, here.rank):
             told = self.refused(3, call, (1, 15, 0, 0, 0, 0))
             self.assertEqual(told, "more than 15 checkers: 1,15,0,0,0,0")
-            ways: Tuple[Any, ...] = ((255,) * 6, (256,) * 6, [999] * 6, "16,0,0,0,0,0", "0,0,0,0,0,999")
+            ways: Tuple[Any, ...] = (
+                (255,) * 6,
+                (256,) * 6,
+                [999] * 6,
+                "16,0,0,0,0,0",
+                "0,0,0,0,0,999",
+            )
             for many in (*ways, Position(0, 0, 0, 0, 0, 16)):
                 self.refused(3, call, many)
             told = self.refused(4, call, "0,0,1,0,0,1")
@@ -186,7 +265,9 @@ class Refusals(unittest.TestCase):
             self.assertEqual(told, "no checker is left: 0,0,0,0,0,0 with (2, 1)")
             self.refused(3, call, (256,) * 6, (2, 1))
         told = self.refused(6, here.loss, SIX, (2, 1), "1,0,0,0,0,0")
-        self.assertEqual(told, "the roll doesn't lead there: 0,0,0,0,0,1 with (2, 1) to 1,0,0,0,0,0")
+        self.assertEqual(
+            told, "the roll doesn't lead there: 0,0,0,0,0,1 with (2, 1) to 1,0,0,0,0,0"
+        )
         told = self.refused(6, here.play_to, SIX, "21", "1,0,0,0,0,0")
         self.assertEqual(told, "the roll doesn't lead there: 0,0,0,0,0,1 with '21' to 1,0,0,0,0,0")
         for with_target in (here.loss, here.play_to):
@@ -221,7 +302,9 @@ class Refusals(unittest.TestCase):
             for opened in (Database, Database.open):
                 with self.assertRaises(Damaged) as damaged:
                     opened(given)
-                self.assertEqual((damaged.exception.status, damaged.exception.line), (status, line))
+                self.assertEqual(
+                    (damaged.exception.status, damaged.exception.line), (status, line)
+                )
                 self.assertIsInstance(damaged.exception, BearoffError)
 
     def test_a_closed_database(self) -> None:
@@ -231,7 +314,14 @@ class Refusals(unittest.TestCase):
         here.close()
         here.close()
         self.assertTrue(here.closed)
-        for call in (here.mean, here.epc, here.wastage, here.distribution, here.rank, here.__contains__):
+        for call in (
+            here.mean,
+            here.epc,
+            here.wastage,
+            here.distribution,
+            here.rank,
+            here.__contains__,
+        ):
             self.refused(1, call, SIX)
         for wrong in ("abc", None, HUGE):
             self.refused(1, here.__contains__, wrong)
@@ -239,7 +329,9 @@ class Refusals(unittest.TestCase):
         self.refused(1, here.ranks, [SIX])
         for place in (0, -1, 99, slice(2)):
             self.refused(1, here.__getitem__, place)
-        self.assertEqual((here.standing(SIX).pips, here.play_to(SIX, "65", (0,) * 6).text), (6, "6/off"))
+        self.assertEqual(
+            (here.standing(SIX).pips, here.play_to(SIX, "65", (0,) * 6).text), (6, "6/off")
+        )
         with_roll: Calls = (here.play, here.moves)
         for call in with_roll:
             self.refused(1, call, SIX, (2, 1))
@@ -259,14 +351,27 @@ class Refusals(unittest.TestCase):
         self.assertTrue(here)
 
     def test_errors_are_of_one_family_and_can_be_pickled(self) -> None:
-        kinds: Tuple[Type[BearoffError], ...] = (BadArgument, Refused, OutOfRange, Damaged, Changed, NoLibrary)
+        kinds: Tuple[Type[BearoffError], ...] = (
+            BadArgument,
+            Refused,
+            OutOfRange,
+            Damaged,
+            Changed,
+            NoLibrary,
+        )
         for kind in kinds:
             self.assertTrue(issubclass(kind, BearoffError) and issubclass(kind, ValueError))
-        errors: Tuple[BearoffError, ...] = (Refused(3, "16,0,0,0,0,0"), Damaged(26, "mean rank 1"), BadArgument("x"))
+        errors: Tuple[BearoffError, ...] = (
+            Refused(3, "16,0,0,0,0,0"),
+            Damaged(26, "mean rank 1"),
+            BadArgument("x"),
+        )
         errors += (Changed("y"), NoLibrary("z"), OutOfRange(10, "64"))
         for error in errors:
             again = pickle.loads(pickle.dumps(error))
-            self.assertEqual((type(again), str(again), vars(again)), (type(error), str(error), vars(error)))
+            self.assertEqual(
+                (type(again), str(again), vars(again)), (type(error), str(error), vars(error))
+            )
 
 
 if __name__ == "__main__":

@@ -50,7 +50,9 @@ class TwoSides(unittest.TestCase):
                 wanted = played(here[here.rank(mine)], here[here.rank(theirs)])
                 self.assertEqual(wins(mine, theirs), wanted, (mine, theirs))
         self.assertEqual((wins(OFF, "0,0,0,0,0,1"), wins("0,0,0,0,0,1", OFF)), (1, 0))
-        self.assertEqual(wins("0,0,0,0,0,1", "0,0,0,0,0,1"), Fraction(3, 4) + Fraction(1, 4) * Fraction(1, 4))
+        self.assertEqual(
+            wins("0,0,0,0,0,1", "0,0,0,0,0,1"), Fraction(3, 4) + Fraction(1, 4) * Fraction(1, 4)
+        )
 
 
 if __name__ == "__main__":

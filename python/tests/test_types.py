@@ -34,7 +34,8 @@ def ask(here: Database, counts: List[int], dice: Tuple[int, int]) -> None:
     ranks: memoryview = here.ranks([counts, "0,0,0,0,0,1", first])
     again: memoryview = here.ranks(here.positions())
     loss: Fraction = here.loss(counts, dice, play.to)
-    told: str = f"{mean:.3f} {pips:.3f} {wastage:.1f} {float(pips)} {chance:.1%} {loss:.2f}" + play.text
+    shown: str = f"{mean:.3f} {pips:.3f} {wastage:.1f} {float(pips)} {chance:.1%} {loss:.2f}"
+    told: str = shown + play.text
     graded: Graded = bearoff.grade("match.mat", here)
     lost: Fraction = graded.players[0].pips
     print(stand.pips, some, table, ranks, again, told, lost, "abc" in here, None in here)
@@ -58,13 +59,18 @@ import numpy
 import numpy.typing
 from bearoff import Database, Play
 
-def ask(here: Database, rows: numpy.typing.NDArray[numpy.uint8], dice: numpy.typing.NDArray[numpy.int64]) -> None:
+def ask(
+    here: Database,
+    rows: numpy.typing.NDArray[numpy.uint8],
+    dice: numpy.typing.NDArray[numpy.int64],
+) -> None:
     ranks = numpy.asarray(here.ranks(rows))
     mean: Fraction = here.mean(rows[0])
     play: Play = here.play(rows[0], dice)
     loss: Fraction = here.loss(rows[0], dice, rows[1])
     means = numpy.asarray(here.means(floats=True))[ranks]
-    print(means @ means, mean, play, loss, here.epc(numpy.zeros(6, int)), here[numpy.int64(3)], rows[0] in here)
+    print(means @ means, mean, play, loss, here.epc(numpy.zeros(6, int)))
+    print(here[numpy.int64(3)], rows[0] in here)
     print(here.position(numpy.uint16(3)), here.within(rows[0], numpy.int32(3)))
 """
 
@@ -72,7 +78,9 @@ def ask(here: Database, rows: numpy.typing.NDArray[numpy.uint8], dice: numpy.typ
 def has_numpy() -> bool:
     if not os.path.exists(PYTHON):
         return False
-    return subprocess.run([PYTHON, "-c", "import numpy"], stderr=subprocess.DEVNULL).returncode == 0
+    return (
+        subprocess.run([PYTHON, "-c", "import numpy"], stderr=subprocess.DEVNULL).returncode == 0
+    )
 
 
 @unittest.skipUnless(os.path.exists(MYPY), "mypy is missing")
@@ -81,10 +89,18 @@ class Types(unittest.TestCase):
         with tempfile.TemporaryDirectory() as folder:
             file = Path(folder, "user.py")
             file.write_text(lines)
-            words = [MYPY, "--strict", f"--python-executable={PYTHON}", "--cache-dir=/dev/null", str(file)]
+            words = [
+                MYPY,
+                "--strict",
+                f"--python-executable={PYTHON}",
+                "--cache-dir=/dev/null",
+                str(file),
+            ]
             environment = {**os.environ, "MYPYPATH": str(ROOT / "python")}
             run = subprocess.run(words, env=environment, stdout=subprocess.PIPE, encoding="utf-8")
-        self.assertEqual((run.returncode, run.stdout), (0, "Success: no issues found in 1 source file\n"))
+        self.assertEqual(
+            (run.returncode, run.stdout), (0, "Success: no issues found in 1 source file\n")
+        )
 
     def test_without_numpy(self) -> None:
         self.accepted(ALLOWED)

@@ -1,10 +1,14 @@
 /*
  * A board file, built by bearoff_board_build in a room between guards, opened and asked.
- * usage: boards BOUND FILE       builds the file of a bound, writes it, and answers each line of the input
- * A room that is too small by one byte, and a bound over 90, leave the room and the count as they were. Of the position
- * of each `mean` line the other calls are asked too: what they say has to be what its lines are answered, and what the
- * tables have at its rank. A board that is closed says so, bytes with a wrong one are refused with the line of the
- * fault, and of bytes that are changed after they were opened each call says something, or that they were changed.
+ *
+ * usage: boards BOUND FILE       builds the file of a bound, writes it, and answers each line of
+ *                                the input
+ *
+ * A room that is too small by one byte, and a bound over 90, leave the room and the count as they
+ * were. Of the position of each `mean` line the other calls are asked too: what they say has to be
+ * what its lines are answered, and what the tables have at its rank. A board that is closed says
+ * so, bytes with a wrong one are refused with the line of the fault, and of bytes that are changed
+ * after they were opened each call says something, or that they were changed.
  */
 #include <math.h>
 #include <stdio.h>
@@ -36,8 +40,10 @@ static uint32_t build_in(int bound, size_t length, size_t *filled) {
     memset(block, MARK, sizeof block);
     *filled = MARK;
     uint32_t status = bearoff_board_build((uint8_t)bound, room, length, filled);
-    expect(is_marked(block, GUARD) && is_marked(room + length, MOST - length + GUARD), "beside the room", bound);
-    if (status != BEAROFF_OK) expect(is_marked(room, length) && *filled == MARK, "left alone", bound);
+    expect(is_marked(block, GUARD) && is_marked(room + length, MOST - length + GUARD),
+           "beside the room", bound);
+    if (status != BEAROFF_OK)
+        expect(is_marked(room, length) && *filled == MARK, "left alone", bound);
     return status;
 }
 
@@ -46,8 +52,10 @@ static uint32_t open_built(size_t size, size_t *needed) {
     return bearoff_board_open(&board, room, size, text, BEAROFF_LINE, needed);
 }
 
-/* each call of a position that is refused, and those that ask no position; what is lent stays as it was */
-static void try_calls(bearoff_position position, uint32_t status, uint32_t general, const char *what) {
+/* each call of a position that is refused, and those that ask no position; what is lent stays as
+ * it was */
+static void try_calls(bearoff_position position, uint32_t status, uint32_t general,
+                      const char *what) {
     static struct {
         bearoff_long mean;
         bearoff_long_pips pips;
@@ -65,10 +73,13 @@ static void try_calls(bearoff_position position, uint32_t status, uint32_t gener
     expect(bearoff_board_distribution(&board, &position, &lent.shares) == status, what, 3);
     expect(bearoff_board_play(&board, &position, 2, 1, &lent.play) == status, what, 4);
     expect(bearoff_board_loss(&board, &position, 2, 1, &position, &lent.loss) == status, what, 5);
-    expect(bearoff_board_moves(&board, &position, 2, 1, lent.results, 2, &lent.count) == status, what, 6);
+    expect(bearoff_board_moves(&board, &position, 2, 1, lent.results, 2, &lent.count) == status,
+           what, 6);
     expect(bearoff_board_means(&board, 0, &lent.mean, 0) == general, what, 7);
     expect(bearoff_board_distributions(&board, 0, &lent.shares, 0) == general, what, 8);
-    expect(bearoff_board_answer_line(&board, (const uint8_t *)"", 0, reply, sizeof reply, &needed) == general, what, 9);
+    expect(bearoff_board_answer_line(&board, (const uint8_t *)"", 0, reply, sizeof reply,
+                                     &needed) == general,
+           what, 9);
     expect(is_marked((const uint8_t *)&lent, sizeof lent), what, 10);
     expect(general == BEAROFF_OK || needed == 7, what, 11);
 }
@@ -81,17 +92,21 @@ static void try_refusals(size_t size) {
     bearoff_long mean;
     room[9] ^= 1;
     expect(open_built(size, &needed) == BEAROFF_BAD_VERSION, "a wrong version", 0);
-    expect(needed == strlen(bad_version) && !memcmp(text, bad_version, needed), "its line", (long)needed);
-    expect(!board.is_open && is_marked(text + needed, sizeof text - needed), "behind its line", (long)needed);
+    expect(needed == strlen(bad_version) && !memcmp(text, bad_version, needed), "its line",
+           (long)needed);
+    expect(!board.is_open && is_marked(text + needed, sizeof text - needed), "behind its line",
+           (long)needed);
     room[9] ^= 1;
     room[size - 1] ^= 1;
     expect(open_built(size, &needed) >= BEAROFF_BAD_PLAY && !board.is_open, "a wrong count", 0);
     room[size - 1] ^= 1;
     expect(open_built(size - 1, &needed) == BEAROFF_BAD_LENGTH, "a byte too few", 0);
     expect(bearoff_board_mean(&board, &none, &mean) == BEAROFF_NOT_OPEN, "not open", 0);
-    expect(open_built(size, &needed) == BEAROFF_OK && needed == 0 && is_marked(text, sizeof text), "the file", 0);
+    expect(open_built(size, &needed) == BEAROFF_OK && needed == 0 && is_marked(text, sizeof text),
+           "the file", 0);
     expect(bearoff_board_close(&board) == BEAROFF_OK && !board.is_open, "closed", 0);
-    expect(bearoff_board_mean(&board, &none, &mean) == BEAROFF_NOT_OPEN, "asked of a closed one", 0);
+    expect(bearoff_board_mean(&board, &none, &mean) == BEAROFF_NOT_OPEN, "asked of a closed one",
+           0);
     try_calls(none, BEAROFF_NOT_OPEN, BEAROFF_NOT_OPEN, "each call of a closed one");
     none.points[5] = 16;
     expect(open_built(size, &needed) == BEAROFF_OK, "opened again", 0);
@@ -115,7 +130,8 @@ static void put_long(bearoff_long number) {
         uint64_t rest = 0;
         for (int half = 0; half < 6; half++) {
             int shift = half % 2 ? 0 : 32;
-            uint64_t *word = &number.words[half / 2], part = rest << 32 | (*word >> shift & 0xFFFFFFFF);
+            uint64_t *word = &number.words[half / 2],
+                     part = rest << 32 | (*word >> shift & 0xFFFFFFFF);
             *word = (*word & ~((uint64_t)0xFFFFFFFF << shift)) | (part / 10) << shift;
             rest = part % 10;
         }
@@ -137,8 +153,9 @@ static void put_position(bearoff_position position) {
 /* what a line is answered, which has to end with what was made */
 static const char *answered(const char *line) {
     size_t needed;
-    expect(bearoff_board_answer_line(&board, (const uint8_t *)line, strlen(line), text, BEAROFF_BOARD_REPLY, &needed) ==
-           BEAROFF_OK, line, 0);
+    expect(bearoff_board_answer_line(&board, (const uint8_t *)line, strlen(line), text,
+                                     BEAROFF_BOARD_REPLY, &needed) == BEAROFF_OK,
+           line, 0);
     text[needed] = 0;
     return (const char *)text;
 }
@@ -146,7 +163,8 @@ static const char *answered(const char *line) {
 static void compare(const char *line) {
     const char *reply = answered(line);
     size_t length = strlen(reply);
-    expect(length >= made_length && !strcmp(reply + length - made_length, made), line, (long)length);
+    expect(length >= made_length && !strcmp(reply + length - made_length, made), line,
+           (long)length);
     made_length = 0;
 }
 
@@ -157,18 +175,23 @@ static void ask_roll(const char *name, bearoff_position position, uint8_t one, u
     bearoff_recorded_play play;
     bearoff_long_fraction loss;
     size_t count, less = BEAROFF_RESULTS;
-    expect(bearoff_board_moves(&board, &position, one, other, results, BEAROFF_RESULTS, &count) == BEAROFF_OK, name,
-           one);
-    expect(bearoff_board_moves(&board, &position, other, one, results, count - 1, &less) == BEAROFF_SHORT &&
-           less == count, "a room too small for the moves", (long)count);
+    expect(bearoff_board_moves(&board, &position, one, other, results, BEAROFF_RESULTS, &count) ==
+               BEAROFF_OK,
+           name, one);
+    expect(bearoff_board_moves(&board, &position, other, one, results, count - 1, &less) ==
+                   BEAROFF_SHORT &&
+               less == count,
+           "a room too small for the moves", (long)count);
     put("moves", 0);
     for (size_t i = 0; i < count; i++) {
         put(" ", 0);
         put_position(results[i].to);
         put(":", 0);
         put_fraction(results[i].loss);
-        expect(bearoff_board_loss(&board, &position, one, other, &results[i].to, &loss) == BEAROFF_OK &&
-               !memcmp(&loss, &results[i].loss, sizeof loss), "a loss", (long)i);
+        expect(bearoff_board_loss(&board, &position, one, other, &results[i].to, &loss) ==
+                       BEAROFF_OK &&
+                   !memcmp(&loss, &results[i].loss, sizeof loss),
+               "a loss", (long)i);
     }
     snprintf(line, sizeof line, "moves %s %d%d", name, one, other);
     compare(line);
@@ -182,10 +205,15 @@ static void ask_roll(const char *name, bearoff_position position, uint8_t one, u
     put_position(play.to);
     snprintf(line, sizeof line, "play %s %d%d", name, one, other);
     compare(line);
-    expect(bearoff_board_loss(&board, &position, one, other, &position, &loss) == BEAROFF_NOT_LEGAL, "no play", 0);
-    expect(bearoff_board_play(&board, &position, 0, other, &play) == BEAROFF_BAD_ROLL, "no die", 0);
+    expect(
+        bearoff_board_loss(&board, &position, one, other, &position, &loss) == BEAROFF_NOT_LEGAL,
+        "no play", 0);
+    expect(bearoff_board_play(&board, &position, 0, other, &play) == BEAROFF_BAD_ROLL, "no die",
+           0);
     memset(&position, 0, sizeof position);
-    expect(bearoff_board_moves(&board, &position, one, other, results, 1, &less) == BEAROFF_FINISHED, "finished", 0);
+    expect(
+        bearoff_board_moves(&board, &position, one, other, results, 1, &less) == BEAROFF_FINISHED,
+        "finished", 0);
 }
 
 typedef unsigned __int128 number;
@@ -201,11 +229,13 @@ static bearoff_long times(bearoff_long of, uint64_t factor, uint64_t more) {
 }
 
 /* a fraction in thousandths, or that it can't be told, which is -1 */
-static void round_off(bearoff_long numerator, bearoff_long denominator, int wanted, const char *what) {
+static void round_off(bearoff_long numerator, bearoff_long denominator, int wanted,
+                      const char *what) {
     bearoff_long_fraction fraction = {numerator, denominator};
     uint64_t told = MARK;
     bool is_told = bearoff_board_thousandths(&fraction, &told);
-    expect(is_told == (wanted >= 0) && told == (is_told ? (uint64_t)wanted : MARK), what, (long)told);
+    expect(is_told == (wanted >= 0) && told == (is_told ? (uint64_t)wanted : MARK), what,
+           (long)told);
 }
 
 static void try_thousandths(void) {
@@ -230,10 +260,12 @@ static void try_thousandths(void) {
     round_off(power, times(power, 2000, 1), 0, "less than a half in these");
     round_off(times(power, 3, 0), times(power, 2000, 0), 2, "a thousandth and a half");
     round_off(times(power, 359999, 0), times(power, 2000, 0), 180000, "a half less than the most");
-    for (int k = 0; k <= 180; k++) round_off(times(whole, (uint64_t)k, 0), whole, 1000 * k, "so many wholes");
+    for (int k = 0; k <= 180; k++)
+        round_off(times(whole, (uint64_t)k, 0), whole, 1000 * k, "so many wholes");
 }
 
-/* what the calls say of a position, which has to be what its lines are answered; and of its place in the tables */
+/* what the calls say of a position, which has to be what its lines are answered; and of its place
+ * in the tables */
 static void ask_position(const char *name) {
     char line[320];
     bearoff_position position;
@@ -242,9 +274,11 @@ static void ask_position(const char *name) {
     static bearoff_long_shares shares, table[2];
     double sum = 0;
     if (bearoff_parse_position((const uint8_t *)name, strlen(name), &position) ||
-        bearoff_board_mean(&board, &position, &mean)) return;
+        bearoff_board_mean(&board, &position, &mean))
+        return;
     expect(bearoff_board_epc(&board, &position, &pips) == BEAROFF_OK, name, 1);
-    expect(fabs(bearoff_long_as_double(mean) * 49 / 6 * 1000 - (double)pips.thousandths) < 0.6, name, 2);
+    expect(fabs(bearoff_long_as_double(mean) * 49 / 6 * 1000 - (double)pips.thousandths) < 0.6,
+           name, 2);
     uint64_t told = 0;
     expect(bearoff_board_thousandths(&pips.exact, &told) && told == pips.thousandths, name, 7);
     put(" epc ", 0);
@@ -258,9 +292,11 @@ static void ask_position(const char *name) {
     expect(fabs(sum - 1) < 1e-12, name, 4);
     snprintf(line, sizeof line, "rank %s", name);
     uint16_t rank = (uint16_t)atoi(answered(line) + 5);
-    expect(bearoff_board_means(&board, rank, &listed, 1) == BEAROFF_OK && !memcmp(&listed, &mean, sizeof mean), name,
-           5);
-    expect(bearoff_board_distributions(&board, rank, table, 1) == BEAROFF_OK && !memcmp(table, &shares, sizeof shares),
+    expect(bearoff_board_means(&board, rank, &listed, 1) == BEAROFF_OK &&
+               !memcmp(&listed, &mean, sizeof mean),
+           name, 5);
+    expect(bearoff_board_distributions(&board, rank, table, 1) == BEAROFF_OK &&
+               !memcmp(table, &shares, sizeof shares),
            name, 6);
     if (rank) ask_roll(name, position, 6, 5), ask_roll(name, position, 3, 3);
 }
@@ -272,24 +308,33 @@ static void try_tables(uint16_t positions) {
     if (!means || !shares) exit(2);
     memset(means, MARK, (positions + 1) * sizeof *means);
     memset(shares, MARK, (positions + 1) * sizeof *shares);
-    expect(bearoff_board_means(&board, 0, means, positions + 1) == BEAROFF_NO_RANK, "a rank too many", positions);
-    expect(bearoff_board_distributions(&board, 1, shares, positions) == BEAROFF_NO_RANK, "a rank too many", positions);
-    expect(is_marked((uint8_t *)means, (positions + 1) * sizeof *means), "means left alone", positions);
-    expect(is_marked((uint8_t *)shares, (positions + 1) * sizeof *shares), "shares left alone", positions);
+    expect(bearoff_board_means(&board, 0, means, positions + 1) == BEAROFF_NO_RANK,
+           "a rank too many", positions);
+    expect(bearoff_board_distributions(&board, 1, shares, positions) == BEAROFF_NO_RANK,
+           "a rank too many", positions);
+    expect(is_marked((uint8_t *)means, (positions + 1) * sizeof *means), "means left alone",
+           positions);
+    expect(is_marked((uint8_t *)shares, (positions + 1) * sizeof *shares), "shares left alone",
+           positions);
     expect(bearoff_board_means(&board, 0, means, positions) == BEAROFF_OK, "all means", positions);
-    expect(bearoff_board_distributions(&board, 0, shares, positions) == BEAROFF_OK, "all shares", positions);
-    expect(is_marked((uint8_t *)(means + positions), sizeof *means), "behind the means", positions);
-    expect(is_marked((uint8_t *)(shares + positions), sizeof *shares), "behind the shares", positions);
+    expect(bearoff_board_distributions(&board, 0, shares, positions) == BEAROFF_OK, "all shares",
+           positions);
+    expect(is_marked((uint8_t *)(means + positions), sizeof *means), "behind the means",
+           positions);
+    expect(is_marked((uint8_t *)(shares + positions), sizeof *shares), "behind the shares",
+           positions);
     for (uint16_t rank = 0; rank < positions; rank++) {
         double mean = 0;
         for (int k = 0; k < 34; k++) mean += k * bearoff_long_as_double(shares[rank].shares[k]);
-        expect(fabs(mean - bearoff_long_as_double(means[rank])) < 1e-9, "the mean of the shares", rank);
+        expect(fabs(mean - bearoff_long_as_double(means[rank])) < 1e-9, "the mean of the shares",
+               rank);
     }
     free(means);
     free(shares);
 }
 
-/* bytes that are changed after they were opened: each call answers, or says that they were changed */
+/* bytes that are changed after they were opened: each call answers, or says that they were changed
+ */
 static void try_changes(size_t size) {
     static bearoff_long_shares shares;
     static bearoff_long_result results[BEAROFF_RESULTS];
@@ -308,18 +353,21 @@ static void try_changes(size_t size) {
             bearoff_position position = {{0}};
             for (int i = 0; i < 6; i++) position.points[i] = (uint8_t)(points >> i & 1);
             uint32_t told[] = {
-                bearoff_board_mean(&board, &position, &mean), bearoff_board_epc(&board, &position, &pips),
+                bearoff_board_mean(&board, &position, &mean),
+                bearoff_board_epc(&board, &position, &pips),
                 bearoff_board_distribution(&board, &position, &shares),
                 bearoff_board_play(&board, &position, 2, 1, &play),
                 bearoff_board_moves(&board, &position, 6, 6, results, BEAROFF_RESULTS, &found),
                 bearoff_board_means(&board, (uint16_t)points, &mean, 1),
                 bearoff_board_distributions(&board, (uint16_t)points, &shares, 1),
-                bearoff_board_answer_line(&board, (const uint8_t *)"dist 1,1,1,0,0,0", 16, text, BEAROFF_BOARD_REPLY,
-                                          &needed),
+                bearoff_board_answer_line(&board, (const uint8_t *)"dist 1,1,1,0,0,0", 16, text,
+                                          BEAROFF_BOARD_REPLY, &needed),
             };
             for (size_t i = 0; i < sizeof told / sizeof *told; i++)
-                expect(told[i] == BEAROFF_OK || told[i] == BEAROFF_CHANGED || told[i] == BEAROFF_OVER_BOUND ||
-                       told[i] == BEAROFF_FINISHED || told[i] == BEAROFF_NO_RANK, "changed bytes", (long)told[i]);
+                expect(told[i] == BEAROFF_OK || told[i] == BEAROFF_CHANGED ||
+                           told[i] == BEAROFF_OVER_BOUND || told[i] == BEAROFF_FINISHED ||
+                           told[i] == BEAROFF_NO_RANK,
+                       "changed bytes", (long)told[i]);
         }
     }
 }
@@ -332,8 +380,10 @@ int main(int count, char **words) {
     if (!file || build_in(bound, MOST, &size) != BEAROFF_OK) return 2;
     expect(is_marked(room + size, MOST - size), "behind the file", (long)size);
     expect(build_in(bound, size - 1, &needed) == BEAROFF_SHORT, "a room too small", bound);
-    for (int over = 91; over < 256; over++) expect(build_in(over, 0, &needed) == BEAROFF_OVER_BOUND, "over 90", over);
-    expect(build_in(bound, size, &needed) == BEAROFF_OK && needed == size, "exactly enough", bound);
+    for (int over = 91; over < 256; over++)
+        expect(build_in(over, 0, &needed) == BEAROFF_OVER_BOUND, "over 90", over);
+    expect(build_in(bound, size, &needed) == BEAROFF_OK && needed == size, "exactly enough",
+           bound);
     if (fwrite(room, 1, size, file) != size || fclose(file)) return 2;
     try_refusals(size);
     try_thousandths();
@@ -341,12 +391,14 @@ int main(int count, char **words) {
     while (fgets(line, sizeof line, stdin)) {
         size_t length = strcspn(line, "\n");
         memset(text, MARK, sizeof text);
-        uint32_t status =
-            bearoff_board_answer_line(&board, (const uint8_t *)line, length, text, BEAROFF_BOARD_REPLY, &needed);
-        expect(status == BEAROFF_OK && is_marked(text + needed, sizeof text - needed), "a line", (long)status);
+        uint32_t status = bearoff_board_answer_line(&board, (const uint8_t *)line, length, text,
+                                                    BEAROFF_BOARD_REPLY, &needed);
+        expect(status == BEAROFF_OK && is_marked(text + needed, sizeof text - needed), "a line",
+               (long)status);
         printf("%.*s\n", (int)needed, (const char *)text);
-        expect(bearoff_board_answer_line(&board, (const uint8_t *)line, length, text, needed - 1, &needed) ==
-               BEAROFF_SHORT, "a room too small for a reply", (long)needed);
+        expect(bearoff_board_answer_line(&board, (const uint8_t *)line, length, text, needed - 1,
+                                         &needed) == BEAROFF_SHORT,
+               "a room too small for a reply", (long)needed);
         line[length] = 0;
         if (!strncmp(line, "mean ", 5)) ask_position(line + 5);
     }

@@ -1,10 +1,13 @@
 /*
- * The rooms that the header names are enough for every position and roll of a database: BEAROFF_RESULTS for the
- * results, and BEAROFF_REPLY for the reply to a line.
+ * The rooms that the header names are enough for every position and roll of a database:
+ * BEAROFF_RESULTS for the results, and BEAROFF_REPLY for the reply to a line.
+ *
  * usage: largest FILE       a right database
- * Each list of results that is longer than 64 is asked for again, and so is its line: with a room of the header's size,
- * of one less, of exactly what was told, and of one less than that, which is too small. All rooms stand between guards.
- * Says how many results and how many bytes there were at most.
+ *
+ * Each list of results that is longer than 64 is asked for again, and so is its line: with a room
+ * of the header's size, of one less, of exactly what was told, and of one less than that, which is
+ * too small. All rooms stand between guards. Says how many results and how many bytes there were
+ * at most.
  */
 #include <stdio.h>
 #include <stdlib.h>
@@ -14,7 +17,8 @@
 
 enum { GUARD = 64, MARK = 0xA5, LONG = 64 };
 
-static uint8_t bytes[BEAROFF_FILE + 1], result_block[2 * GUARD + BEAROFF_RESULTS * sizeof(bearoff_result)];
+static uint8_t bytes[BEAROFF_FILE + 1],
+    result_block[2 * GUARD + BEAROFF_RESULTS * sizeof(bearoff_result)];
 static uint8_t text_block[2 * GUARD + BEAROFF_REPLY];
 static bearoff_database database = BEAROFF_CLOSED;
 static size_t most_results, most_bytes;
@@ -43,14 +47,17 @@ static int kept(const uint8_t *block, size_t size, size_t written) {
 }
 
 /* how many results a roll has, with so much room */
-static size_t list(bearoff_position at, uint8_t one, uint8_t other, size_t room, size_t wanted, long rank) {
+static size_t list(bearoff_position at, uint8_t one, uint8_t other, size_t room, size_t wanted,
+                   long rank) {
     size_t count = 0, size = room * sizeof(bearoff_result);
     bearoff_result *results = (bearoff_result *)lend(result_block, size);
     uint32_t status = bearoff_results(&database, &at, one, other, results, room, &count);
     int fits = count <= room;
-    expect(status == (fits ? BEAROFF_OK : BEAROFF_SHORT), "the status of the results", rank, (long)room);
+    expect(status == (fits ? BEAROFF_OK : BEAROFF_SHORT), "the status of the results", rank,
+           (long)room);
     expect(count == wanted || !wanted, "how many results", rank, (long)count);
-    expect(kept(result_block, size, fits ? count * sizeof(bearoff_result) : 0), "beside the results", rank, (long)room);
+    expect(kept(result_block, size, fits ? count * sizeof(bearoff_result) : 0),
+           "beside the results", rank, (long)room);
     return count;
 }
 
@@ -58,7 +65,8 @@ static size_t list(bearoff_position at, uint8_t one, uint8_t other, size_t room,
 static size_t answer(const char *line, size_t room, size_t wanted, long rank) {
     size_t needed = 0;
     uint8_t *text = (uint8_t *)lend(text_block, room);
-    uint32_t status = bearoff_answer_line(&database, (const uint8_t *)line, strlen(line), text, room, &needed);
+    uint32_t status =
+        bearoff_answer_line(&database, (const uint8_t *)line, strlen(line), text, room, &needed);
     int fits = needed <= room;
     expect(status == (fits ? BEAROFF_OK : BEAROFF_SHORT), line, rank, (long)room);
     expect(needed == wanted || !wanted, line, rank, (long)needed);
@@ -68,10 +76,12 @@ static size_t answer(const char *line, size_t room, size_t wanted, long rank) {
 
 static void try_rooms(bearoff_position at, uint8_t one, uint8_t other, size_t count, long rank) {
     const size_t rooms[] = {BEAROFF_RESULTS - 1, count, count - 1};
-    for (size_t i = 0; i < sizeof rooms / sizeof *rooms; i++) list(at, one, other, rooms[i], count, rank);
+    for (size_t i = 0; i < sizeof rooms / sizeof *rooms; i++)
+        list(at, one, other, rooms[i], count, rank);
     const uint8_t *on = at.points;
     char line[64];
-    snprintf(line, sizeof line, "moves %d,%d,%d,%d,%d,%d %d%d", on[0], on[1], on[2], on[3], on[4], on[5], one, other);
+    snprintf(line, sizeof line, "moves %d,%d,%d,%d,%d,%d %d%d", on[0], on[1], on[2], on[3], on[4],
+             on[5], one, other);
     size_t needed = answer(line, BEAROFF_REPLY, 0, rank);
     expect(needed <= BEAROFF_REPLY, "the room for a reply", rank, (long)needed);
     const size_t sizes[] = {BEAROFF_REPLY - 1, needed, needed - 1};

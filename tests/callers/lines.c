@@ -1,13 +1,17 @@
 /*
- * Answers lines as `bearoff query FILE` does, by way of the library: its replies are compared with the program's. What
- * other calls say of the same position, and whole tables, have to agree with what is answered.
- * usage: lines FILE [THREADS] <lines       with THREADS, as many threads answer all lines, over a database each,
- *                                          and the program fails where their replies differ
- *        lines FILE --text <lines          by bearoff_answer_line, with no room first and then just enough
- *        lines FILE --speed N              how many means a second N calls come to, over all positions of at most
- *                                          the bound in the order of a walk
- *        lines FILE --tables               how many microseconds all means take in one call, and all distributions,
- *                                          with the memory for them; the best of nine
+ * Answers lines as `bearoff query FILE` does, by way of the library: its replies are compared with
+ * the program's. What other calls say of the same position, and whole tables, have to agree with
+ * what is answered.
+ *
+ * usage: lines FILE [THREADS] <lines    with THREADS, as many threads answer all lines, over a
+ *                                       database each, and it fails where their replies differ
+ *        lines FILE --text <lines       by bearoff_answer_line, with no room first and then just
+ *                                       enough
+ *        lines FILE --speed N           how many means a second N calls come to, over all
+ *                                       positions of at most the bound in the order of a walk
+ *        lines FILE --tables            how many microseconds all means take in one call, and all
+ *                                       distributions, with the memory for them; the best of nine
+ *
  * It is C and C++ both.
  */
 #define _POSIX_C_SOURCE 200809L
@@ -24,11 +28,16 @@ typedef unsigned __int128 number;
 
 static const char *fault_words(uint32_t status) {
     switch (status) {
-    case BEAROFF_TOO_MANY: return "error too-many";
-    case BEAROFF_OVER_BOUND: return "error over-bound";
-    case BEAROFF_FINISHED: return "error finished";
-    case BEAROFF_NOT_LEGAL: return "error not-legal";
-    default: return "error bad-line";
+        case BEAROFF_TOO_MANY:
+            return "error too-many";
+        case BEAROFF_OVER_BOUND:
+            return "error over-bound";
+        case BEAROFF_FINISHED:
+            return "error finished";
+        case BEAROFF_NOT_LEGAL:
+            return "error not-legal";
+        default:
+            return "error bad-line";
     }
 }
 
@@ -71,7 +80,8 @@ static number whole(void) {
 static void put_number(text *to, number n) {
     char digits[40];
     int first = 40;
-    do digits[--first] = (char)('0' + (int)(n % 10)); while (n /= 10);
+    do digits[--first] = (char)('0' + (int)(n % 10));
+    while (n /= 10);
     put(to, "%.*s", 40 - first, digits + first);
 }
 
@@ -120,7 +130,8 @@ static void put_thousandths(text *to, uint64_t thousandths) {
     put(to, "%lu.%03lu", (unsigned long)(thousandths / 1000), (unsigned long)(thousandths % 1000));
 }
 
-/* a fraction of at most a million in thousandths, a half up, with a denominator of at most 6 * 36^22 */
+/* a fraction of at most a million in thousandths, a half up, with a denominator of at most 6 *
+ * 36^22 */
 static uint64_t rounded(number n, number d) {
     number rest = n % d * 1000, half = d / 2;
     return (uint64_t)(n / d * 1000 + rest / d + (rest % d >= d - half));
@@ -130,8 +141,10 @@ static int same_position(bearoff_position one, bearoff_position other) {
     return !memcmp(&one, &other, sizeof one);
 }
 
-/* the mean of a position as a fraction and rounded, and its wastage, beside its numerator and effective pip count */
-static void check_rounded(const bearoff_database *database, bearoff_position at, bearoff_wide mean, bearoff_pips pips) {
+/* the mean of a position as a fraction and rounded, and its wastage, beside its numerator and
+ * effective pip count */
+static void check_rounded(const bearoff_database *database, bearoff_position at, bearoff_wide mean,
+                          bearoff_pips pips) {
     bearoff_rolls rolls;
     bearoff_wasted wasted;
     bearoff_stand stand;
@@ -141,34 +154,42 @@ static void check_rounded(const bearoff_database *database, bearoff_position at,
         fail("a mean that is told once is not told again");
     }
     number n = value(rolls.exact.numerator), d = value(rolls.exact.denominator);
-    if (n * (whole() / d) != value(mean) || rolls.thousandths != rounded(n, d)) fail("a rounded mean");
-    if (!bearoff_thousandths(&rolls.exact, &told) || told != rolls.thousandths) fail("thousandths of a mean");
-    if (!bearoff_thousandths(&pips.exact, &told) || told != pips.thousandths) fail("thousandths of pips");
+    if (n * (whole() / d) != value(mean) || rolls.thousandths != rounded(n, d))
+        fail("a rounded mean");
+    if (!bearoff_thousandths(&rolls.exact, &told) || told != rolls.thousandths)
+        fail("thousandths of a mean");
+    if (!bearoff_thousandths(&pips.exact, &told) || told != pips.thousandths)
+        fail("thousandths of pips");
     unsigned all = 0, checkers = 0;
     for (unsigned point = 1; point <= 6; point++) {
         all += point * at.points[point - 1];
         checkers += at.points[point - 1];
     }
-    if (stand.pips != all || stand.checkers != checkers || stand.off != 15 - checkers) fail("where it stands");
+    if (stand.pips != all || stand.checkers != checkers || stand.off != 15 - checkers)
+        fail("where it stands");
     int is_below = pips.thousandths < 1000 * all;
     uint64_t apart = is_below ? 1000 * all - pips.thousandths : pips.thousandths - 1000 * all;
     if (wasted.is_below != is_below || wasted.thousandths != apart) fail("a wastage");
 }
 
 /* the chances to be off within so many rolls, beside the shares */
-static void check_within(const bearoff_database *database, bearoff_position at, bearoff_shares shares) {
+static void check_within(const bearoff_database *database, bearoff_position at,
+                         bearoff_shares shares) {
     number total = 0;
     for (int rolls = 0; rolls < 256; rolls++) {
         uint64_t told;
         if (rolls < 23) total += value(shares.shares[rolls]);
-        if (bearoff_within(database, &at, (uint8_t)rolls, &told) || told != rounded(total, whole())) fail("within");
+        if (bearoff_within(database, &at, (uint8_t)rolls, &told) ||
+            told != rounded(total, whole()))
+            fail("within");
     }
 }
 
 /* a play that leads to a position, beside what each of its moves does */
 static void check_play_to(bearoff_position at, uint8_t one, uint8_t other, bearoff_position to) {
     bearoff_recorded_play play;
-    if (bearoff_play_to(&at, one, other, &to, &play) || !same_position(play.to, to)) fail("a play to a position");
+    if (bearoff_play_to(&at, one, other, &to, &play) || !same_position(play.to, to))
+        fail("a play to a position");
     for (int i = 0; i < play.count; i++) {
         at.points[play.moves[i].from - 1]--;
         if (play.moves[i].to) at.points[play.moves[i].to - 1]++;
@@ -184,7 +205,8 @@ static void sort(bearoff_result *results, size_t count) {
         number loss = value(one.loss.numerator) * (w / value(one.loss.denominator));
         size_t j = i;
         for (; j > 0; j--) {
-            number before = value(results[j - 1].loss.numerator) * (w / value(results[j - 1].loss.denominator));
+            number before = value(results[j - 1].loss.numerator) *
+                            (w / value(results[j - 1].loss.denominator));
             if (before <= loss) break;
             results[j] = results[j - 1];
         }
@@ -240,21 +262,25 @@ static void answer(const bearoff_database *database, const char *line, text *rep
         if (!status) {
             bearoff_recorded_play first;
             memset(&first, 0, sizeof first);
-            if (bearoff_play_to(&at, one, other, &play.to, &first) || memcmp(&first, &play, sizeof play)) {
+            if (bearoff_play_to(&at, one, other, &play.to, &first) ||
+                memcmp(&first, &play, sizeof play)) {
                 fail("the first play to the recorded position");
             }
             put(reply, "play");
             for (int i = 0; i < play.count; i++) {
-                put(reply, play.moves[i].to ? " %d/%d" : " %d/off", play.moves[i].from, play.moves[i].to);
+                put(reply, play.moves[i].to ? " %d/%d" : " %d/off", play.moves[i].from,
+                    play.moves[i].to);
             }
             put(reply, " to ");
             put_position(reply, play.to);
         }
-    } else if (!strcmp(word, "loss") && read_roll(&rest, &one, &other) && *rest++ == ' ' && read_position(&rest, &to)) {
+    } else if (!strcmp(word, "loss") && read_roll(&rest, &one, &other) && *rest++ == ' ' &&
+               read_position(&rest, &to)) {
         bearoff_fraction loss;
         bearoff_recorded_play play;
         status = bearoff_loss(database, &at, one, other, &to, &loss);
-        if (status == BEAROFF_NOT_LEGAL && bearoff_play_to(&at, one, other, &to, &play) != BEAROFF_NOT_LEGAL) {
+        if (status == BEAROFF_NOT_LEGAL &&
+            bearoff_play_to(&at, one, other, &to, &play) != BEAROFF_NOT_LEGAL) {
             fail("a play to where the roll doesn't lead");
         }
         if (!status) {
@@ -285,18 +311,23 @@ static void answer(const bearoff_database *database, const char *line, text *rep
 }
 
 /* the reply to a line as the library has it, whatever its bytes are */
-static void answer_line(const bearoff_database *database, const char *line, size_t length, text *reply) {
+static void answer_line(const bearoff_database *database, const char *line, size_t length,
+                        text *reply) {
     uint8_t mark = 0xA5;
     size_t needed = 0, told = 0;
-    uint32_t status = bearoff_answer_line(database, (const uint8_t *)line, length, &mark, 0, &needed);
-    if (status != BEAROFF_SHORT || !needed || needed > BEAROFF_REPLY || mark != 0xA5) fail("a line without room");
+    uint32_t status =
+        bearoff_answer_line(database, (const uint8_t *)line, length, &mark, 0, &needed);
+    if (status != BEAROFF_SHORT || !needed || needed > BEAROFF_REPLY || mark != 0xA5)
+        fail("a line without room");
     while (reply->room - reply->length < needed + 1) {
         reply->room = 2 * reply->room + needed + 1;
         reply->bytes = (char *)realloc(reply->bytes, reply->room);
         if (!reply->bytes) fail("memory");
     }
     uint8_t *at = (uint8_t *)reply->bytes + reply->length;
-    if (bearoff_answer_line(database, (const uint8_t *)line, length, at, needed, &told) || told != needed) fail("a line");
+    if (bearoff_answer_line(database, (const uint8_t *)line, length, at, needed, &told) ||
+        told != needed)
+        fail("a line");
     at[needed] = '\n';
     reply->length += needed + 1;
 }
@@ -323,7 +354,8 @@ static text file, lines;
 static void open_it(bearoff_database *database) {
     uint8_t line[BEAROFF_LINE];
     size_t needed;
-    uint32_t status = bearoff_open(database, (const uint8_t *)file.bytes, file.length, line, sizeof line, &needed);
+    uint32_t status = bearoff_open(database, (const uint8_t *)file.bytes, file.length, line,
+                                   sizeof line, &needed);
     if (status) {
         fprintf(stderr, "lines: refused %.*s\n", (int)needed, (const char *)line);
         exit(3);
@@ -345,7 +377,8 @@ static void check_tables(const bearoff_database *database, uint16_t first) {
     bearoff_wide *means = (bearoff_wide *)room_of(count, sizeof *means);
     bearoff_pips *epcs = (bearoff_pips *)room_of(count, sizeof *epcs);
     bearoff_shares *distributions = (bearoff_shares *)room_of(count, sizeof *distributions);
-    if (bearoff_listed_positions(database, first, positions, count) || bearoff_listed_means(database, first, means, count) ||
+    if (bearoff_listed_positions(database, first, positions, count) ||
+        bearoff_listed_means(database, first, means, count) ||
         bearoff_listed_epcs(database, first, epcs, count) ||
         bearoff_listed_distributions(database, first, distributions, count)) {
         fail("a table");
@@ -356,9 +389,9 @@ static void check_tables(const bearoff_database *database, uint16_t first) {
         bearoff_pips pips;
         bearoff_shares shares;
         uint16_t rank;
-        if (bearoff_position_of(database, (uint16_t)(first + i), &at) || bearoff_rank(database, &at, &rank) ||
-            bearoff_mean(database, &at, &mean) || bearoff_epc(database, &at, &pips) ||
-            bearoff_distribution(database, &at, &shares)) {
+        if (bearoff_position_of(database, (uint16_t)(first + i), &at) ||
+            bearoff_rank(database, &at, &rank) || bearoff_mean(database, &at, &mean) ||
+            bearoff_epc(database, &at, &pips) || bearoff_distribution(database, &at, &shares)) {
             fail("a call for a position of a table");
         }
         if (rank != first + i || !same_position(at, positions[i])) fail("a position of a table");
@@ -382,7 +415,8 @@ static void *answer_all(void *to) {
     replies->room = 1 << 16;
     replies->bytes = (char *)malloc(replies->room);
     if (!replies->bytes) fail("memory");
-    for (const char *line = lines.bytes; *line; line = strchr(line, '\n') + 1) answer(database, line, replies);
+    for (const char *line = lines.bytes; *line; line = strchr(line, '\n') + 1)
+        answer(database, line, replies);
     free(database);
     return 0;
 }
@@ -412,8 +446,11 @@ static size_t all_positions(bearoff_position *at, unsigned bound) {
                     for (unsigned d = 0; a + b + c + d <= 15; d++)
                         for (unsigned e = 0; a + b + c + d + e <= 15; e++) {
                             unsigned low = a + 2 * b + 3 * c + 4 * d + 5 * e;
-                            if (low > pips || (pips - low) % 6 || a + b + c + d + e + (pips - low) / 6 > 15) continue;
-                            bearoff_position one = {{(uint8_t)a, (uint8_t)b, (uint8_t)c, (uint8_t)d, (uint8_t)e,
+                            if (low > pips || (pips - low) % 6 ||
+                                a + b + c + d + e + (pips - low) / 6 > 15)
+                                continue;
+                            bearoff_position one = {{(uint8_t)a, (uint8_t)b, (uint8_t)c,
+                                                     (uint8_t)d, (uint8_t)e,
                                                      (uint8_t)((pips - low) / 6)}};
                             at[count++] = one;
                         }
@@ -459,9 +496,12 @@ static void tables(void) {
         double least = 1;
         for (int i = 0; i < 9; i++) {
             double start = now();
-            void *room = malloc(positions * (which ? sizeof(bearoff_shares) : sizeof(bearoff_wide)));
-            if (!room || (which ? bearoff_listed_distributions(&database, 0, (bearoff_shares *)room, positions)
-                                : bearoff_listed_means(&database, 0, (bearoff_wide *)room, positions))) {
+            void *room =
+                malloc(positions * (which ? sizeof(bearoff_shares) : sizeof(bearoff_wide)));
+            if (!room ||
+                (which ? bearoff_listed_distributions(&database, 0, (bearoff_shares *)room,
+                                                      positions)
+                       : bearoff_listed_means(&database, 0, (bearoff_wide *)room, positions))) {
                 fail("a table");
             }
             double taken = now() - start;
@@ -506,7 +546,8 @@ int main(int count, char **words) {
     }
     for (int i = 0; i < threads; i++) pthread_join(ids[i], 0);
     for (int i = 1; i < threads; i++) {
-        if (replies[i].length != replies[0].length || memcmp(replies[i].bytes, replies[0].bytes, replies[0].length)) {
+        if (replies[i].length != replies[0].length ||
+            memcmp(replies[i].bytes, replies[0].bytes, replies[0].length)) {
             fail("two threads answer differently");
         }
     }

@@ -59,9 +59,19 @@ def main(folder):
         sys.exit(3)
     os.makedirs(folder, exist_ok=True)
     with tempfile.TemporaryDirectory() as home:
-        environment = {**os.environ, "HOME": home, "LC_ALL": "C", "PLAY_GNUBG": os.path.abspath(folder)}
-        run = subprocess.run([program, "-t", "-q", "-r", "-p", os.path.abspath(__file__)], env=environment,
-                             stdin=subprocess.DEVNULL, stdout=subprocess.PIPE, stderr=subprocess.STDOUT)
+        environment = {
+            **os.environ,
+            "HOME": home,
+            "LC_ALL": "C",
+            "PLAY_GNUBG": os.path.abspath(folder),
+        }
+        run = subprocess.run(
+            [program, "-t", "-q", "-r", "-p", os.path.abspath(__file__)],
+            env=environment,
+            stdin=subprocess.DEVNULL,
+            stdout=subprocess.PIPE,
+            stderr=subprocess.STDOUT,
+        )
     if not all(os.path.exists(os.path.join(folder, name + ".json")) for name, _, _ in PLAYED):
         said = run.stdout.decode(errors="replace")[-1000:]
         sys.exit(f"play_gnubg: GNU Backgammon ended before it had played all: {said}")

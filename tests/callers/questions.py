@@ -8,6 +8,7 @@ import sys
 
 def positions(bound):
     """Each position of at most so many pips."""
+
     def lists(point, checkers, pips):
         if point > 6:
             yield ()
@@ -15,6 +16,7 @@ def positions(bound):
         for count in range(min(checkers, pips // point) + 1):
             for rest in lists(point + 1, checkers - count, pips - point * count):
                 yield (count, *rest)
+
     return list(lists(1, 15, bound))
 
 
@@ -48,8 +50,17 @@ def main():
             to = chance.choice(firsts)
             to = chance.choice(list(after(to, int(roll[1]))) or [to])
             print("loss", at, roll, text(to))
-    for line in ("mean 0,0,0,0,0,8", "rank 0,0,0,0,0,16", "mean 0,0,0,0,0,16", "play 0,0,0,0,0,0 11", "play 0,0,0,0,0,1 17",
-                 "loss 0,0,0,0,0,1 21 0,0,0,0,0,1", "moves 9,9,0,0,0,0 21", "dist 0,0,0", "nothing 1"):
+    for line in (
+        "mean 0,0,0,0,0,8",
+        "rank 0,0,0,0,0,16",
+        "mean 0,0,0,0,0,16",
+        "play 0,0,0,0,0,0 11",
+        "play 0,0,0,0,0,1 17",
+        "loss 0,0,0,0,0,1 21 0,0,0,0,0,1",
+        "moves 9,9,0,0,0,0 21",
+        "dist 0,0,0",
+        "nothing 1",
+    ):
         print(line)
 
 

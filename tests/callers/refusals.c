@@ -1,8 +1,11 @@
 /*
- * Each refusal of the library gives its status, and leaves alone what the caller lends but for what the header says.
+ * Each refusal of the library gives its status, and leaves alone what the caller lends but for
+ * what the header says.
+ *
  * usage: refusals FILE       a right database of 8 pips
- * Each struct and buffer stands between guards, and the bytes of a file in a block of their own, so that a checker of
- * memory sees a step beside them. It is C and C++ both.
+ *
+ * Each struct and buffer stands between guards, and the bytes of a file in a block of their own,
+ * so that a checker of memory sees a step beside them. It is C and C++ both.
  */
 #include <stdio.h>
 #include <stdlib.h>
@@ -56,8 +59,8 @@ static statuses statuses_of(uint32_t numbers, uint32_t play, uint32_t loss) {
     return all;
 }
 
-static void ask(const bearoff_database *database, bearoff_position at, uint8_t one, uint8_t other, bearoff_position to,
-                statuses wanted, const char *what) {
+static void ask(const bearoff_database *database, bearoff_position at, uint8_t one, uint8_t other,
+                bearoff_position to, statuses wanted, const char *what) {
     bearoff_wide *mean = (bearoff_wide *)guarded(sizeof *mean);
     bearoff_pips *pips = (bearoff_pips *)guarded(sizeof *pips);
     bearoff_shares *shares = (bearoff_shares *)guarded(sizeof *shares);
@@ -95,11 +98,12 @@ static void ask(const bearoff_database *database, bearoff_position at, uint8_t o
     }
     if (wanted.loss) expect(untouched(loss, sizeof *loss), what, 13);
     expect(guards_stand(mean, sizeof *mean) && guards_stand(pips, sizeof *pips) &&
-           guards_stand(shares, sizeof *shares) && guards_stand(play, sizeof *play) &&
-           guards_stand(loss, sizeof *loss) && guards_stand(results, 64 * sizeof *results) &&
-           guards_stand(count, sizeof *count) && guards_stand(rolls, sizeof *rolls) &&
-           guards_stand(wasted, sizeof *wasted) && guards_stand(within, sizeof *within) &&
-           guards_stand(rank, sizeof *rank), what, 14);
+               guards_stand(shares, sizeof *shares) && guards_stand(play, sizeof *play) &&
+               guards_stand(loss, sizeof *loss) && guards_stand(results, 64 * sizeof *results) &&
+               guards_stand(count, sizeof *count) && guards_stand(rolls, sizeof *rolls) &&
+               guards_stand(wasted, sizeof *wasted) && guards_stand(within, sizeof *within) &&
+               guards_stand(rank, sizeof *rank),
+           what, 14);
     let_go(rolls);
     let_go(wasted);
     let_go(within);
@@ -114,16 +118,19 @@ static void ask(const bearoff_database *database, bearoff_position at, uint8_t o
 }
 
 /* the calls that list so many from a rank on, and what stays as it was where they are refused */
-static void list(const bearoff_database *database, uint16_t first, size_t count, uint32_t wanted, const char *what) {
-    static const size_t sizes[] = {sizeof(bearoff_position), sizeof(bearoff_wide), sizeof(bearoff_pips),
-                                   sizeof(bearoff_shares)};
+static void list(const bearoff_database *database, uint16_t first, size_t count, uint32_t wanted,
+                 const char *what) {
+    static const size_t sizes[] = {sizeof(bearoff_position), sizeof(bearoff_wide),
+                                   sizeof(bearoff_pips), sizeof(bearoff_shares)};
     for (size_t call = 0; call < sizeof sizes / sizeof *sizes; call++) {
         size_t size = count <= 64 ? count * sizes[call] : 0;
         void *room = guarded(size);
-        uint32_t status = call == 0   ? bearoff_listed_positions(database, first, (bearoff_position *)room, count)
-                          : call == 1 ? bearoff_listed_means(database, first, (bearoff_wide *)room, count)
-                          : call == 2 ? bearoff_listed_epcs(database, first, (bearoff_pips *)room, count)
-                                      : bearoff_listed_distributions(database, first, (bearoff_shares *)room, count);
+        uint32_t status =
+            call == 0 ? bearoff_listed_positions(database, first, (bearoff_position *)room, count)
+            : call == 1 ? bearoff_listed_means(database, first, (bearoff_wide *)room, count)
+            : call == 2
+                ? bearoff_listed_epcs(database, first, (bearoff_pips *)room, count)
+                : bearoff_listed_distributions(database, first, (bearoff_shares *)room, count);
         expect(status == wanted && guards_stand(room, size), what, (long)call);
         expect((wanted || !size) == untouched(room, size), what, 10 + (long)call);
         let_go(room);
@@ -135,9 +142,10 @@ static void list(const bearoff_database *database, uint16_t first, size_t count,
     let_go(at);
 }
 
-/* the calls that ask no database: a play that leads to a position, and what a position stands at */
-static void lead(bearoff_position at, uint8_t one, uint8_t other, bearoff_position to, uint32_t wanted,
-                 const char *what) {
+/* the calls that ask no database: a play that leads to a position, and what a position stands at
+ */
+static void lead(bearoff_position at, uint8_t one, uint8_t other, bearoff_position to,
+                 uint32_t wanted, const char *what) {
     bearoff_recorded_play *play = (bearoff_recorded_play *)guarded(sizeof *play);
     expect(bearoff_play_to(&at, one, other, &to, play) == wanted, what, one);
     expect(wanted ? untouched(play, sizeof *play) : guards_stand(play, sizeof *play), what, other);
@@ -147,7 +155,9 @@ static void lead(bearoff_position at, uint8_t one, uint8_t other, bearoff_positi
 static void stand(bearoff_position at, uint32_t wanted, const char *what) {
     bearoff_stand *standing = (bearoff_stand *)guarded(sizeof *standing);
     expect(bearoff_standing(&at, standing) == wanted, what, 1);
-    expect(wanted ? untouched(standing, sizeof *standing) : guards_stand(standing, sizeof *standing), what, 2);
+    expect(
+        wanted ? untouched(standing, sizeof *standing) : guards_stand(standing, sizeof *standing),
+        what, 2);
     let_go(standing);
 }
 
@@ -165,8 +175,8 @@ static void round_off(number numerator, number denominator, int wanted, const ch
 }
 
 /* opens bytes with so much room for the line */
-static uint32_t open_with(bearoff_database *database, const uint8_t *bytes, size_t length, size_t room,
-                          const char *line, const char *what) {
+static uint32_t open_with(bearoff_database *database, const uint8_t *bytes, size_t length,
+                          size_t room, const char *line, const char *what) {
     uint8_t *buffer = guarded(room);
     size_t *needed = (size_t *)guarded(sizeof *needed);
     uint32_t status = bearoff_open(database, bytes, length, buffer, room, needed);
@@ -185,18 +195,21 @@ static uint32_t open_with(bearoff_database *database, const uint8_t *bytes, size
 }
 
 /* answers a line with so much room, and gives the status */
-static uint32_t answer_with(const bearoff_database *database, const char *line, size_t room, const char *reply,
-                            const char *what) {
+static uint32_t answer_with(const bearoff_database *database, const char *line, size_t room,
+                            const char *reply, const char *what) {
     uint8_t *buffer = guarded(room);
     size_t *needed = (size_t *)guarded(sizeof *needed);
-    uint32_t status = bearoff_answer_line(database, (const uint8_t *)line, strlen(line), buffer, room, needed);
+    uint32_t status =
+        bearoff_answer_line(database, (const uint8_t *)line, strlen(line), buffer, room, needed);
     size_t count = reply ? strlen(reply) : 0;
     if (!reply) {
         expect(untouched(buffer, room) && untouched(needed, sizeof *needed), what, (long)room);
     } else {
-        expect(*needed == count && status == (count <= room ? BEAROFF_OK : BEAROFF_SHORT), what, (long)*needed);
+        expect(*needed == count && status == (count <= room ? BEAROFF_OK : BEAROFF_SHORT), what,
+               (long)*needed);
         if (count <= room) {
-            expect(!memcmp(buffer, reply, count) && is_marked(buffer + count, room - count), what, -1);
+            expect(!memcmp(buffer, reply, count) && is_marked(buffer + count, room - count), what,
+                   -1);
         } else {
             expect(is_marked(buffer, room), what, -2);
         }
@@ -214,9 +227,11 @@ static void say(uint32_t status, const char *wanted) {
         uint8_t *buffer = guarded(room);
         size_t *needed = (size_t *)guarded(sizeof *needed);
         uint32_t told = bearoff_status_text(status, buffer, room, needed);
-        expect(told == (count <= room ? BEAROFF_OK : BEAROFF_SHORT) && *needed == count, wanted, (long)room);
+        expect(told == (count <= room ? BEAROFF_OK : BEAROFF_SHORT) && *needed == count, wanted,
+               (long)room);
         if (count <= room) {
-            expect(!memcmp(buffer, wanted, count) && is_marked(buffer + count, room - count), wanted, -1);
+            expect(!memcmp(buffer, wanted, count) && is_marked(buffer + count, room - count),
+                   wanted, -1);
         } else {
             expect(is_marked(buffer, room), wanted, -2);
         }
@@ -226,7 +241,8 @@ static void say(uint32_t status, const char *wanted) {
     }
 }
 
-/* what a text is as a position, told character by character: the status, and the counts where that is BEAROFF_OK */
+/* what a text is as a position, told character by character: the status, and the counts where that
+ * is BEAROFF_OK */
 static uint32_t read_counts(const char *text, size_t length, bearoff_position *position) {
     unsigned counts[6] = {0, 0, 0, 0, 0, 0}, sum = 0;
     size_t point = 0, digits = 0;
@@ -255,7 +271,9 @@ static uint32_t read_text(const char *text, size_t length) {
     memcpy(bytes, text, length);
     uint32_t status = bearoff_parse_position(bytes, length, position);
     expect(status == read_counts(text, length, &wanted), text, (long)length);
-    expect(status ? untouched(position, sizeof *position) : !memcmp(position, &wanted, sizeof wanted), text, -1);
+    expect(
+        status ? untouched(position, sizeof *position) : !memcmp(position, &wanted, sizeof wanted),
+        text, -1);
     expect(guards_stand(position, sizeof *position) && !memcmp(bytes, text, length), text, -2);
     let_go(position);
     free(bytes);
@@ -326,8 +344,26 @@ int main(int count, char **words) {
         {BEAROFF_BAD_SPREAD, "a share or count is not that of the recorded plays"},
         {28, "the bytes were changed while they were read"},
     };
-    static const uint32_t unknown[] = {12, 13, 14, 15, 29, 30, 31, 32, 255, 256, 257, 260, 267, 284, 512, 65536, 65538,
-                                       1u << 31, (1u << 31) + 16, ~(uint32_t)0};
+    static const uint32_t unknown[] = {12,
+                                       13,
+                                       14,
+                                       15,
+                                       29,
+                                       30,
+                                       31,
+                                       32,
+                                       255,
+                                       256,
+                                       257,
+                                       260,
+                                       267,
+                                       284,
+                                       512,
+                                       65536,
+                                       65538,
+                                       1u << 31,
+                                       (1u << 31) + 16,
+                                       ~(uint32_t)0};
     static const struct {
         uint32_t status;
         const char *text;
@@ -341,8 +377,8 @@ int main(int count, char **words) {
         {BEAROFF_TOO_MANY, "0,0,0,0,0,16"},
         {BEAROFF_TOO_MANY, "1,2,3,4,5,1"},
         {BEAROFF_TOO_MANY, "255,0,0,0,0,0"},
-        {BEAROFF_TOO_MANY, "256,0,0,0,0,0"}, /* 0 in a byte */
-        {BEAROFF_TOO_MANY, "0,0,0,0,0,271"}, /* 15 in a byte */
+        {BEAROFF_TOO_MANY, "256,0,0,0,0,0"},   /* 0 in a byte */
+        {BEAROFF_TOO_MANY, "0,0,0,0,0,271"},   /* 15 in a byte */
         {BEAROFF_TOO_MANY, "128,128,0,0,0,0"}, /* 256 in all */
         {BEAROFF_TOO_MANY, "999,999,999,999,999,999"},
         {BEAROFF_BAD_TEXT, ""},
@@ -371,11 +407,16 @@ int main(int count, char **words) {
         {BEAROFF_BAD_TEXT, "0,0,0,0,0,0x1"},
         {BEAROFF_BAD_TEXT, "0;0;0;0;0;1"},
         {BEAROFF_BAD_TEXT, "0,0,0,0,0,\xd9\xa1"}, /* a digit of Arabic */
-        {BEAROFF_BAD_TEXT, "\xef\xbb\xbf" "0,0,0,0,0,1"}, /* behind a byte order mark */
+        {BEAROFF_BAD_TEXT,
+         "\xef\xbb\xbf"
+         "0,0,0,0,0,1"}, /* behind a byte order mark */
     };
-    bearoff_position none = {{0, 0, 0, 0, 0, 0}}, six = {{0, 0, 0, 0, 0, 1}}, five = {{0, 0, 0, 0, 1, 0}};
-    bearoff_position many = {{1, 15, 0, 0, 0, 0}}, most = {{255, 255, 255, 255, 255, 255}}, nine = {{0, 0, 1, 0, 0, 1}};
-    bearoff_position ace = {{1, 0, 0, 0, 0, 0}}, fours = {{0, 0, 0, 2, 0, 0}}, after_21 = {{1, 0, 0, 1, 0, 0}};
+    bearoff_position none = {{0, 0, 0, 0, 0, 0}}, six = {{0, 0, 0, 0, 0, 1}},
+                     five = {{0, 0, 0, 0, 1, 0}};
+    bearoff_position many = {{1, 15, 0, 0, 0, 0}}, most = {{255, 255, 255, 255, 255, 255}},
+                     nine = {{0, 0, 1, 0, 0, 1}};
+    bearoff_position ace = {{1, 0, 0, 0, 0, 0}}, fours = {{0, 0, 0, 2, 0, 0}},
+                     after_21 = {{1, 0, 0, 1, 0, 0}};
     statuses closed = {BEAROFF_NOT_OPEN, BEAROFF_NOT_OPEN, BEAROFF_NOT_OPEN};
     FILE *from = count == 2 ? fopen(words[1], "rb") : 0;
     if (!from) return 2;
@@ -388,7 +429,8 @@ int main(int count, char **words) {
     /* the library is of the header's version */
     uint16_t major = MARK, minor = MARK, patch = MARK;
     char release[24];
-    expect(bearoff_library_version(&major, &minor, &patch) == BEAROFF_OK, "the library's version", 0);
+    expect(bearoff_library_version(&major, &minor, &patch) == BEAROFF_OK, "the library's version",
+           0);
     snprintf(release, sizeof release, "%u.%u.%u", major, minor, patch);
     expect(strcmp(release, BEAROFF_VERSION) == 0, release, 0);
 
@@ -397,11 +439,16 @@ int main(int count, char **words) {
     uint16_t version = MARK;
     uint32_t positions = MARK;
     memset(database, 0, sizeof *database);
-    expect(bearoff_version(database, &version) == BEAROFF_NOT_OPEN && version == MARK, "zeros, version", version);
-    expect(answer_with(database, "mean 0,0,0,0,0,1", 64, 0, "zeros, line") == BEAROFF_NOT_OPEN, "zeros, line", 0);
-    expect(answer_with(database, "nothing", 64, 0, "zeros, bad line") == BEAROFF_NOT_OPEN, "zeros, bad line", 0);
-    expect(bearoff_bound(database, &bound) == BEAROFF_NOT_OPEN && bound == MARK, "zeros, bound", bound);
-    expect(bearoff_positions(database, &positions) == BEAROFF_NOT_OPEN && positions == MARK, "zeros", positions);
+    expect(bearoff_version(database, &version) == BEAROFF_NOT_OPEN && version == MARK,
+           "zeros, version", version);
+    expect(answer_with(database, "mean 0,0,0,0,0,1", 64, 0, "zeros, line") == BEAROFF_NOT_OPEN,
+           "zeros, line", 0);
+    expect(answer_with(database, "nothing", 64, 0, "zeros, bad line") == BEAROFF_NOT_OPEN,
+           "zeros, bad line", 0);
+    expect(bearoff_bound(database, &bound) == BEAROFF_NOT_OPEN && bound == MARK, "zeros, bound",
+           bound);
+    expect(bearoff_positions(database, &positions) == BEAROFF_NOT_OPEN && positions == MARK,
+           "zeros", positions);
     ask(database, six, 2, 1, five, closed, "zeros");
     ask(database, most, 0, 9, most, closed, "zeros and all else wrong");
     list(database, 0, 1, BEAROFF_NOT_OPEN, "zeros, lists");
@@ -409,28 +456,41 @@ int main(int count, char **words) {
     /* nor is one that was made closed */
     bearoff_database made = BEAROFF_CLOSED;
     memcpy(database, &made, sizeof made);
-    expect(bearoff_bound(database, &bound) == BEAROFF_NOT_OPEN && bound == MARK, "closed, bound", bound);
+    expect(bearoff_bound(database, &bound) == BEAROFF_NOT_OPEN && bound == MARK, "closed, bound",
+           bound);
     ask(database, six, 2, 1, five, closed, "closed");
     list(database, 0, 0, BEAROFF_NOT_OPEN, "closed, lists of none");
     list(database, 0, 1, BEAROFF_NOT_OPEN, "closed, lists");
     list(database, 65535, 2, BEAROFF_NOT_OPEN, "closed, lists beyond");
-    expect(bearoff_version(database, &version) == BEAROFF_NOT_OPEN && version == MARK, "closed, version", version);
-    expect(answer_with(database, "mean 0,0,0,0,0,1", 64, 0, "closed, line") == BEAROFF_NOT_OPEN, "closed, line", 0);
+    expect(bearoff_version(database, &version) == BEAROFF_NOT_OPEN && version == MARK,
+           "closed, version", version);
+    expect(answer_with(database, "mean 0,0,0,0,0,1", 64, 0, "closed, line") == BEAROFF_NOT_OPEN,
+           "closed, line", 0);
 
     /* a right file */
     expect(open_with(database, bytes, length, 0, "", "open") == BEAROFF_OK, "open", 0);
     expect(bearoff_bound(database, &bound) == BEAROFF_OK && bound == 8, "bound", bound);
-    expect(bearoff_positions(database, &positions) == BEAROFF_OK && positions == 64, "positions", positions);
+    expect(bearoff_positions(database, &positions) == BEAROFF_OK && positions == 64, "positions",
+           positions);
     expect(bearoff_version(database, &version) == BEAROFF_OK && version == 1, "version", version);
-    ask(database, six, 2, 1, ace, statuses_of(BEAROFF_OK, BEAROFF_OK, BEAROFF_NOT_LEGAL), "not legal");
-    ask(database, six, 0, 1, ace, statuses_of(BEAROFF_OK, BEAROFF_BAD_ROLL, BEAROFF_BAD_ROLL), "die 0");
-    ask(database, six, 1, 7, ace, statuses_of(BEAROFF_OK, BEAROFF_BAD_ROLL, BEAROFF_BAD_ROLL), "die 7");
-    ask(database, six, 255, 255, ace, statuses_of(BEAROFF_OK, BEAROFF_BAD_ROLL, BEAROFF_BAD_ROLL), "dice 255");
-    ask(database, none, 2, 1, none, statuses_of(BEAROFF_OK, BEAROFF_FINISHED, BEAROFF_FINISHED), "finished");
-    ask(database, many, 2, 1, none, statuses_of(BEAROFF_TOO_MANY, BEAROFF_TOO_MANY, BEAROFF_TOO_MANY), "16 checkers");
-    ask(database, most, 2, 1, none, statuses_of(BEAROFF_TOO_MANY, BEAROFF_TOO_MANY, BEAROFF_TOO_MANY), "1530 checkers");
-    ask(database, nine, 2, 1, none, statuses_of(BEAROFF_OVER_BOUND, BEAROFF_OVER_BOUND, BEAROFF_OVER_BOUND), "9 pips");
-    ask(database, six, 2, 1, many, statuses_of(BEAROFF_OK, BEAROFF_OK, BEAROFF_TOO_MANY), "to 16 checkers");
+    ask(database, six, 2, 1, ace, statuses_of(BEAROFF_OK, BEAROFF_OK, BEAROFF_NOT_LEGAL),
+        "not legal");
+    ask(database, six, 0, 1, ace, statuses_of(BEAROFF_OK, BEAROFF_BAD_ROLL, BEAROFF_BAD_ROLL),
+        "die 0");
+    ask(database, six, 1, 7, ace, statuses_of(BEAROFF_OK, BEAROFF_BAD_ROLL, BEAROFF_BAD_ROLL),
+        "die 7");
+    ask(database, six, 255, 255, ace, statuses_of(BEAROFF_OK, BEAROFF_BAD_ROLL, BEAROFF_BAD_ROLL),
+        "dice 255");
+    ask(database, none, 2, 1, none, statuses_of(BEAROFF_OK, BEAROFF_FINISHED, BEAROFF_FINISHED),
+        "finished");
+    ask(database, many, 2, 1, none,
+        statuses_of(BEAROFF_TOO_MANY, BEAROFF_TOO_MANY, BEAROFF_TOO_MANY), "16 checkers");
+    ask(database, most, 2, 1, none,
+        statuses_of(BEAROFF_TOO_MANY, BEAROFF_TOO_MANY, BEAROFF_TOO_MANY), "1530 checkers");
+    ask(database, nine, 2, 1, none,
+        statuses_of(BEAROFF_OVER_BOUND, BEAROFF_OVER_BOUND, BEAROFF_OVER_BOUND), "9 pips");
+    ask(database, six, 2, 1, many, statuses_of(BEAROFF_OK, BEAROFF_OK, BEAROFF_TOO_MANY),
+        "to 16 checkers");
 
     /* lists: to the last of the 64 positions, and never beyond it */
     list(database, 0, 64, BEAROFF_OK, "all");
@@ -462,7 +522,8 @@ int main(int count, char **words) {
 
     /* what each status says, and each of some numbers that are none */
     for (size_t i = 0; i < sizeof said / sizeof *said; i++) say(said[i].status, said[i].text);
-    for (size_t i = 0; i < sizeof unknown / sizeof *unknown; i++) say(unknown[i], "unknown status");
+    for (size_t i = 0; i < sizeof unknown / sizeof *unknown; i++)
+        say(unknown[i], "unknown status");
 
     /* texts of positions, and one with a zero behind it */
     for (size_t i = 0; i < sizeof texts / sizeof *texts; i++) {
@@ -488,8 +549,10 @@ int main(int count, char **words) {
     /* the room for the reply to a line */
     for (size_t room = 0; room < 64; room++) {
         answer_with(database, "mean 0,0,0,0,0,1", room, "mean 5/4 epc 245/24 10.208", "mean line");
-        answer_with(database, "play 0,0,0,2,0,0 12", room, "play 4/2 2/1 to 1,0,0,1,0,0", "play line");
-        answer_with(database, "moves 0,0,0,2,0,0 21", room, "moves 1,0,0,1,0,0:0/1 0,1,1,0,0,0:1/9", "moves line");
+        answer_with(database, "play 0,0,0,2,0,0 12", room, "play 4/2 2/1 to 1,0,0,1,0,0",
+                    "play line");
+        answer_with(database, "moves 0,0,0,2,0,0 21", room,
+                    "moves 1,0,0,1,0,0:0/1 0,1,1,0,0,0:1/9", "moves line");
         answer_with(database, "moves 0,0,0,0,0,0 21", room, "error finished", "finished line");
         answer_with(database, "mean 0,0,0,0,0,1\r", room, "error bad-line", "a line with its end");
         answer_with(database, "", room, "error bad-line", "no line");
@@ -501,25 +564,34 @@ int main(int count, char **words) {
     for (size_t room = 0; room <= 3; room++) {
         bearoff_result *results = (bearoff_result *)guarded(room * sizeof *results);
         uint32_t status = bearoff_results(database, &fours, 2, 1, results, room, told);
-        expect(status == (room < 2 ? BEAROFF_SHORT : BEAROFF_OK) && *told == 2, "results", (long)room);
-        expect(guards_stand(results, room * sizeof *results) && guards_stand(told, sizeof *told), "results", (long)room);
-        if (room < 2) expect(is_marked((uint8_t *)results, room * sizeof *results), "short results", (long)room);
-        if (room > 2) expect(is_marked((uint8_t *)&results[2], sizeof *results), "results", (long)room);
+        expect(status == (room < 2 ? BEAROFF_SHORT : BEAROFF_OK) && *told == 2, "results",
+               (long)room);
+        expect(guards_stand(results, room * sizeof *results) && guards_stand(told, sizeof *told),
+               "results", (long)room);
+        if (room < 2)
+            expect(is_marked((uint8_t *)results, room * sizeof *results), "short results",
+                   (long)room);
+        if (room > 2)
+            expect(is_marked((uint8_t *)&results[2], sizeof *results), "results", (long)room);
         let_go(results);
     }
     let_go(told);
 
-    /* each refused file closes the database, tells its line where it has room, and is told apart */
+    /* each refused file closes the database, tells its line where it has room, and is told apart
+     */
     for (size_t i = 0; i < sizeof damages / sizeof *damages; i++) {
         damage one = damages[i];
-        expect(open_with(database, bytes, length, 0, "", "open") == BEAROFF_OK, "open again", (long)i);
+        expect(open_with(database, bytes, length, 0, "", "open") == BEAROFF_OK, "open again",
+               (long)i);
         bytes[one.place] ^= one.change;
         for (size_t room = strlen(one.line) - 1; room <= BEAROFF_LINE; room++) {
-            expect(open_with(database, bytes, length, room, one.line, one.line) == one.status, one.line, (long)room);
+            expect(open_with(database, bytes, length, room, one.line, one.line) == one.status,
+                   one.line, (long)room);
         }
         ask(database, six, 2, 1, five, closed, one.line);
         list(database, 0, 1, BEAROFF_NOT_OPEN, one.line);
-        expect(answer_with(database, "rank 0,0,0,0,0,1", 64, 0, one.line) == BEAROFF_NOT_OPEN, one.line, -5);
+        expect(answer_with(database, "rank 0,0,0,0,0,1", 64, 0, one.line) == BEAROFF_NOT_OPEN,
+               one.line, -5);
         bytes[one.place] ^= one.change;
     }
     for (size_t short_by = 1; short_by <= length; short_by += 426) {
@@ -530,47 +602,62 @@ int main(int count, char **words) {
         int front = length - short_by >= 32;
         uint32_t status = open_with(database, part, length - short_by, BEAROFF_LINE,
                                     front ? "header bad-length" : "header too-short", "a part");
-        expect(status == (uint32_t)(front ? BEAROFF_BAD_LENGTH : BEAROFF_TOO_SHORT), "a part", (long)short_by);
+        expect(status == (uint32_t)(front ? BEAROFF_BAD_LENGTH : BEAROFF_TOO_SHORT), "a part",
+               (long)short_by);
         free(part);
     }
-    expect(open_with(database, bytes, 31, BEAROFF_LINE, "header too-short", "31 bytes") == BEAROFF_TOO_SHORT, "31 bytes", 0);
-    expect(open_with(database, bytes, 0, BEAROFF_LINE, "header too-short", "no bytes") == BEAROFF_TOO_SHORT, "no bytes", 0);
+    expect(open_with(database, bytes, 31, BEAROFF_LINE, "header too-short", "31 bytes") ==
+               BEAROFF_TOO_SHORT,
+           "31 bytes", 0);
+    expect(open_with(database, bytes, 0, BEAROFF_LINE, "header too-short", "no bytes") ==
+               BEAROFF_TOO_SHORT,
+           "no bytes", 0);
 
     /* an upgrade, with rooms that are just enough or not, and of itself */
     size_t *filled = (size_t *)guarded(sizeof *filled);
     for (size_t lack = 0; lack < 4; lack++) {
         uint8_t *work = guarded(7696 - (lack & 1)), *room = guarded(7696 - (lack >> 1));
-        uint32_t status = bearoff_upgrade(bytes, length, work, 7696 - (lack & 1), room, 7696 - (lack >> 1), filled);
+        uint32_t status = bearoff_upgrade(bytes, length, work, 7696 - (lack & 1), room,
+                                          7696 - (lack >> 1), filled);
         expect(status == (lack ? BEAROFF_SHORT : BEAROFF_OK), "upgrade", (long)lack);
-        expect(guards_stand(work, 7696 - (lack & 1)) && guards_stand(room, 7696 - (lack >> 1)), "upgrade", -1);
+        expect(guards_stand(work, 7696 - (lack & 1)) && guards_stand(room, 7696 - (lack >> 1)),
+               "upgrade", -1);
         expect(lack ? untouched(room, 7696 - (lack >> 1)) : *filled == 7696, "upgrade", -2);
         if (!lack) {
-            expect(open_with(database, room, 7696, 0, "", "upgraded") == BEAROFF_OK, "upgraded", 0);
-            expect(bearoff_version(database, &version) == BEAROFF_OK && version == 2, "upgraded, version", version);
-            expect(bearoff_upgrade(room, 7696, work, 7696, work, 0, filled) == BEAROFF_NOT_OLD, "upgrade again", 0);
+            expect(open_with(database, room, 7696, 0, "", "upgraded") == BEAROFF_OK, "upgraded",
+                   0);
+            expect(bearoff_version(database, &version) == BEAROFF_OK && version == 2,
+                   "upgraded, version", version);
+            expect(bearoff_upgrade(room, 7696, work, 7696, work, 0, filled) == BEAROFF_NOT_OLD,
+                   "upgrade again", 0);
         }
         let_go(work);
         let_go(room);
     }
-    expect(bearoff_upgrade(bytes, 31, bytes, 0, bytes, 0, filled) == BEAROFF_TOO_SHORT, "upgrade of 31 bytes", 0);
+    expect(bearoff_upgrade(bytes, 31, bytes, 0, bytes, 0, filled) == BEAROFF_TOO_SHORT,
+           "upgrade of 31 bytes", 0);
     let_go(filled);
 
-    /* one number that the caller changes after it was checked, against the rule: what stands on it is refused, and nothing
-     * that was lent is changed */
+    /* one number that the caller changes after it was checked, against the rule: what stands on it
+     * is refused, and nothing that was lent is changed */
     expect(open_with(database, bytes, length, 0, "", "open") == BEAROFF_OK, "open once more", 0);
     bearoff_position dearer = {{0, 1, 1, 0, 0, 0}};
     uint16_t fours_at = 0, dearer_at = 0;
-    expect(bearoff_rank(database, &fours, &fours_at) == BEAROFF_OK && fours_at, "the rank of two fours", fours_at);
-    expect(bearoff_rank(database, &dearer, &dearer_at) == BEAROFF_OK && dearer_at, "the rank of a result", dearer_at);
+    expect(bearoff_rank(database, &fours, &fours_at) == BEAROFF_OK && fours_at,
+           "the rank of two fours", fours_at);
+    expect(bearoff_rank(database, &dearer, &dearer_at) == BEAROFF_OK && dearer_at,
+           "the rank of a result", dearer_at);
     const struct {
         size_t place, size;
         uint8_t byte;
         uint32_t play;
         const char *what;
     } changes[] = {
-        {32 + 426 * (size_t)dearer_at, 16, 0, BEAROFF_OK, "a mean less than that after the recorded play"},
+        {32 + 426 * (size_t)dearer_at, 16, 0, BEAROFF_OK,
+         "a mean less than that after the recorded play"},
         {32 + 426 * (size_t)dearer_at, 16, 255, BEAROFF_OK, "a mean over 22 rolls after a play"},
-        {32 + 426 * (size_t)fours_at + 18, 2, 0, BEAROFF_CHANGED, "a play to where the roll doesn't lead"},
+        {32 + 426 * (size_t)fours_at + 18, 2, 0, BEAROFF_CHANGED,
+         "a play to where the roll doesn't lead"},
     };
     for (size_t i = 0; i < sizeof changes / sizeof *changes; i++) {
         uint8_t kept[16], *changed = bytes + changes[i].place;
@@ -580,13 +667,20 @@ int main(int count, char **words) {
         size_t *told_count = (size_t *)guarded(sizeof *told_count);
         memcpy(kept, changed, changes[i].size);
         memset(changed, changes[i].byte, changes[i].size);
-        expect(bearoff_play(database, &fours, 2, 1, told_play) == changes[i].play, changes[i].what, 1);
+        expect(bearoff_play(database, &fours, 2, 1, told_play) == changes[i].play, changes[i].what,
+               1);
         expect(!changes[i].play || untouched(told_play, sizeof *told_play), changes[i].what, 2);
-        expect(bearoff_loss(database, &fours, 2, 1, &dearer, told_loss) == BEAROFF_CHANGED, changes[i].what, 3);
-        expect(bearoff_results(database, &fours, 2, 1, told_results, 2, told_count) == BEAROFF_CHANGED, changes[i].what, 4);
-        expect(untouched(told_loss, sizeof *told_loss) && untouched(told_results, 2 * sizeof *told_results) &&
-               untouched(told_count, sizeof *told_count), changes[i].what, 5);
-        expect(answer_with(database, "loss 0,0,0,2,0,0 21 0,1,1,0,0,0", 64, 0, changes[i].what) == BEAROFF_CHANGED,
+        expect(bearoff_loss(database, &fours, 2, 1, &dearer, told_loss) == BEAROFF_CHANGED,
+               changes[i].what, 3);
+        expect(bearoff_results(database, &fours, 2, 1, told_results, 2, told_count) ==
+                   BEAROFF_CHANGED,
+               changes[i].what, 4);
+        expect(untouched(told_loss, sizeof *told_loss) &&
+                   untouched(told_results, 2 * sizeof *told_results) &&
+                   untouched(told_count, sizeof *told_count),
+               changes[i].what, 5);
+        expect(answer_with(database, "loss 0,0,0,2,0,0 21 0,1,1,0,0,0", 64, 0, changes[i].what) ==
+                   BEAROFF_CHANGED,
                changes[i].what, 6);
         memcpy(changed, kept, changes[i].size);
         let_go(told_play);
@@ -595,7 +689,8 @@ int main(int count, char **words) {
         let_go(told_count);
     }
 
-    /* bytes that the caller changes after they were checked, against the rule: no call steps outside them */
+    /* bytes that the caller changes after they were checked, against the rule: no call steps
+     * outside them */
     expect(open_with(database, bytes, length, 0, "", "open") == BEAROFF_OK, "open at last", 0);
     memset(bytes + 32 + 426 * 19, 0xFF, 426);
     bearoff_wide mean;
@@ -617,7 +712,8 @@ int main(int count, char **words) {
     list(database, 0, 19, BEAROFF_OK, "changed behind a list");
     expect(bearoff_listed_means(database, 0, means, 20) == BEAROFF_CHANGED, "changed", 7);
     expect(bearoff_listed_epcs(database, 0, epcs, 20) == BEAROFF_CHANGED, "changed", 8);
-    expect(is_marked((uint8_t *)means, sizeof means) && is_marked((uint8_t *)epcs, sizeof epcs), "changed", 9);
+    expect(is_marked((uint8_t *)means, sizeof means) && is_marked((uint8_t *)epcs, sizeof epcs),
+           "changed", 9);
     expect(bearoff_rounded_mean(database, &six, &rolls) == BEAROFF_CHANGED, "changed", 10);
     expect(bearoff_wastage(database, &six, &wasted) == BEAROFF_CHANGED, "changed", 11);
     expect(bearoff_within(database, &six, 0, &within) == BEAROFF_CHANGED, "changed", 12);
@@ -627,16 +723,23 @@ int main(int count, char **words) {
     expect(bearoff_distribution(database, &six, &shares) == BEAROFF_OK, "changed", 3);
     expect(bearoff_play(database, &six, 2, 1, &play) == BEAROFF_CHANGED, "changed", 4);
     expect(bearoff_loss(database, &six, 2, 1, &three, &loss) == BEAROFF_CHANGED, "changed", 5);
-    expect(bearoff_results(database, &six, 2, 1, results, 4, &told_last) == BEAROFF_CHANGED, "changed", 6);
-    static const char *const lines[] = {"mean 0,0,0,0,0,1", "dist 0,0,0,0,0,1", "play 0,0,0,0,0,1 21",
-                                        "loss 0,0,0,0,0,1 21 0,0,1,0,0,0"};
+    expect(bearoff_results(database, &six, 2, 1, results, 4, &told_last) == BEAROFF_CHANGED,
+           "changed", 6);
+    static const char *const lines[] = {"mean 0,0,0,0,0,1", "dist 0,0,0,0,0,1",
+                                        "play 0,0,0,0,0,1 21", "loss 0,0,0,0,0,1 21 0,0,1,0,0,0"};
     for (size_t i = 0; i < sizeof lines / sizeof *lines; i++) {
-        expect(answer_with(database, lines[i], 64, 0, lines[i]) == BEAROFF_CHANGED, "changed line", (long)i);
+        expect(answer_with(database, lines[i], 64, 0, lines[i]) == BEAROFF_CHANGED, "changed line",
+               (long)i);
     }
-    expect(answer_with(database, "rank 0,0,0,0,0,1", 64, "rank 19", "changed") == BEAROFF_OK, "changed rank", 0);
-    expect(answer_with(database, "moves 0,0,0,0,0,1 21", 64, "moves 0,0,1,0,0,0:0/1", "changed") == BEAROFF_OK, "moves", 0);
+    expect(answer_with(database, "rank 0,0,0,0,0,1", 64, "rank 19", "changed") == BEAROFF_OK,
+           "changed rank", 0);
+    expect(answer_with(database, "moves 0,0,0,0,0,1 21", 64, "moves 0,0,1,0,0,0:0/1", "changed") ==
+               BEAROFF_OK,
+           "moves", 0);
     memset(bytes + 32 + 426 * 4, 0xFF, 426);
-    expect(answer_with(database, "moves 0,0,0,0,0,1 21", 64, 0, "changed moves") == BEAROFF_CHANGED, "changed moves", 0);
+    expect(
+        answer_with(database, "moves 0,0,0,0,0,1 21", 64, 0, "changed moves") == BEAROFF_CHANGED,
+        "changed moves", 0);
 
     let_go(database);
     free(bytes);

@@ -1,10 +1,14 @@
 /*
- * A room that is too small by one byte is too small, and one of exactly the size of the file is enough: for
- * bearoff_build and each bound, and for bearoff_upgrade and each bound of a file of version 1. What was built is opened by
- * bearoff_open, and a file with a wrong byte is refused, each of 3 pips among them.
+ * A room that is too small by one byte is too small, and one of exactly the size of the file is
+ * enough: for bearoff_build and each bound, and for bearoff_upgrade and each bound of a file of
+ * version 1. What was built is opened by bearoff_open, and a file with a wrong byte is refused,
+ * each of 3 pips among them.
+ *
  * usage: rooms [STEP]       each bound, or each STEPth from 58 down
- * Where a room is too small the status is BEAROFF_SHORT, and the room for the file and the count stay as they were. All
- * rooms stand between guards. It needs a thread with a stack of its own, since a build needs 20 MB.
+ *
+ * Where a room is too small the status is BEAROFF_SHORT, and the room for the file and the count
+ * stay as they were. All rooms stand between guards. It needs a thread with a stack of its own,
+ * since a build needs 20 MB.
  */
 #include <pthread.h>
 #include <stdio.h>
@@ -15,7 +19,8 @@
 
 enum { GUARD = 64, MARK = 0xA5, MOST = BEAROFF_FILE, OVER_BOUND = 59, STACK = 64 << 20 };
 
-static uint8_t work_block[GUARD + MOST + GUARD], room_block[GUARD + MOST + GUARD], built[MOST], upgraded[MOST];
+static uint8_t work_block[GUARD + MOST + GUARD], room_block[GUARD + MOST + GUARD], built[MOST],
+    upgraded[MOST];
 static uint8_t *const work = work_block + GUARD, *const room = room_block + GUARD;
 static int failed, step = 1;
 
@@ -30,16 +35,21 @@ static int is_marked(const uint8_t *from, size_t size) {
     return !size || (from[0] == MARK && !memcmp(from, from + 1, size - 1));
 }
 
-/* one call with rooms of these sizes: the build of a bound, or the upgrade of a file that was built */
-static uint32_t call_with(int bound, size_t old_length, size_t work_length, size_t room_length, size_t *filled) {
+/* one call with rooms of these sizes: the build of a bound, or the upgrade of a file that was
+ * built */
+static uint32_t call_with(int bound, size_t old_length, size_t work_length, size_t room_length,
+                          size_t *filled) {
     memset(work - GUARD, MARK, GUARD + work_length + GUARD);
     memset(room - GUARD, MARK, GUARD + room_length + GUARD);
     *filled = MARK;
-    uint32_t status = old_length
-        ? bearoff_upgrade(built, old_length, work, work_length, room, room_length, filled)
-        : bearoff_build((uint8_t)bound, work, work_length, room, room_length, filled);
-    expect(is_marked(work - GUARD, GUARD) && is_marked(work + work_length, GUARD), "beside the work room", bound, status);
-    expect(is_marked(room - GUARD, GUARD) && is_marked(room + room_length, GUARD), "beside the room", bound, status);
+    uint32_t status =
+        old_length
+            ? bearoff_upgrade(built, old_length, work, work_length, room, room_length, filled)
+            : bearoff_build((uint8_t)bound, work, work_length, room, room_length, filled);
+    expect(is_marked(work - GUARD, GUARD) && is_marked(work + work_length, GUARD),
+           "beside the work room", bound, status);
+    expect(is_marked(room - GUARD, GUARD) && is_marked(room + room_length, GUARD),
+           "beside the room", bound, status);
     if (status != BEAROFF_OK) {
         expect(is_marked(room, room_length) && *filled == MARK, "left alone", bound, (long)status);
     }
@@ -55,11 +65,13 @@ static size_t try_rooms(int bound, size_t old_length, uint8_t *file) {
     }
     expect(is_marked(room + size, MOST - size), "behind the file", bound, (long)size);
     memcpy(file, room, size);
-    expect(call_with(bound, old_length, size, size, &filled) == BEAROFF_OK && filled == size && !memcmp(room, file, size),
+    expect(call_with(bound, old_length, size, size, &filled) == BEAROFF_OK && filled == size &&
+               !memcmp(room, file, size),
            "exactly enough", bound, (long)size);
-    expect(call_with(bound, old_length, size - 1, size, &filled) == BEAROFF_SHORT, "a work room too small", bound,
-           (long)size);
-    expect(call_with(bound, old_length, size, size - 1, &filled) == BEAROFF_SHORT, "a room too small", bound, (long)size);
+    expect(call_with(bound, old_length, size - 1, size, &filled) == BEAROFF_SHORT,
+           "a work room too small", bound, (long)size);
+    expect(call_with(bound, old_length, size, size - 1, &filled) == BEAROFF_SHORT,
+           "a room too small", bound, (long)size);
     return size;
 }
 
@@ -71,7 +83,8 @@ static uint32_t open_built(size_t size) {
     return bearoff_open(&database, built, size, line, sizeof line, &needed);
 }
 
-/* the whole file, and it with one bit changed: in the last share, or, of 3 pips, in each byte in turn */
+/* the whole file, and it with one bit changed: in the last share, or, of 3 pips, in each byte in
+ * turn */
 static void try_openings(int bound, size_t size) {
     expect(open_built(size) == BEAROFF_OK, "the file that was built", bound, (long)size);
     for (size_t place = bound == 3 ? 0 : size - 1; place < size; place++) {
@@ -91,10 +104,13 @@ static void *try_all(void *none) {
         if (!size) continue;
         try_openings(bound, size);
         if (bound > 44) {
-            expect(call_with(bound, size, MOST, MOST, &filled) == BEAROFF_NOT_OLD, "the upgrade of version 2", bound, 0);
+            expect(call_with(bound, size, MOST, MOST, &filled) == BEAROFF_NOT_OLD,
+                   "the upgrade of version 2", bound, 0);
         } else {
             size_t new_size = try_rooms(bound, size, upgraded);
-            if (bound == 44) expect(new_size == BEAROFF_UPGRADE, "the size of the upgrade", bound, (long)new_size);
+            if (bound == 44)
+                expect(new_size == BEAROFF_UPGRADE, "the size of the upgrade", bound,
+                       (long)new_size);
         }
     }
     for (int bound = OVER_BOUND; bound < 256; bound++) {
@@ -107,7 +123,8 @@ int main(int count, char **words) {
     if (count > 1) step = atoi(words[1]);
     pthread_t thread;
     pthread_attr_t attributes;
-    if (step < 1 || pthread_attr_init(&attributes) || pthread_attr_setstacksize(&attributes, STACK) ||
+    if (step < 1 || pthread_attr_init(&attributes) ||
+        pthread_attr_setstacksize(&attributes, STACK) ||
         pthread_create(&thread, &attributes, try_all, 0) || pthread_join(thread, 0)) {
         return 2;
     }

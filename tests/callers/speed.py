@@ -1,10 +1,11 @@
 """How fast the package for Python is, the best of nine.
 
-usage: speed.py FILE             how many means a second it answers, one call each, over all positions in no order
-       speed.py FILE --tables    how many microseconds all means take as an array of numpy, and all distributions,
-                                 and both as floats
-       speed.py FILE --ranks     how many ranks a second it finds for a million rows of an array of numpy, in no order,
-                                 for bytes and for numbers of 64 bits
+usage: speed.py FILE             how many means a second it answers, one call each, over all
+                                 positions in no order
+       speed.py FILE --tables    how many microseconds all means take as an array of numpy, and all
+                                 distributions, and both as floats
+       speed.py FILE --ranks     how many ranks a second it finds for a million rows of an array of
+                                 numpy, in no order, for bytes and for numbers of 64 bits
 """
 import random
 import sys
@@ -40,7 +41,12 @@ def tables(database):
 
     for name, table in ("means", database.means), ("distributions", database.distributions):
         print(name, int(1e6 * least(lambda: numpy.asarray(table()))), "us")
-        print(name, "as floats", int(1e6 * least(lambda: numpy.asarray(table()) @ bearoff.WEIGHTS)), "us")
+        print(
+            name,
+            "as floats",
+            int(1e6 * least(lambda: numpy.asarray(table()) @ bearoff.WEIGHTS)),
+            "us",
+        )
 
 
 def ranks(database):
