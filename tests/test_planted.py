@@ -553,8 +553,10 @@ def tried(place, words):
             env={**without_xdist(), "SLOWER": "30"},
         )
         said = done.stdout + done.stderr
-        # pytest ends with 1 where a test failed, and with more where none could be run
-        assert done.returncode in (0, 1) and re.search(r"\d+ (passed|failed)", said), said[-3000:]
+        # pytest ends with 1 where a test failed, or what it is given could not be made by the
+        # program, and with more where none could be run
+        is_told = re.search(r"\d+ (passed|failed|error)", said)
+        assert done.returncode in (0, 1) and is_told, said[-3000:]
         return done.returncode == 0, said
     folder = os.path.join(place, "crates", crate)
     arguments = [
