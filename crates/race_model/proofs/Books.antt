@@ -6,3 +6,4 @@ pub mod Files
 pub mod Endings
 pub mod Boards
 pub mod Bounded
+pub mod Kinds

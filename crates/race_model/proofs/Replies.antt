@@ -3,4 +3,6 @@ pub mod Lines
 pub mod InputLines
 pub mod OneReply
 pub mod EqualReplies
-pub mod BookReplies
+pub mod Multiples
+pub mod Kinds
+pub mod Same

@@ -1,14 +1,14 @@
 -- A book: what a database says by ranks, apart from its bytes, with the number of throws of the
--- sequences over which its numbers are counted. Its local equations, and what makes it right, are
--- those of a file, for any such number. Source: the GNU Backgammon manual for what a one-sided
--- database is; the rest is this project's profile.
-use Rattle.std.specs.Prelude.{◌≡◌, ℕ, zero, suc, ◌+◌, ◌*◌, ◌^◌, ◌≤◌, ◌==◌, if◌then◌else◌}
-use Rattle.race_model.specs.Positions.{Board, IsPosition, IsFinished, checkers, pips}
-use Rattle.race_model.specs.Dice.{Throw, IsRoll, roll_index}
+-- sequences over which its numbers are counted. It is right where its means are the least over all
+-- strategies, its plays reach them, and its shares are those of its plays. All that is said of a
+-- file is said of its book. Source: the GNU Backgammon manual for what a one-sided database is; the
+-- rest is this project's profile.
+use Rattle.std.specs.Prelude.{◌≡◌, ℕ, zero, suc, ◌^◌, ◌≤◌, ◌==◌, if◌then◌else◌}
+use Rattle.race_model.specs.Positions.{Board, IsPosition, checkers, pips}
+use Rattle.race_model.specs.Dice.{Throw, roll_index}
 use Rattle.race_model.specs.Plays.{Legal}
 use Rattle.race_model.specs.Ranks.{rank, at_rank}
-use Rattle.race_model.specs.LocalEquations.{weighted}
-use Rattle.race_model.specs.Strategies.{Strategy, stop, turn, Fits, total_over, count_over}
+use Rattle.race_model.specs.Strategies.{Strategy, stop, turn, Fits, IsLeastIn, total_over, count_over}
 
 -- a mean for each rank, a rank for each roll, and a share for each number of rolls; they are
 -- counted over all sequences of `further` throws and one more
@@ -35,37 +35,14 @@ recorded_in f x v = at_rank (play_in f x v)
 abbrev pub share_in : Book → Board → ℕ → ℕ
 share_in f x k = f.shares (rank x) k
 
--- the play equation: the number is the rank of a position, and the throw leads there
+-- what it says for a throw is the rank of a position, and the throw leads there
 pub record IsPlayedIn (f : Book) (x : Board) (v : Throw) : Type 0 where
   pub ranked : rank (recorded_in f x v) ≡ play_in f x v
   pub legal : Legal x v (recorded_in f x v)
 
--- the least equation: no result of the throw has a smaller mean
-abbrev pub IsBestIn : Book → Board → Throw → Type 0
-IsBestIn f x v = (z : Board) → Legal x v z → f.means (play_in f x v) ≤ mean_in f z
-
--- the mean equation: no roll for the finished position, else one and the mean of what is said
-pub record HasMeanIn (f : Book) (x : Board) : Type 0 where
-  pub at_end : IsFinished x → mean_in f x ≡ 0
-  pub before : ¬ IsFinished x →
-      36 * mean_in f x ≡ 36 * 36 ^ suc f.further + weighted (λ v. f.means (play_in f x v))
-
--- the spread equation at k rolls: from the finished position all sequences take none, and from any
--- other the share is the mean of the shares of what is said, at one roll fewer
-abbrev pub HasShareIn : Book → Board → ℕ → Type 0
-HasShareIn f x zero =
-    (IsFinished x → share_in f x 0 ≡ 36 ^ suc f.further) × (¬ IsFinished x → share_in f x 0 ≡ 0)
-HasShareIn f x (suc k) =
-    (IsFinished x → share_in f x (suc k) ≡ 0)
-    × (¬ IsFinished x →
-    36 * share_in f x (suc k) ≡ weighted (λ v. f.shares (play_in f x v) k))
-
--- all four equations of a position
-pub record IsLocalIn (f : Book) (x : Board) : Type 0 where
-  pub played : (v : Throw) → IsRoll v → IsPlayedIn f x v
-  pub best : (v : Throw) → IsRoll v → IsBestIn f x v
-  pub mean_is : HasMeanIn f x
-  pub shares : (k : ℕ) → k ≤ suc f.further → HasShareIn f x k
+-- over how many sequences the numbers of a book are counted
+abbrev pub whole_in : Book → ℕ
+whole_in f = 36 ^ suc f.further
 
 -- the strategy that plays what a book says, for at most n turns
 unfoldable pub follow_in : Book → ℕ → Board → Strategy
@@ -73,11 +50,6 @@ follow_in f zero x = stop
 follow_in f (suc n) x =
     if checkers x == 0 then stop
     else turn (recorded_in f x) (λ v. follow_in f n (recorded_in f x v))
-
--- t is the least total of all strategies from x, over all sequences of m throws
-pub record IsLeastIn (m : ℕ) (x : Board) (t : ℕ) : Type 0 where
-  pub reached : (s : Strategy) × Fits s x × (total_over m s ≡ t)
-  pub least : (s : Strategy) → Fits s x → t ≤ total_over m s
 
 -- all that a book says of a position is so
 pub record IsRightIn (f : Book) (x : Board) : Type 0 where
@@ -87,10 +59,6 @@ pub record IsRightIn (f : Book) (x : Board) : Type 0 where
   pub least : IsLeastIn (suc f.further) x (mean_in f x)
   pub spread_is : (k : ℕ) → k ≤ suc f.further →
       share_in f x k ≡ count_over (suc f.further) (follow_in f (suc f.further) x) k
-
--- a locally right book: the four equations hold for every position of at most its bound
-abbrev pub IsLocalBook : Book → Type 0
-IsLocalBook f = (x : Board) → IsPosition x → pips x ≤ f.bound → IsLocalIn f x
 
 -- a right book: all that it says of each position of at most its bound is so
 abbrev pub IsRightBook : Book → Type 0

@@ -1,7 +1,7 @@
 -- Dice, throws and rolls. Source: the rules of backgammon;
 -- the index of a roll is this project's profile.
 use Rattle.std.specs.Prelude.{ℕ, ◌+◌, ◌-◌, ◌*◌, ◌/◌, ◌≤◌, min, max, ◌==◌, if◌then◌else◌, List, []}
-use Rattle.std.specs.Prelude.{◌∷◌, flat_map, map, slice_index_or}
+use Rattle.std.specs.Prelude.{◌∷◌, flat_map, map, sum_by, slice_index_or}
 
 -- a die
 pub data Die : Type 0 where
@@ -69,3 +69,7 @@ roll_index v = high * (high - 1) / 2 + low - 1 where
 -- how many of the 36 throws are this roll: one for a double, else two
 abbrev pub weight : Throw → ℕ
 weight v = if number v.first == number v.second then 1 else 2
+
+-- the sum of a number over the 36 throws, by the 21 rolls and their weights
+abbrev pub weighted : (Throw → ℕ) → ℕ
+weighted g = sum_by (λ v. weight v * g v) all_rolls

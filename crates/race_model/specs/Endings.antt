@@ -3,9 +3,8 @@
 -- project's profile.
 use Rattle.std.specs.Prelude.{◌≡◌, ℕ, zero, suc, ◌+◌, ◌*◌, ◌^◌, Bool, true, false, List, [], ◌∷◌, count_by}
 use Rattle.race_model.specs.Positions.{Board, IsFinished}
-use Rattle.race_model.specs.Dice.{Throw}
+use Rattle.race_model.specs.Dice.{Throw, weighted}
 use Rattle.race_model.specs.Ranks.{rank}
-use Rattle.race_model.specs.LocalEquations.{weighted}
 use Rattle.race_model.specs.Strategies.{Strategy, stop, turn, sequences}
 use Rattle.race_model.specs.Books.{Book, play_in}
 

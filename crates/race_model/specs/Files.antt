@@ -6,6 +6,7 @@ use Rattle.race_model.specs.Positions.{Board, pips}
 use Rattle.race_model.specs.Dice.{Throw, roll_index}
 use Rattle.race_model.specs.Ranks.{rank, at_rank, count_to, numbers_from}
 use Rattle.race_model.specs.Horizon.{most_rolls}
+use Rattle.race_model.specs.Books.{Book}
 use Rattle.race_model.specs.Versions.{Version, full, compact, version_number, version_by}
 use Rattle.race_model.specs.Versions.{greatest_bound, stated_length, record_length}
 
@@ -104,3 +105,13 @@ play f x v = play_at f (rank x) (roll_index v)
 -- the recorded share of exactly k rolls, as a numerator over 36 ^ 22
 abbrev pub spread : List ℕ → Board → ℕ → ℕ
 spread f x k = spread_at f (rank x) k
+
+-- what a file says, as a book, whose numbers are counted over 22 throws
+abbrev pub book_of : List ℕ → Book
+book_of f = record {
+  further = 21;
+  bound = bound_of f;
+  means = mean_at f;
+  plays = play_at f;
+  shares = spread_at f;
+}

@@ -1,10 +1,11 @@
--- What the checker asks of a file, in its order, and the first answer that is no.
--- Source: this project's profile.
-use Rattle.std.specs.Prelude.{◌≡◌, ℕ, ◌+◌, ◌*◌, ◌<◌, ◌≤◌, ◌⊎◌, List}
+-- What the checker asks of a file, in its order, and the first answer that is no: it asks of the
+-- book of the file. Source: this project's profile.
+use Rattle.std.specs.Prelude.{◌≡◌, ℕ, suc, ◌+◌, ◌*◌, ◌<◌, ◌≤◌, ◌⊎◌, List}
 use Rattle.race_model.specs.Dice.{roll_at}
 use Rattle.race_model.specs.Ranks.{at_rank, count_to}
-use Rattle.race_model.specs.Files.{bound_of}
-use Rattle.race_model.specs.LocalEquations.{IsPlayed, IsBest, HasMean, HasShare}
+use Rattle.race_model.specs.Books.{Book, IsPlayedIn}
+use Rattle.race_model.specs.LocalEquations.{IsBestIn, HasMeanOver, HasShareOver, whole}
+use Rattle.race_model.specs.Files.{book_of}
 
 -- a question about the record of a rank: at a roll, of the whole, or at k rolls
 pub data Test : Type 0 where
@@ -32,22 +33,34 @@ place_of (spread_test rank k) = 43 + k
 abbrev pub IsEarlier : Test → Test → Type 0
 IsEarlier t u = (rank_of t < rank_of u) ⊎ ((rank_of t ≡ rank_of u) × (place_of t < place_of u))
 
--- the answer is yes: the equation holds for the position of that rank
-abbrev pub Holds : List ℕ → Test → Type 0
-Holds f (play_test rank roll) = IsPlayed f (at_rank rank) (roll_at roll)
-Holds f (least_test rank roll) = IsBest f (at_rank rank) (roll_at roll)
-Holds f (mean_test rank) = HasMean f (at_rank rank)
-Holds f (spread_test rank k) = HasShare f (at_rank rank) k
+-- the answer is yes: the equation of a book holds for the position of that rank
+abbrev pub HoldsOver : ℕ → Book → Test → Type 0
+HoldsOver over b (play_test rank roll) = IsPlayedIn b (at_rank rank) (roll_at roll)
+HoldsOver over b (least_test rank roll) = IsBestIn b (at_rank rank) (roll_at roll)
+HoldsOver over b (mean_test rank) = HasMeanOver over b (at_rank rank)
+HoldsOver over b (spread_test rank k) = HasShareOver over b (at_rank rank) k
 
--- all questions about a file
-abbrev pub Asks : List ℕ → Test → Type 0
-Asks f (play_test rank roll) = (rank < count_to (bound_of f)) × (roll < 21)
-Asks f (least_test rank roll) = (rank < count_to (bound_of f)) × (roll < 21)
-Asks f (mean_test rank) = rank < count_to (bound_of f)
-Asks f (spread_test rank k) = (rank < count_to (bound_of f)) × (k ≤ 22)
+-- all questions about a book
+abbrev pub AsksIn : Book → Test → Type 0
+AsksIn b (play_test rank roll) = (rank < count_to b.bound) × (roll < 21)
+AsksIn b (least_test rank roll) = (rank < count_to b.bound) × (roll < 21)
+AsksIn b (mean_test rank) = rank < count_to b.bound
+AsksIn b (spread_test rank k) = (rank < count_to b.bound) × (k ≤ suc b.further)
 
 -- of the questions that are asked, this is the first whose answer is no
-pub record IsFirstFault (asked : Test → Type 0) (f : List ℕ) (t : Test) : Type 0 where
+pub record IsFirstFailing (asked holds : Test → Type 0) (t : Test) : Type 0 where
   pub is_asked : asked t
-  pub fails : ¬ Holds f t
-  pub earlier : (u : Test) → asked u → IsEarlier u t → Holds f u
+  pub fails : ¬ holds t
+  pub earlier : (u : Test) → asked u → IsEarlier u t → holds u
+
+-- the answer to a question about a file is yes
+abbrev pub Holds : List ℕ → Test → Type 0
+Holds f = HoldsOver whole (book_of f)
+
+-- the questions that are asked about a file ..
+abbrev pub Asks : List ℕ → Test → Type 0
+Asks f = AsksIn (book_of f)
+
+-- .. and this is the first of them whose answer is no
+abbrev pub IsFirstFault : (Test → Type 0) → List ℕ → Test → Type 0
+IsFirstFault asked f = IsFirstFailing asked (Holds f)

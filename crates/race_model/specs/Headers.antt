@@ -2,7 +2,7 @@
 use Rattle.std.specs.Prelude.{◌≡◌, ℕ, ◌<◌, ◌≤◌, List, length, replicate, codes}
 use Rattle.std.specs.Int.{w16, w32, from_be_bytes}
 use Rattle.race_model.specs.Ranks.{count_to}
-use Rattle.race_model.specs.Versions.{version_number, greatest_bound, stated_length}
+use Rattle.race_model.specs.Versions.{Version, version_number, greatest_bound, stated_length}
 use Rattle.race_model.specs.Files.{bytes_at, version_of, bound_of, record_place}
 
 -- a question about a header
@@ -27,28 +27,50 @@ header_place record_bytes = 5
 header_place reserved = 6
 header_place exact_length = 7
 
+-- what a kind of file states in its header, and where the record of a rank begins
+pub record Layout : Type 0 where
+  pub number : ℕ
+  pub greatest : ℕ
+  pub stated : ℕ
+  pub place : ℕ → ℕ
+
 -- the answer is yes, for the first bytes of a file and the file's length
-abbrev pub HeaderHolds : List ℕ → ℕ → HeaderTest → Type 0
-HeaderHolds front size long_enough = (32 ≤ length front) × (32 ≤ size)
-HeaderHolds front size magic = bytes_at front 0 8 ≡ codes "EPCTABLE"
-HeaderHolds front size version =
-    from_be_bytes w16 (bytes_at front 8 2) ≡ version_number (version_of front)
-HeaderHolds front size bound = bound_of front ≤ greatest_bound (version_of front)
-HeaderHolds front size count =
+abbrev pub HeaderHoldsBy : Layout → List ℕ → ℕ → HeaderTest → Type 0
+HeaderHoldsBy layout front size long_enough = (32 ≤ length front) × (32 ≤ size)
+HeaderHoldsBy layout front size magic = bytes_at front 0 8 ≡ codes "EPCTABLE"
+HeaderHoldsBy layout front size version = from_be_bytes w16 (bytes_at front 8 2) ≡ layout.number
+HeaderHoldsBy layout front size bound = bound_of front ≤ layout.greatest
+HeaderHoldsBy layout front size count =
     from_be_bytes w32 (bytes_at front 12 4) ≡ count_to (bound_of front)
-HeaderHolds front size record_bytes =
-    from_be_bytes w32 (bytes_at front 16 4) ≡ stated_length (version_of front)
-HeaderHolds front size reserved = bytes_at front 20 12 ≡ replicate 12 0
-HeaderHolds front size exact_length =
-    size ≡ record_place (version_of front) (count_to (bound_of front))
+HeaderHoldsBy layout front size record_bytes =
+    from_be_bytes w32 (bytes_at front 16 4) ≡ layout.stated
+HeaderHoldsBy layout front size reserved = bytes_at front 20 12 ≡ replicate 12 0
+HeaderHoldsBy layout front size exact_length = size ≡ layout.place (count_to (bound_of front))
+
+-- the first answer that is no
+pub record IsFirstHeaderFaultBy (layout : Layout) (front : List ℕ) (size : ℕ) (t : HeaderTest) :
+    Type 0 where
+  pub fails : ¬ HeaderHoldsBy layout front size t
+  pub earlier : (u : HeaderTest) → header_place u < header_place t →
+      HeaderHoldsBy layout front size u
+
+-- the layout of a version
+abbrev pub layout_of : Version → Layout
+layout_of kind = record {
+  number = version_number kind;
+  greatest = greatest_bound kind;
+  stated = stated_length kind;
+  place = record_place kind;
+}
+
+-- of a database, by the version that its header states
+abbrev pub HeaderHolds : List ℕ → ℕ → HeaderTest → Type 0
+HeaderHolds front = HeaderHoldsBy (layout_of (version_of front)) front
 
 -- all answers are yes
 abbrev pub IsHeader : List ℕ → ℕ → Type 0
 IsHeader front size = (t : HeaderTest) → HeaderHolds front size t
 
--- the first answer that is no
-pub record IsFirstHeaderFault (front : List ℕ) (size : ℕ) (t : HeaderTest) : Type 0
-  where
-    pub fails : ¬ HeaderHolds front size t
-    pub earlier : (u : HeaderTest) → header_place u < header_place t →
-        HeaderHolds front size u
+-- .. and this is the first question whose answer is no
+abbrev pub IsFirstHeaderFault : List ℕ → ℕ → HeaderTest → Type 0
+IsFirstHeaderFault front = IsFirstHeaderFaultBy (layout_of (version_of front)) front

@@ -13,10 +13,10 @@ pub mod Strategies
 pub mod RightFiles
 pub mod Books
 pub mod Endings
-pub mod FileBooks
 pub mod BoardFiles
 pub mod BoardHeaders
 pub mod RightBoards
+pub mod BoardEquations
 pub mod BestPlays
 pub mod BuiltFile
 pub mod Losses
@@ -27,9 +27,7 @@ pub mod FirstPlays
 pub mod Queries
 pub mod InputLines
 pub mod Replies
-pub mod BookReplies
 pub mod Levels
-pub mod BookLevels
 pub mod SameNumbers
 pub mod Samples
 pub mod Enumerations

@@ -1,15 +1,17 @@
--- The reply to each line of input. Source: this project's profile.
-use Rattle.std.specs.Prelude.{◌≡◌, ℕ, ◌+◌, ◌/◌, ◌%◌, ◌<◌, List, [], ◌∷◌, ◌++◌, length, flat_map}
+-- The reply to each line of input, by the numbers of a book, which are counted over so many
+-- sequences; that of a file is its book's. Source: this project's profile.
+use Rattle.std.specs.Prelude.{◌≡◌, ℕ, suc, ◌+◌, ◌*◌, ◌/◌, ◌%◌, ◌<◌, List, [], ◌∷◌, ◌++◌, length, flat_map}
 use Rattle.std.specs.Prelude.{slice_index_or, codes, decimal}
 use Rattle.std.specs.List.{concat}
 use Rattle.race_model.specs.Positions.{Board, finished}
 use Rattle.race_model.specs.PositionText.{IsPositionText}
 use Rattle.race_model.specs.Dice.{Throw}
 use Rattle.race_model.specs.Ranks.{rank}
-use Rattle.race_model.specs.Files.{bound_of, mean, spread}
-use Rattle.race_model.specs.LocalEquations.{whole, recorded}
-use Rattle.race_model.specs.Fractions.{IsFraction, IsMean, IsEffectivePips, IsThousandths}
-use Rattle.race_model.specs.Losses.{loss, IsMoveList}
+use Rattle.race_model.specs.LocalEquations.{whole}
+use Rattle.race_model.specs.Fractions.{IsFraction, IsThousandths}
+use Rattle.race_model.specs.Books.{Book, mean_in, recorded_in, share_in, whole_in}
+use Rattle.race_model.specs.Files.{book_of}
+use Rattle.race_model.specs.Losses.{loss_in, IsMoveListIn}
 use Rattle.race_model.specs.FirstPlays.{Move, IsFirstPlay, move_text}
 use Rattle.race_model.specs.Queries.{Query, mean_query, dist_query, play_query, loss_query}
 use Rattle.race_model.specs.Queries.{moves_query, rank_query, Refusal, bad_line, too_many}
@@ -25,21 +27,21 @@ thousandths_text q =
     decimal (q / 1000) ++ codes "."
     ++ (48 + q / 100 % 10) ∷ (48 + q / 10 % 10) ∷ (48 + q % 10) ∷ []
 
--- the text is the number a / 36 ^ 22 in lowest terms
-pub record IsShareText (a : ℕ) (text : List ℕ) : Type 0 where
+-- the text is the number a / whole in lowest terms
+pub record IsShareTextOver (whole a : ℕ) (text : List ℕ) : Type 0 where
   pub numerator : ℕ
   pub denominator : ℕ
   pub lowest : IsFraction a whole numerator denominator
   pub written : text ≡ fraction_text numerator denominator
 
 -- the mean, the effective pip count, and the effective pip count in thousandths
-pub record IsMeanReply (total : ℕ) (text : List ℕ) : Type 0 where
+pub record IsMeanReplyOver (whole total : ℕ) (text : List ℕ) : Type 0 where
   pub numerator : ℕ
   pub denominator : ℕ
-  pub mean_is : IsMean total numerator denominator
+  pub mean_is : IsFraction total whole numerator denominator
   pub pips_numerator : ℕ
   pub pips_denominator : ℕ
-  pub pips_are : IsEffectivePips total pips_numerator pips_denominator
+  pub pips_are : IsFraction (49 * total) (6 * whole) pips_numerator pips_denominator
   pub thousandths : ℕ
   pub rounded : IsThousandths pips_numerator pips_denominator thousandths
   pub written : text
@@ -48,18 +50,27 @@ pub record IsMeanReply (total : ℕ) (text : List ℕ) : Type 0 where
       ++ thousandths_text thousandths
 
 -- the part of a distribution for exactly k rolls: none where there is no share
-pub record IsSharePart (share k : ℕ) (part : List ℕ) : Type 0 where
+pub record IsSharePartOver (whole share k : ℕ) (part : List ℕ) : Type 0 where
   pub none : share ≡ 0 → part ≡ []
   pub some : 0 < share →
-      (text : List ℕ) × IsShareText share text
+      (text : List ℕ) × IsShareTextOver whole share text
       × (part ≡ codes " " ++ decimal k ++ codes ":" ++ text)
 
--- the shares of 0 to 22 rolls
-pub record IsDistReply (share : ℕ → ℕ) (text : List ℕ) : Type 0 where
+-- the shares of 0 rolls and of up to so many
+pub record IsDistReplyOver (whole most : ℕ) (share : ℕ → ℕ) (text : List ℕ) : Type 0 where
   pub parts : List (List ℕ)
-  pub count : length parts ≡ 23
-  pub each : (k : ℕ) → k < 23 → IsSharePart (share k) k (slice_index_or parts k [])
+  pub count : length parts ≡ suc most
+  pub each : (k : ℕ) → k < suc most →
+      IsSharePartOver whole (share k) k (slice_index_or parts k [])
   pub written : text ≡ codes "dist" ++ concat parts
+
+-- a result and its loss
+pub record IsChoicePartOver (whole : ℕ) (y : Board) (lost : ℕ) (part : List ℕ) : Type 0 where
+  pub position : List ℕ
+  pub position_is : IsPositionText position y
+  pub fraction : List ℕ
+  pub loss_is : IsShareTextOver whole lost fraction
+  pub written : part ≡ codes " " ++ position ++ codes ":" ++ fraction
 
 -- the first play to a position, and that position
 pub record IsPlayReply (x : Board) (v : Throw) (y : Board) (text : List ℕ) : Type 0 where
@@ -70,34 +81,29 @@ pub record IsPlayReply (x : Board) (v : Throw) (y : Board) (text : List ℕ) : T
   pub written : text
       ≡ codes "play" ++ flat_map (λ m. codes " " ++ move_text m) moves ++ codes " to " ++ position
 
--- a result and its loss
-pub record IsChoicePart (y : Board) (lost : ℕ) (part : List ℕ) : Type 0 where
-  pub position : List ℕ
-  pub position_is : IsPositionText position y
-  pub fraction : List ℕ
-  pub loss_is : IsShareText lost fraction
-  pub written : part ≡ codes " " ++ position ++ codes ":" ++ fraction
-
 -- every result with its loss
-pub record IsMovesReply (f : List ℕ) (x : Board) (v : Throw) (text : List ℕ) : Type 0 where
-  pub results : List Board
-  pub listed : IsMoveList f x v results
-  pub parts : List (List ℕ)
-  pub count : length parts ≡ length results
-  pub each : (i : ℕ) → i < length results →
-      IsChoicePart (slice_index_or results i finished)
-      (loss f x v (slice_index_or results i finished)) (slice_index_or parts i [])
-  pub written : text ≡ codes "moves" ++ concat parts
+pub record IsMovesReplyOver (whole : ℕ) (b : Book) (x : Board) (v : Throw) (text : List ℕ) : Type 0
+  where
+    pub results : List Board
+    pub listed : IsMoveListIn b x v results
+    pub parts : List (List ℕ)
+    pub count : length parts ≡ length results
+    pub each : (i : ℕ) → i < length results →
+        IsChoicePartOver whole (slice_index_or results i finished)
+        (loss_in b x v (slice_index_or results i finished)) (slice_index_or parts i [])
+    pub written : text ≡ codes "moves" ++ concat parts
 
 -- the answer to a query that is not refused, without the line feed
-abbrev pub IsAnswer : List ℕ → Query → List ℕ → Type 0
-IsAnswer f (mean_query x) text = IsMeanReply (mean f x) text
-IsAnswer f (dist_query x) text = IsDistReply (spread f x) text
-IsAnswer f (play_query x v) text = IsPlayReply x v (recorded f x v) text
-IsAnswer f (loss_query x v y) text =
-    (fraction : List ℕ) × IsShareText (loss f x v y) fraction × (text ≡ codes "loss " ++ fraction)
-IsAnswer f (moves_query x v) text = IsMovesReply f x v text
-IsAnswer f (rank_query x) text = text ≡ codes "rank " ++ decimal (rank x)
+abbrev pub IsAnswerOver : ℕ → Book → Query → List ℕ → Type 0
+IsAnswerOver over b (mean_query x) text = IsMeanReplyOver over (mean_in b x) text
+IsAnswerOver over b (dist_query x) text =
+    IsDistReplyOver over (suc b.further) (share_in b x) text
+IsAnswerOver over b (play_query x v) text = IsPlayReply x v (recorded_in b x v) text
+IsAnswerOver over b (loss_query x v y) text =
+    (fraction : List ℕ) × IsShareTextOver over (loss_in b x v y) fraction
+    × (text ≡ codes "loss " ++ fraction)
+IsAnswerOver over b (moves_query x v) text = IsMovesReplyOver over b x v text
+IsAnswerOver over b (rank_query x) text = text ≡ codes "rank " ++ decimal (rank x)
 
 -- the text of a refusal
 abbrev pub refusal_text : Refusal → List ℕ
@@ -108,8 +114,52 @@ refusal_text at_end = codes "error finished"
 refusal_text not_legal = codes "error not-legal"
 
 -- the reply to a line, with its line feed: the answer, or the refusal
-pub data IsReply (f line text : List ℕ) : Type 0 where
-  answered : (q : Query) (answer : List ℕ) → IsAccepted (bound_of f) line q → IsAnswer f q answer →
-      text ≡ answer ++ 10 ∷ [] → IsReply f line text
-  refused : (why : Refusal) → IsRefused (bound_of f) line why →
-      text ≡ refusal_text why ++ 10 ∷ [] → IsReply f line text
+pub data IsReplyOver (whole : ℕ) (b : Book) (line text : List ℕ) : Type 0 where
+  answered : (q : Query) (answer : List ℕ) → IsAccepted b.bound line q →
+      IsAnswerOver whole b q answer → text ≡ answer ++ 10 ∷ [] → IsReplyOver whole b line text
+  refused : (why : Refusal) → IsRefused b.bound line why →
+      text ≡ refusal_text why ++ 10 ∷ [] → IsReplyOver whole b line text
+
+-- by a book, over its sequences: the list of moves
+abbrev pub IsMovesReplyIn : Book → Board → Throw → List ℕ → Type 0
+IsMovesReplyIn b = IsMovesReplyOver (whole_in b) b
+
+-- .. the answer
+abbrev pub IsAnswerIn : Book → Query → List ℕ → Type 0
+IsAnswerIn b = IsAnswerOver (whole_in b) b
+
+-- .. the reply
+abbrev pub IsReplyIn : Book → List ℕ → List ℕ → Type 0
+IsReplyIn b = IsReplyOver (whole_in b) b
+
+-- the parts of a reply by a file, over the sequences of 22 throws: the text of a share
+abbrev pub IsShareText : ℕ → List ℕ → Type 0
+IsShareText = IsShareTextOver whole
+
+-- .. of the answer to a mean
+abbrev pub IsMeanReply : ℕ → List ℕ → Type 0
+IsMeanReply = IsMeanReplyOver whole
+
+-- .. of a share in a distribution
+abbrev pub IsSharePart : ℕ → ℕ → List ℕ → Type 0
+IsSharePart = IsSharePartOver whole
+
+-- .. of a distribution
+abbrev pub IsDistReply : (ℕ → ℕ) → List ℕ → Type 0
+IsDistReply = IsDistReplyOver whole 22
+
+-- .. of a result in a list of moves
+abbrev pub IsChoicePart : Board → ℕ → List ℕ → Type 0
+IsChoicePart = IsChoicePartOver whole
+
+-- .. of a list of moves
+abbrev pub IsMovesReply : List ℕ → Board → Throw → List ℕ → Type 0
+IsMovesReply f = IsMovesReplyOver whole (book_of f)
+
+-- .. the answer by a file
+abbrev pub IsAnswer : List ℕ → Query → List ℕ → Type 0
+IsAnswer f = IsAnswerOver whole (book_of f)
+
+-- .. the reply by a file
+abbrev pub IsReply : List ℕ → List ℕ → List ℕ → Type 0
+IsReply f = IsReplyOver whole (book_of f)

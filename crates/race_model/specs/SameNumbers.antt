@@ -1,14 +1,25 @@
--- Files that hold the same numbers. Source: this project's profile.
-use Rattle.std.specs.Prelude.{◌≡◌, ℕ, ◌≤◌, List}
+-- Books, and files, that hold the same numbers, or the same plays. Source: this project's profile.
+use Rattle.std.specs.Prelude.{◌≡◌, ℕ, suc, ◌≤◌, List}
 use Rattle.race_model.specs.Positions.{Board, IsPosition, pips}
 use Rattle.race_model.specs.Dice.{Throw}
-use Rattle.race_model.specs.Files.{bound_of, mean, play, spread}
+use Rattle.race_model.specs.Books.{Book, mean_in, play_in, share_in}
+use Rattle.race_model.specs.Files.{book_of}
 
--- the same bound, and for each position of at most it the same mean, plays and shares
-pub record HasSameNumbers (f g : List ℕ) : Type 0 where
-  pub bound : bound_of f ≡ bound_of g
-  pub means : (x : Board) → IsPosition x → pips x ≤ bound_of f → mean f x ≡ mean g x
-  pub plays : (x : Board) (v : Throw) → IsPosition x → pips x ≤ bound_of f →
-      play f x v ≡ play g x v
-  pub shares : (x : Board) (k : ℕ) → IsPosition x → pips x ≤ bound_of f → k ≤ 22 →
-      spread f x k ≡ spread g x k
+-- the same bound, and for each position of at most it the same plays
+pub record HasSamePlays (f g : Book) : Type 0 where
+  pub bound : f.bound ≡ g.bound
+  pub plays : (x : Board) (v : Throw) → IsPosition x → pips x ≤ f.bound →
+      play_in f x v ≡ play_in g x v
+
+-- .. and the same mean and shares
+pub record HasSameNumbersIn (f g : Book) : Type 0 where
+  pub bound : f.bound ≡ g.bound
+  pub means : (x : Board) → IsPosition x → pips x ≤ f.bound → mean_in f x ≡ mean_in g x
+  pub plays : (x : Board) (v : Throw) → IsPosition x → pips x ≤ f.bound →
+      play_in f x v ≡ play_in g x v
+  pub shares : (x : Board) (k : ℕ) → IsPosition x → pips x ≤ f.bound → k ≤ suc f.further →
+      share_in f x k ≡ share_in g x k
+
+-- .. by two files
+abbrev pub HasSameNumbers : List ℕ → List ℕ → Type 0
+HasSameNumbers f g = HasSameNumbersIn (book_of f) (book_of g)

@@ -40,19 +40,23 @@ total_over m s = sum_by (rolls s) (sequences m)
 unfoldable pub count_over : ℕ → Strategy → ℕ → ℕ
 count_over m s k = count_by (λ w. rolls s w == k) (sequences m)
 
+-- t is the least total of all strategies from x, over all sequences of m throws
+pub record IsLeastIn (m : ℕ) (x : Board) (t : ℕ) : Type 0 where
+  pub reached : (s : Strategy) × Fits s x × (total_over m s ≡ t)
+  pub least : (s : Strategy) → Fits s x → t ≤ total_over m s
+
 -- the rolls over all sequences of 22 throws: the mean number of rolls is this over 36 ^ 22
-unfoldable pub total : Strategy → ℕ
-total s = total_over 22 s
+abbrev pub total : Strategy → ℕ
+total = total_over 22
 
--- in how many sequences of 22 throws a strategy needs
--- exactly k rolls: the chance of that is this over 36 ^ 22
-unfoldable pub count_of : Strategy → ℕ → ℕ
-count_of s k = count_over 22 s k
+-- in how many sequences of 22 throws a strategy needs exactly k rolls: the chance of that is this
+-- over 36 ^ 22
+abbrev pub count_of : Strategy → ℕ → ℕ
+count_of = count_over 22
 
--- t is the least total of all strategies from x
-pub record IsLeast (x : Board) (t : ℕ) : Type 0 where
-  pub reached : (s : Strategy) × Fits s x × (total s ≡ t)
-  pub least : (s : Strategy) → Fits s x → t ≤ total s
+-- the least total over all sequences of 22 throws
+abbrev pub IsLeast : Board → ℕ → Type 0
+IsLeast = IsLeastIn 22
 
 -- a strategy has at most m turns on any path
 abbrev pub IsWithin : ℕ → Strategy → Type 0

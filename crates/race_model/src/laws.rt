@@ -5,7 +5,7 @@ pub use boards::law_boards;
 pub use books::{law_books, law_endings};
 pub use bounds::law_bounds;
 pub use dice::law_rolls;
-pub use faults::{law_first_fault, law_header};
+pub use faults::{law_first_board_fault, law_first_fault, law_header};
 pub use fractions::law_fractions;
 pub use input_lines::law_input_lines;
 pub use losses::{law_book_loss, law_loss};

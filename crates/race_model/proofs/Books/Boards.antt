@@ -1,12 +1,15 @@
--- A board file is locally right exactly where it is right: by its book, whose shares are counted.
-use Rattle.std.proofs.Common.{◌≡◌, ℕ, ◌+◌, ◌*◌, ◌-◌, ◌^◌, ◌≤◌, List, refl, ap, arith}
+-- A board file is locally right exactly where it is right, since its book is. Its shares are those
+-- that its counts tell, so the equation of shares says what that of counts says.
+use Rattle.std.proofs.Common.{◌≡◌, ℕ, ◌+◌, ◌*◌, ◌-◌, ◌^◌, ◌≤◌, ◌↔◌, List, refl, ap, arith}
 use Rattle.race_model.specs.Positions.{Board, IsPosition, pips}
 use Rattle.race_model.specs.Ranks.{rank}
 use Rattle.race_model.specs.Files.{bound_of}
-use Rattle.race_model.specs.Books.{IsLocalIn, follow_in, IsLocalBook}
-use Rattle.race_model.specs.Endings.{endings, IsCounted}
+use Rattle.race_model.specs.Books.{follow_in}
+use Rattle.race_model.specs.LocalEquations.{HasShareIn, HasLeastMeanIn}
+use Rattle.race_model.specs.Endings.{endings, IsCounted, HasCountIn}
 use Rattle.race_model.specs.BoardFiles.{board_book, count_at}
-use Rattle.race_model.specs.RightBoards.{IsLocalOnBoard, IsLocalBoard, IsRightBoard}
+use Rattle.race_model.specs.RightBoards.{IsWritten, IsRightBoard}
+use Rattle.race_model.specs.BoardEquations.{IsLocalOnBoard, IsLocalBoard}
 use Rattle.race_model.proofs.Books.FromLocal.{right_of_local, whole_board}
 use Rattle.race_model.proofs.Books.FromRight.{local_of_right}
 use Rattle.race_model.proofs.Books.Endings.{share_is_count, counts_are_endings}
@@ -19,14 +22,25 @@ board_counted f r k further e =
     left : (k further : ℕ) → k + further ≡ 33 → 33 - k ≡ further
     left k further e = omega arith
 
--- the equations of the book, from those of the file
-local_in_book : (f : List ℕ) (x : Board) → IsLocalOnBoard f x → IsLocalIn (board_book f) x
-local_in_book f x here = record {
-  played = here.played;
-  best = here.best;
-  mean_is = here.mean_is;
-  shares = λ k le.
-      (share_is_count (board_book f) (count_at f) (board_counted f) x k le).1 (here.counts k le);
+-- so their equation says what that of counts says
+pub board_share_is_count : (f : List ℕ) (x : Board) (k : ℕ) → k ≤ 33 →
+    HasShareIn (board_book f) x k ↔ HasCountIn (board_book f) (count_at f) x k
+board_share_is_count f = share_is_count (board_book f) (count_at f) (board_counted f)
+
+-- the counts of a position that meets its equations meet theirs
+pub counts_of_local : (f : List ℕ) (x : Board) → IsLocalOnBoard f x → (k : ℕ) → k ≤ 33 →
+    HasCountIn (board_book f) (count_at f) x k
+counts_of_local f x here k le = (board_share_is_count f x k le).0 (here.equations.shares k le)
+
+-- .. and a position whose counts do meets its equations
+pub local_of_counts : (f : List ℕ) (x : Board) → IsWritten f x → HasLeastMeanIn (board_book f) x →
+    ((k : ℕ) → k ≤ 33 → HasCountIn (board_book f) (count_at f) x k) → IsLocalOnBoard f x
+local_of_counts f x written means counts = record {
+  written = written;
+  equations = record {
+    means = means;
+    shares = λ k le. (board_share_is_count f x k le).1 (counts k le);
+  };
 }
 
 -- a board file that meets the equations is right
@@ -36,26 +50,19 @@ right_board f local = record {
   written = λ x at low. (local.at_each x at low).written;
   book =
       right_of_local (board_book f) (whole_board (board_book f) refl)
-      (λ x at low. local_in_book f x (local.at_each x at low));
+      (λ x at low. (local.at_each x at low).equations);
 }
 
 -- .. and one that is right meets them
 pub local_board : (f : List ℕ) → IsRightBoard f → IsLocalBoard f
-local_board f right = record { file = right.file; at_each = at_each }
-  where
-    local : IsLocalBook (board_book f)
-    local = local_of_right (board_book f) (whole_board (board_book f) refl) right.book
-
-    at_each : (x : Board) → IsPosition x → pips x ≤ bound_of f → IsLocalOnBoard f x
-    at_each x at low = record {
-      written = right.written x at low;
-      played = (local x at low).played;
-      best = (local x at low).best;
-      mean_is = (local x at low).mean_is;
-      counts = λ k le.
-          (share_is_count (board_book f) (count_at f) (board_counted f) x k le).0
-          ((local x at low).shares k le);
-    }
+local_board f right = record {
+  file = right.file;
+  at_each = λ x at low. record {
+    written = right.written x at low;
+    equations =
+        local_of_right (board_book f) (whole_board (board_book f) refl) right.book x at low;
+  };
+}
 
 -- its counts are those of the strategy that plays what is recorded
 pub board_counts : (f : List ℕ) → IsRightBoard f → (x : Board) → IsPosition x →

@@ -4,12 +4,12 @@ use Rattle.std.proofs.Common.{◌≡◌, ⊎_elim, ℕ, zero, suc, ◌+◌, ◌*
 use Rattle.std.proofs.lemmas.Nat.{pow-add}
 use Rattle.std.proofs.Math.Nat.{mul-le-mul_left, pow-suc}
 use Rattle.race_model.specs.Positions.{Board, IsPosition, IsFinished}
-use Rattle.race_model.specs.Dice.{Throw, IsRoll, reversed, weight, all_rolls}
+use Rattle.race_model.specs.Dice.{Throw, IsRoll, reversed, weight, all_rolls, weighted}
 use Rattle.race_model.specs.Plays.{Legal}
 use Rattle.race_model.specs.Ranks.{rank, at_rank}
-use Rattle.race_model.specs.LocalEquations.{weighted}
 use Rattle.race_model.specs.Strategies.{EndsIn}
-use Rattle.race_model.specs.Books.{Book, mean_in, play_in, recorded_in, IsPlayedIn, HasMeanIn}
+use Rattle.race_model.specs.Books.{Book, mean_in, play_in, recorded_in, IsPlayedIn}
+use Rattle.race_model.specs.LocalEquations.{HasMeanIn}
 use Rattle.race_model.specs.Endings.{HasCountIn}
 use Rattle.race_model.proofs.Numbers.Sums.{sum_by-equal, sum_by-at_most, sum_by-times, sum_by-zero}
 use Rattle.race_model.proofs.Dice.RollSums.{sum_by-weight}

@@ -3,11 +3,11 @@ use Rattle.std.proofs.Common.{◌≡◌, ℕ, zero, suc, ◌+◌, ◌*◌, ◌-�
 use Rattle.std.proofs.Common.{◌∙◌, subst, arith, ⊎_elim}
 use Rattle.std.proofs.Math.Nat.{pow-suc, one-le-pow, eq_of_mul-eq-mul_right}
 use Rattle.race_model.specs.Positions.{Board, IsPosition, pips}
-use Rattle.race_model.specs.Dice.{Throw, throws, weight, all_rolls}
+use Rattle.race_model.specs.Dice.{Throw, throws, weight, all_rolls, weighted}
 use Rattle.race_model.specs.Ranks.{rank}
-use Rattle.race_model.specs.LocalEquations.{weighted}
 use Rattle.race_model.specs.Strategies.{Strategy, stop, turn, IsWithin, count_over, sequences}
-use Rattle.race_model.specs.Books.{Book, play_in, recorded_in, HasShareIn, follow_in, IsRightBook}
+use Rattle.race_model.specs.Books.{Book, play_in, recorded_in, follow_in, IsRightBook}
+use Rattle.race_model.specs.LocalEquations.{HasShareIn}
 use Rattle.race_model.specs.Endings.{is_ended_by, endings, IsCounted, HasCountIn}
 use Rattle.race_model.proofs.Numbers.Sums.{sum_by-equal, sum_by-times, sum_by-zero}
 use Rattle.race_model.proofs.Strategies.Histories.{sum_by-sequences, count_over-turn, count_over-turn_none}

@@ -3,14 +3,13 @@
 use Rattle.std.proofs.Common.{◌≡◌, ⊎_elim, ℕ, zero, suc, ◌+◌, ◌*◌, ◌^◌, ◌≤◌, sum_by, cond, eq-eqb}
 use Rattle.std.proofs.Common.{ne_eqb, refl, ap, sym, subst, ◌∙◌, arith, le_trans, le_of_lt}
 use Rattle.race_model.specs.Positions.{Board, IsPosition, IsFinished, checkers, pips}
-use Rattle.race_model.specs.Dice.{Throw, reversed, throws}
+use Rattle.race_model.specs.Dice.{Throw, reversed, throws, weighted}
 use Rattle.race_model.specs.Plays.{Legal}
 use Rattle.race_model.specs.Ranks.{rank, at_rank}
-use Rattle.race_model.specs.LocalEquations.{weighted}
 use Rattle.race_model.specs.Strategies.{Strategy, stop, turn, Fits, IsWithin, EndsIn}
 use Rattle.race_model.specs.Strategies.{total_over, count_over}
-use Rattle.race_model.specs.Books.{Book, mean_in, play_in, recorded_in, share_in, IsPlayedIn, IsBestIn}
-use Rattle.race_model.specs.Books.{IsLocalIn, follow_in, IsLocalBook, IsRightBook}
+use Rattle.race_model.specs.Books.{Book, mean_in, play_in, recorded_in, share_in, IsPlayedIn, follow_in, IsRightBook}
+use Rattle.race_model.specs.LocalEquations.{IsBestIn, IsLocalIn, IsLocalBook}
 use Rattle.race_model.proofs.Dice.Throws.{legal_reversed, by_rolls}
 use Rattle.race_model.proofs.Numbers.Sums.{sum_by-equal, sum_by-at_most}
 use Rattle.race_model.proofs.Dice.RollSums.{sum_by-throws}
@@ -43,18 +42,18 @@ module _ (f : Book) (x : Board) (here : IsLocalIn f x) where
   played_in v = record {
     ranked =
         by_rolls (λ i u. rank (at_rank (f.plays (rank x) i)) ≡ f.plays (rank x) i) (λ i u e. e)
-        (λ u r. (here.played u r).ranked) v;
+        (λ u r. (here.means.played u r).ranked) v;
     legal =
         by_rolls (λ i u. Legal x u (at_rank (f.plays (rank x) i)))
         (λ i u. legal_reversed x (reversed u) (at_rank (f.plays (rank x) i)))
-        (λ u r. (here.played u r).legal) v;
+        (λ u r. (here.means.played u r).legal) v;
   }
 
   -- .. and least
   best_in : (v : Throw) → IsBestIn f x v
   best_in =
       by_rolls (λ i u. (z : Board) → Legal x u z → f.means (f.plays (rank x) i) ≤ mean_in f z)
-      (λ i u b z legal. b z (legal_reversed x u z legal)) here.best
+      (λ i u b z legal. b z (legal_reversed x u z legal)) here.means.best
 
 -- a strategy from x that has the mean and the shares that a book says
 pub record Reaches (f : Book) (s : Strategy) (x : Board) : Type 0 where
@@ -106,7 +105,7 @@ module _ (f : Book) (x : Board) (played : (v : Throw) → IsPlayedIn f x v) wher
 reached_at_end : (f : Book) (x : Board) → IsFinished x → IsLocalIn f x → Reaches f stop x
 reached_at_end f x none here = record {
   fits = none;
-  total_is = total_over-stop (suc f.further) ∙ sym (here.mean_is.at_end none);
+  total_is = total_over-stop (suc f.further) ∙ sym (here.means.mean_is.at_end none);
   counts = shares;
 } where
   shares : (k : ℕ) → k ≤ suc f.further → share_in f x k ≡ count_over (suc f.further) stop k
@@ -123,7 +122,7 @@ reached_before f x unfinished here next within reached = record {
   fits = (unfinished, λ v. ((played_in f x here v).legal, (reached v).fits));
   total_is =
       let ours = turn_total f (recorded_in f x) next within reached in
-      omega (arith, ours, here.mean_is.before unfinished, mean_sum f x (played_in f x here));
+      omega (arith, ours, here.means.mean_is.before unfinished, mean_sum f x (played_in f x here));
   counts = shares;
 } where
   shares : (k : ℕ) → k ≤ suc f.further →
@@ -150,11 +149,11 @@ module _ (f : Book) (local : IsLocalBook f) where
   pub no_total_under : (n : ℕ) (x : Board) (s : Strategy) → n ≤ suc f.further → EndsIn n x →
       IsPosition x → pips x ≤ f.bound → Fits s x → mean_in f x ≤ total_over (suc f.further) s
   no_total_under n x stop few ends at low fits =
-      let here = (local x at low).mean_is.at_end fits in
+      let here = (local x at low).means.mean_is.at_end fits in
       omega (arith, here)
   no_total_under zero x (turn to next) few ends at low fits = absurd (fits.0 ends)
   no_total_under (suc n) x (turn to next) few ends at low fits =
-      let here = (local x at low).mean_is.before fits.0 in
+      let here = (local x at low).means.mean_is.before fits.0 in
       let after : (v : Throw) → EndsIn n (to v) = λ v. ends fits.0 v (to v) (fits.1 v).0 in
       let ours =
       total_over-turn_times_36 f.further to next

@@ -8,8 +8,8 @@ use Rattle.race_model.specs.Positions.{Board, IsPosition, IsFinished, pips}
 use Rattle.race_model.specs.Dice.{Die, one, two, three, four, five, six, number, Throw, throws}
 use Rattle.race_model.specs.Plays.{Legal}
 use Rattle.race_model.specs.Strategies.{Strategy, stop, turn, Fits, IsWithin, total_over, count_over}
-use Rattle.race_model.specs.Books.{Book, mean_in, recorded_in, share_in, IsBestIn, HasShareIn}
-use Rattle.race_model.specs.Books.{follow_in, IsRightIn, IsLocalBook, IsRightBook}
+use Rattle.race_model.specs.Books.{Book, mean_in, recorded_in, share_in, follow_in, IsRightIn, IsRightBook}
+use Rattle.race_model.specs.LocalEquations.{IsBestIn, HasShareIn, IsLocalBook}
 use Rattle.race_model.proofs.Plays.Results.{legal_position, legal_pips, legal_finished, finished_or_not}
 use Rattle.race_model.proofs.Strategies.Histories.{fits_within, count_over-turn_none}
 use Rattle.race_model.proofs.Dice.Faces.{is_throw, same_throw}
@@ -75,7 +75,7 @@ pub one_changed : (v : Throw) (g : Board → ℕ) (z : Board) (to : Throw → Bo
 one_changed v g z to = one_changed_at v.first v.second g z to
 
 -- a strategy that plays what a book says, and fits, is the same with one turn more
-follow_in-more : (f : Book) (n : ℕ) (x : Board) → Fits (follow_in f n x) x →
+pub follow_in-more : (f : Book) (n : ℕ) (x : Board) → Fits (follow_in f n x) x →
     follow_in f (suc n) x ≡ follow_in f n x
 unfolding follow_in
 follow_in-more f zero x fits =
@@ -199,16 +199,18 @@ module _ (f : Book) (right : IsRightBook f) (long : IsLong f) (x : Board) (at : 
 -- such a book meets the local equations
 pub local_of_right : (f : Book) → IsLong f → IsRightBook f → IsLocalBook f
 local_of_right f long right x at low = record {
-  played = λ v _. here.played v;
-  best = λ v _. best_at f right long x at low v;
-  mean_is = record {
-    at_end =
-        λ none. sym here.mean_is
-        ∙ ap (total_over (suc f.further)) (follow_in-finished f (suc f.further) x none)
-        ∙ total_over-stop (suc f.further);
-    before =
-        λ unfinished. mean_before f right long x at low unfinished
-        ∙ ap (λ s. 36 * 36 ^ suc f.further + s) (mean_sum f x here.played);
+  means = record {
+    played = λ v _. here.played v;
+    best = λ v _. best_at f right long x at low v;
+    mean_is = record {
+      at_end =
+          λ none. sym here.mean_is
+          ∙ ap (total_over (suc f.further)) (follow_in-finished f (suc f.further) x none)
+          ∙ total_over-stop (suc f.further);
+      before =
+          λ unfinished. mean_before f right long x at low unfinished
+          ∙ ap (λ s. 36 * 36 ^ suc f.further + s) (mean_sum f x here.played);
+    };
   };
   shares = share;
 } where

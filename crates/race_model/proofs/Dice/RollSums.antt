@@ -2,8 +2,7 @@
 use Rattle.std.proofs.Common.{◌≡◌, ⊎_elim, ℕ, ◌<◌, List, map, length, get_or, sum_by, refl, sym, ap, ◌∙◌, arith}
 use Rattle.std.proofs.lemmas.List.{ext_get_or, length-map}
 use Rattle.std.proofs.Math.ListN.{get_or-map}
-use Rattle.race_model.specs.Dice.{Throw, one, reversed, all_rolls, roll_at, roll_index, weight, throws}
-use Rattle.race_model.specs.LocalEquations.{weighted}
+use Rattle.race_model.specs.Dice.{Throw, one, reversed, all_rolls, roll_at, roll_index, weight, throws, weighted}
 use Rattle.race_model.proofs.Numbers.Sums.{sum_by-map}
 use Rattle.race_model.proofs.Dice.Throws.{roll_of_index, index_of_roll, roll_index-reversed, roll_or_reversed}
 

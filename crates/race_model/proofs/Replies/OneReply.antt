@@ -1,23 +1,24 @@
 -- A line has one reply.
-use Rattle.std.proofs.Common.{◌≡◌, ◌⊎◌, ⊎_elim, ℕ, suc, ◌*◌, ◌<◌, ◌≤◌, List, [], ◌∷◌, ◌++◌, length}
+use Rattle.std.proofs.Common.{◌≡◌, ◌⊎◌, ⊎_elim, ℕ, suc, ◌*◌, ◌^◌, ◌<◌, ◌≤◌, List, [], ◌∷◌, ◌++◌, length}
 use Rattle.std.proofs.Common.{get_or, flat_map, slice_index_or, codes, decimal, refl, ap, ap₂, sym}
 use Rattle.std.proofs.Common.{subst, ◌∙◌, arith}
+use Rattle.std.proofs.Math.Nat.{one-le-pow}
 use Rattle.std.specs.List.{concat}
 use Rattle.race_model.specs.Positions.{Board, finished, pips}
 use Rattle.race_model.specs.Dice.{Throw}
 use Rattle.race_model.specs.Ranks.{rank}
-use Rattle.race_model.specs.Files.{bound_of}
 use Rattle.race_model.specs.LocalEquations.{whole}
+use Rattle.race_model.specs.Books.{Book}
 use Rattle.race_model.specs.Fractions.{IsThousandths}
-use Rattle.race_model.specs.Losses.{loss, IsListedBefore}
+use Rattle.race_model.specs.Losses.{loss_in, IsListedBeforeIn}
 use Rattle.race_model.specs.FirstPlays.{move_text}
 use Rattle.race_model.specs.Queries.{Query, mean_query, dist_query, play_query, loss_query}
 use Rattle.race_model.specs.Queries.{moves_query, rank_query, Refusal, HasTooMany, AsksOfFinished}
 use Rattle.race_model.specs.Queries.{HasResult, subject, IsRefused, no_query, of_too_many}
 use Rattle.race_model.specs.Queries.{of_over_bound, of_finished, of_no_result, IsAccepted}
-use Rattle.race_model.specs.Replies.{fraction_text, thousandths_text, IsShareText, IsMeanReply}
-use Rattle.race_model.specs.Replies.{IsSharePart, IsDistReply, IsPlayReply, IsChoicePart}
-use Rattle.race_model.specs.Replies.{IsMovesReply, IsAnswer, refusal_text, IsReply, answered}
+use Rattle.race_model.specs.Replies.{fraction_text, thousandths_text, IsShareTextOver, IsMeanReplyOver}
+use Rattle.race_model.specs.Replies.{IsSharePartOver, IsDistReplyOver, IsPlayReply, IsChoicePartOver}
+use Rattle.race_model.specs.Replies.{IsMovesReplyOver, IsAnswerOver, refusal_text, IsReplyOver, answered}
 use Rattle.race_model.specs.Replies.{refused}
 use Rattle.race_model.proofs.Numbers.LowestTerms.{one_fraction, one_number_of_thousandths}
 use Rattle.race_model.proofs.Replies.Lines.{one_query}
@@ -25,161 +26,164 @@ use Rattle.race_model.proofs.Plays.PlayOrder.{one_first_play}
 use Rattle.race_model.proofs.Numbers.OrderedLists.{one_list}
 use Rattle.race_model.proofs.Positions.OneText.{one_text}
 
--- the denominator is not 0
-whole_positive : 0 < whole
-unfolding whole
-whole_positive = omega arith
+-- over so many sequences, of which there are some
+module _ (over : ℕ) (some : 0 < over) where
+  -- a share has one text
+  one_share_text : (a : ℕ) (t u : List ℕ) → IsShareTextOver over a t → IsShareTextOver over a u →
+      t ≡ u
+  one_share_text a t u p q =
+      let same =
+      one_fraction a over p.numerator p.denominator q.numerator q.denominator some
+      p.lowest q.lowest in
+      p.written ∙ ap₂ fraction_text same.0 same.1 ∙ sym q.written
 
--- a share has one text
-one_share_text : (a : ℕ) (t u : List ℕ) → IsShareText a t → IsShareText a u → t ≡ u
-one_share_text a t u p q =
-    let same =
-    one_fraction a whole p.numerator p.denominator q.numerator q.denominator whole_positive
-    p.lowest q.lowest in
-    p.written ∙ ap₂ fraction_text same.0 same.1 ∙ sym q.written
+  -- a mean has one reply
+  one_mean_reply : (total : ℕ) (t u : List ℕ) → IsMeanReplyOver over total t →
+      IsMeanReplyOver over total u → t ≡ u
+  one_mean_reply total t u p q =
+      p.written
+      ∙ (λ i.
+      codes "mean " ++ fraction_text (mean.0 i) (mean.1 i) ++ codes " epc "
+      ++ fraction_text (pips.0 i) (pips.1 i) ++ codes " " ++ thousandths_text (rounded i))
+      ∙ sym q.written
+    where
+      mean : (p.numerator ≡ q.numerator) × (p.denominator ≡ q.denominator)
+      mean =
+          one_fraction total over p.numerator p.denominator q.numerator q.denominator some
+          p.mean_is q.mean_is
 
--- a mean has one reply
-one_mean_reply : (total : ℕ) (t u : List ℕ) → IsMeanReply total t → IsMeanReply total u → t ≡ u
-one_mean_reply total t u p q =
-    p.written
-    ∙ (λ i.
-    codes "mean " ++ fraction_text (mean.0 i) (mean.1 i) ++ codes " epc "
-    ++ fraction_text (pips.0 i) (pips.1 i) ++ codes " " ++ thousandths_text (rounded i))
-    ∙ sym q.written
-  where
-    mean : (p.numerator ≡ q.numerator) × (p.denominator ≡ q.denominator)
-    mean =
-        one_fraction total whole p.numerator p.denominator q.numerator q.denominator whole_positive
-        p.mean_is q.mean_is
+      positive : (n : ℕ) → 0 < n → 0 < 6 * n
+      positive n h = omega arith
 
-    positive : (n : ℕ) → 0 < n → 0 < 6 * n
-    positive n h = omega arith
+      pips : (p.pips_numerator ≡ q.pips_numerator) × (p.pips_denominator ≡ q.pips_denominator)
+      pips =
+          one_fraction (49 * total) (6 * over) p.pips_numerator p.pips_denominator q.pips_numerator
+          q.pips_denominator (positive over some) p.pips_are q.pips_are
 
-    pips : (p.pips_numerator ≡ q.pips_numerator) × (p.pips_denominator ≡ q.pips_denominator)
-    pips =
-        one_fraction (49 * total) (6 * whole) p.pips_numerator p.pips_denominator q.pips_numerator
-        q.pips_denominator (positive whole whole_positive) p.pips_are q.pips_are
+      rounded : p.thousandths ≡ q.thousandths
+      rounded =
+          one_number_of_thousandths q.pips_numerator q.pips_denominator p.thousandths q.thousandths
+          q.pips_are.positive
+          (subst (λ n. IsThousandths n q.pips_denominator p.thousandths) pips.0
+          (subst (λ d. IsThousandths p.pips_numerator d p.thousandths) pips.1 p.rounded))
+          q.rounded
 
-    rounded : p.thousandths ≡ q.thousandths
-    rounded =
-        one_number_of_thousandths q.pips_numerator q.pips_denominator p.thousandths q.thousandths
-        q.pips_are.positive
-        (subst (λ n. IsThousandths n q.pips_denominator p.thousandths) pips.0
-        (subst (λ d. IsThousandths p.pips_numerator d p.thousandths) pips.1 p.rounded))
-        q.rounded
+  -- a part of a distribution has one text
+  one_share_part : (share k : ℕ) (t u : List ℕ) → IsSharePartOver over share k t →
+      IsSharePartOver over share k u →
+      t ≡ u
+  one_share_part share k t u p q = ⊎_elim
+      (λ none. p.none none ∙ sym (q.none none))
+      (λ some. by (p.some some) (q.some some))
+      (decide share)
+    where
+      decide : (n : ℕ) → (n ≡ 0) ⊎ (0 < n)
+      decide n = grind arith
 
--- a part of a distribution has one text
-one_share_part : (share k : ℕ) (t u : List ℕ) → IsSharePart share k t → IsSharePart share k u →
-    t ≡ u
-one_share_part share k t u p q = ⊎_elim
-    (λ none. p.none none ∙ sym (q.none none))
-    (λ some. by (p.some some) (q.some some))
-    (decide share)
-  where
-    decide : (n : ℕ) → (n ≡ 0) ⊎ (0 < n)
-    decide n = grind arith
+      by : (text : List ℕ) × IsShareTextOver over share text
+          × (t ≡ codes " " ++ decimal k ++ codes ":" ++ text) →
+          (text : List ℕ) × IsShareTextOver over share text
+          × (u ≡ codes " " ++ decimal k ++ codes ":" ++ text) → t ≡ u
+      by (a, is, e) (b, is₁, e₁) =
+          e
+          ∙ ap (λ text. codes " " ++ decimal k ++ codes ":" ++ text)
+          (one_share_text share a b is is₁) ∙ sym e₁
 
-    by : (text : List ℕ) × IsShareText share text
-        × (t ≡ codes " " ++ decimal k ++ codes ":" ++ text) →
-        (text : List ℕ) × IsShareText share text
-        × (u ≡ codes " " ++ decimal k ++ codes ":" ++ text) → t ≡ u
-    by (a, is, e) (b, is₁, e₁) =
-        e
-        ∙ ap (λ text. codes " " ++ decimal k ++ codes ":" ++ text)
-        (one_share_text share a b is is₁) ∙ sym e₁
+  -- lists of as many equal parts are one
+  same_parts : (ps qs : List (List ℕ)) → length ps ≡ length qs →
+      ((k : ℕ) → k < length qs → get_or ps k [] ≡ get_or qs k []) → ps ≡ qs
+  same_parts [] [] e h = refl
+  same_parts [] (q ∷ qs) e h = absurd (omega arith)
+  same_parts (p ∷ ps) [] e h = absurd (omega arith)
+  same_parts (p ∷ ps) (q ∷ qs) e h =
+      ap₂ (λ c cs. c ∷ cs) (h 0 (omega arith))
+      (same_parts ps qs (omega arith) (λ k less. h (suc k) (omega arith)))
 
--- lists of as many equal parts are one
-same_parts : (ps qs : List (List ℕ)) → length ps ≡ length qs →
-    ((k : ℕ) → k < length qs → get_or ps k [] ≡ get_or qs k []) → ps ≡ qs
-same_parts [] [] e h = refl
-same_parts [] (q ∷ qs) e h = absurd (omega arith)
-same_parts (p ∷ ps) [] e h = absurd (omega arith)
-same_parts (p ∷ ps) (q ∷ qs) e h =
-    ap₂ (λ c cs. c ∷ cs) (h 0 (omega arith))
-    (same_parts ps qs (omega arith) (λ k less. h (suc k) (omega arith)))
+  -- a distribution has one reply
+  one_dist_reply : (most : ℕ) (share : ℕ → ℕ) (t u : List ℕ) → IsDistReplyOver over most share t →
+      IsDistReplyOver over most share u → t ≡ u
+  one_dist_reply most share t u p q =
+      p.written
+      ∙ ap (λ parts. codes "dist" ++ concat parts)
+      (same_parts p.parts q.parts (p.count ∙ sym q.count)
+      (λ k inside.
+      one_share_part (share k) k (slice_index_or p.parts k [])
+      (slice_index_or q.parts k []) (p.each k (omega (arith, q.count, inside)))
+      (q.each k (omega (arith, q.count, inside)))))
+      ∙ sym q.written
 
--- a distribution has one reply
-one_dist_reply : (share : ℕ → ℕ) (t u : List ℕ) → IsDistReply share t → IsDistReply share u → t ≡ u
-one_dist_reply share t u p q =
-    p.written
-    ∙ ap (λ parts. codes "dist" ++ concat parts)
-    (same_parts p.parts q.parts (p.count ∙ sym q.count)
-    (λ k inside.
-    one_share_part (share k) k (slice_index_or p.parts k [])
-    (slice_index_or q.parts k []) (p.each k (omega (arith, q.count, inside)))
-    (q.each k (omega (arith, q.count, inside)))))
-    ∙ sym q.written
+  -- a play has one reply
+  one_play_reply : (x : Board) (v : Throw) (y : Board) (t u : List ℕ) → IsPlayReply x v y t →
+      IsPlayReply x v y u → t ≡ u
+  one_play_reply x v y t u p q =
+      p.written
+      ∙ ap₂
+      (λ moves position.
+      codes "play" ++ flat_map (λ m. codes " " ++ move_text m) moves ++ codes " to "
+      ++ position) (one_first_play x v y p.moves q.moves p.first q.first)
+      (one_text y p.position q.position p.position_is q.position_is)
+      ∙ sym q.written
 
--- a play has one reply
-one_play_reply : (x : Board) (v : Throw) (y : Board) (t u : List ℕ) → IsPlayReply x v y t →
-    IsPlayReply x v y u → t ≡ u
-one_play_reply x v y t u p q =
-    p.written
-    ∙ ap₂
-    (λ moves position.
-    codes "play" ++ flat_map (λ m. codes " " ++ move_text m) moves ++ codes " to "
-    ++ position) (one_first_play x v y p.moves q.moves p.first q.first)
-    (one_text y p.position q.position p.position_is q.position_is)
-    ∙ sym q.written
+  -- a choice has one text
+  one_choice_part : (y : Board) (lost : ℕ) (t u : List ℕ) → IsChoicePartOver over y lost t →
+      IsChoicePartOver over y lost u → t ≡ u
+  one_choice_part y lost t u p q =
+      p.written
+      ∙ ap₂ (λ position fraction. codes " " ++ position ++ codes ":" ++ fraction)
+      (one_text y p.position q.position p.position_is q.position_is)
+      (one_share_text lost p.fraction q.fraction p.loss_is q.loss_is)
+      ∙ sym q.written
 
--- a choice has one text
-one_choice_part : (y : Board) (lost : ℕ) (t u : List ℕ) → IsChoicePart y lost t →
-    IsChoicePart y lost u → t ≡ u
-one_choice_part y lost t u p q =
-    p.written
-    ∙ ap₂ (λ position fraction. codes " " ++ position ++ codes ":" ++ fraction)
-    (one_text y p.position q.position p.position_is q.position_is)
-    (one_share_text lost p.fraction q.fraction p.loss_is q.loss_is)
-    ∙ sym q.written
+  -- of two results at most one is listed before the other
+  listed_one_way : (f : Book) (x : Board) (v : Throw) (y z : Board) → IsListedBeforeIn f x v y z →
+      IsListedBeforeIn f x v z y → ⊥
+  listed_one_way f x v y z a b = by (loss_in f x v y) (loss_in f x v z) (rank y) (rank z) a b
+    where
+      by : (l m r s : ℕ) → (l < m) ⊎ ((l ≡ m) × (r < s)) → (m < l) ⊎ ((m ≡ l) × (s < r)) → ⊥
+      by l m r s a b = omega arith
 
--- of two results at most one is listed before the other
-listed_one_way : (f : List ℕ) (x : Board) (v : Throw) (y z : Board) → IsListedBefore f x v y z →
-    IsListedBefore f x v z y → ⊥
-listed_one_way f x v y z a b = by (loss f x v y) (loss f x v z) (rank y) (rank z) a b
-  where
-    by : (l m r s : ℕ) → (l < m) ⊎ ((l ≡ m) × (r < s)) → (m < l) ⊎ ((m ≡ l) × (s < r)) → ⊥
-    by l m r s a b = omega arith
+  -- a list of moves has one reply
+  one_moves_reply : (f : Book) (x : Board) (v : Throw) (t u : List ℕ) →
+      IsMovesReplyOver over f x v t →
+      IsMovesReplyOver over f x v u → t ≡ u
+  one_moves_reply f x v t u p q =
+      p.written
+      ∙ ap (λ parts. codes "moves" ++ concat parts)
+      (same_parts p.parts q.parts (p.count ∙ ap length results ∙ sym q.count) part)
+      ∙ sym q.written
+    where
+      results : p.results ≡ q.results
+      results =
+          one_list (IsListedBeforeIn f x v) (listed_one_way f x v) finished p.results q.results
+          p.listed.ordered q.listed.ordered
+          (λ z. (
+            λ h. (q.listed.members z).1 ((p.listed.members z).0 h),
+            λ h. (p.listed.members z).1 ((q.listed.members z).0 h),
+          ))
 
--- a list of moves has one reply
-one_moves_reply : (f : List ℕ) (x : Board) (v : Throw) (t u : List ℕ) → IsMovesReply f x v t →
-    IsMovesReply f x v u → t ≡ u
-one_moves_reply f x v t u p q =
-    p.written
-    ∙ ap (λ parts. codes "moves" ++ concat parts)
-    (same_parts p.parts q.parts (p.count ∙ ap length results ∙ sym q.count) part)
-    ∙ sym q.written
-  where
-    results : p.results ≡ q.results
-    results =
-        one_list (IsListedBefore f x v) (listed_one_way f x v) finished p.results q.results
-        p.listed.ordered q.listed.ordered
-        (λ z. (
-          λ h. (q.listed.members z).1 ((p.listed.members z).0 h),
-          λ h. (p.listed.members z).1 ((q.listed.members z).0 h),
-        ))
+      part : (k : ℕ) → k < length q.parts → get_or p.parts k [] ≡ get_or q.parts k []
+      part k inside =
+          one_choice_part (slice_index_or q.results k finished)
+          (loss_in f x v (slice_index_or q.results k finished)) (slice_index_or p.parts k [])
+          (slice_index_or q.parts k [])
+          (subst
+          (λ ys.
+          IsChoicePartOver over (slice_index_or ys k finished)
+          (loss_in f x v (slice_index_or ys k finished)) (slice_index_or p.parts k []))
+          results (p.each k (omega (arith, inside, q.count, ap length results))))
+          (q.each k (omega (arith, inside, q.count)))
 
-    part : (k : ℕ) → k < length q.parts → get_or p.parts k [] ≡ get_or q.parts k []
-    part k inside =
-        one_choice_part (slice_index_or q.results k finished)
-        (loss f x v (slice_index_or q.results k finished)) (slice_index_or p.parts k [])
-        (slice_index_or q.parts k [])
-        (subst
-        (λ ys.
-        IsChoicePart (slice_index_or ys k finished)
-        (loss f x v (slice_index_or ys k finished)) (slice_index_or p.parts k []))
-        results (p.each k (omega (arith, inside, q.count, ap length results))))
-        (q.each k (omega (arith, inside, q.count)))
-
--- a query has one answer
-one_answer : (f : List ℕ) (q : Query) (t u : List ℕ) → IsAnswer f q t → IsAnswer f q u → t ≡ u
-one_answer f (mean_query x) t u a b = one_mean_reply _ t u a b
-one_answer f (dist_query x) t u a b = one_dist_reply _ t u a b
-one_answer f (play_query x v) t u a b = one_play_reply x v _ t u a b
-one_answer f (loss_query x v y) t u (p, is, e) (q, is₁, e₁) =
-    e ∙ ap (λ fraction. codes "loss " ++ fraction) (one_share_text (loss f x v y) p q is is₁)
-    ∙ sym e₁
-one_answer f (moves_query x v) t u a b = one_moves_reply f x v t u a b
-one_answer f (rank_query x) t u a b = a ∙ sym b
+  -- a query has one answer
+  one_answer : (f : Book) (q : Query) (t u : List ℕ) → IsAnswerOver over f q t →
+      IsAnswerOver over f q u → t ≡ u
+  one_answer f (mean_query x) t u a b = one_mean_reply _ t u a b
+  one_answer f (dist_query x) t u a b = one_dist_reply (suc f.further) _ t u a b
+  one_answer f (play_query x v) t u a b = one_play_reply x v _ t u a b
+  one_answer f (loss_query x v y) t u (p, is, e) (q, is₁, e₁) =
+      e ∙ ap (λ fraction. codes "loss " ++ fraction) (one_share_text (loss_in f x v y) p q is is₁)
+      ∙ sym e₁
+  one_answer f (moves_query x v) t u a b = one_moves_reply f x v t u a b
+  one_answer f (rank_query x) t u a b = a ∙ sym b
 
 -- a line that is refused is not accepted
 not_both : (bound : ℕ) (line : List ℕ) (q : Query) (why : Refusal) → IsAccepted bound line q →
@@ -272,18 +276,28 @@ one_refusal bound line why because (of_no_result r is few within unfinished miss
     refl
 
 -- a line has one reply
-pub one_reply : (f line t u : List ℕ) → IsReply f line t → IsReply f line u → t ≡ u
-one_reply f line t u (answered q a accepted is e) (answered r b accepted₁ is₁ e₁) =
+pub one_reply : (over : ℕ) → 0 < over → (f : Book) (line t u : List ℕ) →
+    IsReplyOver over f line t → IsReplyOver over f line u → t ≡ u
+one_reply over positive f line t u (answered q a accepted is e) (answered r b accepted₁ is₁ e₁) =
     e
     ∙ ap (λ text. text ++ 10 ∷ [])
-    (one_answer f r a b
-    (subst (λ s. IsAnswer f s a) (one_query line q r accepted.query accepted₁.query)
+    (one_answer over positive f r a b
+    (subst (λ s. IsAnswerOver over f s a) (one_query line q r accepted.query accepted₁.query)
     is) is₁) ∙ sym e₁
-one_reply f line t u (answered q a accepted is e) (refused why because e₁) =
-    absurd (not_both (bound_of f) line q why accepted because)
-one_reply f line t u (refused why because e) (answered r b accepted₁ is₁ e₁) =
-    absurd (not_both (bound_of f) line r why accepted₁ because)
-one_reply f line t u (refused why because e) (refused why₁ because₁ e₁) =
+one_reply over positive f line t u (answered q a accepted is e) (refused why because e₁) =
+    absurd (not_both f.bound line q why accepted because)
+one_reply over positive f line t u (refused why because e) (answered r b accepted₁ is₁ e₁) =
+    absurd (not_both f.bound line r why accepted₁ because)
+one_reply over positive f line t u (refused why because e) (refused why₁ because₁ e₁) =
     e
-    ∙ ap (λ w. refusal_text w ++ 10 ∷ []) (one_refusal (bound_of f) line why why₁ because because₁)
+    ∙ ap (λ w. refusal_text w ++ 10 ∷ []) (one_refusal f.bound line why why₁ because because₁)
     ∙ sym e₁
+
+-- the denominator is not 0
+pub whole_positive : 0 < whole
+unfolding whole
+whole_positive = omega arith
+
+-- .. whatever the number of throws
+pub power_positive : (m : ℕ) → 0 < 36 ^ m
+power_positive m = omega (arith, one-le-pow m 36 (omega arith))

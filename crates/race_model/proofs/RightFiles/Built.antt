@@ -7,7 +7,7 @@ use Rattle.race_model.specs.Dice.{Throw, reversed, IsRoll}
 use Rattle.race_model.specs.Plays.{Legal}
 use Rattle.race_model.specs.Ranks.{rank}
 use Rattle.race_model.specs.Versions.{Version}
-use Rattle.race_model.specs.Files.{bound_of, mean, mean_at, play, play_at, spread}
+use Rattle.race_model.specs.Files.{bound_of, mean, mean_at, play, play_at, spread, book_of}
 use Rattle.race_model.specs.LocalEquations.{recorded, IsPlayed}
 use Rattle.race_model.specs.Strategies.{count_of}
 use Rattle.race_model.specs.RightFiles.{IsRight, IsRightAt}
@@ -15,7 +15,7 @@ use Rattle.race_model.specs.BuiltFile.{IsBuilt}
 use Rattle.race_model.specs.SameNumbers.{HasSameNumbers}
 use Rattle.race_model.proofs.Dice.Throws.{roll_or_reversed, roll_index-reversed, played_by_rolls}
 use Rattle.race_model.proofs.Plays.Results.{legal_position, legal_pips}
-use Rattle.race_model.proofs.RightFiles.Recorded.{same_follow}
+use Rattle.race_model.proofs.Books.Kinds.{same_follow}
 use Rattle.race_model.proofs.RightFiles.Right.{right_of_local}
 use Rattle.race_model.proofs.RightFiles.RightFacts.{means_agree, recorded_least}
 
@@ -104,16 +104,17 @@ pub built_shares : (one other : Version) (bound : ℕ) (f g : List ℕ) → IsBu
 built_shares one other bound f g built_f built_g k x le at low =
     here_f.spread_is k le
     ∙ ap (λ s. count_of s k)
-    (same_follow f g bound (λ y is under v. built_played one bound f built_f y v is under)
+    (same_follow (book_of f) (book_of g) bound
+    (λ y is under v. built_played one bound f built_f y v is under)
     (built_plays one other bound f g built_f built_g) 22 x at low)
     ∙ sym (here_g.spread_is k le)
   where
     here_f : IsRightAt f x
-    here_f = (built_right one bound f built_f).at_each x at (built_low one bound f built_f x low)
+    here_f = (built_right one bound f built_f).book x at (built_low one bound f built_f x low)
 
     here_g : IsRightAt g x
     here_g =
-        (built_right other bound g built_g).at_each x at (built_low other bound g built_g x low)
+        (built_right other bound g built_g).book x at (built_low other bound g built_g x low)
 
 -- two built files of one bound hold the same numbers
 pub built_same : (one other : Version) (bound : ℕ) (f g : List ℕ) → IsBuilt one bound f →

@@ -1,15 +1,11 @@
--- What a recorded play leads to: a position of lower rank, so one that the file records; and two
--- files that record the same plays play the same.
-use Rattle.std.proofs.Common.{◌≡◌, ℕ, zero, suc, ◌<◌, ◌≤◌, ◌==◌, if◌then◌else◌, List, refl}
-use Rattle.std.proofs.Common.{ap, ap₂, sym, subst, ◌∙◌, le_trans}
-use mathlib.Core.Path.{fun_ext}
-use Rattle.race_model.specs.Positions.{Board, IsPosition, IsFinished, checkers, pips}
+-- What a recorded play leads to: a position of lower rank, so one that the file records.
+use Rattle.std.proofs.Common.{◌≡◌, ℕ, ◌<◌, ◌≤◌, List}
+use Rattle.std.proofs.Common.{ap, sym, subst, ◌∙◌, le_trans}
+use Rattle.race_model.specs.Positions.{Board, IsPosition, IsFinished, pips}
 use Rattle.race_model.specs.Dice.{Throw}
-use Rattle.race_model.specs.Ranks.{rank, at_rank, count_to}
+use Rattle.race_model.specs.Ranks.{rank, count_to}
 use Rattle.race_model.specs.Files.{play}
 use Rattle.race_model.specs.LocalEquations.{recorded, IsPlayed}
-use Rattle.race_model.specs.Strategies.{stop, turn}
-use Rattle.race_model.specs.RightFiles.{follow}
 use Rattle.race_model.proofs.Plays.Results.{legal_position, legal_pips, legal_fewer_pips, legal_finished, only_finished}
 use Rattle.race_model.proofs.Ranks.RankOrder.{rank_bound, rank-fewer}
 use Rattle.race_model.proofs.Ranks.PositionTotals.{rank-finished}
@@ -46,20 +42,3 @@ recorded_at_end f x v at none played =
     sym played.ranked
     ∙ ap rank (legal_finished x v (recorded f x v) none played.legal ∙ only_finished x at none)
     ∙ rank-finished
-
--- where two files record the same plays, what is recorded is the same strategy
-pub same_follow : (f g : List ℕ) (bound : ℕ) →
-    ((x : Board) → IsPosition x → pips x ≤ bound → (v : Throw) → IsPlayed f x v) →
-    ((x : Board) (v : Throw) → IsPosition x → pips x ≤ bound → play f x v ≡ play g x v) →
-    (n : ℕ) (x : Board) → IsPosition x → pips x ≤ bound → follow f n x ≡ follow g n x
-unfolding follow
-same_follow f g bound played same zero x at low = refl
-same_follow f g bound played same (suc n) x at low =
-    ap₂ (λ to next. if checkers x == 0 then stop else turn to next)
-    (fun_ext (λ v. ap at_rank (same x v at low)))
-    (fun_ext (λ v.
-    same_follow f g bound played same n (recorded f x v) (there v).0 (le_trans (there v).1 low)
-    ∙ ap (λ r. follow g n (at_rank r)) (same x v at low)))
-  where
-    there : (v : Throw) → IsPosition (recorded f x v) × (pips (recorded f x v) ≤ pips x)
-    there v = recorded_position f x v at (played x at low v)

@@ -6,12 +6,11 @@ use Rattle.race_model.specs.Files.{IsFile, version_of, bound_of}
 use Rattle.race_model.specs.LocalEquations.{IsLocal}
 use Rattle.race_model.specs.Strategies.{EndsIn}
 use Rattle.race_model.specs.RightFiles.{IsRight}
-use Rattle.race_model.specs.Books.{IsRightBook}
-use Rattle.race_model.specs.FileBooks.{book_of}
+use Rattle.race_model.specs.Files.{book_of}
 use Rattle.race_model.proofs.Strategies.Horizons.{ends_in_22}
 use Rattle.race_model.proofs.Books.FromLocal as from_local
 use Rattle.race_model.proofs.Books.FromRight as from_right
-use Rattle.race_model.proofs.Books.Files.{local_book, local_file, right_file, right_book}
+use Rattle.race_model.proofs.Books.Files.{local_book, local_file}
 
 -- no version has a bound over 58 pips
 pub greatest_bound-most : (version : Version) → greatest_bound version ≤ 58
@@ -31,16 +30,10 @@ short f file x at low = ends_in_22 x at (le_trans low (bound_of-most f file))
 pub right_of_local : (f : List ℕ) → IsLocal f → IsRight f
 right_of_local f local = record {
   file = local.file;
-  at_each =
-      λ x at low.
-      right_file f x
-      (from_local.right_of_local (book_of f) (short f local.file)
-      (λ y is under. local_book f y (local.at_each y is under)) x at low);
+  book =
+      from_local.right_of_local (book_of f) (short f local.file)
+      (λ x at low. local_book f x (local.at_each x at low));
 }
-
--- the book of a right file is right
-pub book_right : (f : List ℕ) → IsRight f → IsRightBook (book_of f)
-book_right f right x at low = right_book f x (right.at_each x at low)
 
 -- a right file meets the local equations
 pub local_of_right : (f : List ℕ) → IsRight f → IsLocal f
@@ -48,6 +41,6 @@ local_of_right f right = record {
   file = right.file;
   at_each =
       λ x at low.
-      local_file f x
-      (from_right.local_of_right (book_of f) (short f right.file) (book_right f right) x at low);
+      local_file f x (from_right.local_of_right (book_of f)
+      (short f right.file) right.book x at low);
 }

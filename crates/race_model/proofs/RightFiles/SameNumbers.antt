@@ -3,19 +3,19 @@ use Rattle.std.proofs.Common.{◌≡◌, ℕ, ◌≤◌, List, refl, sym, ap, su
 use Rattle.race_model.specs.Positions.{Board, IsPosition, pips}
 use Rattle.race_model.specs.Plays.{Legal}
 use Rattle.race_model.specs.Ranks.{rank, at_rank}
-use Rattle.race_model.specs.Files.{IsFile, bound_of}
+use Rattle.race_model.specs.Files.{IsFile, bound_of, book_of}
 use Rattle.race_model.specs.Strategies.{Fits, total, count_of, IsLeast}
 use Rattle.race_model.specs.RightFiles.{follow, IsRight, IsRightAt}
 use Rattle.race_model.specs.SameNumbers.{HasSameNumbers}
 use Rattle.race_model.specs.Upgrades.{IsUpgrade}
-use Rattle.race_model.proofs.RightFiles.Recorded.{same_follow}
+use Rattle.race_model.proofs.Books.Kinds.{same_follow}
 use Rattle.race_model.proofs.RightFiles.SameBytes.{one_file}
 
 -- a file that holds the numbers of a right one is right
 pub right_of_same : (f g : List ℕ) → IsRight f → IsFile g → HasSameNumbers f g → IsRight g
 right_of_same f g right file same = record {
   file = file;
-  at_each = λ x at low. right_here x at (subst (λ b. pips x ≤ b) (sym same.bound) low);
+  book = λ x at low. right_here x at (subst (λ b. pips x ≤ b) (sym same.bound) low);
 } where
   right_here : (x : Board) → IsPosition x → pips x ≤ bound_of f → IsRightAt g x
   right_here x at low = record {
@@ -31,11 +31,12 @@ right_of_same f g right file same = record {
         sym (same.shares x k at low le) ∙ here.spread_is k le ∙ ap (λ s. count_of s k) follows;
   } where
     here : IsRightAt f x
-    here = right.at_each x at low
+    here = right.book x at low
 
     follows : follow f 22 x ≡ follow g 22 x
     follows =
-        same_follow f g (bound_of f) (λ y is under. (right.at_each y is under).played) same.plays
+        same_follow (book_of f) (book_of g) (bound_of f) (λ y is under.
+        (right.book y is under).played) same.plays
         22 x at low
 
 -- a file holds its own numbers

@@ -24,7 +24,7 @@ some_pips x unfinished none = unfinished (empty (checkers x) (pips x) (sum-at_mo
 -- no roll is needed where there are no pips, and nowhere else
 count_of-none : (x : Board) (s : Strategy) → Fits s x →
     count_of s 0 ≡ cond (eqb (pips x) 0) whole 0
-unfolding count_of whole
+unfolding whole
 count_of-none x stop none =
     count_over-stop 22 ∙ sym (ap (λ b. cond b whole 0) (eq-eqb (pips x) 0 (no_pips x none)))
 count_of-none x (turn to next) fits =

@@ -192,7 +192,6 @@ within_most x s at fits = fits_within (most_rolls (pips x)) x s (ends_in_most x 
 -- .. so it never needs more
 pub count_of-beyond : (x : Board) (s : Strategy) (k : ℕ) → IsPosition x → Fits s x →
     most_rolls (pips x) < k → count_of s k ≡ 0
-unfolding count_of
 count_of-beyond x s k at fits beyond =
     count_over-beyond 22 (most_rolls (pips x)) k s (within_most x s at fits) beyond
 

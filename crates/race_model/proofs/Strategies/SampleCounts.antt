@@ -67,17 +67,17 @@ sample_within = λ v. branch v (leb 6 (worth v))
 
 -- its mean is 5/4
 pub sample_mean : 4 * total from_six_point ≡ 5 * whole
-unfolding total whole
+unfolding whole
 sample_mean = omega (arith, total_over-after_two from_six_point sample_within 20, sample_total)
 
 -- its chance of one roll is 3/4, and that of two is 1/4
 pub sample_share_of_one : 4 * count_of from_six_point 1 ≡ 3 * whole
-unfolding count_of whole
+unfolding whole
 sample_share_of_one =
     omega (arith, count_over-after_two from_six_point sample_within 20 1, sample_one)
 
 -- .. and that of two rolls is 1/4
 pub sample_share_of_two : 4 * count_of from_six_point 2 ≡ whole
-unfolding count_of whole
+unfolding whole
 sample_share_of_two =
     omega (arith, count_over-after_two from_six_point sample_within 20 2, sample_two)

@@ -69,7 +69,7 @@ legal_takes x v y (double same run) =
 
 -- a strategy from an unfinished position needs a roll in each sequence
 roll_needed : (s : Strategy) (x : Board) → Fits s x → ¬ IsFinished x → whole ≤ total s
-unfolding total whole
+unfolding whole
 roll_needed stop x fits unfinished = absurd (unfinished fits)
 roll_needed (turn to next) x fits unfinished =
     let rolls = total_over-turn 21 to next in omega (arith, rolls)
@@ -85,7 +85,7 @@ nine_throws n = omega arith
 
 -- no strategy has a smaller total than the sample
 no_less : (s : Strategy) → Fits s (single 6) → total from_six_point ≤ total s
-unfolding total whole
+unfolding whole
 no_less stop none = absurd (unfinished 6 (omega arith) (omega arith) none)
 no_less (turn to next) fits =
     let rolls = total_over-turn_times_36 21 to next within in

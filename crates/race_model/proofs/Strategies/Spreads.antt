@@ -103,11 +103,10 @@ counts_weigh_over m n s within = counts_weighed (λ k. k) m n s within
 -- of at most 22 turns
 pub counts_add_up : (s : Strategy) → IsWithin 22 s →
     sum_by (count_of s) (range_with_len 0 23) ≡ whole
-unfolding count_of whole
+unfolding whole
 counts_add_up s within = counts_add_up_over 22 22 s within
 
 -- .. and weighed
 pub counts_weigh : (s : Strategy) → IsWithin 22 s →
     sum_by (λ k. count_of s k * k) (range_with_len 0 23) ≡ total s
-unfolding count_of total
 counts_weigh s within = counts_weigh_over 22 22 s within

@@ -6,7 +6,8 @@ ghost use Rattle.race_model.specs.Files.{bound_of};
 ghost use Rattle.race_model.specs.Books.{follow_in};
 ghost use Rattle.race_model.specs.Endings.{endings};
 ghost use Rattle.race_model.specs.BoardFiles.{board_book, count_at};
-ghost use Rattle.race_model.specs.RightBoards.{IsLocalBoard, IsRightBoard};
+ghost use Rattle.race_model.specs.RightBoards.{IsRightBoard};
+ghost use Rattle.race_model.specs.BoardEquations.{IsLocalBoard};
 
 /// A board file meets the equations of its records exactly where it is right: its means are the
 /// least over all strategies, its plays reach them, and its shares are those of its plays, over

@@ -3,6 +3,8 @@ ghost use Rattle.std.specs.Prelude.{◌≡◌, ℕ, ◌⊎◌, List, length, tak
 ghost use Rattle.race_model.specs.Files.{IsBytes, IsFile};
 ghost use Rattle.race_model.specs.Headers.{HeaderTest, IsHeader, IsFirstHeaderFault};
 ghost use Rattle.race_model.specs.LocalEquations.{IsLocal};
+ghost use Rattle.race_model.specs.BoardHeaders.{IsBoardFile};
+ghost use Rattle.race_model.specs.BoardEquations.{HoldsOnBoard, AsksOnBoard, IsFirstBoardFault, IsLocalBoard};
 ghost use Rattle.race_model.specs.FirstFault.{Test, Holds, Asks, IsFirstFault};
 
 /// What a first fault means. The questions about a file are the local equations of its positions:
@@ -20,6 +22,20 @@ pub fn law_first_fault()
         IsLocal f ⊎ ((t : Test) × IsFirstFault (Asks f) f t) }
     ensures one { (f : List ℕ) (t u : Test) → IsFirstFault (Asks f) f t →
         IsFirstFault (Asks f) f u → t ≡ u }
+{}
+
+/// The same of a board file: the questions about it are the local equations of its book, and that
+/// its numbers are written in the one way that is allowed.
+pub fn law_first_board_fault()
+    ensures answers { (f : List ℕ) → IsLocalBoard f → (t : Test) → AsksOnBoard f t →
+        HoldsOnBoard f t }
+    ensures local { (f : List ℕ) → IsBoardFile f →
+        ((t : Test) → AsksOnBoard f t → HoldsOnBoard f t) → IsLocalBoard f }
+    ensures refused { (f : List ℕ) (t : Test) → IsFirstBoardFault f t → ¬ IsLocalBoard f }
+    ensures either { (f : List ℕ) → IsBoardFile f →
+        IsLocalBoard f ⊎ ((t : Test) × IsFirstBoardFault f t) }
+    ensures one { (f : List ℕ) (t u : Test) → IsFirstBoardFault f t → IsFirstBoardFault f u →
+        t ≡ u }
 {}
 
 /// What the questions about a header mean, which the checker asks of the first 32 bytes and the

@@ -4,11 +4,11 @@ ghost use Rattle.race_model.specs.Positions.{Board, IsPosition, IsFinished, pips
 ghost use Rattle.race_model.specs.Dice.{Throw};
 ghost use Rattle.race_model.specs.Plays.{Legal};
 ghost use Rattle.race_model.specs.Files.{bound_of, mean, mean_at, play};
-ghost use Rattle.race_model.specs.Strategies.{Strategy, Fits, total, IsLeast};
+ghost use Rattle.race_model.specs.Strategies.{Strategy, Fits, total, total_over, IsLeast, IsLeastIn};
 ghost use Rattle.race_model.specs.RightFiles.{IsRight};
 ghost use Rattle.race_model.specs.Losses.{IsLoss, loss, BeginsWith};
 ghost use Rattle.race_model.specs.Books.{Book, mean_in, play_in, IsRightBook};
-ghost use Rattle.race_model.specs.BookReplies.{loss_in, IsLossIn};
+ghost use Rattle.race_model.specs.Losses.{loss_in, IsLossIn};
 
 /// What a play costs, in a right file: the mean after the result less the mean after the recorded
 /// play, which is never greater, is the loss, the least mean after that result less the least such
@@ -28,7 +28,8 @@ pub fn law_loss()
 {}
 
 /// The same in a right book over 33 throws, to any bound: the mean after the recorded play is never
-/// greater than that after a result, and the difference is the loss.
+/// greater than that after a result, the difference is the loss, and it is 0 exactly where some
+/// strategy of least mean begins with that play.
 pub fn law_book_loss()
     ensures least { (b : Book) → b.further ≡ 32 → IsRightBook b → (x : Board) →
         IsPosition x → pips x ≤ b.bound → (v : Throw) (y : Board) → Legal x v y →
@@ -36,4 +37,8 @@ pub fn law_book_loss()
     ensures loss { (b : Book) → b.further ≡ 32 → IsRightBook b → (x : Board) →
         IsPosition x → pips x ≤ b.bound → (v : Throw) (y : Board) → Legal x v y →
         IsLossIn (suc b.further) x v y (loss_in b x v y) }
+    ensures none { (b : Book) → b.further ≡ 32 → IsRightBook b → (x : Board) →
+        IsPosition x → pips x ≤ b.bound → ¬ IsFinished x → (v : Throw) (y : Board) →
+        Legal x v y → (loss_in b x v y ≡ 0) ↔ ((s : Strategy) × Fits s x
+        × IsLeastIn (suc b.further) x (total_over (suc b.further) s) × BeginsWith s v y) }
 {}

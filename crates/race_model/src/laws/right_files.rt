@@ -1,5 +1,5 @@
 //! Laws of files, the headline's among them: locally right is right, and nothing else is.
-ghost use Rattle.std.specs.Prelude.{◌≡◌, ℕ, ◌+◌, ◌*◌, ◌<◌, ◌≤◌, List, sum_by};
+ghost use Rattle.std.specs.Prelude.{◌≡◌, ℕ, suc, ◌+◌, ◌*◌, ◌<◌, ◌≤◌, List, sum_by};
 ghost use Rattle.std.specs.List.{range_with_len};
 ghost use Rattle.race_model.specs.Positions.{Board, IsPosition, IsFinished, pips};
 ghost use Rattle.race_model.specs.Dice.{Throw};
@@ -13,6 +13,7 @@ ghost use Rattle.race_model.specs.BuiltFile.{IsBuilt};
 ghost use Rattle.race_model.specs.SameNumbers.{HasSameNumbers};
 ghost use Rattle.race_model.specs.ToldShares.{told_share};
 ghost use Rattle.race_model.specs.Horizon.{most_rolls};
+ghost use Rattle.race_model.specs.Books.{Book, mean_in, share_in, whole_in, IsRightBook};
 
 /// The local equations, which test each record against records of lower rank alone, hold of a list
 /// of bytes exactly where it is a right file: its means are the least over all strategies, also
@@ -53,9 +54,9 @@ pub fn law_agree()
 {}
 
 /// The shares of a position. Those of a strategy from at most 58 pips add up to the whole, and
-/// each times its number of rolls to the total; so do those that a right file records, and it
-/// records no share beyond the most rolls of a pip count: a record that leaves these out loses
-/// none, and tells them all.
+/// each times its number of rolls to the total; so do those of a right book, and it has no share
+/// beyond the most rolls of a pip count: a record that leaves these out loses none, and a compact
+/// one tells them all. A right book over 33 throws is that of a board file, to any bound.
 pub fn law_spread()
     ensures strategy { (x : Board) (s : Strategy) → IsPosition x → pips x ≤ 58 → Fits s x →
         sum_by (count_of s) (range_with_len 0 23) ≡ whole }
@@ -63,8 +64,18 @@ pub fn law_spread()
         sum_by (λ k. count_of s k * k) (range_with_len 0 23) ≡ total s }
     ensures recorded { (f : List ℕ) → IsRight f → (x : Board) →
         IsPosition x → pips x ≤ bound_of f → sum_by (spread f x) (range_with_len 0 23) ≡ whole }
+    ensures weighed { (f : List ℕ) → IsRight f → (x : Board) → IsPosition x → pips x ≤ bound_of f →
+        sum_by (λ k. spread f x k * k) (range_with_len 0 23) ≡ mean f x }
     ensures beyond { (f : List ℕ) → IsRight f → (x : Board) (k : ℕ) →
         IsPosition x → pips x ≤ bound_of f → most_rolls (pips x) < k → k ≤ 22 → spread f x k ≡ 0 }
+    ensures board { (b : Book) → b.further ≡ 32 → IsRightBook b → (x : Board) →
+        IsPosition x → pips x ≤ b.bound →
+        (sum_by (share_in b x) (range_with_len 0 (suc (suc b.further))) ≡ whole_in b)
+        × (sum_by (λ k. share_in b x k * k) (range_with_len 0 (suc (suc b.further)))
+        ≡ mean_in b x) }
+    ensures board_beyond { (b : Book) → b.further ≡ 32 → IsRightBook b → (x : Board) (k : ℕ) →
+        IsPosition x → pips x ≤ b.bound → most_rolls (pips x) < k → k ≤ suc b.further →
+        share_in b x k ≡ 0 }
     ensures told { (version : Version) (f : List ℕ) (x : Board) (k : ℕ) → IsPosition x →
         IsRightAt f x → k ≤ 22 → spread f x k ≡ told_share version (pips x) (spread f x) k }
 {}

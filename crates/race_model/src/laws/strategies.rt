@@ -6,7 +6,7 @@ ghost use Rattle.race_model.specs.Horizon.{most_rolls};
 ghost use Rattle.race_model.specs.LocalEquations.{whole};
 ghost use Rattle.race_model.specs.Samples.{from_six_point};
 ghost use Rattle.race_model.specs.Strategies.{Strategy, turn, Fits, total_over, count_over, total};
-ghost use Rattle.race_model.specs.Strategies.{count_of, IsLeast, IsWithin, EndsIn};
+ghost use Rattle.race_model.specs.Strategies.{count_of, IsLeastIn, IsLeast, IsWithin, EndsIn};
 
 /// What a turn adds, for every m. Its rolls over all sequences of m + 1 throws are one for each of
 /// these 36 ^ (m + 1) sequences and those of its branches over all sequences of m throws; and it
@@ -47,11 +47,13 @@ pub fn law_horizon()
     ensures limit { (p : ℕ) → p ≤ 58 → most_rolls p ≤ 22 }
 {}
 
-/// Each position of at most 58 pips has a least total,
-/// whether or not a file records it, and it has one.
+/// Each position of at most 58 pips has a least total over all sequences of 22 throws, and each
+/// position has one over those of 33, whether or not a file records it; and over those of so many
+/// throws it has one alone.
 pub fn law_least()
     ensures some { (x : Board) → IsPosition x → pips x ≤ 58 → (t : ℕ) × IsLeast x t }
-    ensures one { (x : Board) (t u : ℕ) → IsLeast x t → IsLeast x u → t ≡ u }
+    ensures board { (x : Board) → IsPosition x → (t : ℕ) × IsLeastIn 33 x t }
+    ensures one { (m : ℕ) (x : Board) (t u : ℕ) → IsLeastIn m x t → IsLeastIn m x u → t ≡ u }
 {}
 
 /// One checker on point 6, counted by hand: 9 of the 36 throws don't bear it off. Over all

@@ -3,7 +3,7 @@
 use Rattle.race_model.proofs.Strategies.Horizons.{ends_in_33, most_rolls-board}
 use Rattle.race_model.proofs.Books.FromLocal.{right_of_local, whole_board}
 use Rattle.race_model.proofs.Books.FromRight.{local_of_right}
-use Rattle.race_model.proofs.Books.Files.{local_book, local_file, right_file, right_book}
+use Rattle.race_model.proofs.Books.Files.{local_book, local_file}
 use Rattle.race_model.proofs.laws.books.law_books.Goals as goal
 
 pub returns : goal.returns
@@ -14,6 +14,5 @@ returns c = record {
   local = local_of_right;
   board = λ f e. right_of_local f (whole_board f e);
   board_local = λ f e. local_of_right f (whole_board f e);
-  file_right = λ f x. (right_file f x, right_book f x);
   file_local = λ f x. (local_file f x, local_book f x);
 }

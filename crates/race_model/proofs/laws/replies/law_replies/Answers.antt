@@ -1,8 +1,28 @@
--- A reply is told by the numbers of the file alone, and each part of it has one text.
-use Rattle.race_model.proofs.Replies.OneReply.{one_reply}
-use Rattle.race_model.proofs.Replies.EqualReplies.{same_reply}
-use Rattle.race_model.proofs.Replies.BookReplies.{same_in_book}
+-- A reply is told by the numbers of the book alone, each part of it has one text, and multiples
+-- over as many more sequences have the same.
+use Rattle.std.proofs.Common.{suc, refl}
+use Rattle.race_model.specs.LocalEquations.{whole}
+use Rattle.race_model.specs.Books.{whole_in}
+use Rattle.race_model.specs.Files.{book_of}
+use Rattle.race_model.specs.BoardFiles.{board_book}
+use Rattle.race_model.proofs.RightFiles.Right.{short}
+use Rattle.race_model.proofs.Replies.OneReply.{one_reply, whole_positive, power_positive}
+use Rattle.race_model.proofs.Replies.Kinds.{reply_up, reply_down}
+use Rattle.race_model.proofs.Replies.Same.{same_reply_of_files}
 use Rattle.race_model.proofs.laws.replies.law_replies.Goals as goal
 
 pub returns : goal.returns
-returns c = record { one = one_reply; same = same_reply; book = same_in_book }
+unfolding whole
+returns c = record {
+  one = λ f. one_reply whole whole_positive (book_of f);
+  one_in = λ b. one_reply (whole_in b) (power_positive (suc b.further)) b;
+  same = same_reply_of_files;
+  kinds =
+      λ f g right board same line text. (
+        reply_up (book_of f) (board_book g) right.book board.book (short f right.file) same 11 refl
+            line text,
+        reply_down (book_of f) (board_book g) right.book board.book (short f right.file) same 11
+            refl line text,
+      );
+  book = λ f line text. (λ reply. reply, λ reply. reply);
+}
