@@ -9,6 +9,7 @@ use Rattle.std.proofs.lemmas.List.FromFn.{get_or-map-range_with_len}
 use Rattle.std.proofs.Math.Nat.{le_of_mul-le-mul_left, le_of_dvd, mod-eq_of_lt, one-le-pow, pow-succ'}
 use Rattle.race_model.specs.LocalEquations.{whole}
 use Rattle.race_model.specs.Fractions.{IsFraction}
+use Rattle.fixed_fraction.specs.Board.{board_whole, part}
 use Rattle.fixed_fraction.specs.Ratios.{IsSmallRatio, IsDivided}
 use Rattle.fixed_fraction.specs.declared.fraction.TheConstants.{POWERS_OF_THREE}
 use Rattle.fixed_fraction.proofs.CommonFactors.{divided_positive, divided_twice, not_divided}
@@ -31,6 +32,29 @@ pub fraction_is : (a b n d m e : ℕ) → 0 < b → IsDivided a b n d → IsGcd 
 fraction_is a b n d m e positive is lowest over under =
     subst (λ k. IsFraction a b k e) (sym over)
     (subst (λ k. IsFraction a b n k) (sym under) (lowest_fraction a b n d positive is lowest))
+
+-- a fraction over 36 ^ 22 is one over 36 ^ 33
+pub over_board : (a b c e n d m k : ℕ) → a * part ≡ c → b * part ≡ e → IsFraction a b n d → m ≡ n →
+    k ≡ d → IsFraction c e m k
+over_board a b c e n d m k over under is numerator denominator =
+    subst (λ j. IsFraction c e j k) (sym numerator)
+    (subst (λ j. IsFraction c e n j) (sym denominator) (record {
+      same = longer part over under;
+      positive = is.positive;
+      lowest = is.lowest;
+    }))
+  where
+    longer : (p : ℕ) → a * p ≡ c → b * p ≡ e → n * e ≡ c * d
+    longer p over under =
+        let left : n * (b * p) ≡ n * e = ap (λ j. n * j) under in
+        let right : a * p * d ≡ c * d = ap (λ j. j * d) over in
+        let both : n * b * p ≡ a * d * p = ap (λ j. j * p) is.same in
+        omega (arith, left, right, both)
+
+-- .. whose whole is that many times 36 ^ 22
+pub whole_of_board : whole * part ≡ board_whole
+unfolding whole
+whole_of_board = omega arith
 
 -- a numerator that is at most 180 stays so, divided
 pub within_divided : (a b n d : ℕ) → 0 < b → a ≤ 180 * b → IsDivided a b n d → n ≤ 180 * d
@@ -61,8 +85,8 @@ power_at b n k table is few =
     ∙ get_or-map-range_with_len (λ k. b ^ k) 0 n k k 0 few (omega arith)
 
 -- .. so the powers of three
-pub at_power : (k : ℕ) → k < 46 → slice_index_or POWERS_OF_THREE k 0 ≡ 3 ^ k
-at_power k few = power_at 3 46 k POWERS_OF_THREE refl few
+pub at_power : (k : ℕ) → k < 68 → slice_index_or POWERS_OF_THREE k 0 ≡ 3 ^ k
+at_power k few = power_at 3 68 k POWERS_OF_THREE refl few
 
 -- a product of threes and twos, no more of each than the greatest denominator has, fits 128 bits
 pub no_bit_lost : (k s : ℕ) → k ≤ 45 → s ≤ 45 → 3 ^ k * 2 ^ s % 2 ^ 128 ≡ 3 ^ k * 2 ^ s

@@ -1,9 +1,10 @@
 -- Products and quotients of numbers of three words.
-use Rattle.std.proofs.Common.{◌≡◌, ℕ, ◌+◌, ◌*◌, ◌/◌, ◌%◌, ◌^◌, ◌<◌, ◌≤◌, arith, sym, ap, ◌∙◌}
+use Rattle.std.proofs.Common.{◌≡◌, ℕ, ◌+◌, ◌*◌, ◌/◌, ◌%◌, ◌^◌, ◌<◌, ◌≤◌, ◌-◌, arith, sym, ap, ◌∙◌}
 use Rattle.std.proofs.Math.Nat.{mul-add-div_right, mul-add-mod_self_right, mul-le-mul_left}
-use Rattle.std.proofs.Math.Nat.{pow-le-pow_right}
+use Rattle.std.proofs.Math.Nat.{pow-le-pow_right, one-le-pow}
+use Rattle.std.proofs.Math.Nat.{div-div-eq-div-mul, mul-div-mul_right}
 use Rattle.std.proofs.lemmas.Grind.{pow_more}
-use Rattle.std.proofs.lemmas.Nat.{div-add-mod'}
+use Rattle.std.proofs.lemmas.Nat.{div-add-mod', pow-add}
 
 -- a word, of which three are a number
 abbrev pub word : ℕ
@@ -97,6 +98,27 @@ power_times n f i = same n (f ^ i) f ∙ ap (λ p. n * p) (sym (pow_more f i))
   where
     same : (n p f : ℕ) → n * p * f ≡ n * (p * f)
     same n p f = omega arith
+
+-- a number times so many twos, in its highest word and those below
+pub wide_doubled : (n s : ℕ) → s ≤ 127 →
+    n / 2 / 2 ^ (127 - s) * 2 ^ 128 + n * 2 ^ s % 2 ^ 128 ≡ n * 2 ^ s
+wide_doubled n s few =
+    ap (λ h. h * 2 ^ 128 + n * 2 ^ s % 2 ^ 128) high ∙ div-add-mod' (n * 2 ^ s) (2 ^ 128)
+  where
+    words_of : 2 * 2 ^ (127 - s) * 2 ^ s ≡ 2 ^ 128
+    words_of =
+        let all : 127 - s + s ≡ 127 = omega arith in
+        let half : 2 ^ (127 - s) * 2 ^ s ≡ 2 ^ 127 = sym (pow-add 2 (127 - s) s)
+        ∙ ap (λ k. 2 ^ k) all in
+        twice (2 ^ (127 - s)) (2 ^ s) half
+      where
+        twice : (a b : ℕ) → a * b ≡ 2 ^ 127 → 2 * a * b ≡ 2 ^ 128
+        twice a b is = omega (arith, is)
+
+    high : n / 2 / 2 ^ (127 - s) ≡ n * 2 ^ s / 2 ^ 128
+    high = div-div-eq-div-mul n 2 (2 ^ (127 - s))
+        ∙ sym (mul-div-mul_right n (2 * 2 ^ (127 - s)) (one-le-pow s 2 (omega arith)))
+        ∙ ap (λ w. n * 2 ^ s / w) words_of
 
 -- a product of threes and twos, no more of each than the greatest denominator has, has room
 pub powers_fit : (k s : ℕ) → k ≤ 67 → s ≤ 67 → 3 ^ k * 2 ^ s < 2 ^ 192

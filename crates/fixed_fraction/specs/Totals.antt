@@ -1,7 +1,7 @@
 -- Sums over the 21 rolls of what each leads to, each counted with the weight of its roll.
 use Rattle.std.specs.Prelude.{◌≡◌, ℕ, ◌*◌, ◌≤◌, List, [], length, slice_index, slice_index_or, sum}
-use Rattle.race_model.specs.Dice.{roll_index}
-use Rattle.race_model.specs.LocalEquations.{whole, weighted}
+use Rattle.race_model.specs.Dice.{roll_index, weighted}
+use Rattle.race_model.specs.LocalEquations.{whole}
 
 -- the weights, the means, and for each of 0 to 22 rolls the shares, added up
 pub record Totals : Type 0 where

@@ -4,6 +4,7 @@ ghost use Rattle.std.specs.Prelude.{IsSome, IfSome, ◌++◌};
 ghost use Rattle.std.specs.Int.{from_be_bytes, to_be_bytes, w64, w128};
 ghost use Rattle.race_model.specs.Files.{bytes_at};
 ghost use Rattle.race_model.specs.Fractions.{IsThousandths};
+ghost use Rattle.race_model.specs.LocalEquations.{whole};
 ghost use Rattle.fixed_fraction.specs.Board.{board_whole, part, long_number};
 
 use crate::parts::{PART, are_parts, long_bytes, read_long, read_wide};
@@ -97,6 +98,18 @@ impl BoardMean {
         ensures { result ≡ self % part }
     {
         self.lower
+    }
+
+    /// The same number over 36 ^ 22; none exactly where its lower part isn't 0 or it is over 22
+    /// rolls.
+    pub fn scaled(self) -> Option<Scaled>
+        ensures some { IsSome result ↔ ((self % part ≡ 0) × (self / part ≤ 22 * whole)) }
+        ensures value { IfSome result (λ rolls. rolls * part ≡ self) }
+    {
+        if self.lower != 0 {
+            return None;
+        }
+        Scaled::new(self.upper)
     }
 
     /// The numerator over 36 ^ 33.

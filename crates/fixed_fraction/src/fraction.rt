@@ -10,8 +10,8 @@ use crate::spread::Spread;
 use crate::terms::{Terms, lowest, without_common};
 use std::marker::Model;
 
-/// Three to the power of 0 to 45.
-const POWERS_OF_THREE: [u128; 46] = [
+/// Three to the power of 0 to 67.
+const POWERS_OF_THREE: [u128; 68] = [
     1,
     3,
     9,
@@ -58,6 +58,28 @@ const POWERS_OF_THREE: [u128; 46] = [
     328256967394537077627,
     984770902183611232881,
     2954312706550833698643,
+    8862938119652501095929,
+    26588814358957503287787,
+    79766443076872509863361,
+    239299329230617529590083,
+    717897987691852588770249,
+    2153693963075557766310747,
+    6461081889226673298932241,
+    19383245667680019896796723,
+    58149737003040059690390169,
+    174449211009120179071170507,
+    523347633027360537213511521,
+    1570042899082081611640534563,
+    4710128697246244834921603689,
+    14130386091738734504764811067,
+    42391158275216203514294433201,
+    127173474825648610542883299603,
+    381520424476945831628649898809,
+    1144561273430837494885949696427,
+    3433683820292512484657849089281,
+    10301051460877537453973547267843,
+    30903154382632612361920641803529,
+    92709463147897837085761925410587,
 ];
 
 /// A fraction in lowest terms, as replies print it: its denominator is 1
@@ -199,9 +221,9 @@ fn fraction_of(terms: Terms) -> Fraction
     }
 }
 
-/// Three to the power of up to 45.
-fn power_of_three(exponent: u32) -> u128
-    requires { exponent ≤ 45 }
+/// Three to the power of up to 67.
+pub(crate) fn power_of_three(exponent: u32) -> u128
+    requires { exponent ≤ 67 }
     ensures { result ≡ 3 ^ exponent }
 {
     POWERS_OF_THREE[exponent as usize]

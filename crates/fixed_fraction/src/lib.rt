@@ -16,7 +16,9 @@ pub use scaled::{MOST, Scaled, WHOLE, pull};
 pub use spread::Spread;
 pub use sums::Sums;
 pub use wide::Wide;
-pub use wide_fraction::{WideFraction, board_mean_and_epc, board_share, wide_thousandths};
+pub use wide_fraction::{
+    WideFraction, board_mean_and_epc, board_mean_fraction, board_share, wide_thousandths,
+};
 
 pub mod board_mean;
 pub mod counts;

@@ -2,8 +2,7 @@
 //! 36 * 36 ^ 11 has room in 64 bits, so both parts are added up apart, with no carry.
 ghost use Rattle.std.specs.Prelude.{◌≡◌, ℕ, ◌+◌, ◌*◌, ◌/◌, ◌%◌, ◌^◌, ◌<◌, ◌≤◌, ◌↔◌, map, slice_index};
 ghost use Rattle.std.specs.Prelude.{IsTrue, IsSome, IfSome};
-ghost use Rattle.race_model.specs.Dice.{roll_index};
-ghost use Rattle.race_model.specs.LocalEquations.{weighted};
+ghost use Rattle.race_model.specs.Dice.{roll_index, weighted};
 ghost use Rattle.fixed_fraction.specs.Board.{board_whole, part, WeightedSum};
 
 use crate::board_mean::BoardMean;

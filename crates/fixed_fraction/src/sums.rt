@@ -2,8 +2,8 @@
 ghost use Rattle.std.specs.Prelude.{◌≡◌, ℕ, suc, ◌+◌, ◌*◌, ◌%◌, ◌<◌, ◌≤◌, ◌↔◌};
 ghost use Rattle.std.specs.Prelude.{[], length, map, slice_index, slice_index_or, sum};
 ghost use Rattle.std.specs.Prelude.{IsSome, IfSome};
-ghost use Rattle.race_model.specs.Dice.{roll_index};
-ghost use Rattle.race_model.specs.LocalEquations.{whole, weighted};
+ghost use Rattle.race_model.specs.Dice.{roll_index, weighted};
+ghost use Rattle.race_model.specs.LocalEquations.{whole};
 ghost use Rattle.fixed_fraction.specs.Totals.{weighted_at};
 
 use crate::scaled::{Scaled, WHOLE};

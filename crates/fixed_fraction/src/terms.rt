@@ -31,8 +31,8 @@ pub(crate) fn lowest(numerator: u128) -> Terms
 /// The terms without what both have. There are not many threes among that, as they are taken out
 /// one by one.
 pub(crate) fn without_common(terms: Terms) -> Terms
-    requires threes { terms.threes ≤ 45 }
-    requires twos { terms.twos ≤ 45 }
+    requires threes { terms.threes ≤ 67 }
+    requires twos { terms.twos ≤ 67 }
     ensures divided { IsDivided terms.numerator (3 ^ terms.threes * 2 ^ terms.twos)
         result.numerator (3 ^ result.threes * 2 ^ result.twos) }
     ensures threes { result.threes ≤ terms.threes }
@@ -45,7 +45,7 @@ pub(crate) fn without_common(terms: Terms) -> Terms
 
 /// The terms without the twos that both have.
 fn without_twos(terms: Terms) -> Terms
-    requires { terms.twos ≤ 45 }
+    requires { terms.twos ≤ 67 }
     ensures threes { result.threes ≡ terms.threes }
     ensures twos { result.twos ≤ terms.twos }
     ensures divided { IsDivided terms.numerator (2 ^ terms.twos) result.numerator

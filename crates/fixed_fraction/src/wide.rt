@@ -115,6 +115,18 @@ impl Wide {
         }
     }
 
+    /// A number of 128 bits times so many twos, where the product has room.
+    pub(crate) fn doubled(number: u128, twos: u32) -> Wide
+        requires few { twos ≤ 127 }
+        requires room { number * 2 ^ twos < 2 ^ 192 }
+        ensures { result ≡ number * 2 ^ twos }
+    {
+        Wide {
+            high: (number >> 1 >> (127 - twos)) as u64,
+            low: number << twos,
+        }
+    }
+
     /// The number times a power, where the product has room.
     pub(crate) fn times_power(self, factor: u32, exponent: u32) -> Wide
         requires positive { 0 < factor }
@@ -135,6 +147,10 @@ impl Wide {
         ensures rest { result.1 ≡ self % by }
     {
         let by = u128::from(by);
+        if self.high == 0 {
+            let quotient = self.low / by;
+            return (Wide::of(quotient), (self.low - quotient * by) as u64);
+        }
         let high = u128::from(self.high);
         let middle = (high % by) * WORD + self.low / WORD;
         let last = (middle % by) * WORD + self.low % WORD;

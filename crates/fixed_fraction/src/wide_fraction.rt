@@ -9,7 +9,9 @@ ghost use Rattle.fixed_fraction.specs.Ratios.{Ratio, IsDivided, AreApart};
 
 use crate::board_mean::BoardMean;
 use crate::counts::LongCount;
+use crate::fraction::{Fraction, mean, mean_and_epc, power_of_three};
 use crate::scaled::WHOLE;
+use crate::terms::{Terms, without_common};
 use crate::wide::Wide;
 use std::marker::Model;
 
@@ -71,17 +73,38 @@ pub fn board_mean_and_epc(mean: BoardMean) -> (WideFraction, WideFraction)
     ensures epc { IsFraction (49 * mean) (6 * board_whole)
         result.1.numerator result.1.denominator }
 {
-    let lowest_mean = lowest(WideTerms {
-        numerator: mean.numerator(),
-        threes: 66,
-        twos: 66,
-    });
+    if let Some(rolls) = mean.scaled() {
+        let (mean, epc) = mean_and_epc(rolls);
+        return (wide(mean), wide(epc));
+    }
+    let lowest_mean = lowest_mean(mean);
     let lowest_epc = lowest(WideTerms {
         numerator: lowest_mean.numerator.times(49),
         threes: lowest_mean.threes + 1,
         twos: lowest_mean.twos + 1,
     });
     (fraction_of(lowest_mean), fraction_of(lowest_epc))
+}
+
+/// The mean number of rolls as a fraction, with no effective pip count.
+pub fn board_mean_fraction(rolls: BoardMean) -> WideFraction
+    ensures { IsFraction rolls board_whole result.numerator result.denominator }
+{
+    match rolls.scaled() {
+        Some(rolls) => wide(mean(rolls)),
+        None => fraction_of(lowest_mean(rolls)),
+    }
+}
+
+/// A fraction of 128 bits.
+fn wide(fraction: Fraction) -> WideFraction
+    ensures numerator { result.numerator ≡ fraction.numerator }
+    ensures denominator { result.denominator ≡ fraction.denominator }
+{
+    WideFraction {
+        numerator: Wide::of(fraction.numerator()),
+        denominator: Wide::of(fraction.denominator()),
+    }
 }
 
 /// The share of exactly `k` rolls as a fraction, from the count of sequences of so many throws
@@ -140,14 +163,43 @@ fn wide_thousandths_of(numerator: Wide, denominator: Wide) -> u64
     u64::from(least)
 }
 
+/// The mean number of rolls in lowest terms.
+fn lowest_mean(mean: BoardMean) -> WideTerms
+    ensures divided { IsDivided mean board_whole result.numerator
+        (3 ^ result.threes * 2 ^ result.twos) }
+    ensures threes { result.threes ≤ 66 }
+    ensures twos { result.twos ≤ 66 }
+    ensures lowest { IsGcd result.numerator (3 ^ result.threes * 2 ^ result.twos) 1 }
+{
+    lowest(WideTerms {
+        numerator: mean.numerator(),
+        threes: 66,
+        twos: 66,
+    })
+}
+
 /// The terms without the threes and the twos that both have.
 fn lowest(terms: WideTerms) -> WideTerms
+    requires threes { terms.threes ≤ 67 }
+    requires twos { terms.twos ≤ 67 }
     ensures divided { IsDivided terms.numerator (3 ^ terms.threes * 2 ^ terms.twos)
         result.numerator (3 ^ result.threes * 2 ^ result.twos) }
     ensures threes { result.threes ≤ terms.threes }
     ensures twos { result.twos ≤ terms.twos }
     ensures lowest { IsGcd result.numerator (3 ^ result.threes * 2 ^ result.twos) 1 }
 {
+    if terms.numerator.high() == 0 {
+        let less = without_common(Terms {
+            numerator: terms.numerator.low(),
+            threes: terms.threes,
+            twos: terms.twos,
+        });
+        return WideTerms {
+            numerator: Wide::of(less.numerator),
+            threes: less.threes,
+            twos: less.twos,
+        };
+    }
     let (odd, threes) = without(terms.numerator, 3, terms.threes);
     let (numerator, twos) = without(odd, 2, terms.twos);
     WideTerms {
@@ -186,9 +238,8 @@ fn fraction_of(terms: WideTerms) -> WideFraction
     ensures numerator { result.numerator ≡ terms.numerator }
     ensures denominator { result.denominator ≡ 3 ^ terms.threes * 2 ^ terms.twos }
 {
-    let threes = Wide::of(1).times_power(3, terms.threes);
     WideFraction {
         numerator: terms.numerator,
-        denominator: threes.times_power(2, terms.twos),
+        denominator: Wide::doubled(power_of_three(terms.threes), terms.twos),
     }
 }
