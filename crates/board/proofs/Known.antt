@@ -5,7 +5,8 @@ use Rattle.race_model.specs.Dice.{Throw}
 use Rattle.race_model.specs.Ranks.{rank, count_to}
 use Rattle.race_model.specs.Files.{bound_of}
 use Rattle.race_model.specs.Headers.{exact_length}
-use Rattle.race_model.specs.Books.{mean_in, play_in, recorded_in, follow_in, IsPlayedIn, IsLeastIn, IsRightIn}
+use Rattle.race_model.specs.Strategies.{IsLeastIn}
+use Rattle.race_model.specs.Books.{mean_in, play_in, recorded_in, follow_in, IsPlayedIn, IsRightIn}
 use Rattle.race_model.specs.Endings.{endings}
 use Rattle.race_model.specs.BoardFiles.{board_place, board_book, count_at}
 use Rattle.race_model.specs.RightBoards.{IsRightBoard, IsWritten}

@@ -15,7 +15,7 @@ use Rattle.race_model.specs.Dice.{Throw}
 use Rattle.race_model.specs.Plays.{Legal}
 use Rattle.race_model.specs.Ranks.{rank, comes_first, is_before}
 use Rattle.race_model.specs.Books.{Book}
-use Rattle.race_model.specs.BookReplies.{loss_in, IsListedBeforeIn, IsMoveListIn}
+use Rattle.race_model.specs.Losses.{loss_in, IsListedBeforeIn, IsMoveListIn}
 use Rattle.race_model.proofs.Ranks.RankOrder.{rank_apart}
 use Rattle.legal_plays.specs.RankOrder.{IsInRankOrder}
 use Rattle.board.specs.Choices.{ComesFirst, IsByLoss, result_of}

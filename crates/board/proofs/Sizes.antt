@@ -3,8 +3,7 @@
 use Rattle.std.proofs.Common.{◌≡◌, ℕ, zero, suc, ◌+◌, ◌*◌, ◌^◌, ◌≤◌, ap, ◌∙◌, arith}
 use Rattle.std.proofs.Math.Nat.{pow-succ', one-le-pow}
 use Rattle.race_model.specs.Positions.{Board}
-use Rattle.race_model.specs.Strategies.{Strategy, stop, turn, total_over}
-use Rattle.race_model.specs.Books.{IsLeastIn}
+use Rattle.race_model.specs.Strategies.{Strategy, stop, turn, total_over, IsLeastIn}
 use Rattle.race_model.specs.Endings.{endings}
 use Rattle.race_model.proofs.RightFiles.Bounded.{throws_at_most}
 use Rattle.race_model.proofs.Strategies.Histories.{over-none, total_over-over, total_over-turn}

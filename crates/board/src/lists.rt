@@ -5,7 +5,7 @@ ghost use Rattle.arrayvec.specs.ArrayVec.{array_vec_len};
 ghost use Rattle.race_model.specs.Positions.{pips, finished};
 ghost use Rattle.race_model.specs.Ranks.{rank as rank_of};
 ghost use Rattle.race_model.specs.Files.{bound_of};
-ghost use Rattle.race_model.specs.BookReplies.{loss_in, IsMoveListIn};
+ghost use Rattle.race_model.specs.Losses.{loss_in, IsMoveListIn};
 ghost use Rattle.race_model.specs.BoardFiles.{board_book};
 ghost use Rattle.board.specs.Choices.{ComesFirst, IsByLoss, result_of};
 

@@ -5,7 +5,7 @@ ghost use Rattle.race_model.specs.Plays.{Legal};
 ghost use Rattle.race_model.specs.FirstPlays.{IsFirstPlay};
 ghost use Rattle.race_model.specs.Files.{bound_of};
 ghost use Rattle.race_model.specs.Books.{mean_in, play_in, recorded_in};
-ghost use Rattle.race_model.specs.BookReplies.{loss_in, IsLossIn};
+ghost use Rattle.race_model.specs.Losses.{loss_in, IsLossIn};
 ghost use Rattle.race_model.specs.BoardFiles.{board_book};
 ghost use Rattle.legal_plays.specs.MoveLists.{moves_of};
 

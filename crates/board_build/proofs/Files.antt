@@ -52,7 +52,9 @@ module _ (f : List ℕ) (b : ℕ) (low : b ≤ 90) (headed : take 32 f ≡ board
       ∙ from_be_bytes-to_be_bytes_2 b (omega arith)
 
   pub board_file : IsBoardFile f
-  board_file long_enough = omega (arith, long, header_before (count_to b))
+  board_file long_enough =
+      let enough : 32 ≤ length f = omega (arith, long, header_before (count_to b)) in
+      (enough, enough)
   board_file magic = field 0 8 (omega arith)
   board_file version = ap (from_be_bytes w16) (field 8 2 (omega arith))
   board_file bound = omega (arith, bound_is)

@@ -4,18 +4,20 @@ use Rattle.std.proofs.Common.{refl, arith, cond, eq-eqb, ne_eqb, le_of_lt}
 use Rattle.std.specs.Prelude.{slice_index}
 use Rattle.std.proofs.lemmas.Bool.{le-leb, lt-leb}
 use Rattle.race_model.specs.Positions.{Board, IsPosition, IsFinished, pips}
-use Rattle.race_model.specs.Dice.{Throw, IsRoll, roll_at, roll_index}
+use Rattle.race_model.specs.Dice.{Throw, IsRoll, roll_at, roll_index, weighted}
 use Rattle.race_model.specs.Plays.{Legal}
 use Rattle.race_model.specs.Ranks.{rank, at_rank}
 use Rattle.race_model.specs.Horizon.{most_rolls}
-use Rattle.race_model.specs.LocalEquations.{weighted}
 use Rattle.race_model.specs.Strategies.{EndsIn}
 use Rattle.race_model.specs.BestPlays.{IsBestPlay}
-use Rattle.race_model.specs.Books.{play_in, IsPlayedIn, HasMeanIn}
+use Rattle.race_model.specs.Books.{play_in, IsPlayedIn}
+use Rattle.race_model.specs.LocalEquations.{HasMeanIn}
 use Rattle.race_model.specs.Endings.{HasCountIn}
 use Rattle.race_model.specs.BoardFiles.{board_book, board_record, value_of_parts}
 use Rattle.race_model.specs.BoardFiles.{board_play_of, count_parts, told_count, count_at}
-use Rattle.race_model.specs.RightBoards.{IsWritten, IsLocalOnBoard}
+use Rattle.race_model.specs.RightBoards.{IsWritten}
+use Rattle.race_model.specs.BoardEquations.{IsLocalOnBoard}
+use Rattle.race_model.proofs.Books.Boards.{local_of_counts}
 use Rattle.race_model.proofs.Positions.Points.{no_pips}
 use Rattle.race_model.proofs.RightFiles.ToldShares.{some_pips}
 use Rattle.race_model.proofs.Dice.Throws.{index_of_roll}
@@ -163,13 +165,9 @@ module _ (f g : List ℕ) (x : Board) (plays : List ℕ) (at : IsPosition x)
 
   -- so its equations hold
   pub next-local : IsLocalOnBoard g x
-  next-local = record {
-    written = written;
-    played = played;
-    best = λ v is. (plays-best v is).least;
-    mean_is = mean_is;
-    counts = counts;
-  }
+  next-local =
+      local_of_counts g x written
+      (record { played = played; best = λ v is. (plays-best v is).least; mean_is = mean_is }) counts
 
   -- .. and the records of one rank more are those of the built file
   pub built-next : IsBuiltTo f (rank x) → IsBuiltTo g (rank x + 1)

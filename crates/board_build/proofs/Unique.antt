@@ -15,7 +15,8 @@ use Rattle.race_model.specs.Books.{play_in, recorded_in}
 use Rattle.race_model.specs.BoardFiles.{Parts, value_of_parts, board_length, board_place, board_record}
 use Rattle.race_model.specs.BoardFiles.{mean_parts, board_play_of, count_parts, told_count}
 use Rattle.race_model.specs.BoardFiles.{count_at, board_book}
-use Rattle.race_model.specs.RightBoards.{IsLocalOnBoard}
+use Rattle.race_model.specs.BoardEquations.{IsLocalOnBoard}
+use Rattle.race_model.proofs.Books.Boards.{counts_of_local}
 use Rattle.race_model.proofs.Positions.Points.{no_pips}
 use Rattle.race_model.proofs.Dice.Throws.{roll_of_index}
 use Rattle.race_model.proofs.Plays.Results.{finished_or_not}
@@ -84,7 +85,7 @@ module _ (f g : List ℕ) (x : Board) (at : IsPosition x)
   below unfinished i inside =
       let v = roll_at i in
       let roll = roll_of_index i inside in
-      let to = here.played v roll.0 in
+      let to = here.equations.means.played v roll.0 in
       subst (λ j. board_play_of (board_record f (rank x)) j < rank x) roll.1
       (subst (λ r. r < rank x) to.ranked
       (legal_lower x v (recorded_in (board_book f) x v) at unfinished to.legal))
@@ -94,10 +95,11 @@ module _ (f g : List ℕ) (x : Board) (at : IsPosition x)
   mean_same =
       one_way (mean_parts (board_record f (rank x))) (mean_parts (board_record g (rank x)))
       here.written.mean there.written.mean (⊎_elim
-      (λ none. here.mean_is.at_end none ∙ sym (there.mean_is.at_end none))
+      (λ none. here.equations.means.mean_is.at_end none
+      ∙ sym (there.equations.means.mean_is.at_end none))
       (λ unfinished.
-      let one = here.mean_is.before unfinished in
-      let other = there.mean_is.before unfinished in
+      let one = here.equations.means.mean_is.before unfinished in
+      let other = there.equations.means.mean_is.before unfinished in
       let sums = weighted-by_index
       (λ i. board_mean f (board_play_of (board_record f (rank x)) i))
       (λ i. board_mean g (board_play_of (board_record g (rank x)) i))
@@ -130,14 +132,14 @@ module _ (f g : List ℕ) (x : Board) (at : IsPosition x)
       absurd (omega (arith, no, le)))
       (λ unfinished.
       sym (told f j le)
-      ∙ (here.counts (suc j) (few (suc j) le)).1 unfinished
+      ∙ (counts_of_local f x here (suc j) (few (suc j) le)).1 unfinished
       ∙ weighted-by_index (λ i. count_at f (board_play_of (board_record f (rank x)) i) j)
       (λ i. count_at g (board_play_of (board_record g (rank x)) i) j)
       (λ i inside.
       count_at-agree f g (rank x) same (board_play_of (board_record f (rank x)) i) j
       (below unfinished i inside)
       ∙ ap (λ r. count_at g r j) (plays_same i inside))
-      ∙ sym ((there.counts (suc j) (few (suc j) le)).1 unfinished)
+      ∙ sym ((counts_of_local g x there (suc j) (few (suc j) le)).1 unfinished)
       ∙ told g j le)
       (finished_or_not x)
 

@@ -2,9 +2,8 @@
 -- profile.
 use Rattle.std.specs.Prelude.{◌≡◌, ℕ, suc, ◌+◌, ◌*◌, ◌^◌, ◌<◌, ◌≤◌, List, slice_index}
 use Rattle.race_model.specs.Positions.{Board, IsFinished, pips}
-use Rattle.race_model.specs.Dice.{roll_at, roll_index}
+use Rattle.race_model.specs.Dice.{roll_at, roll_index, weighted}
 use Rattle.race_model.specs.Horizon.{most_rolls}
-use Rattle.race_model.specs.LocalEquations.{weighted}
 use Rattle.race_model.specs.BestPlays.{IsBestPlay}
 use Rattle.race_model.specs.BoardFiles.{value_of_parts, mean_parts, board_play_of, count_parts, count_at}
 use Rattle.board_records.specs.Lower.{board_mean}

@@ -1,4 +1,3 @@
-pub mod PlayTests
 pub mod NumberTests
 pub mod PositionTests
 pub mod RecordTests

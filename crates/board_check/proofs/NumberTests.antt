@@ -1,8 +1,7 @@
 -- Two parts are those of a number in the one way that is allowed.
 use Rattle.std.proofs.Common.{◌≡◌, ⊎_elim, ℕ, ◌+◌, ◌-◌, ◌*◌, ◌^◌, ◌<◌, ◌≤◌, List, arith}
 use Rattle.std.proofs.lemmas.Bool.{cases_lt}
-use Rattle.race_model.specs.Dice.{roll_index}
-use Rattle.race_model.specs.LocalEquations.{weighted}
+use Rattle.race_model.specs.Dice.{roll_index, weighted}
 use Rattle.race_model.specs.BoardFiles.{count_at, count_parts}
 use Rattle.board_records.proofs.Known.{count-one}
 use Rattle.board_check.specs.Tested.{IsCountOf}

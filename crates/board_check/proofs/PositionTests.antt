@@ -2,10 +2,9 @@
 -- for the rolls holds and each record of lower rank was accepted.
 use Rattle.std.proofs.Common.{◌≡◌, ℕ, zero, suc, ◌+◌, ◌-◌, ◌*◌, ◌^◌, ◌<◌, ◌≤◌, List, sym, ap, subst, ◌∙◌, arith}
 use Rattle.race_model.specs.Positions.{Board, IsPosition, IsFinished, pips}
-use Rattle.race_model.specs.Dice.{Throw, roll_at, roll_index, weight, all_rolls}
+use Rattle.race_model.specs.Dice.{Throw, roll_at, roll_index, weight, all_rolls, weighted}
 use Rattle.race_model.specs.Ranks.{rank, at_rank}
 use Rattle.race_model.specs.Horizon.{most_rolls}
-use Rattle.race_model.specs.LocalEquations.{weighted}
 use Rattle.race_model.specs.Strategies.{EndsIn}
 use Rattle.race_model.specs.Books.{play_in, recorded_in}
 use Rattle.race_model.specs.BoardFiles.{board_book, board_record, board_play_of, mean_parts, count_parts}

@@ -6,19 +6,26 @@ use Rattle.race_model.specs.Dice.{roll_at, roll_index}
 use Rattle.race_model.specs.Ranks.{rank, at_rank, count_to}
 use Rattle.race_model.specs.Files.{bound_of}
 use Rattle.race_model.specs.FirstFault.{Test, play_test, least_test, mean_test, spread_test, rank_of, place_of}
-use Rattle.race_model.specs.Books.{IsPlayedIn, IsBestIn}
+use Rattle.race_model.specs.Books.{IsPlayedIn}
+use Rattle.race_model.specs.LocalEquations.{IsBestIn}
 use Rattle.race_model.specs.BoardFiles.{board_book}
 use Rattle.race_model.specs.BoardHeaders.{IsBoardFile}
-use Rattle.race_model.specs.RightBoards.{IsLocalOnBoard, IsLocalBoard}
-use Rattle.race_model.specs.RightBoards.{HoldsOnBoard, AsksOnBoard, IsFirstBoardFault}
-use Rattle.race_model.proofs.Dice.Throws.{index_of_roll, roll_of_index}
-use Rattle.race_model.proofs.FirstFaults.Questions.{within_bound}
+use Rattle.race_model.specs.BoardEquations.{IsLocalOnBoard, IsLocalBoard}
+use Rattle.race_model.specs.BoardEquations.{HoldsOnBoard, AsksOnBoard, IsFirstBoardFault}
+use Rattle.race_model.proofs.Dice.Throws.{roll_of_index, by_index}
+use Rattle.race_model.proofs.FirstFaults.Questions.{board_fault_refuses}
+use Rattle.race_model.proofs.Books.Boards.{board_share_is_count, local_of_counts}
 use Rattle.race_model.proofs.Ranks.RankOrder.{rank_bound, at_rank-rank, at_rank_position}
 use Rattle.race_model.proofs.Ranks.PositionTotals.{rank-at_rank, count_to-most}
 use Rattle.board_records.specs.Lower.{AreLocalTo}
 use Rattle.db_layout.specs.HeaderFaults.{test_of}
 use Rattle.board_check.specs.Tested.{Holds, MeanHolds, CountHolds}
-use Rattle.board_check.specs.Faults.{IsFirst, IsFirstInRecord, IsFirstFaultAt, IsPlayFault, IsNumberFault, of_record_at}
+use Rattle.board_check.specs.Faults.{IsFirst, IsFirstInRecord, IsFirstFaultAt, IsNumberFault}
+use Rattle.board_check.specs.Faults.{of_record_at, of_refused}
+use Rattle.least_plays.specs.Recorded.{IsRefusedIn, IsFirstRefusedIn}
+use Rattle.least_plays.specs.declared.recorded.RefusedPlay.{RefusedPlay}
+use Rattle.least_plays.specs.declared.recorded.PlayFault.{PlayFault}
+use Rattle.least_plays.specs.declared.recorded.PlayFault.TheVariants.{NotLegal, NotLeast as NotLeastPlay}
 use Rattle.board_check.specs.declared.fault.BoardFault.{BoardFault}
 use Rattle.board_check.specs.declared.fault.BoardFault.TheVariants.{Header, Play as PlayAt, NotLeast as NotLeastAt}
 use Rattle.board_check.specs.declared.fault.BoardFault.TheVariants.{Mean as MeanAt, Spread as SpreadAt}
@@ -27,51 +34,51 @@ use Rattle.board_check.specs.declared.fault.RecordFault.TheVariants.{Play, NotLe
 
 module _ (f : List ℕ) (r : ℕ) (lt : r < count_to (bound_of f)) where
   -- a refused play is the first fault of the record
-  pub first-play : (fault : RecordFault) → IsPlayFault f (at_rank r) fault →
-      IsFirstFaultAt f r fault
-  first-play (Play roll) first =
-      record {
-        of_rank = refl;
-        is_asked = (lt, first.is_roll);
-        fails = first.refused;
-        earlier = earlier;
-      }
+  pub first-refused : (refused : RefusedPlay) → IsFirstRefusedIn (board_book f) (at_rank r) refused
+      → IsFirstFaultAt f r (of_refused refused.roll refused.fault)
+  first-refused refused first = by refused.fault first.applies
     where
-      earlier : (u : Test) → rank_of u ≡ r → place_of u < 2 * roll → AsksOnBoard f u →
+      to_least : (u : Test) → rank_of u ≡ r → place_of u < 2 * refused.roll → AsksOnBoard f u →
           HoldsOnBoard f u
-      earlier (play_test q i) same before asks =
+      to_least (play_test q i) same less asks =
           subst (λ q. IsPlayedIn (board_book f) (at_rank q) (roll_at i)) (sym same)
           (first.earlier i (omega arith)).0
-      earlier (least_test q i) same before asks =
+      to_least (least_test q i) same less asks =
           subst (λ q. IsBestIn (board_book f) (at_rank q) (roll_at i)) (sym same)
           (first.earlier i (omega arith)).1
-      earlier (mean_test q) same before asks = absurd (omega (arith, first.is_roll))
-      earlier (spread_test q k) same before asks = absurd (omega (arith, first.is_roll))
-  first-play (NotLeast roll) first =
-      record {
-        of_rank = refl;
-        is_asked = (lt, first.is_roll);
-        fails = first.refused.1;
-        earlier = earlier;
-      }
-    where
-      earlier : (u : Test) → rank_of u ≡ r → place_of u < 2 * roll + 1 → AsksOnBoard f u →
-          HoldsOnBoard f u
-      earlier (play_test q i) same before asks =
+      to_least (mean_test q) same less asks = absurd (omega (arith, first.is_roll))
+      to_least (spread_test q k) same less asks = absurd (omega (arith, first.is_roll))
+
+      and_played : IsPlayedIn (board_book f) (at_rank r) (roll_at refused.roll) → (u : Test) →
+          rank_of u ≡ r → place_of u < 2 * refused.roll + 1 → AsksOnBoard f u → HoldsOnBoard f u
+      and_played here (play_test q i) same less asks =
           subst (λ q. IsPlayedIn (board_book f) (at_rank q) (roll_at i)) (sym same)
           (⊎_elim
-          (λ less. (first.earlier i less).0)
+          (λ under. (first.earlier i under).0)
           (λ more.
-          let is : i ≡ roll = omega arith in
-          subst (λ i. IsPlayedIn (board_book f) (at_rank r) (roll_at i)) (sym is) first.refused.0)
-          (cases_lt i roll))
-      earlier (least_test q i) same before asks =
-          subst (λ q. IsBestIn (board_book f) (at_rank q) (roll_at i)) (sym same)
-          (first.earlier i (omega arith)).1
-      earlier (mean_test q) same before asks = absurd (omega (arith, first.is_roll))
-      earlier (spread_test q k) same before asks = absurd (omega (arith, first.is_roll))
-  first-play Mean first = absurd first.refused
-  first-play (Spread k) first = absurd first.refused
+          let is : i ≡ refused.roll = omega arith in
+          subst (λ i. IsPlayedIn (board_book f) (at_rank r) (roll_at i)) (sym is) here)
+          (cases_lt i refused.roll))
+      and_played here (least_test q i) same less asks =
+          to_least (least_test q i) same (omega arith) asks
+      and_played here (mean_test q) same less asks = absurd (omega (arith, first.is_roll))
+      and_played here (spread_test q k) same less asks = absurd (omega (arith, first.is_roll))
+
+      by : (fault : PlayFault) →
+          IsRefusedIn (board_book f) (at_rank r) (roll_at refused.roll) fault →
+          IsFirstFaultAt f r (of_refused refused.roll fault)
+      by NotLegal none = record {
+        of_rank = refl;
+        is_asked = (lt, first.is_roll);
+        fails = none;
+        earlier = to_least;
+      }
+      by NotLeastPlay some = record {
+        of_rank = refl;
+        is_asked = (lt, first.is_roll);
+        fails = some.1;
+        earlier = and_played some.0;
+      }
 
   -- where all plays hold ..
   module _ (held : (i : ℕ) → i < 21 → Holds f (at_rank r) i) where
@@ -93,8 +100,11 @@ module _ (f : List ℕ) (r : ℕ) (lt : r < count_to (bound_of f)) where
         earlier (mean_test q) same before asks = absurd (omega arith)
         earlier (spread_test q k) same before asks = absurd (omega arith)
     first-number (Spread k) first =
-        record { of_rank = refl; is_asked = (lt, first.0); fails = first.1; earlier = earlier }
+        record { of_rank = refl; is_asked = (lt, first.0); fails = fails; earlier = earlier }
       where
+        fails : ¬ HoldsOnBoard f (spread_test r k)
+        fails held = first.1 (held.0, (board_share_is_count f (at_rank r) k first.0).0 held.1)
+
         earlier : (u : Test) → rank_of u ≡ r → place_of u < 43 + k → AsksOnBoard f u →
             HoldsOnBoard f u
         earlier (play_test q i) same before asks =
@@ -106,31 +116,32 @@ module _ (f : List ℕ) (r : ℕ) (lt : r < count_to (bound_of f)) where
         earlier (mean_test q) same before asks =
             subst (λ q. MeanHolds f (at_rank q)) (sym same) first.2
         earlier (spread_test q j) same before asks =
-            subst (λ q. CountHolds f (at_rank q) j) (sym same) (first.3 j (omega arith))
+            let counted = first.3 j (omega arith) in
+            subst (λ q. HoldsOnBoard f (spread_test q j)) (sym same)
+            (counted.0, (board_share_is_count f (at_rank r) j asks.1).1 counted.1)
 
 -- where the plays and the numbers of a position hold, all equations do
 pub local-at : (f : List ℕ) (x : Board) → ((i : ℕ) → i < 21 → Holds f x i) → MeanHolds f x →
     ((k : ℕ) → k ≤ 33 → CountHolds f x k) → IsLocalOnBoard f x
-local-at f x held mean counts = record {
-  written = record { mean = mean.0; counts = λ k le. (counts k le).0 };
-  played = λ v is.
-      let i = index_of_roll v is in
-      subst (λ v. IsPlayedIn (board_book f) x v) i.1 (held (roll_index v) i.0).0;
-  best = λ v is.
-      let i = index_of_roll v is in
-      subst (λ v. IsBestIn (board_book f) x v) i.1 (held (roll_index v) i.0).1;
-  mean_is = mean.1;
-  counts = λ k le. (counts k le).1;
-}
+local-at f x held mean counts =
+    local_of_counts f x (record { mean = mean.0; counts = λ k le. (counts k le).0 })
+    (record {
+      played = by_index (IsPlayedIn (board_book f) x) (λ i inside. (held i inside).0);
+      best = by_index (IsBestIn (board_book f) x) (λ i inside. (held i inside).1);
+      mean_is = mean.1;
+    })
+    (λ k le. (counts k le).1)
 
 -- where the equations of a position hold, the questions about its record are answered yes
 local-answers : (f : List ℕ) (u : Test) → IsLocalOnBoard f (at_rank (rank_of u)) → AsksOnBoard f u →
     HoldsOnBoard f u
-local-answers f (play_test r roll) local asks = local.played _ (roll_of_index roll asks.1).0
-local-answers f (least_test r roll) local asks = local.best _ (roll_of_index roll asks.1).0
-local-answers f (mean_test r) local asks = (local.written.mean, local.mean_is)
+local-answers f (play_test r roll) local asks =
+    local.equations.means.played _ (roll_of_index roll asks.1).0
+local-answers f (least_test r roll) local asks =
+    local.equations.means.best _ (roll_of_index roll asks.1).0
+local-answers f (mean_test r) local asks = (local.written.mean, local.equations.means.mean_is)
 local-answers f (spread_test r k) local asks =
-    (local.written.counts k asks.1, local.counts k asks.1)
+    (local.written.counts k asks.1, local.equations.shares k asks.1)
 
 -- what is asked is asked of a rank that has a record
 asked-rank : (f : List ℕ) (u : Test) → AsksOnBoard f u → rank_of u < count_to (bound_of f)
@@ -187,15 +198,12 @@ accepted-all f r file all accepted = record {
 }
 
 -- a fault of the file refutes its equations
-refutes : (f : List ℕ) (t : Test) → IsFirstBoardFault f t → ¬ IsLocalBoard f
-refutes f t first local =
-    let place = within_bound (bound_of f) (rank_of t) (asked-rank f t first.is_asked) in
-    first.fails
-    (local-answers f t (local.at_each (at_rank (rank_of t)) place.0 place.1) first.is_asked)
-
 pub none-of_local : (f : List ℕ) (fault : BoardFault) → IsFirst f fault → ¬ IsLocalBoard f
 none-of_local f (Header fault) first local = first.fails (local.file (test_of fault))
-none-of_local f (PlayAt rank roll) first local = refutes f (play_test rank roll) first.1 local
-none-of_local f (NotLeastAt rank roll) first local = refutes f (least_test rank roll) first.1 local
-none-of_local f (MeanAt rank) first local = refutes f (mean_test rank) first.1 local
-none-of_local f (SpreadAt rank k) first local = refutes f (spread_test rank k) first.1 local
+none-of_local f (PlayAt rank roll) first local =
+    board_fault_refuses f (play_test rank roll) first.1 local
+none-of_local f (NotLeastAt rank roll) first local =
+    board_fault_refuses f (least_test rank roll) first.1 local
+none-of_local f (MeanAt rank) first local = board_fault_refuses f (mean_test rank) first.1 local
+none-of_local f (SpreadAt rank k) first local =
+    board_fault_refuses f (spread_test rank k) first.1 local

@@ -1,18 +1,17 @@
 -- What a refusal means: the first fault, in the order of the check. Source: this project's profile.
 use Rattle.std.specs.Prelude.{◌≡◌, ℕ, ◌<◌, ◌≤◌, List}
 use Rattle.race_model.specs.Positions.{Board}
-use Rattle.race_model.specs.Dice.{roll_at}
 use Rattle.race_model.specs.FirstFault.{Test, play_test, least_test, mean_test, spread_test, rank_of, place_of}
-use Rattle.race_model.specs.Books.{IsPlayedIn, IsBestIn}
-use Rattle.race_model.specs.BoardFiles.{board_book}
 use Rattle.race_model.specs.BoardHeaders.{IsBoardFile, IsFirstBoardHeaderFault}
-use Rattle.race_model.specs.RightBoards.{HoldsOnBoard, AsksOnBoard, IsFirstBoardFault}
+use Rattle.race_model.specs.BoardEquations.{HoldsOnBoard, AsksOnBoard, IsFirstBoardFault}
 use Rattle.db_layout.specs.HeaderFaults.{test_of}
 use Rattle.certificate.specs.declared.check_fault.CheckFault.{CheckFault}
 use Rattle.certificate.specs.declared.check_fault.CheckFault.TheVariants.{Header as ToldHeader, Play as ToldPlay}
 use Rattle.certificate.specs.declared.check_fault.CheckFault.TheVariants.{NotLeast as ToldNotLeast, Mean as ToldMean}
 use Rattle.certificate.specs.declared.check_fault.CheckFault.TheVariants.{Spread as ToldSpread}
-use Rattle.board_check.specs.Tested.{Holds, MeanHolds, CountHolds}
+use Rattle.least_plays.specs.declared.recorded.PlayFault.{PlayFault}
+use Rattle.least_plays.specs.declared.recorded.PlayFault.TheVariants.{NotLegal, NotLeast as NotLeastPlay}
+use Rattle.board_check.specs.Tested.{MeanHolds, CountHolds}
 use Rattle.board_check.specs.declared.fault.BoardFault.{BoardFault}
 use Rattle.board_check.specs.declared.fault.BoardFault.TheVariants.{Header, Play, NotLeast, Mean, Spread}
 use Rattle.board_check.specs.declared.fault.RecordFault.{RecordFault}
@@ -57,26 +56,10 @@ IsFirstFaultAt f rank (NotLeastOf roll) = IsFirstInRecord f rank (least_test ran
 IsFirstFaultAt f rank MeanOf = IsFirstInRecord f rank (mean_test rank)
 IsFirstFaultAt f rank (SpreadOf k) = IsFirstInRecord f rank (spread_test rank k)
 
--- the play of a roll is refused
-abbrev pub IsRefusedPlay : List ℕ → Board → RecordFault → Type 0
-IsRefusedPlay f x (PlayOf roll) = ¬ IsPlayedIn (board_book f) x (roll_at roll)
-IsRefusedPlay f x (NotLeastOf roll) =
-    IsPlayedIn (board_book f) x (roll_at roll) × (¬ IsBestIn (board_book f) x (roll_at roll))
-IsRefusedPlay f x MeanOf = ⊥
-IsRefusedPlay f x (SpreadOf k) = ⊥
-
--- the roll of a refused play
-abbrev pub roll_of : RecordFault → ℕ
-roll_of (PlayOf roll) = roll
-roll_of (NotLeastOf roll) = roll
-roll_of MeanOf = 0
-roll_of (SpreadOf k) = 0
-
--- .. and those of the rolls before it hold
-pub record IsPlayFault (f : List ℕ) (x : Board) (fault : RecordFault) : Type 0 where
-  pub is_roll : roll_of fault < 21
-  pub refused : IsRefusedPlay f x fault
-  pub earlier : (i : ℕ) → i < roll_of fault → Holds f x i
+-- a refused play of a roll, as a fault of the record
+abbrev pub of_refused : ℕ → PlayFault → RecordFault
+of_refused roll NotLegal = PlayOf roll
+of_refused roll NotLeastPlay = NotLeastOf roll
 
 -- of the numbers of a position this is the first that is wrong
 abbrev pub IsNumberFault : List ℕ → Board → RecordFault → Type 0

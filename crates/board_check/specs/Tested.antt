@@ -1,19 +1,13 @@
 -- What is tested of the record of a position, by what its plays lead to.
 use Rattle.std.specs.Prelude.{◌≡◌, ℕ, ◌+◌, ◌-◌, ◌*◌, ◌^◌, ◌<◌, List}
 use Rattle.race_model.specs.Positions.{Board}
-use Rattle.race_model.specs.Dice.{Throw, roll_at, roll_index}
-use Rattle.race_model.specs.Plays.{Legal}
-use Rattle.race_model.specs.Ranks.{rank, at_rank}
-use Rattle.race_model.specs.LocalEquations.{weighted}
-use Rattle.race_model.specs.Books.{IsPlayedIn, IsBestIn, HasMeanIn}
+use Rattle.race_model.specs.Dice.{roll_at, roll_index, weighted}
+use Rattle.race_model.specs.Books.{IsPlayedIn}
+use Rattle.race_model.specs.LocalEquations.{IsBestIn, HasMeanIn}
 use Rattle.race_model.specs.Endings.{HasCountIn}
 use Rattle.race_model.specs.BoardFiles.{board_book, count_at, mean_parts, count_parts, value_of_parts}
 use Rattle.race_model.specs.RightBoards.{IsMeanWritten, IsCountWritten}
 use Rattle.board_records.specs.Lower.{board_mean}
-
--- the number is the rank of a result of the throw
-abbrev pub IsResult : Board → Throw → ℕ → Type 0
-IsResult x v r = Legal x v (at_rank r) × (rank (at_rank r) ≡ r)
 
 -- what is recorded for a roll is a result, and the least
 abbrev pub Holds : List ℕ → Board → ℕ → Type 0

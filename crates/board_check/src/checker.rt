@@ -5,17 +5,17 @@ ghost use Rattle.race_model.specs.Ranks.{at_rank, count_to};
 ghost use Rattle.race_model.specs.Files.{bound_of, bytes_at};
 ghost use Rattle.race_model.specs.BoardFiles.{board_length, board_record};
 ghost use Rattle.race_model.specs.BoardHeaders.{IsBoardFile};
-ghost use Rattle.race_model.specs.RightBoards.{IsLocalOnBoard, IsLocalBoard, IsRightBoard};
+ghost use Rattle.race_model.specs.RightBoards.{IsRightBoard};
+ghost use Rattle.race_model.specs.BoardEquations.{IsLocalOnBoard, IsLocalBoard};
 ghost use Rattle.least_plays.specs.Known.{Knows};
 ghost use Rattle.board_records.specs.Lower.{board_mean};
 ghost use Rattle.board_check.specs.Faults.{IsFirst, IsFirstFaultAt, of_record_at};
 
-use crate::fault::{BoardFault, RecordFault};
+use crate::fault::{BoardFault, RecordFault, of_refused};
 use crate::numbers::{check_numbers, plays_in};
-use crate::plays::check_plays;
 use board_layout::{BoardHeader, BoardPlace, BoardRecord, parse_board_header};
 use board_records::LowerRecords;
-use least_plays::{LeastPlays, ROWS_TO_90};
+use least_plays::{LeastPlays, ROWS_TO_90, check_plays};
 use race_model::laws;
 use ranking::Ranks;
 
@@ -115,8 +115,8 @@ fn check_record(
     let position = ranks.unrank(rank).unwrap();
     let best = plays.advance(ranks, &position, lower);
     let recorded = plays_in(stored);
-    if let Err(fault) = check_plays(lower, ranks, &position, &recorded, &best) {
-        return Err(fault);
+    if let Err(refused) = check_plays(lower, ranks, &position, &recorded, &best) {
+        return Err(of_refused(refused));
     }
     match check_numbers(lower, stored, &position, &recorded) {
         Ok(()) => Ok(()),

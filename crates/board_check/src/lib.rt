@@ -13,4 +13,3 @@ pub use fault::{BoardFault, RecordFault};
 pub mod checker;
 pub mod fault;
 mod numbers;
-mod plays;

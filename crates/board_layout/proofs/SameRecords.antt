@@ -3,17 +3,19 @@
 use Rattle.std.proofs.Common.{◌≡◌, ⊎_elim, ℕ, zero, suc, ◌+◌, ◌*◌, ◌^◌, ◌<◌, ◌≤◌, List, take, ap}
 use Rattle.std.proofs.Common.{sym, subst, ◌∙◌, arith}
 use Rattle.race_model.specs.Positions.{Board, IsPosition, pips}
-use Rattle.race_model.specs.Dice.{Throw, IsRoll, all_rolls, weight, roll_index}
+use Rattle.race_model.specs.Dice.{Throw, IsRoll, all_rolls, weight, roll_index, weighted}
 use Rattle.race_model.specs.Plays.{Legal}
 use Rattle.race_model.specs.Ranks.{rank, at_rank}
-use Rattle.race_model.specs.LocalEquations.{weighted}
-use Rattle.race_model.specs.Books.{play_in, recorded_in, IsPlayedIn, IsBestIn, HasMeanIn}
+use Rattle.race_model.specs.Books.{play_in, recorded_in, IsPlayedIn}
+use Rattle.race_model.specs.LocalEquations.{IsBestIn, HasMeanIn}
 use Rattle.race_model.specs.Endings.{HasCountIn}
 use Rattle.race_model.specs.BestPlays.{IsBestPlay}
 use Rattle.race_model.specs.BoardFiles.{value_of_parts, board_length, board_place, board_record}
 use Rattle.race_model.specs.BoardFiles.{mean_parts, board_play_of, count_parts, told_count, count_at}
 use Rattle.race_model.specs.BoardFiles.{board_book}
-use Rattle.race_model.specs.RightBoards.{IsWritten, IsLocalOnBoard}
+use Rattle.race_model.specs.RightBoards.{IsWritten}
+use Rattle.race_model.specs.BoardEquations.{IsLocalOnBoard}
+use Rattle.race_model.proofs.Books.Boards.{counts_of_local, local_of_counts}
 use Rattle.race_model.proofs.Numbers.Sums.{sum_by-equal}
 use Rattle.race_model.proofs.Dice.Throws.{by_rolls}
 use Rattle.race_model.proofs.Plays.Results.{finished_or_not, legal_finished}
@@ -70,13 +72,9 @@ module _ (f g : List ℕ) (c : ℕ) (same : (r : ℕ) → r < c → board_record
     -- the equations of a position
     pub local-agree : (x : Board) → IsPosition x → rank x < c → IsLocalOnBoard f x →
         IsLocalOnBoard g x
-    local-agree x at under here = record {
-      written = written;
-      played = played;
-      best = best;
-      mean_is = mean_is;
-      counts = counts;
-    }
+    local-agree x at under here =
+        local_of_counts g x written (record { played = played; best = best; mean_is = mean_is })
+        counts
       where
         bytes : board_record f (rank x) ≡ board_record g (rank x)
         bytes = same (rank x) under
@@ -88,7 +86,7 @@ module _ (f g : List ℕ) (c : ℕ) (same : (r : ℕ) → r < c → board_record
         lower =
             by_rolls (λ i v. board_play_of (board_record f (rank x)) i < c) (λ i v e. e)
             (λ v is.
-            let to = here.played v is in
+            let to = here.equations.means.played v is in
             let le = legal_no_higher x v (recorded_in (board_book f) x v) at to.legal in
             omega (arith, to.ranked, le, under))
 
@@ -120,23 +118,26 @@ module _ (f g : List ℕ) (c : ℕ) (same : (r : ℕ) → r < c → board_record
 
         played : (v : Throw) → IsRoll v → IsPlayedIn (board_book g) x v
         played v is = record {
-          ranked = subst (λ r. rank (at_rank r) ≡ r) (play v) (here.played v is).ranked;
-          legal = subst (λ r. Legal x v (at_rank r)) (play v) (here.played v is).legal;
+          ranked = subst (λ r. rank (at_rank r) ≡ r) (play v)
+              (here.equations.means.played v is).ranked;
+          legal = subst (λ r. Legal x v (at_rank r)) (play v)
+              (here.equations.means.played v is).legal;
         }
 
         best : (v : Throw) → IsRoll v → IsBestIn (board_book g) x v
         best v is z legal =
-            let le = here.best v is z legal in
+            let le = here.equations.means.best v is z legal in
             let there =
             mean_of-agree (rank z) (omega (arith, under, legal_no_higher x v z at legal)) in
             omega (arith, le, mean v, there)
 
         mean_is : HasMeanIn (board_book g) x
         mean_is = record {
-          at_end = λ none. sym (mean_of-agree (rank x) under) ∙ here.mean_is.at_end none;
+          at_end = λ none. sym (mean_of-agree (rank x) under)
+              ∙ here.equations.means.mean_is.at_end none;
           before = λ unfinished.
               ap (λ n. 36 * n) (sym (mean_of-agree (rank x) under))
-              ∙ here.mean_is.before unfinished
+              ∙ here.equations.means.mean_is.before unfinished
               ∙ ap (λ n. 36 * 36 ^ 33 + n)
               (weigh (λ v. (board_book f).means (play_in (board_book f) x v))
               (λ v. (board_book g).means (play_in (board_book g) x v)) mean);
@@ -144,14 +145,16 @@ module _ (f g : List ℕ) (c : ℕ) (same : (r : ℕ) → r < c → board_record
 
         counts : (k : ℕ) → k ≤ 33 → HasCountIn (board_book g) (count_at g) x k
         counts zero le = (
-          λ none. sym (count_at-agree (rank x) 0 under) ∙ (here.counts 0 le).0 none,
-          λ unfinished. sym (count_at-agree (rank x) 0 under) ∙ (here.counts 0 le).1 unfinished,
+          λ none. sym (count_at-agree (rank x) 0 under) ∙ (counts_of_local f x here 0 le).0 none,
+          λ unfinished. sym (count_at-agree (rank x) 0 under)
+              ∙ (counts_of_local f x here 0 le).1 unfinished,
         )
         counts (suc k) le = (
-          λ none. sym (count_at-agree (rank x) (suc k) under) ∙ (here.counts (suc k) le).0 none,
+          λ none. sym (count_at-agree (rank x) (suc k) under)
+              ∙ (counts_of_local f x here (suc k) le).0 none,
           λ unfinished.
               sym (count_at-agree (rank x) (suc k) under)
-              ∙ (here.counts (suc k) le).1 unfinished
+              ∙ (counts_of_local f x here (suc k) le).1 unfinished
               ∙ weigh (λ v. count_at f (play_in (board_book f) x v) k)
               (λ v. count_at g (play_in (board_book g) x v) k) (count k),
         )

@@ -11,8 +11,9 @@ use Rattle.race_model.specs.Replies.{fraction_text}
 use Rattle.race_model.specs.Positions.{Board, finished}
 use Rattle.race_model.specs.Dice.{Throw}
 use Rattle.race_model.specs.BoardFiles.{board_book}
-use Rattle.race_model.specs.BookReplies.{IsSharePartOver, IsDistReplyOver, IsChoicePartOver}
-use Rattle.race_model.specs.BookReplies.{loss_in, IsMoveListIn, IsMovesReplyIn}
+use Rattle.race_model.specs.Replies.{IsSharePartOver, IsDistReplyOver, IsChoicePartOver}
+use Rattle.race_model.specs.Losses.{loss_in, IsMoveListIn}
+use Rattle.race_model.specs.Replies.{IsMovesReplyIn}
 use Rattle.fixed_fraction.specs.Board.{board_whole}
 use Rattle.board.specs.Choices.{result_of}
 use Rattle.board.specs.declared.lists.BoardChoice.{BoardChoice}

@@ -1,7 +1,7 @@
 -- The positions of one pip count by a board file. Source: this project's profile.
 use Rattle.std.specs.Prelude.{◌≡◌, ℕ, List}
 use Rattle.race_model.specs.Levels.{level_count}
-use Rattle.race_model.specs.BookLevels.{IsLevelIn}
+use Rattle.race_model.specs.Levels.{IsLevelIn}
 use Rattle.race_model.specs.BoardFiles.{board_book}
 use Rattle.board_query.specs.declared.levels.BoardLevel.{BoardLevel}
 

@@ -1,7 +1,7 @@
 -- The text of a list of results with their losses. Source: this project's profile.
 use Rattle.std.specs.Prelude.{◌≡◌, ℕ, ◌<◌, List, [], ◌++◌, length, slice_index_or, codes}
 use Rattle.std.specs.List.{concat}
-use Rattle.race_model.specs.BookReplies.{IsChoicePartOver}
+use Rattle.race_model.specs.Replies.{IsChoicePartOver}
 use Rattle.fixed_fraction.specs.Board.{board_whole}
 use Rattle.board.specs.declared.lists.BoardChoice.{BoardChoice}
 

@@ -5,7 +5,7 @@ ghost use Rattle.race_model.specs.Positions.{pips};
 ghost use Rattle.race_model.specs.Plays.{Legal};
 ghost use Rattle.race_model.specs.Files.{bound_of};
 ghost use Rattle.race_model.specs.Queries.{mean_query, dist_query, play_query, loss_query, moves_query};
-ghost use Rattle.race_model.specs.BookReplies.{IsAnswerIn, IsReplyIn};
+ghost use Rattle.race_model.specs.Replies.{IsAnswerIn, IsReplyIn};
 ghost use Rattle.race_model.specs.BoardFiles.{board_book};
 ghost use Rattle.epc_query.specs.Readings.{asked};
 ghost use Rattle.epc_query.specs.Faults.{IsAnswerable};

@@ -3,9 +3,9 @@ ghost use Rattle.std.specs.Prelude.{◌≡◌, ℕ, ◌+◌, ◌-◌, ◌*◌, �
 ghost use Rattle.std.specs.Prelude.{length, decimal, codes, slice_index};
 ghost use Rattle.arrayvec.specs.ArrayString.{array_string_len};
 ghost use Rattle.race_model.specs.Replies.{fraction_text, thousandths_text};
-ghost use Rattle.race_model.specs.BookReplies.{IsShareTextOver, IsMeanReplyOver};
-ghost use Rattle.race_model.specs.BookReplies.{IsSharePartOver, IsDistReplyOver, IsChoicePartOver};
-ghost use Rattle.race_model.specs.BookLevels.{IsLevelLineIn};
+ghost use Rattle.race_model.specs.Replies.{IsShareTextOver, IsMeanReplyOver};
+ghost use Rattle.race_model.specs.Replies.{IsSharePartOver, IsDistReplyOver, IsChoicePartOver};
+ghost use Rattle.race_model.specs.Levels.{IsLevelLineIn};
 ghost use Rattle.race_model.specs.BoardFiles.{board_book};
 ghost use Rattle.fixed_fraction.specs.Board.{board_whole};
 ghost use Rattle.board_query.specs.Lists.{IsListText};
@@ -15,7 +15,9 @@ use crate::levels::BoardLevel;
 use arrayvec::ArrayString;
 use board::BoardChoice;
 use epc_query::{push_last_digits, push_position};
-use fixed_fraction::{BoardMean, LongCount, Wide, WideFraction, board_mean_and_epc, board_share};
+use fixed_fraction::{
+    BoardMean, LongCount, Wide, WideFraction, board_mean_and_epc, board_mean_fraction, board_share,
+};
 use itoa::Buffer;
 
 /// Room for the text of any reply: a list of 127 results has at most 16,642 bytes.
@@ -138,7 +140,7 @@ fn push_rolls(text: &mut BoardText, rolls: BoardMean)
         × (text.new.bytes ≡ text.old.bytes ++ fraction) }
     ensures len { array_string_len text.new ≤ array_string_len text.old + 117 }
 {
-    push_fraction(text, board_mean_and_epc(rolls).0);
+    push_fraction(text, board_mean_fraction(rolls));
 }
 
 /// Adds a result and its loss, as they stand in a list of moves after what is before them.

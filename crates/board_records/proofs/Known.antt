@@ -1,8 +1,10 @@
 -- What is known of the records of lower rank, where they meet their equations.
 use Rattle.std.proofs.Common.{◌≡◌, ℕ, zero, suc, cond, eq-eqb, ne_eqb, ◌+◌, ◌-◌, ◌*◌, ◌^◌, ◌<◌, ◌≤◌, List, length}
 use Rattle.std.proofs.Common.{take, drop, take-take, w64, refl, subst, sym, ap, ap₂, ◌∙◌, arith}
+use Rattle.std.specs.Prelude.{Option, None, Some, IsSome, IfSome}
+use Rattle.std.specs.Option.{unwrap_or}
 use Rattle.std.specs.Int.{w128, from_be_bytes}
-use Rattle.std.proofs.lemmas.Bool.{le-leb, lt-leb}
+use Rattle.std.proofs.lemmas.Bool.{false≢true, le-leb, lt-leb}
 use Rattle.std.proofs.lemmas.List.{drop-drop, drop-take}
 use Rattle.race_model.specs.Positions.{Board, IsPosition, pips}
 use Rattle.race_model.specs.Ranks.{rank, at_rank}
@@ -10,7 +12,8 @@ use Rattle.race_model.specs.Files.{bytes_at}
 use Rattle.race_model.specs.Horizon.{most_rolls}
 use Rattle.race_model.specs.BoardFiles.{board_book, board_length, board_place, board_record}
 use Rattle.race_model.specs.BoardFiles.{count_place, mean_parts, count_parts, count_at, value_of_parts}
-use Rattle.race_model.specs.RightBoards.{IsLocalOnBoard}
+use Rattle.race_model.specs.BoardEquations.{IsLocalOnBoard}
+use Rattle.race_model.proofs.Books.Boards.{counts_of_local}
 use Rattle.race_model.proofs.Ranks.PositionTotals.{rank-at_rank}
 use Rattle.race_model.proofs.Ranks.RankOrder.{at_rank_position, pips-range}
 use Rattle.race_model.proofs.Strategies.Horizons.{ends_in_33, most_rolls-board}
@@ -19,6 +22,12 @@ use Rattle.board_layout.proofs.BoardPlaces.{board_place-rises}
 use Rattle.board_layout.proofs.Prefixes.{count-short}
 use Rattle.board_records.specs.Lower.{AreLocalTo, AreRecords, IsPlaced, board_mean}
 use Rattle.board_records.specs.declared.lower.RankedPlace.{RankedPlace}
+
+-- what holds of something where there is one holds of what is taken in its place
+pub of_some : {T : Type 0} (P : T → Type 0) (found : Option T) (other : T) → IsSome found →
+    IfSome found P → P (unwrap_or found other)
+of_some P (Some x) other some held = held
+of_some P None other some held = absurd (false≢true some)
 
 -- bytes among bytes
 pub bytes_at-inner : (f : List ℕ) (a n b m : ℕ) → b + m ≤ n →
@@ -37,7 +46,11 @@ module _ (f : List ℕ) (n : ℕ) (few : n ≤ 54264) (local : AreLocalTo f n) w
   pub meets-below : (y : Board) → IsPosition y → rank y < n → MeetsTo (board_book f) (count_at f) y
   meets-below y at under z is le =
       let here = local z is (omega arith) in
-      record { played = here.played; mean_is = here.mean_is; counts_are = here.counts }
+      record {
+        played = here.equations.means.played;
+        mean_is = here.equations.means.mean_is;
+        counts_are = counts_of_local f z here;
+      }
 
   -- the position of a rank
   module _ (r : ℕ) (lt : r < n) where

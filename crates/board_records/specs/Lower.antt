@@ -6,7 +6,7 @@ use Rattle.race_model.specs.Plays.{Legal}
 use Rattle.race_model.specs.Ranks.{rank, at_rank}
 use Rattle.race_model.specs.Horizon.{most_rolls}
 use Rattle.race_model.specs.BoardFiles.{board_place, board_record, mean_parts, value_of_parts}
-use Rattle.race_model.specs.RightBoards.{IsLocalOnBoard}
+use Rattle.race_model.specs.BoardEquations.{IsLocalOnBoard}
 use Rattle.board_records.specs.declared.lower.RankedPlace.{RankedPlace}
 
 -- bytes that begin as a board file does, and how many of its records they hold

@@ -25,7 +25,8 @@ pub struct RankedPlace {
 }
 
 /// The records of the lowest ranks of a board file, which meet their equations, and where each
-/// begins. Nothing is copied.
+/// begins. Nothing is copied, so each number is read anew. Where it is none any more, since another
+/// thread changes the bytes all the same, zero stands for it: no call may end the program then.
 #[derive(Drop)]
 pub struct LowerRecords<'a> {
     bytes: &'a [u8],
@@ -118,7 +119,7 @@ impl<'a> LowerRecords<'a> {
         let offset = self.offsets[usize::from(rank)] as usize;
         let upper = read_wide(self.bytes, offset);
         let lower = read_long(self.bytes, offset + 16);
-        BoardMean::new(upper, lower).unwrap()
+        BoardMean::new(upper, lower).unwrap_or(BoardMean::ZERO)
     }
 
     /// Where the records of the ranks of 21 plays stand.

@@ -1,8 +1,7 @@
 //! The mean and the counts of a position, by the records that its plays lead to.
 ghost use Rattle.std.specs.Prelude.{◌≡◌, ℕ, ◌+◌, ◌*◌, ◌^◌, ◌<◌, ◌≤◌, List, slice_index};
 ghost use Rattle.race_model.specs.Positions.{IsPosition, IsFinished};
-ghost use Rattle.race_model.specs.Dice.{roll_index};
-ghost use Rattle.race_model.specs.LocalEquations.{weighted};
+ghost use Rattle.race_model.specs.Dice.{roll_index, weighted};
 ghost use Rattle.race_model.specs.BoardFiles.{count_at, count_place};
 ghost use Rattle.board_records.specs.Lower.{AreBelow, AreResults, ArePlaced, IsPlaced, board_mean};
 
@@ -22,7 +21,7 @@ pub fn mean_of(lower: &LowerRecords<'_>, position: &Position, plays: &[u16; 21])
         + weighted (λ v. board_mean lower.now.bytes (slice_index plays.now (roll_index v))) }
 {
     let _count = lower.count();
-    sum_of_means(lower, plays).mean().unwrap()
+    sum_of_means(lower, plays).mean().unwrap_or(BoardMean::ZERO)
 }
 
 /// The sum of the means of what 21 plays lead to.
@@ -65,7 +64,11 @@ pub fn count_of(lower: &LowerRecords<'_>, places: &[RankedPlace; 21], k: u8) -> 
         let sums = sums_of_middle(lower, places, k);
         return carried(sums.upper, sums.lower);
     }
-    parts_of_long(sum_of_long(lower, places, k).count().unwrap())
+    parts_of_long(
+        sum_of_long(lower, places, k)
+            .count()
+            .unwrap_or(LongCount::NONE),
+    )
 }
 
 /// A number in two parts, the lower one less than 36 ^ 11.
@@ -217,5 +220,5 @@ fn long(lower: &LowerRecords<'_>, placed: &RankedPlace, k: u8, place: usize) -> 
         return LongCount::NONE;
     }
     let upper = lower.wide(placed, place);
-    LongCount::new(k, upper, lower.word(placed, place + 16)).unwrap()
+    LongCount::new(k, upper, lower.word(placed, place + 16)).unwrap_or(LongCount::NONE)
 }

@@ -40,7 +40,7 @@ module _ (f : List ℕ) (local : IsLocal f) (x : Board) (at : IsPosition x)
     (low : pips x ≤ bound_of f) where
   -- what is recorded of it is right
   pub accepted-right : IsRightAt f x
-  accepted-right = (right_of_local f local).at_each x at low
+  accepted-right = (right_of_local f local).book x at low
 
   -- positions of no higher rank meet the equations
   accepted-lower : (z : Board) → IsPosition z → rank z ≤ rank x → IsLocalAt f z

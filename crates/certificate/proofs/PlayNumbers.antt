@@ -3,12 +3,12 @@ use Rattle.std.proofs.Common.{◌≡◌, ⊎_elim, ℕ, zero, suc, ◌+◌, ◌*
 use Rattle.std.proofs.Common.{get_or, sum, sym, ap, subst, ◌∙◌, arith}
 use Rattle.std.proofs.lemmas.Bool.{cases_lt}
 use Rattle.race_model.specs.Positions.{Board, IsPosition, IsFinished, checkers, pips}
-use Rattle.race_model.specs.Dice.{Throw, roll_at}
+use Rattle.race_model.specs.Dice.{Throw, roll_at, weighted}
 use Rattle.race_model.specs.Ranks.{rank}
 use Rattle.race_model.specs.Files.{record_at, mean_at, play, spread, spread_at}
 use Rattle.race_model.specs.Horizon.{most_rolls}
 use Rattle.race_model.specs.Strategies.{EndsIn}
-use Rattle.race_model.specs.LocalEquations.{recorded, whole, weighted, IsPlayed, IsLocalAt}
+use Rattle.race_model.specs.LocalEquations.{recorded, whole, IsPlayed, IsLocalAt}
 use Rattle.race_model.proofs.Plays.Results.{legal_position, legal_pips}
 use Rattle.race_model.proofs.Strategies.Horizons.{ends_in_22, ends_in_most}
 use Rattle.race_model.proofs.RightFiles.Bounded.{recorded_lower, mean_at_most}

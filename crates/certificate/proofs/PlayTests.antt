@@ -1,56 +1,39 @@
--- What is known of the recorded play of a throw from the best of its results.
-use Rattle.std.proofs.Common.{◌≡◌, ℕ, ◌<◌, ◌≤◌, List, sym, ap, subst, arith}
-use Rattle.race_model.specs.Positions.{Board, IsPosition}
-use Rattle.race_model.specs.Dice.{Throw}
+-- What the tests of the plays tell of a file: what they tell of its book.
+use Rattle.std.proofs.Common.{◌≡◌, ℕ, ◌<◌, List}
+use Rattle.race_model.specs.Positions.{Board, IsPosition, IsFinished}
+use Rattle.race_model.specs.Dice.{Throw, roll_at}
 use Rattle.race_model.specs.Plays.{Legal}
-use Rattle.race_model.specs.Ranks.{rank, at_rank}
+use Rattle.race_model.specs.Ranks.{rank}
 use Rattle.race_model.specs.Files.{mean_at, play}
 use Rattle.race_model.specs.LocalEquations.{IsPlayed, IsBest}
-use Rattle.race_model.specs.BestPlays.{IsBestPlay}
-use Rattle.race_model.proofs.Plays.Results.{legal_position}
-use Rattle.race_model.proofs.Ranks.RankOrder.{at_rank-rank}
-use Rattle.certificate.specs.PlayFaults.{IsResult}
+use Rattle.race_model.specs.Books.{IsPlayedIn}
+use Rattle.race_model.specs.Files.{book_of}
+use Rattle.least_plays.specs.Recorded.{IsLeastPlay, IsFirstRefused, IsFirstRefusedIn}
+use Rattle.least_plays.specs.declared.recorded.RefusedPlay.{RefusedPlay}
+use Rattle.least_plays.proofs.RecordedPlays.{held, first-in_book}
 
-module _ (x : Board) (v : Throw) where
-  -- the rank of a result is the rank of one
-  pub result-of_legal : (p : ℕ) → IsPosition x →
-      (y : Board) × (Legal x v y) × (rank y ≡ p) → IsResult x v p
-  result-of_legal p is some =
-      let y = some.0 in
-      let there : at_rank p ≡ y =
-      subst (λ r. at_rank r ≡ y) some.2 (at_rank-rank y (legal_position x v y is some.1)) in
-      (subst (Legal x v) (sym there) some.1, subst (λ z. rank z ≡ p) (sym there) some.2)
+-- the play equation of a file is that of its book
+pub played-in_file : (f : List ℕ) (x : Board) (v : Throw) → IsPlayedIn (book_of f) x v →
+    IsPlayed f x v
+played-in_file f x v played = record { ranked = played.ranked; legal = played.legal }
 
-  -- what holds of the ranks of all results holds of such a number
-  pub rank-of_result : (P : ℕ → Type 0) → ((y : Board) → Legal x v y → P (rank y)) → (p : ℕ) →
-      IsResult x v p → P p
-  rank-of_result P each p is = subst P is.1 (each (at_rank p) is.0)
+pub played-in_book : (f : List ℕ) (x : Board) (v : Throw) → IsPlayed f x v →
+    IsPlayedIn (book_of f) x v
+played-in_book f x v played = record { ranked = played.ranked; legal = played.legal }
 
-  module _ (f : List ℕ) (p : ℕ) (read : p ≡ play f x v) where
-    -- a recorded number that is the rank of a result is a play
-    pub is_played : IsResult x v p → IsPlayed f x v
-    is_played is =
-        let there = subst (IsResult x v) read is in
-        record { ranked = there.1; legal = there.0 }
+module _ (f : List ℕ) (x : Board) (at : IsPosition x) (mean plays : ℕ → ℕ)
+    (agree : ¬ IsFinished x → (v : Throw) (z : Board) → Legal x v z →
+    mean (rank z) ≡ mean_at f (rank z))
+    (read : (i : ℕ) → i < 21 → plays i ≡ play f x (roll_at i)) where
+  -- plays that are least by the means that are kept
+  pub held-in_file : ((i : ℕ) → i < 21 → IsLeastPlay mean x (roll_at i) (plays i)) → (i : ℕ) →
+      i < 21 → IsPlayed f x (roll_at i) × IsBest f x (roll_at i)
+  held-in_file least i lt =
+      let here = held x at (roll_at i) (book_of f) mean (λ unfinished. agree unfinished (roll_at i))
+      (plays i) (read i lt) (least i lt) in
+      (played-in_file f x (roll_at i) here.0, here.1)
 
-    -- .. and another one is none
-    pub not_played : ¬ IsResult x v p → ¬ IsPlayed f x v
-    not_played none = λ played.
-        none (subst (IsResult x v) (sym read) (played.legal, played.ranked))
-
-    module _ (best : ℕ) (known : IsBestPlay (mean_at f) x v best) where
-      -- where the best result has a smaller mean, the least equation fails
-      pub not_best : mean_at f best < mean_at f p → ¬ IsBest f x v
-      not_best less = λ all.
-          let y = known.reached in
-          let low = all y.0 y.1 in
-          let same = ap (mean_at f) read in
-          let there = ap (mean_at f) y.2 in
-          omega arith
-
-      -- .. and else it holds
-      pub is_best : mean_at f p ≤ mean_at f best → IsBest f x v
-      is_best within = λ z legal.
-          let low = known.least z legal in
-          let same = ap (mean_at f) read in
-          omega arith
+  -- .. and the first that isn't
+  pub first-in_file : (refused : RefusedPlay) → IsFirstRefused mean plays x refused →
+      IsFirstRefusedIn (book_of f) x refused
+  first-in_file = first-in_book x at (book_of f) mean agree plays read

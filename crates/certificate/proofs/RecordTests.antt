@@ -17,10 +17,13 @@ use Rattle.fixed_fraction.specs.Totals.{Totals}
 use Rattle.certificate.specs.RecordNumbers.{IsMeanOf, IsShareOf, AreSumsOf, HasNumbers}
 use Rattle.certificate.proofs.Accepted.{mean-of_lent, share-of_lent}
 use Rattle.certificate.proofs.NumberTests.{mean-holds, mean-tested, share-holds, share-tested}
-use Rattle.certificate.specs.PlayFaults.{FirstOfPlays}
+use Rattle.race_model.specs.Files.{book_of}
+use Rattle.least_plays.specs.Recorded.{IsRefusedIn, IsFirstRefusedIn}
+use Rattle.least_plays.specs.declared.recorded.RefusedPlay.{RefusedPlay}
+use Rattle.least_plays.specs.declared.recorded.PlayFault.{PlayFault}
+use Rattle.least_plays.specs.declared.recorded.PlayFault.TheVariants.{NotLegal, NotLeast as NotLeastPlay}
+use Rattle.certificate.proofs.PlayTests.{played-in_file, played-in_book}
 use Rattle.certificate.specs.RecordFaults.{IsFirstInRecord, IsFirstFaultAt, IsNumberFault, of_record}
-use Rattle.certificate.specs.declared.plays.PlayFault.{PlayFault}
-use Rattle.certificate.specs.declared.plays.PlayFault.TheVariants.{NotLegal, NotLeast as NotLeastPlay, Read as ReadPlay}
 use Rattle.certificate.specs.declared.record_check.RecordFault.{RecordFault}
 use Rattle.certificate.specs.declared.record_check.RecordFault.TheVariants.{Play, NotLeast, Mean, Spread, Read}
 
@@ -41,60 +44,52 @@ module _ (bound r : ℕ) (lt : r < count_to bound) where
   record-below y is low = (rank_bound y bound is).1 (omega (arith, low, position-low))
 
 module _ (f : List ℕ) (r : ℕ) (lt : r < count_to (bound_of f)) where
-  -- a fault of the plays is the first of the record
-  pub first-play : (roll : ℕ) → FirstOfPlays f (at_rank r) roll NotLegal
-      → IsFirstInRecord f r (play_test r roll)
-  first-play roll first =
-      record {
-        of_rank = refl;
-        is_asked = (lt, first.is_roll);
-        fails = first.applies;
-        earlier =
-            earlier;
-      }
+  -- a refused play is the first fault of the record
+  pub first-refused : (refused : RefusedPlay) → IsFirstRefusedIn (book_of f) (at_rank r) refused
+      → IsFirstFaultAt f r (of_record refused.roll refused.fault)
+  first-refused refused first = by refused.fault first.applies
     where
-      earlier : (u : Test) → rank_of u ≡ r → place_of u < 2 * roll → Asks f u → Holds f u
-      earlier (play_test q i) same before asks =
-          subst (λ q. IsPlayed f (at_rank q) (roll_at i)) (sym same)
-          (first.earlier i (omega arith)).0
-      earlier (least_test q i) same before asks =
+      before : (i : ℕ) → i < refused.roll → IsPlayed f (at_rank r) (roll_at i)
+      before i less = played-in_file f (at_rank r) (roll_at i) (first.earlier i less).0
+
+      to_least : (u : Test) → rank_of u ≡ r → place_of u < 2 * refused.roll → Asks f u → Holds f u
+      to_least (play_test q i) same less asks =
+          subst (λ q. IsPlayed f (at_rank q) (roll_at i)) (sym same) (before i (omega arith))
+      to_least (least_test q i) same less asks =
           subst (λ q. IsBest f (at_rank q) (roll_at i)) (sym same)
           (first.earlier i (omega arith)).1
-      earlier (mean_test q) same before asks = absurd (omega (arith, first.is_roll))
-      earlier (spread_test q k) same before asks = absurd (omega (arith, first.is_roll))
+      to_least (mean_test q) same less asks = absurd (omega (arith, first.is_roll))
+      to_least (spread_test q k) same less asks = absurd (omega (arith, first.is_roll))
 
-  pub first-least : (roll : ℕ) → FirstOfPlays f (at_rank r) roll NotLeastPlay
-      → IsFirstInRecord f r (least_test r roll)
-  first-least roll first =
-      record {
-        of_rank = refl;
-        is_asked = (lt, first.is_roll);
-        fails = first.applies.1;
-        earlier =
-            earlier;
-      }
-    where
-      earlier : (u : Test) → rank_of u ≡ r → place_of u < 2 * roll + 1 → Asks f u → Holds f u
-      earlier (play_test q i) same before asks =
+      and_played : IsPlayed f (at_rank r) (roll_at refused.roll) → (u : Test) → rank_of u ≡ r →
+          place_of u < 2 * refused.roll + 1 → Asks f u → Holds f u
+      and_played here (play_test q i) same less asks =
           subst (λ q. IsPlayed f (at_rank q) (roll_at i)) (sym same)
           (⊎_elim
-          (λ less. (first.earlier i less).0)
+          (λ under. before i under)
           (λ more.
-          let is : i ≡ roll = omega arith in
-          subst (λ i. IsPlayed f (at_rank r) (roll_at i)) (sym is) first.applies.0)
-          (cases_lt i roll))
-      earlier (least_test q i) same before asks =
-          subst (λ q. IsBest f (at_rank q) (roll_at i)) (sym same)
-          (first.earlier i (omega arith)).1
-      earlier (mean_test q) same before asks = absurd (omega (arith, first.is_roll))
-      earlier (spread_test q k) same before asks = absurd (omega (arith, first.is_roll))
+          let is : i ≡ refused.roll = omega arith in
+          subst (λ i. IsPlayed f (at_rank r) (roll_at i)) (sym is) here)
+          (cases_lt i refused.roll))
+      and_played here (least_test q i) same less asks =
+          to_least (least_test q i) same (omega arith) asks
+      and_played here (mean_test q) same less asks = absurd (omega (arith, first.is_roll))
+      and_played here (spread_test q k) same less asks = absurd (omega (arith, first.is_roll))
 
-  -- a refused play is the first fault of the record
-  pub first-refused : (roll : ℕ) (fault : PlayFault) → FirstOfPlays f (at_rank r) roll fault
-      → IsFirstFaultAt f r (of_record roll fault)
-  first-refused roll NotLegal first = first-play roll first
-  first-refused roll NotLeastPlay first = first-least roll first
-  first-refused roll ReadPlay first = tt
+      by : (fault : PlayFault) → IsRefusedIn (book_of f) (at_rank r) (roll_at refused.roll) fault →
+          IsFirstFaultAt f r (of_record refused.roll fault)
+      by NotLegal none = record {
+        of_rank = refl;
+        is_asked = (lt, first.is_roll);
+        fails = λ played. none (played-in_book f (at_rank r) (roll_at refused.roll) played);
+        earlier = to_least;
+      }
+      by NotLeastPlay some = record {
+        of_rank = refl;
+        is_asked = (lt, first.is_roll);
+        fails = some.1;
+        earlier = and_played (played-in_file f (at_rank r) (roll_at refused.roll) some.0);
+      }
 
   -- where all plays hold ..
   module _ (held : (i : ℕ) → i < 21

@@ -2,8 +2,7 @@
 use Rattle.std.proofs.Common.{◌≡◌, ⊎_elim, ℕ, ◌+◌, ◌*◌, ◌%◌, ◌^◌, ◌<◌, ◌≤◌, List, [], ◌∷◌}
 use Rattle.std.proofs.Common.{get_or, ap, ◌∙◌, arith}
 use Rattle.std.proofs.lemmas.Bool.{cases_lt}
-use Rattle.race_model.specs.Dice.{Throw, all_rolls, roll_at}
-use Rattle.race_model.specs.LocalEquations.{weighted}
+use Rattle.race_model.specs.Dice.{Throw, all_rolls, roll_at, weighted}
 use Rattle.fixed_fraction.specs.Totals.{Totals}
 use Rattle.certificate.specs.Sevens.{of_seven, AreSharesAdded, AreSevenAdded}
 

@@ -1,4 +1,3 @@
-pub mod PlayFaults
 pub mod RecordNumbers
 pub mod RecordFaults
 pub mod CheckFaults

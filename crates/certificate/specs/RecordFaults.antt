@@ -6,8 +6,8 @@ use Rattle.race_model.specs.FirstFault.{Test, play_test, least_test, mean_test, 
 use Rattle.race_model.specs.FirstFault.{rank_of, place_of, Holds, Asks}
 use Rattle.fixed_fraction.specs.Totals.{Totals}
 use Rattle.certificate.specs.RecordNumbers.{IsMeanOf, IsFirstWrong}
-use Rattle.certificate.specs.declared.plays.PlayFault.{PlayFault}
-use Rattle.certificate.specs.declared.plays.PlayFault.TheVariants.{NotLegal, NotLeast as NotLeastPlay, Read as ReadPlay}
+use Rattle.least_plays.specs.declared.recorded.PlayFault.{PlayFault}
+use Rattle.least_plays.specs.declared.recorded.PlayFault.TheVariants.{NotLegal, NotLeast as NotLeastPlay}
 use Rattle.certificate.specs.declared.record_check.RecordFault.{RecordFault}
 use Rattle.certificate.specs.declared.record_check.RecordFault.TheVariants.{Play, NotLeast, Mean, Spread, Read}
 
@@ -30,7 +30,6 @@ IsFirstFaultAt f rank Read = Unit {0}
 abbrev pub of_record : ℕ → PlayFault → RecordFault
 of_record roll NotLegal = Play roll
 of_record roll NotLeastPlay = NotLeast roll
-of_record roll ReadPlay = Read
 
 -- the fault is the first of the numbers in the bytes of a record, by these sums
 abbrev pub IsNumberFault : Board → List ℕ → Totals → RecordFault → Type 0

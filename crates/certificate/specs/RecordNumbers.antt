@@ -3,9 +3,9 @@
 use Rattle.std.specs.Prelude.{◌≡◌, ℕ, zero, suc, ◌+◌, ◌*◌, ◌<◌, ◌≤◌, List, map, slice_index}
 use Rattle.std.specs.List.{range_with_len}
 use Rattle.race_model.specs.Positions.{Board, IsFinished}
-use Rattle.race_model.specs.Dice.{Throw}
+use Rattle.race_model.specs.Dice.{Throw, weighted}
 use Rattle.race_model.specs.Files.{mean_of, play_of, share_of, mean_at, spread_at, play}
-use Rattle.race_model.specs.LocalEquations.{whole, weighted}
+use Rattle.race_model.specs.LocalEquations.{whole}
 use Rattle.fixed_fraction.specs.Totals.{Totals}
 
 -- the plays of the rolls 0 to 20 in the bytes of a record

@@ -14,7 +14,6 @@ mod equations;
 mod kept;
 mod lines;
 mod numbers;
-mod plays;
 mod query_fault;
 mod record_check;
 mod record_sums;

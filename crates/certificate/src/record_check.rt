@@ -12,7 +12,6 @@ ghost use Rattle.least_plays.specs.Known.{HasRows};
 ghost use Rattle.db_reader.specs.Telling.{WhereTold};
 ghost use Rattle.db_reader.specs.TableStays.{TableStays};
 ghost use Rattle.db_reader.specs.Reads.{HasHeader, HasRecord};
-ghost use Rattle.certificate.specs.PlayFaults.{FirstOfPlays};
 ghost use Rattle.certificate.specs.KeptMeans.{HasRoom};
 ghost use Rattle.certificate.specs.LowerRecords.{IsLower};
 ghost use Rattle.certificate.specs.RecordNumbers.{AreSumsOf};
@@ -23,51 +22,47 @@ ghost use Rattle.certificate.specs.RecordFaults.{IsFirstFaultAt, of_record};
 use crate::equations::check_numbers;
 use crate::kept::LowerRecords;
 use crate::numbers::plays_in;
-use crate::plays::{PlayFault, check_recorded};
 use crate::record_sums::RecordSums;
 use db_layout::{Header, RecordView, most_rolls};
 use db_reader::{ReadFault, Record, Table};
 use home_board::Position;
+use least_plays::{PlayFault, RefusedPlay, check_plays};
 use race_model::laws;
 use ranking::Ranks;
-
-/// A play that is refused: the index of its roll, and why.
-#[derive(Clone, Copy, Debug, PartialEq, Eq)]
-struct RefusedPlay {
-    roll: u8,
-    fault: PlayFault,
-}
-
-impl RefusedPlay {
-    /// The same as a fault of the record.
-    fn of_record(self) -> RecordFault
-        ensures { result ≡ of_record self.roll self.fault }
-    {
-        match self.fault {
-            PlayFault::NotLegal => RecordFault::Play { roll: self.roll },
-            PlayFault::NotLeast => RecordFault::NotLeast { roll: self.roll },
-            PlayFault::Read => RecordFault::Read,
-        }
-    }
-}
+use thiserror::Error;
 
 /// The first fault of a record.
-#[derive(Clone, Copy, Debug, PartialEq, Eq)]
+#[derive(Clone, Copy, Debug, PartialEq, Eq, Error)]
 pub enum RecordFault {
     /// What is recorded for this roll, by its index, is no legal result.
+    #[error("roll {roll}: no legal play")]
     Play { roll: u8 },
 
     /// A legal result of this roll has a smaller mean than the recorded one.
+    #[error("roll {roll}: not the least mean")]
     NotLeast { roll: u8 },
 
     /// The mean is not the expected one.
+    #[error("the mean")]
     Mean,
 
     /// The share of exactly `k` rolls is not the expected one.
+    #[error("{k} rolls: the share")]
     Spread { k: u8 },
 
     /// A record could not be read.
+    #[error("a record could not be read")]
     Read,
+}
+
+/// A refused play as a fault of the record.
+fn of_record(refused: RefusedPlay) -> RecordFault
+    ensures { result ≡ of_record refused.roll refused.fault }
+{
+    match refused.fault {
+        PlayFault::NotLegal => RecordFault::Play { roll: refused.roll },
+        PlayFault::NotLeast => RecordFault::NotLeast { roll: refused.roll },
+    }
 }
 
 /// A position of at most 58 pips whose record is tested, and the numbers of rolls at which a play
@@ -98,46 +93,6 @@ impl<'a> Subject<'a> {
             end,
         }
     }
-}
-
-/// Whether what is recorded for each of the 21 rolls is the rank of a result with the least
-/// recorded mean: else the first that isn't.
-fn check_plays<T: Table>(
-    table: &mut T,
-    ranks: &Ranks,
-    position: &Position,
-    best: &[u16; 21],
-    recorded: &[u16; 21],
-    room: &mut Record,
-) -> Result<(), RefusedPlay>
-    requires recorded { WhereTold (T.tells table.old) (λ file. (i : ℕ) → i < 21 →
-        slice_index recorded.now i ≡ play file position.now (roll_at i)) }
-    requires records { (y : Board) → IsPosition y → pips y ≤ pips position.now →
-        HasRecord (T.accepted table.old) (rank_of y) }
-    requires position { IsPosition position.now }
-    requires results { (i : ℕ) → i < 21 →
-        (y : Board) × (Legal position.now (roll_at i) y) × (rank_of y ≡ slice_index best.now i) }
-    requires best { WhereTold (T.tells table.old) (λ file. (i : ℕ) → i < 21 →
-        IsBestPlay (mean_at file) position.now (roll_at i) (slice_index best.now i)) }
-    ensures others { (bytes : List ℕ) (other : ℕ) →
-        T.ready table.old bytes other → T.ready table.new bytes other }
-    ensures have { OnOk result ((i : ℕ) → i < 21 →
-        HasRecord (T.accepted table.old) (slice_index recorded.now i)) }
-    ensures right { WhereTold (T.tells table.old) (λ file. OnOk result ((i : ℕ) → i < 21 →
-        IsPlayed file position.now (roll_at i) × IsBest file position.now (roll_at i))) }
-    ensures fault { WhereTold (T.tells table.old) (λ file. IfErr result
-        (λ refused. FirstOfPlays file position.now refused.roll refused.fault)) }
-    ensures stays { TableStays ⟦<T as Table>⟧ table.old table.new
-        (IsErrAnd result (λ refused. refused.fault ≡ PlayFault.Read)) }
-{
-    for index in 0..21 {
-        let place = usize::from(index);
-        let (recorded, best) = (recorded[place], best[place]);
-        if let Err(fault) = check_recorded(table, ranks, position, index, recorded, best, room) {
-            return Err(RefusedPlay { roll: index, fault });
-        }
-    }
-    Ok(())
 }
 
 /// Makes the records of seven ranks ready to be lent, each with a room of its own.
@@ -294,8 +249,8 @@ pub fn check_record<T: Table, const ROOM: usize, const ROWS: usize>(
     let position = ranks.unrank(rank).unwrap();
     let best = lower.best_plays(ranks, &position);
     let recorded = plays_in(&table.lend(rank, own));
-    if let Err(refused) = check_plays(table, ranks, &position, &best, &recorded, &mut rooms[0]) {
-        return Err(refused.of_record());
+    if let Err(refused) = check_plays(&lower.means, ranks, &position, &recorded, &best) {
+        return Err(of_record(refused));
     }
     let sums = match sum_plays(table, &position, &recorded, rooms) {
         Ok(sums) => sums,

@@ -1,6 +1,6 @@
 -- What is known of the positions before the next rank: nothing at first, one position more after
 -- each, and by means that agree on lower ranks the same.
-use Rattle.std.proofs.Common.{◌≡◌, ◌≢◌, ⊎_elim, ℕ, zero, suc, ◌+◌, ◌-◌, ◌%◌, ◌<◌, ◌≤◌, List, []}
+use Rattle.std.proofs.Common.{◌≡◌, ◌≢◌, ⊎_elim, ℕ, zero, suc, ◌+◌, ◌-◌, ◌%◌, ◌<◌, List, []}
 use Rattle.std.proofs.Common.{◌∷◌, length, replicate, get_or, set, sym, ap, subst, ◌∙◌, arith}
 use Rattle.std.proofs.Common.{get_or-set_other, get_or-set_same}
 use Rattle.std.specs.Prelude.{slice_index, slice_index_or}

@@ -2,3 +2,4 @@ pub mod Best
 pub mod StepRanks
 pub mod Rolls
 pub mod Knowing
+pub mod RecordedPlays

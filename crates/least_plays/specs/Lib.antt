@@ -1,3 +1,4 @@
 pub mod Choices
 pub mod Steps
 pub mod Known
+pub mod Recorded

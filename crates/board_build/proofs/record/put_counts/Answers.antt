@@ -1,7 +1,6 @@
 use Rattle.std.proofs.Common.{◌+◌, ap, ◌∙◌, arith}
 use Rattle.std.specs.Prelude.{slice_index}
-use Rattle.race_model.specs.Dice.{roll_index}
-use Rattle.race_model.specs.LocalEquations.{weighted}
+use Rattle.race_model.specs.Dice.{roll_index, weighted}
 use Rattle.race_model.specs.BoardFiles.{count_place, count_at}
 use Rattle.race_model.proofs.Strategies.Horizons.{most_rolls-board}
 use Rattle.board_layout.proofs.Prefixes.{keeps_twice}

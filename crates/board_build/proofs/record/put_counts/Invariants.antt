@@ -1,7 +1,6 @@
 use Rattle.std.proofs.Common.{◌≡◌, ℕ, suc, ◌^◌, ◌<◌, ◌≤◌}
 use Rattle.std.specs.Prelude.{slice_index}
-use Rattle.race_model.specs.Dice.{roll_index}
-use Rattle.race_model.specs.LocalEquations.{weighted}
+use Rattle.race_model.specs.Dice.{roll_index, weighted}
 use Rattle.race_model.specs.BoardFiles.{value_of_parts, count_parts, count_at}
 use Rattle.board_layout.specs.Stored.{KeepsBefore}
 use Rattle.board_build.proofs.Counts.{ranks_of}

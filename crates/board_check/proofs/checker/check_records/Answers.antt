@@ -8,7 +8,7 @@ use Rattle.race_model.specs.Ranks.{at_rank, count_to}
 use Rattle.race_model.specs.Files.{bound_of}
 use Rattle.race_model.specs.Headers.{exact_length}
 use Rattle.race_model.specs.BoardFiles.{board_place, board_length}
-use Rattle.race_model.specs.RightBoards.{IsLocalOnBoard}
+use Rattle.race_model.specs.BoardEquations.{IsLocalOnBoard}
 use Rattle.race_model.proofs.Numbers.Members.{set_next}
 use Rattle.race_model.proofs.Ranks.PositionTotals.{count_to-most}
 use Rattle.board_layout.proofs.BoardPlaces.{board_place-most, board_place-rises}

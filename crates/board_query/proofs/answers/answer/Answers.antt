@@ -1,6 +1,6 @@
 use Rattle.std.proofs.Common.{refl, ap, subst, ◌++◌, ◌∷◌, []}
 use Rattle.race_model.specs.Queries.{bad_line, too_many, no_query, of_too_many, IsRefused, IsAccepted}
-use Rattle.race_model.specs.BookReplies.{answered_in, refused_in}
+use Rattle.race_model.specs.Replies.{answered, refused}
 use Rattle.epc_query.specs.Readings.{asked}
 use Rattle.epc_query.specs.Texts.{why}
 use Rattle.epc_query.proofs.Stops.{accepted_query}
@@ -11,7 +11,7 @@ returns-in-None-clause-reply c =
     let line = c.args.line.now in
     let query = asked c.in-Ok.query in
     let reading = c.in-Ok.ensures {u = tt} in
-    answered_in query c.put_answer.new.text.bytes
+    answered query c.put_answer.new.text.bytes
     (subst (λ n. IsAccepted n line query) c.bound.ensures.bound
     (accepted_query c.bound.result line query reading.0 reading.1 (c.in-None.ensures {u = tt})))
     c.put_answer.ensures.answer refl
@@ -20,7 +20,7 @@ pub returns-in-Some-clause-reply : goal.returns-in-Some-clause-reply
 returns-in-Some-clause-reply c =
     let line = c.args.line.now in
     let reading = c.in-Ok.ensures {u = tt} in
-    refused_in (why c.in-Some.refusal)
+    refused (why c.in-Some.refusal)
     (subst (λ n. IsRefused n line (why c.in-Some.refusal)) c.bound.ensures.bound
     ((c.in-Some.ensures {u = tt}) line reading.0 reading.1))
     (ap (λ t. t ++ 10 ∷ []) c.put_refusal.ensures.text)
@@ -28,11 +28,11 @@ returns-in-Some-clause-reply c =
 pub returns-in-Err-BadLine-clause-reply : goal.returns-in-Err-BadLine-clause-reply
 returns-in-Err-BadLine-clause-reply c =
     let reading = rw c.in-Err-BadLine.field-0-is at (c.in-Err-BadLine.ensures {u = tt}) in
-    refused_in bad_line (no_query reading)
+    refused bad_line (no_query reading)
     (ap (λ t. t ++ 10 ∷ []) c.put_refusal-in-Err-BadLine.ensures.text)
 
 pub returns-in-Err-TooMany-clause-reply : goal.returns-in-Err-TooMany-clause-reply
 returns-in-Err-TooMany-clause-reply c =
     let reading = rw c.in-Err-TooMany.field-0-is at (c.in-Err-TooMany.ensures {u = tt}) in
-    refused_in too_many (of_too_many reading.0 reading.1 reading.2)
+    refused too_many (of_too_many reading.0 reading.1 reading.2)
     (ap (λ t. t ++ 10 ∷ []) c.put_refusal-in-Err-TooMany.ensures.text)

@@ -1,7 +1,7 @@
 use Rattle.std.proofs.Common.{◌≡◌, ℕ, ◌*◌, ◌-◌, ◌^◌, ◌++◌, List, get_or, slice_index, length, codes, sym, ap}
 use Rattle.std.proofs.Common.{subst, ◌∙◌, arith}
 use Rattle.std.proofs.lemmas.List.{get_or_default}
-use Rattle.race_model.specs.BookReplies.{IsSharePartOver}
+use Rattle.race_model.specs.Replies.{IsSharePartOver}
 use Rattle.fixed_fraction.specs.Board.{board_whole}
 use Rattle.board_query.proofs.Parts.{AreParts, no_parts, one_more_part, dist_of}
 use Rattle.board_query.proofs.text.put_board_dist.Goals as goal

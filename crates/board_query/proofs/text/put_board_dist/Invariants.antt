@@ -1,7 +1,7 @@
 use Rattle.std.proofs.Common.{◌+◌, ◌*◌, ◌-◌, ◌^◌, ◌≤◌, codes}
 use Rattle.std.specs.Prelude.{slice_index}
 use Rattle.arrayvec.specs.ArrayString.{array_string_len}
-use Rattle.race_model.specs.BookReplies.{IsSharePartOver}
+use Rattle.race_model.specs.Replies.{IsSharePartOver}
 use Rattle.fixed_fraction.specs.Board.{board_whole}
 use Rattle.board_query.proofs.Parts.{AreParts}
 use Rattle.board_query.proofs.text.put_board_dist.Given as goal

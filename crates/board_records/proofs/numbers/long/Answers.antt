@@ -1,5 +1,6 @@
 -- What a record tells is written, and at most all sequences.
 use Rattle.std.proofs.Common.{◌≡◌, ◌+◌, ◌*◌, ◌^◌, ◌<◌, ◌≤◌, ap, ap₂, subst, sym, ◌∙◌, arith}
+use Rattle.std.specs.Prelude.{IsSome}
 use Rattle.std.specs.Int.{w64, w128, from_be_bytes}
 use Rattle.race_model.specs.Positions.{pips}
 use Rattle.race_model.specs.Ranks.{at_rank}
@@ -7,7 +8,7 @@ use Rattle.race_model.specs.Files.{bytes_at}
 use Rattle.race_model.specs.Horizon.{most_rolls}
 use Rattle.race_model.specs.BoardFiles.{Parts, board_record, count_at, count_parts, value_of_parts}
 use Rattle.board_layout.proofs.Prefixes.{count-long}
-use Rattle.board_records.proofs.Known.{count-most, count-written, told-beyond, told-within}
+use Rattle.board_records.proofs.Known.{count-most, count-written, of_some, told-beyond, told-within}
 use Rattle.board_records.proofs.numbers.long.Goals.{After-new}
 use Rattle.board_records.proofs.numbers.long.Goals as goal
 
@@ -46,12 +47,12 @@ module _ (c : After-new) where
       c.args.placed.now.rank c.requires.placed.below c.args.k
       (omega (arith, c.requires.many)) within)
 
-pub unwrap-requires : goal.unwrap-requires
-unwrap-requires c =
-    let known = c.count-count.ensures in
-    let most = count-most c.args.lower.now.bytes c.args.lower.now.count known.few known.local
-    c.args.placed.now.rank c.requires.placed.below c.args.k (omega (arith, c.requires.few)) in
-    c.new.ensures.some.1 (small c, omega (arith, most, count_is c))
+  is_count : IsSome c.new.result
+  is_count =
+      let known = c.count-count.ensures in
+      let most = count-most c.args.lower.now.bytes c.args.lower.now.count known.few known.local
+      c.args.placed.now.rank c.requires.placed.below c.args.k (omega (arith, c.requires.few)) in
+      c.new.ensures.some.1 (small, omega (arith, most, count_is))
 
 pub returns-then-k-placed : goal.returns-then-k-placed
 returns-then-k-placed c =
@@ -60,4 +61,8 @@ returns-then-k-placed c =
 
 pub returns : goal.returns
 returns c =
-    (rw c.unwrap.ensures at c.new.ensures.value) ∙ sym (count_is (goal.at.returns c).After-new)
+    let now = (goal.at.returns c).After-new in
+    c.unwrap_or.ensures
+    ∙ of_some (λ count. count ≡ c.wide-upper.result * 36 ^ 11 + c.word.result) c.new.result 0
+    (is_count now) c.new.ensures.value
+    ∙ sym (count_is now)

@@ -1,27 +1,30 @@
 -- The tests of the record of one rank, from its plays to its shares.
-use Rattle.std.proofs.Common.{◌≡◌, ◌↔◌, refl, Err, ℕ, ◌+◌, ◌<◌, ◌≤◌, List, Some, slice_index, sym, ap}
+use Rattle.std.proofs.Common.{◌≡◌, ℕ, ◌+◌, ◌<◌, ◌≤◌, List, Some, slice_index, sym, ap}
 use Rattle.std.proofs.Common.{subst, ◌∙◌, arith, rules}
-use Rattle.race_model.specs.Positions.{Board, IsPosition, pips}
+use Rattle.race_model.specs.Positions.{Board, IsPosition, IsFinished, pips}
 use Rattle.race_model.specs.Ranks.{rank, count_to, at_rank}
-use Rattle.race_model.specs.Dice.{roll_at}
-use Rattle.race_model.specs.LocalEquations.{IsLocalAt}
+use Rattle.race_model.specs.Dice.{Throw, roll_at}
+use Rattle.race_model.specs.Plays.{Legal}
+use Rattle.race_model.specs.BestPlays.{IsBestPlay}
+use Rattle.race_model.specs.LocalEquations.{IsPlayed, IsBest, IsLocalAt}
 use Rattle.race_model.specs.Files.{bound_of, record_at, mean_of, mean_at, play_of, play}
 use Rattle.race_model.proofs.Dice.Throws.{roll_of_index}
-use Rattle.race_model.proofs.Plays.Results.{legal_position}
+use Rattle.race_model.proofs.Plays.Results.{legal_position, legal_pips}
 use Rattle.race_model.proofs.Plays.Spent.{legal_takes}
 use Rattle.race_model.proofs.Ranks.RankOrder.{rank_bound}
-use Rattle.race_model.proofs.Ranks.BestPlays.{legal_lower, play-agree_reached}
+use Rattle.race_model.proofs.Ranks.BestPlays.{legal_lower}
 use Rattle.race_model.proofs.RightFiles.Right.{bound_of-most}
-use Rattle.certificate.specs.PlayFaults.{FirstOfPlays}
-use Rattle.certificate.specs.declared.plays.PlayFault.{PlayFault}
-use Rattle.certificate.specs.declared.plays.PlayFault.TheVariants.{NotLegal, NotLeast, Read}
+use Rattle.race_model.specs.Files.{book_of}
+use Rattle.least_plays.specs.Recorded.{IsLeastPlay, IsFirstRefusedIn}
+use Rattle.least_plays.specs.declared.recorded.PlayFault.{PlayFault}
+use Rattle.least_plays.specs.declared.recorded.PlayFault.TheVariants.{NotLegal, NotLeast}
 use Rattle.certificate.specs.declared.record_check.RecordFault.{RecordFault}
 use Rattle.certificate.specs.declared.record_check.RecordFault.TheVariants.{Read as ReadRecord}
 use Rattle.db_layout.proofs.Bounds.{bound-most}
 use Rattle.least_plays.specs.Known.{HasRows, Knows}
 use Rattle.db_reader.specs.TableStays.{TableStays}
 use Rattle.db_reader.specs.Reads.{HasRecord}
-use Rattle.db_reader.proofs.Failures.{rose_then, rose_as, table_as, table_more, err-same}
+use Rattle.db_reader.proofs.Failures.{rose_as, table_as, table_more, err-same}
 use Rattle.std.proofs.lemmas.Bool.{false≢true}
 use Rattle.certificate.specs.KeptMeans.{kept_mean}
 use Rattle.fixed_fraction.specs.Totals.{Totals}
@@ -30,6 +33,7 @@ use Rattle.certificate.specs.RecordFaults.{IsFirstFaultAt, IsNumberFault, of_rec
 use Rattle.certificate.proofs.Accepted.{play-of_lent}
 use Rattle.certificate.proofs.RecordBytes.{mean-of_record, get_or-plays_of}
 use Rattle.certificate.proofs.KeptMeans.{accepted-mean_more}
+use Rattle.certificate.proofs.PlayTests.{held-in_file, first-in_file}
 use Rattle.certificate.proofs.RecordTests.{IsSummed, first-refused, first-wrong, right-numbers}
 use Rattle.certificate.proofs.record_check.check_record.Given.{Over}
 use Rattle.certificate.proofs.record_check.check_record.Goals.{After-lend-view, After-unwrap-position}
@@ -88,43 +92,80 @@ recorded_at g c file told i lt =
     ∙ play-of_lent file bytes c.unwrap-position.result c.args.rank (c.lend.ensures file told)
     (sym ranked) (roll_at i)))
 
-pub check_plays-requires-clause-recorded : goal.check_plays-requires-clause-recorded
-check_plays-requires-clause-recorded g c =
-    recorded_at g (goal.at.check_plays-requires-clause-recorded g c).After-plays_in-recorded
+-- the means that are kept are recorded of all that a roll leads to
+kept-is : (g : Over) (c : After-plays_in-recorded g) (file : List ℕ)
+    → g.T.Table.tells c.args.table.now ≡ Some file → ¬ IsFinished c.unwrap-position.result
+    → (v : Throw) (z : Board) → Legal c.unwrap-position.result v z
+    → kept_mean g.row.ROOM c.best_plays-best.new.self.means (rank z) ≡ mean_at file (rank z)
+kept-is g c file told unfinished v z legal =
+    let x = c.unwrap-position.result in
+    let ranked = rw c.unwrap-position.ensures at c.unrank.ensures.ranked in
+    let at = rw c.unwrap-position.ensures at c.unrank.ensures.position in
+    let there = legal_position x v z at legal in
+    let below = legal_lower x v z at unfinished legal in
+    let taken = (rank_bound x (pips z + 24) at).1 (legal_takes x v z legal) in
+    let near = c.requires.near z there (omega (arith, ranked)) in
+    ap (λ means. kept_mean g.row.ROOM means (rank z)) c.best_plays-best.ensures.means
+    ∙ c.requires.kept.means_are file told (rank z) (omega (arith, ranked)) (omega arith)
+
+-- what the tests of the plays tell of the file
+plays-hold : (g : Over) (c : After-plays_in-recorded g) (file : List ℕ)
+    → g.T.Table.tells c.args.table.now ≡ Some file
+    → ((i : ℕ) → i < 21 → IsLeastPlay (kept_mean g.row.ROOM c.best_plays-best.new.self.means)
+    c.unwrap-position.result (roll_at i) (slice_index c.plays_in-recorded.result i))
+    → (i : ℕ) → i < 21 → IsPlayed file c.unwrap-position.result (roll_at i)
+    × IsBest file c.unwrap-position.result (roll_at i)
+plays-hold g c file told =
+    held-in_file file c.unwrap-position.result
+    (rw c.unwrap-position.ensures at c.unrank.ensures.position)
+    (kept_mean g.row.ROOM c.best_plays-best.new.self.means)
+    (slice_index c.plays_in-recorded.result) (kept-is g c file told)
+    (recorded_at g c file ((c.in_default.ensures {u = tt}).stays ∙ told))
+
+pub check_plays-requires-clause-next : goal.check_plays-requires-clause-next
+check_plays-requires-clause-next g c =
+    let here = (goal.at.check_plays-requires-clause-next g c).After-unwrap-position in
+    omega (arith, ranked g here, c.requires.rank, c.requires.room)
+
+pub check_plays-requires-clause-best : goal.check_plays-requires-clause-best
+check_plays-requires-clause-best g c i lt =
+    subst
+    (λ means. IsBestPlay (kept_mean g.row.ROOM means) c.unwrap-position.result (roll_at i)
+    (slice_index c.best_plays-best.result i))
+    (sym c.best_plays-best.ensures.means) (c.best_plays-best.ensures.best i lt)
 
 pub sum_plays-requires-clause-recorded : goal.sum_plays-requires-clause-recorded
 sum_plays-requires-clause-recorded g c file told =
-    recorded_at g (goal.at.sum_plays-requires-clause-recorded g c).After-plays_in-recorded file
-    (sym (c.in_default-check_plays.ensures {u = tt}).stays.told ∙ told)
+    recorded_at g (goal.at.sum_plays-requires-clause-recorded g c).After-plays_in-recorded file told
 
 pub sum_plays-requires-clause-played : goal.sum_plays-requires-clause-played
 sum_plays-requires-clause-played g c file told i lt =
-    let fine = c.in_default-check_plays.ensures {u = tt} in
-    (fine.right file (sym fine.stays.told ∙ told) i lt).0
+    (plays-hold g (goal.at.sum_plays-requires-clause-played g c).After-plays_in-recorded file
+    (sym (c.in_default.ensures {u = tt}).stays ∙ told)
+    (c.in_default-check_plays.ensures {u = tt}).least i lt).0
 
-pub check_plays-requires-clause-records : goal.check_plays-requires-clause-records
-check_plays-requires-clause-records g c y is fewer =
-    let here = (goal.at.check_plays-requires-clause-records g c).After-unwrap-position in
-    let under = (rank_bound y c.args.header.bound is).1 (omega (arith, fewer, low g here)) in
-    subst (λ accepted. HasRecord accepted (rank y))
+-- a rank that is played has a record
+pub sum_plays-requires-clause-have : goal.sum_plays-requires-clause-have
+sum_plays-requires-clause-have g c i lt =
+    let here = (goal.at.sum_plays-requires-clause-have g c).After-unwrap-position in
+    let is = ((c.in_default-check_plays.ensures {u = tt}).least i lt).result in
+    let r = slice_index c.plays_in-recorded.result i in
+    let y = legal_position c.unwrap-position.result (roll_at i) (at_rank r) (at g here) is.0 in
+    let fewer = legal_pips c.unwrap-position.result (roll_at i) (at_rank r) is.0 in
+    let under = (rank_bound (at_rank r) c.args.header.bound y).1 (omega (arith, fewer, low g here)) in
+    subst (λ accepted. HasRecord accepted r)
     (sym ((c.in_default.ensures {u = tt}).accepted ∙ c.requires.header))
-    (omega (arith, c.args.header.counted, under))
+    (omega (arith, c.args.header.counted, under, is.1))
 
 pub sum_plays-requires-clause-lower : goal.sum_plays-requires-clause-lower
 sum_plays-requires-clause-lower g c file told =
     let here = (goal.at.sum_plays-requires-clause-lower g c).After-unwrap-position in
     subst (λ r. (z : Board) → IsPosition z → rank z < r → IsLocalAt file z) (sym (ranked g here))
-    (c.requires.lower file (sym (c.in_default.ensures {u = tt}).stays
-    ∙ (sym (c.in_default-check_plays.ensures {u = tt}).stays.told ∙ told)))
-
--- the fault of a play is a failed read exactly where it is one as a fault of the record
-play-read : (roll : ℕ) (fault : PlayFault) → (of_record roll fault ≡ ReadRecord) ↔ (fault ≡ Read)
-play-read roll NotLegal = (λ e. cc, λ e. cc)
-play-read roll NotLeast = (λ e. cc, λ e. cc)
-play-read roll Read = (λ _. refl, λ _. refl)
+    (c.requires.lower file (sym (c.in_default.ensures {u = tt}).stays ∙ told))
 
 pub returns-in-Err-check_plays-clause-first : goal.returns-in-Err-check_plays-clause-first
 returns-in-Err-check_plays-clause-first g c file told =
+    let here = (goal.at.returns-in-Err-check_plays-clause-first g c).After-plays_in-recorded in
     let same = rw c.unwrap-position.ensures at c.unrank.ensures.value in
     let whole = c.requires.file file told in
     let lt : c.args.rank < count_to (bound_of file) =
@@ -135,26 +176,33 @@ returns-in-Err-check_plays-clause-first g c file told =
       count,
     ) in
     let refused = c.in-Err-check_plays.refused in
-    let first = (c.in-Err-check_plays.ensures {u = tt}).fault file
-    ((c.in_default.ensures {u = tt}).stays ∙ told) in
+    let first =
+    first-in_file file c.unwrap-position.result
+    (rw c.unwrap-position.ensures at c.unrank.ensures.position)
+    (kept_mean g.row.ROOM c.best_plays-best.new.self.means)
+    (slice_index c.plays_in-recorded.result) (kept-is g here file told)
+    (recorded_at g here file ((c.in_default.ensures {u = tt}).stays ∙ told)) refused
+    (c.in-Err-check_plays.ensures {u = tt}).fault in
     subst (IsFirstFaultAt file c.args.rank) (sym c.of_record.ensures)
-    (first-refused file c.args.rank lt refused.roll refused.fault
-    (subst (λ (x : Board). FirstOfPlays file x refused.roll refused.fault) same first))
+    (first-refused file c.args.rank lt refused
+    (subst (λ (x : Board). IsFirstRefusedIn (book_of file) x refused) same first))
+
+-- a refused play is no failed read
+play-unread : (roll : ℕ) (fault : PlayFault) → of_record roll fault ≡ ReadRecord → ⊥
+play-unread roll NotLegal e = cc
+play-unread roll NotLeast e = cc
 
 pub returns-in-Err-check_plays-clause-stays : goal.returns-in-Err-check_plays-clause-stays
 returns-in-Err-check_plays-clause-stays g c =
     let loaded = c.in_default.ensures {u = tt} in
     let refused = c.in-Err-check_plays.refused in
-    let same = play-read refused.roll refused.fault in
-    let said = c.in-Err-check_plays.ensures {u = tt} in
-    let summed = table_as said.stays
-    (λ e. same.0 (sym c.of_record.ensures ∙ err-same e))
-    (λ e. ap Err (c.of_record.ensures ∙ same.1 e)) in
     record {
-      told = summed.told ∙ loaded.stays;
-      accepted = summed.accepted ∙ loaded.accepted;
-      cause = λ file told. rose_then (loaded.cause file told) (λ is. search rules)
-          (summed.cause file (loaded.stays ∙ told));
+      told = loaded.stays;
+      accepted = loaded.accepted;
+      cause = λ file told. rose_as (loaded.cause file told)
+          (λ e. absurd (play-unread refused.roll refused.fault
+          (sym c.of_record.ensures ∙ err-same e)))
+          (λ no. absurd (false≢true no));
     }
 
 -- what is known when the numbers of the record are tested, where the bytes are told
@@ -174,19 +222,18 @@ module _ (g : Over) (c : After-lend-view g) (file : List ℕ)
   lent : c.lend-view.result ≡ record_at file c.args.rank
   lent =
       c.lend-view.ensures file
-      ((c.in-Ok.ensures {u = tt}).stays.told
-      ∙ ((c.in_default-check_plays.ensures {u = tt}).stays.told
-      ∙ ((c.in_default.ensures {u = tt}).stays ∙ told)))
+      ((c.in-Ok.ensures {u = tt}).stays.told ∙ ((c.in_default.ensures {u = tt}).stays ∙ told))
 
   -- its plays hold, and the sums are theirs
-  summed : IsSummed file (at_rank c.args.rank) c.in-Ok.sums
-  summed =
+  summed : ((i : ℕ) → i < 21 → IsPlayed file c.unwrap-position.result (roll_at i)
+      × IsBest file c.unwrap-position.result (roll_at i)) → IsSummed file (at_rank c.args.rank)
+      c.in-Ok.sums
+  summed held =
       let now = (c.in_default.ensures {u = tt}).stays ∙ told in
-      let fine = c.in_default-check_plays.ensures {u = tt} in
       let here : IsSummed file c.unwrap-position.result c.in-Ok.sums =
       record {
-        held = fine.right file now;
-        are = (c.in-Ok.ensures {u = tt}).totals file (fine.stays.told ∙ now);
+        held = held;
+        are = (c.in-Ok.ensures {u = tt}).totals file now;
       } in
       subst (λ (x : Board). IsSummed file x c.in-Ok.sums) position-is here
 
@@ -200,8 +247,7 @@ unread g c =
       accepted = loaded.accepted;
       cause = λ file told. rose_as (loaded.cause file told) (λ no. absurd no) false≢true;
     } in
-    let second = table_more first (c.in_default-check_plays.ensures {u = tt}).stays (λ no. no) in
-    table_more second (c.in-Ok.ensures {u = tt}).stays (λ no. cc)
+    table_more first (c.in-Ok.ensures {u = tt}).stays (λ no. cc)
 
 -- a fault of the numbers is no failed read
 number-read : (x : Board) (bytes : List ℕ) (sums : Totals) (fault : RecordFault) →
@@ -222,7 +268,10 @@ returns-in-Err-check_numbers-clause-first g c file told =
     let fault = c.in-Err-check_numbers.fault in
     first-wrong file c.lend-view.result c.args.rank c.in-Ok.sums (below_count g at file told)
     (bound_of-most file (c.requires.file file told).file) (c.requires.lower file told)
-    (lent g at file told) (summed g at file told) fault
+    (lent g at file told)
+    (summed g at file told
+    (plays-hold g (goal.at.returns-in-Err-check_numbers-clause-first g c).After-plays_in-recorded
+    file told (c.in_default-check_plays.ensures {u = tt}).least)) fault
     (subst (λ (x : Board). IsNumberFault x c.lend-view.result c.in-Ok.sums fault)
     (position-is g at file told) (c.in-Err-check_numbers.ensures {u = tt}).fault)
 
@@ -236,30 +285,12 @@ returns-clause-local g c file told =
     let at = (goal.at.returns-clause-local g c).After-lend-view in
     right-numbers file c.lend-view.result c.args.rank c.in-Ok.sums (below_count g at file told)
     (bound_of-most file (c.requires.file file told).file) (c.requires.lower file told)
-    (lent g at file told) (summed g at file told)
+    (lent g at file told)
+    (summed g at file told
+    (plays-hold g (goal.at.returns-clause-local g c).After-plays_in-recorded file told
+    (c.in_default-check_plays.ensures {u = tt}).least))
     (subst (λ (x : Board). HasNumbers x c.lend-view.result c.in-Ok.sums)
     (position-is g at file told) (c.in_default-check_numbers.ensures {u = tt}).right)
-
-pub check_plays-requires-clause-results : goal.check_plays-requires-clause-results
-check_plays-requires-clause-results g c i lt =
-    let y = (c.best_plays-best.ensures.best i lt).reached in
-    (y.0, y.1, y.2)
-
-pub check_plays-requires-clause-best : goal.check_plays-requires-clause-best
-check_plays-requires-clause-best g c file told i lt =
-    let x = c.unwrap-position.result in
-    let ranked = rw c.unwrap-position.ensures at c.unrank.ensures.ranked in
-    let at = rw c.unwrap-position.ensures at c.unrank.ensures.position in
-    let now = sym (c.in_default.ensures {u = tt}).stays ∙ told in
-    play-agree_reached (kept_mean g.row.ROOM c.args.lower.now.means) (mean_at file) x (roll_at i)
-    (slice_index c.best_plays-best.result i)
-    (λ unfinished z legal.
-    let there = legal_position x (roll_at i) z at legal in
-    let below = legal_lower x (roll_at i) z at unfinished legal in
-    let taken = (rank_bound x (pips z + 24) at).1 (legal_takes x (roll_at i) z legal) in
-    let near = c.requires.near z there (omega (arith, ranked)) in
-    c.requires.kept.means_are file now (rank z) (omega (arith, ranked)) (omega arith))
-    (c.best_plays-best.ensures.best i lt)
 
 pub returns-clause-kept : goal.returns-clause-kept
 returns-clause-kept g c = record {
@@ -268,8 +299,7 @@ returns-clause-kept g c = record {
       let now = (c.in_default.ensures {u = tt}).stays ∙ told in
       let fine = c.in-Ok.ensures {u = tt} in
       let before = c.args.lower.now.means in
-      let read = c.mean.ensures ∙ (ap mean_of (c.lend-view.ensures file (fine.stays.told
-      ∙ ((c.in_default-check_plays.ensures {u = tt}).stays.told ∙ now)))
+      let read = c.mean.ensures ∙ (ap mean_of (c.lend-view.ensures file (fine.stays.told ∙ now))
       ∙ mean-of_record file c.args.rank) in
       accepted-mean_more file before c.accept.new.self.means g.row.ROOM c.args.rank
       (c.accept.ensures.mean ∙ read)

@@ -1,5 +1,5 @@
 use Rattle.std.proofs.Common.{◌≡◌, ◌+◌, refl, subst, arith}
-use Rattle.race_model.specs.BookReplies.{IsLossIn}
+use Rattle.race_model.specs.Losses.{IsLossIn}
 use Rattle.race_model.specs.BoardFiles.{board_book}
 use Rattle.std.proofs.lemmas.Option.{IfSome_then}
 use Rattle.board.proofs.whole_board.Board.lost.Goals as goal

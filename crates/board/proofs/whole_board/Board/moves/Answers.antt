@@ -3,7 +3,7 @@ use Rattle.std.proofs.Common.{◌∙◌, arith, take_all}
 use Rattle.std.proofs.lemmas.List.Elements.{All-contains_itself}
 use Rattle.race_model.specs.Positions.{Board}
 use Rattle.race_model.specs.Plays.{Legal}
-use Rattle.race_model.specs.BookReplies.{loss_in}
+use Rattle.race_model.specs.Losses.{loss_in}
 use Rattle.race_model.specs.BoardFiles.{board_book}
 use Rattle.legal_plays.specs.RankOrder.{IsInRankOrder}
 use Rattle.board.specs.Choices.{IsByLoss}

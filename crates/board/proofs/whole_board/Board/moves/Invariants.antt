@@ -1,5 +1,5 @@
 use Rattle.std.proofs.Common.{◌≡◌, length, take}
-use Rattle.race_model.specs.BookReplies.{loss_in}
+use Rattle.race_model.specs.Losses.{loss_in}
 use Rattle.race_model.specs.BoardFiles.{board_book}
 use Rattle.board.specs.Choices.{IsByLoss}
 use Rattle.board.proofs.LossOrder.{AreOf}

@@ -1,6 +1,6 @@
 use Rattle.std.proofs.Common.{◌≡◌, ◌++◌, [], ◌∷◌, subst, arith}
 use Rattle.race_model.specs.BoardFiles.{board_book}
-use Rattle.race_model.specs.BookReplies.{IsReplyIn}
+use Rattle.race_model.specs.Replies.{IsReplyIn}
 use Rattle.epc_query.specs.AnyFiles.{board_file}
 use Rattle.epc_query.proofs.Runs.{one_reply, one_part}
 use Rattle.board_query.proofs.lines.BoardLinesAnswers.write_answer.Goals as goal

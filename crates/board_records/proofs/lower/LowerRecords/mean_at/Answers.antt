@@ -1,11 +1,12 @@
 -- The mean stands at the front of the record.
-use Rattle.std.proofs.Common.{◌≡◌, ◌+◌, ◌<◌, ◌≤◌, length, slice_index, ap, ◌∙◌, arith}
+use Rattle.std.proofs.Common.{◌≡◌, ◌+◌, ◌*◌, ◌^◌, ◌<◌, ◌≤◌, length, slice_index, ap, ◌∙◌, arith}
+use Rattle.std.specs.Prelude.{IsSome}
 use Rattle.race_model.specs.Positions.{pips}
 use Rattle.race_model.specs.Ranks.{at_rank}
 use Rattle.race_model.specs.BoardFiles.{board_length, board_place, board_record, mean_parts}
 use Rattle.board_records.specs.Lower.{Lower, board_mean}
-use Rattle.board_records.proofs.Known.{mean-written, mean-most, mean-upper, mean-lower, record-inside}
-use Rattle.board_records.proofs.lower.LowerRecords.mean_at.Goals.{After-self, After-new, After-unwrap}
+use Rattle.board_records.proofs.Known.{mean-written, mean-most, mean-upper, mean-lower, record-inside, of_some}
+use Rattle.board_records.proofs.lower.LowerRecords.mean_at.Goals.{After-self, After-unwrap_or}
 use Rattle.board_records.proofs.lower.LowerRecords.mean_at.Goals as goal
 
 -- where the record of the rank stands
@@ -38,9 +39,9 @@ read_long-lower-requires c =
     omega (arith, begins here, inside here, long here)
 
 -- what was read is the mean of the record
-module _ (c : After-new) where
+module _ (c : After-unwrap_or) where
   abbrev here : After-self
-  here = (goal.at.unwrap-requires c).After-self
+  here = (goal.at.returns c).After-self
 
   upper_is : c.read_wide-upper.result
       ≡ (mean_parts (board_record c.self.inside.bytes.now c.args.rank)).upper
@@ -56,19 +57,20 @@ module _ (c : After-new) where
       ∙ mean-lower c.self.inside.bytes.now (slice_index c.self.inside.offsets.now c.from.result)
       c.args.rank (begins here)
 
-pub unwrap-requires : goal.unwrap-requires
-unwrap-requires c =
-    let known = c.self.invariant in
-    let written = mean-written c.self.inside.bytes.now (length c.self.inside.offsets.now)
-    known.few known.local c.args.rank (below (here c)) in
-    let most = mean-most c.self.inside.bytes.now (length c.self.inside.offsets.now)
-    known.few known.local c.args.rank (below (here c)) in
-    c.new.ensures.some.1
-    (omega (arith, written, lower_is c), omega (arith, most, lower_is c, upper_is c))
+  is_mean : IsSome c.new.result
+  is_mean =
+      let known = c.self.invariant in
+      let written = mean-written c.self.inside.bytes.now (length c.self.inside.offsets.now)
+      known.few known.local c.args.rank (below here) in
+      let most = mean-most c.self.inside.bytes.now (length c.self.inside.offsets.now)
+      known.few known.local c.args.rank (below here) in
+      c.new.ensures.some.1
+      (omega (arith, written, lower_is), omega (arith, most, lower_is, upper_is))
 
 pub returns : goal.returns
 returns c =
-    let now = (goal.at.returns c).After-new in
-    (rw c.unwrap.ensures at c.new.ensures.value)
-    ∙ omega (arith, upper_is now, lower_is now)
+    c.unwrap_or.ensures
+    ∙ of_some (λ mean. mean ≡ c.read_wide-upper.result * 36 ^ 11 + c.read_long-lower.result)
+    c.new.result 0 (is_mean c) c.new.ensures.value
+    ∙ omega (arith, upper_is c, lower_is c)
     ∙ ap (λ (l : Lower). board_mean l.bytes c.args.rank) c.self.view_is
