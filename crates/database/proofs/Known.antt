@@ -32,7 +32,7 @@ module _ (f : List ℕ) (right : IsRight f) (x : Board) (position : IsPosition x
 
   -- what is recorded of the position is right
   pub known_right : IsRightAt f x
-  known_right = right.at_each x position within
+  known_right = right.book x position within
 
   -- the recorded mean is the least
   pub known_least : IsLeast x (mean f x)

@@ -86,6 +86,7 @@ impl<'a> Database<'a> {
         ensures right { IsOk result ↔ IsRight bytes.now }
         ensures bytes { IfOk result (λ database. database ≡ bytes.now) }
         ensures fault { IfErr result (IsFirst bytes.now) }
+        ensures read { ¬ (result ≡ Err CheckFault.Read) }
     {
         let accepted = accept(bytes)?;
         Ok(Database::kept(bytes, accepted, ranks))

@@ -2,3 +2,4 @@ pub mod Telling
 pub mod Reads
 pub mod SourceStays
 pub mod TableStays
+pub mod Trials

@@ -13,6 +13,7 @@ pub use source::{Source, SourceFault};
 pub use table::{ReadFault, Table, TableFault};
 pub use whole::Whole;
 
+mod countdown;
 pub mod file_source;
 mod front;
 pub mod paged;

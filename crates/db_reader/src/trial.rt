@@ -1,43 +1,16 @@
 //! A source and a table for tests of what stands on a source or a table.
-ghost use Rattle.std.specs.Prelude.{◌≡◌, ℕ, ◌+◌, ◌<◌, ◌≤◌, None, true, false, if◌then◌else◌};
+ghost use Rattle.std.specs.Prelude.{◌≡◌, ℕ, ◌+◌, ◌-◌, ◌==◌, ◌<◌, ◌≤◌, None, true, false, if◌then◌else◌};
+ghost use Rattle.std.specs.Prelude.{Err, IsErr, IfOk, OnOk, List, length, take, drop};
+ghost use Rattle.db_reader.specs.Reads.{IsHeaderOf, accepted_by, HasRecord};
+ghost use Rattle.db_reader.specs.Telling.{WhereTold, RoseWhere};
+ghost use Rattle.db_reader.specs.declared.table.TableFault.{TableFault};
+ghost use Rattle.db_reader.specs.Trials.{IsCounted, source_calls, table_calls};
 
+use crate::countdown::Countdown;
 use crate::record::Record;
 use crate::source::{Source, SourceFault};
 use crate::table::{ReadFault, Table, TableFault};
 use db_layout::{Header, RecordView};
-
-/// Calls that are counted down to the one that fails.
-#[derive(Drop)]
-struct Countdown {
-    calls_left: u64,
-    has_failed: bool,
-    ghost later: { 0 < calls_left → has_failed ≡ false },
-}
-
-impl Countdown {
-    /// The `call`th call fails, counted from 1, and none where that is 0.
-    fn new(call: u64) -> Self
-        ensures { result.has_failed ≡ false }
-    {
-        Countdown {
-            calls_left: call,
-            has_failed: false,
-        }
-    }
-
-    /// Counts one call down, and tells whether it is the one that fails.
-    fn is_due(&mut self) -> bool
-        ensures due { (if self.new.has_failed then 1 else 0)
-            ≡ (if self.old.has_failed then 1 else 0) + (if result then 1 else 0) }
-    {
-        let is_due = self.calls_left == 1;
-        self.calls_left = self.calls_left.saturating_sub(1);
-        if is_due {
-            self.has_failed = true;
-        }
-        is_due
-    }
-}
 
 /// Another table, which fails once, at a certain call of `header` or `load`, and else answers as
 /// it does. It tells the bytes that the other table tells.
@@ -55,6 +28,7 @@ impl<T: Table> FailOnce<T> {
         ensures tells { ⟦<FailOnce<T> as Table>⟧.tells result ≡ T.tells table }
         ensures failures { ⟦<FailOnce<T> as Table>⟧.failures result ≡ T.failures table }
         ensures accepted { ⟦<FailOnce<T> as Table>⟧.accepted result ≡ T.accepted table }
+        ensures call { (table_calls result).calls_left ≡ call }
     {
         FailOnce {
             table,
@@ -84,7 +58,19 @@ impl<T: Table> Table for FailOnce<T> {
 
     ghost ready = { λ trial bytes rank. T.ready trial.table bytes rank };
 
-    fn header(&mut self) -> Result<Header, TableFault> {
+    fn header(&mut self) -> Result<Header, TableFault>
+        ensures stays { ⟦<FailOnce<T> as Table>⟧.tells self.new
+            ≡ ⟦<FailOnce<T> as Table>⟧.tells self.old }
+        ensures told { WhereTold (⟦<FailOnce<T> as Table>⟧.tells self.old)
+            (λ file. IsHeaderOf file result) }
+        ensures accepted { ⟦<FailOnce<T> as Table>⟧.accepted self.new ≡ accepted_by result }
+        ensures cause { WhereTold (⟦<FailOnce<T> as Table>⟧.tells self.old)
+            (λ _. RoseWhere (result ≡ Err TableFault.Read)
+            (⟦<FailOnce<T> as Table>⟧.failures self.old)
+            (⟦<FailOnce<T> as Table>⟧.failures self.new)) }
+        ensures counted { IsCounted (table_calls self.old) (table_calls self.new)
+            (result ≡ Err TableFault.Read) }
+    {
         self.is_refused = self.countdown.is_due();
         if self.is_refused {
             return Err(TableFault::Read);
@@ -92,7 +78,22 @@ impl<T: Table> Table for FailOnce<T> {
         self.table.header()
     }
 
-    fn load(&mut self, rank: u16, room: &mut Record) -> Result<(), ReadFault> {
+    fn load(&mut self, rank: u16, room: &mut Record) -> Result<(), ReadFault>
+        requires { HasRecord (⟦<FailOnce<T> as Table>⟧.accepted self.old) rank }
+        ensures stays { ⟦<FailOnce<T> as Table>⟧.tells self.new
+            ≡ ⟦<FailOnce<T> as Table>⟧.tells self.old }
+        ensures accepted { ⟦<FailOnce<T> as Table>⟧.accepted self.new
+            ≡ ⟦<FailOnce<T> as Table>⟧.accepted self.old }
+        ensures ready { OnOk result (⟦<FailOnce<T> as Table>⟧.ready self.new room.new rank) }
+        ensures others { (bytes : List ℕ) (other : ℕ) →
+            ⟦<FailOnce<T> as Table>⟧.ready self.old bytes other →
+            ⟦<FailOnce<T> as Table>⟧.ready self.new bytes other }
+        ensures cause { WhereTold (⟦<FailOnce<T> as Table>⟧.tells self.old)
+            (λ _. RoseWhere (IsErr result) (⟦<FailOnce<T> as Table>⟧.failures self.old)
+            (⟦<FailOnce<T> as Table>⟧.failures self.new)) }
+        ensures counted { IsCounted (table_calls self.old) (table_calls self.new)
+            (IsErr result) }
+    {
         if self.countdown.is_due() {
             return Err(ReadFault);
         }
@@ -119,6 +120,7 @@ impl<S: Source> FailAt<S> {
     pub fn new(source: S, n: u64) -> Self
         ensures tells { ⟦<FailAt<S> as Source>⟧.tells result ≡ S.tells source }
         ensures failures { ⟦<FailAt<S> as Source>⟧.failures result ≡ S.failures source }
+        ensures call { (source_calls result).calls_left ≡ n }
     {
         FailAt {
             source,
@@ -133,14 +135,36 @@ impl<S: Source> Source for FailAt<S> {
     ghost failures = { λ trial.
         S.failures trial.source + (if trial.countdown.has_failed then 1 else 0) };
 
-    fn length(&mut self) -> Result<u64, SourceFault> {
+    fn length(&mut self) -> Result<u64, SourceFault>
+        ensures stays { ⟦<FailAt<S> as Source>⟧.tells self.new
+            ≡ ⟦<FailAt<S> as Source>⟧.tells self.old }
+        ensures told { WhereTold (⟦<FailAt<S> as Source>⟧.tells self.old)
+            (λ file. IfOk result (λ count. count ≡ length file)) }
+        ensures cause { WhereTold (⟦<FailAt<S> as Source>⟧.tells self.old)
+            (λ _. RoseWhere (IsErr result) (⟦<FailAt<S> as Source>⟧.failures self.old)
+            (⟦<FailAt<S> as Source>⟧.failures self.new)) }
+        ensures counted { IsCounted (source_calls self.old) (source_calls self.new)
+            (IsErr result) }
+    {
         if self.countdown.is_due() {
             return Err(SourceFault);
         }
         self.source.length()
     }
 
-    fn read_at(&mut self, offset: u64, into: &mut [u8]) -> Result<(), SourceFault> {
+    fn read_at(&mut self, offset: u64, into: &mut [u8]) -> Result<(), SourceFault>
+        requires { WhereTold (⟦<FailAt<S> as Source>⟧.tells self.old)
+            (λ file. offset + length into.old ≤ length file) }
+        ensures stays { ⟦<FailAt<S> as Source>⟧.tells self.new
+            ≡ ⟦<FailAt<S> as Source>⟧.tells self.old }
+        ensures told { WhereTold (⟦<FailAt<S> as Source>⟧.tells self.old)
+            (λ file. OnOk result (into.new ≡ take (length into.old) (drop offset file))) }
+        ensures cause { WhereTold (⟦<FailAt<S> as Source>⟧.tells self.old)
+            (λ _. RoseWhere (IsErr result) (⟦<FailAt<S> as Source>⟧.failures self.old)
+            (⟦<FailAt<S> as Source>⟧.failures self.new)) }
+        ensures counted { IsCounted (source_calls self.old) (source_calls self.new)
+            (IsErr result) }
+    {
         if self.countdown.is_due() {
             return Err(SourceFault);
         }

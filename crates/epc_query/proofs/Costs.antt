@@ -14,7 +14,7 @@ use Rattle.certificate.specs.QueryFaults.{RefusesNumbers}
 pub mean_after : (f : List ℕ) (x : Board) (v : Throw) → IsRight f → IsPosition x
     → pips x ≤ bound_of f
     → mean f (recorded f x v) ≡ mean_at f (play f x v)
-mean_after f x v right is within = ap (mean_at f) ((right.at_each x is within).played v).ranked
+mean_after f x v right is within = ap (mean_at f) ((right.book x is within).played v).ranked
 
 -- the loss, as a difference of recorded means
 pub loss_is : (f : List ℕ) (x : Board) (v : Throw) (y best : Board) (after least lost : ℕ)

@@ -8,9 +8,9 @@ use Rattle.race_model.specs.Positions.{Board, IsPosition, pips}
 use Rattle.race_model.specs.Ranks.{rank, at_rank, count_to, first_of}
 use Rattle.race_model.specs.Files.{mean_at}
 use Rattle.race_model.specs.Books.{Book, mean_in}
-use Rattle.race_model.specs.FileBooks.{book_of}
+use Rattle.race_model.specs.Files.{book_of}
 use Rattle.race_model.specs.Levels.{IsLevel, IsLevelLine}
-use Rattle.race_model.specs.BookLevels.{IsLevelIn}
+use Rattle.race_model.specs.Levels.{IsLevelIn}
 use Rattle.epc_query.specs.declared.reply.Level.{Level}
 use Rattle.epc_query.specs.Texts.{ratio_text, level_text}
 use Rattle.epc_query.specs.LevelMeans.{AreMeansOf, HasLevel}

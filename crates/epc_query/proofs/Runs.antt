@@ -13,14 +13,14 @@ use Rattle.race_model.specs.Files.{bound_of}
 use Rattle.race_model.specs.Queries.{Query, IsQuery, Refusal, IsRefused, no_query, of_too_many}
 use Rattle.race_model.specs.Queries.{of_over_bound, of_finished, of_no_result}
 use Rattle.race_model.specs.Replies.{answered, refused}
-use Rattle.race_model.specs.BookReplies.{answered_in, refused_in}
+use Rattle.race_model.specs.Replies.{answered, refused}
 use Rattle.std.proofs.lemmas.List.Elements.{All-head, All-tail}
 use Rattle.race_model.specs.InputLines.{pieces, rest_of, without_return, whole_lines, last_line, lines_of, HasNoFeed}
 use Rattle.db_layout.specs.Writes.{AppendsPart}
 use Rattle.db_layout.proofs.Known.{appends_none, appends_kept, appends_twice}
 use Rattle.epc_query.specs.declared.run_fault.RunFault.{RunFault}
 use Rattle.epc_query.specs.declared.run_fault.RunFault.TheVariants.{Read, Write, Table, Memory, Turns}
-use Rattle.epc_query.specs.AnyFiles.{AnyFile, database_file, board_file, bound_by, IsReplyBy}
+use Rattle.epc_query.specs.AnyFiles.{AnyFile, database_file, board_file, IsReplyBy}
 use Rattle.epc_query.specs.Runs.{AreReplies, HasReplies, HasPart, IsMovesLine, IsRecordsLine}
 use Rattle.epc_query.specs.Runs.{IsStoppedAt, IsRunStopped, IsFirstFeed, IsAnswered}
 use Rattle.epc_query.proofs.Held.{appends_same, part_after, part_all}
@@ -297,10 +297,10 @@ module _ (short : (line : List ℕ) (q : Query) → IsQuery line q → length li
       absurd (not_asked line q long accepted.query)
   alike (database_file f) line other long long_other reply (refused why is e) =
       refused why (refused_alike (bound_of f) line other long long_other why is) e
-  alike (board_file f) line other long long_other reply (answered_in q answer accepted is e) =
+  alike (board_file f) line other long long_other reply (answered q answer accepted is e) =
       absurd (not_asked line q long accepted.query)
-  alike (board_file f) line other long long_other reply (refused_in why is e) =
-      refused_in why (refused_alike (bound_of f) line other long long_other why is) e
+  alike (board_file f) line other long long_other reply (refused why is e) =
+      refused why (refused_alike (bound_of f) line other long long_other why is) e
 
   -- so all long lines are heard alike
   long_alike : (f : AnyFile) (line other : List ℕ) → 55 < length line → 55 < length other

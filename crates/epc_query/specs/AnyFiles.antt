@@ -6,8 +6,8 @@ use Rattle.race_model.specs.Replies.{IsReply}
 use Rattle.race_model.specs.Levels.{IsLevelLine}
 use Rattle.race_model.specs.BoardFiles.{board_book}
 use Rattle.race_model.specs.RightBoards.{IsRightBoard}
-use Rattle.race_model.specs.BookReplies.{IsReplyIn}
-use Rattle.race_model.specs.BookLevels.{IsLevelLineIn}
+use Rattle.race_model.specs.Replies.{IsReplyIn}
+use Rattle.race_model.specs.Levels.{IsLevelLineIn}
 
 -- a database file, or a board file, by its bytes
 pub data AnyFile : Type 0 where

@@ -27,14 +27,17 @@ use home_board::Position;
 use race_model::laws;
 use std::alloc::Global;
 use std::io::Write;
+use thiserror::Error;
 
 /// Why a line is not answered.
-#[derive(Clone, Copy, Debug, PartialEq, Eq)]
+#[derive(Clone, Copy, Debug, PartialEq, Eq, Error)]
 pub enum Stop {
     /// There was no memory for a list of moves.
+    #[error("no memory for a list of moves")]
     Memory,
 
     /// A record could not be read, or holds numbers that no accepted record can hold.
+    #[error("a record could not be read")]
     Read,
 }
 

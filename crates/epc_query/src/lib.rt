@@ -18,6 +18,7 @@ mod lines;
 mod losses;
 mod move_list;
 mod query;
+mod reads;
 mod refusals;
 mod reply;
 mod run_fault;

@@ -8,6 +8,7 @@ ghost use Rattle.epc_query.specs.Readings.{IsResultReading, IsRestReading, IsRea
 use home_board::{Position, PositionFault, parse_position};
 use legal_plays::{Roll, parse_roll};
 use race_model::laws;
+use thiserror::Error;
 
 /// What a line asks.
 #[derive(Clone, Copy, Debug, PartialEq, Eq)]
@@ -32,12 +33,14 @@ pub enum Query {
 }
 
 /// Why a line asks nothing.
-#[derive(Clone, Copy, Debug, PartialEq, Eq)]
+#[derive(Clone, Copy, Debug, PartialEq, Eq, Error)]
 pub enum LineFault {
     /// It is not of the form of a query.
+    #[error("no query")]
     BadLine,
 
     /// A position of it has more than 15 checkers.
+    #[error("a position of more than 15 checkers")]
     TooMany,
 }
 

@@ -1,6 +1,6 @@
 //! The answers to a whole input.
 ghost use Rattle.std.specs.Prelude.{◌≡◌, ℕ, ◌+◌, ◌^◌, ◌<◌, ◌≤◌, List, ◌++◌, length, Option};
-ghost use Rattle.std.specs.Prelude.{Err, MatchResult, IfOk, IfErr, OnErr};
+ghost use Rattle.std.specs.Prelude.{Err, MatchResult, IfOk, IfErr, OnErr, false};
 ghost use Rattle.std.specs.Io.KnownBytes.{Keeps, IsAtEnd};
 ghost use Rattle.race_model.specs.InputLines.{whole_lines, lines_of};
 ghost use Rattle.db_reader.specs.Telling.{WhereTold};
@@ -12,6 +12,7 @@ ghost use Rattle.epc_query.specs.UsedReads.{HasUsed};
 use crate::answers::Answers;
 use crate::line_buffer::LineBuffer;
 use crate::lines::{answer_chunk, answer_last, flush};
+use crate::reads::Reads;
 use crate::run_fault::RunFault;
 use crate::text::Text;
 use certificate::Checked;
@@ -33,8 +34,9 @@ const MOST_TURNS: u64 = 1 << 40;
 /// as `Table` where a record could not be read at a line that asks for one, as `Memory` where
 /// there was none for a list of moves, and as `Turns` where there were so many reads and no end
 /// yet, each of which gave a byte. At each fault but `Write` the replies to all lines before it
-/// were written in full, and at `Write` a prefix of the replies. It takes no memory but at a line
-/// that asks for a list of moves.
+/// were written in full, and at `Write` a prefix of the replies. A writer that keeps what it is
+/// given, as a buffered one, may still keep it after a fault: whoever lent it flushes it then. It
+/// takes no memory but at a line that asks for a list of moves.
 pub fn run<T: Table, R: Read, W: Write>(
     alloc: Global,
     checked: &mut Checked<T>,
@@ -80,13 +82,45 @@ pub fn run_lines<A: Answers, R: Read, W: Write>(
         (λ input. IfErr result (HasUsed turns input (R.remaining reader.new)))) }
     ensures stays { Stays (A.seen answers.old) (A.seen answers.new) (result ≡ Err RunFault.Table) }
 {
+    let turns = turns.min(MOST_TURNS);
+    let mut reads = Reads::new(reader, turns);
+    answer_reads(alloc, answers, &mut reads, writer, turns)
+}
+
+/// Answers each line of an input by so many reads that are left, as `run_lines` does.
+#[inline(always)]
+fn answer_reads<A: Answers, R: Read, W: Write>(
+    alloc: Global,
+    answers: &mut A,
+    reads: &mut Reads<'_, R>,
+    writer: &mut W,
+    turns: u64,
+) -> Result<u64, RunFault>
+    requires left { reads.old.left ≡ turns }
+    requires going { reads.old.is_over ≡ false }
+    requires few { turns ≤ 2 ^ 40 }
+    ensures same_reference { reads.new.reader.ghost_name ≡ reads.old.reader.ghost_name }
+    ensures done { WhereTold (A.seen answers.old).told (λ file.
+        WhereTold (R.remaining reads.old.reader.now) (λ input. IfOk result
+        (λ n. IsAtEnd (R.remaining reads.new.reader.now) × (n ≡ length (lines_of input))
+        × HasReplies (A.kind file) (lines_of input)
+        (W.contents writer.old) (W.contents writer.new)))) }
+    ensures stopped { WhereTold (A.seen answers.old).told (λ file.
+        WhereTold (R.remaining reads.old.reader.now) (λ input. IfErr result
+        (IsRunStopped (A.kind file) input (R.remaining reads.new.reader.now)
+        (W.contents writer.old) (W.contents writer.new)))) }
+    ensures used { WhereTold (A.seen answers.old).told (λ _.
+        WhereTold (R.remaining reads.old.reader.now) (λ input. IfErr result
+        (HasUsed turns input (R.remaining reads.new.reader.now)))) }
+    ensures stays { Stays (A.seen answers.old) (A.seen answers.new) (result ≡ Err RunFault.Table) }
+{
     laws::law_input_lines();
     let mut held = LineBuffer::new();
     let mut chunk = [0; 4096];
     let mut text = Text::new();
     let mut count = 0;
-    for _turn in 0..turns.min(MOST_TURNS) {
-        let Ok(taken) = reader.read(&mut chunk) else {
+    for _turn in 0..turns {
+        let Ok(taken) = reads.next(&mut chunk) else {
             return Err(RunFault::Read);
         };
         if taken == 0 {

@@ -36,7 +36,7 @@ returns-clause-choices g c = λ file t.
       c.bound.ensures.bound,
       right.1,
     ) in
-    let at = right.0.at_each x position within in
+    let at = right.0.book x position within in
     let costs = c.in_ok-costs_of.ensures {u = tt} in
     let same : c.as_slice.result.now ≡ c.results-found.result.items = c.as_slice.ensures.value in
     let legal = λ (y : Board). subst (λ (ys : List Board). Contains ys y ↔ Legal x v y) (sym same)

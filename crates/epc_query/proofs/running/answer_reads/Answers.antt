@@ -4,7 +4,7 @@ use Rattle.race_model.specs.InputLines.{lines_of}
 use Rattle.certificate.proofs.Databases.{stays_more}
 use Rattle.epc_query.proofs.Runs.{read_none, read_more, read_all, read_front, stopped_in, run_stopped}
 use Rattle.epc_query.proofs.UsedReads.{used_in, longer}
-use Rattle.epc_query.proofs.running.run_lines.Goals as goal
+use Rattle.epc_query.proofs.running.answer_reads.Goals as goal
 
 pub returns-in_default-clause-stopped : goal.returns-in_default-clause-stopped
 returns-in_default-clause-stopped g c = λ file t input u.
@@ -22,7 +22,7 @@ returns-in_err-count-clause-stopped g c = λ file t input u.
     let stopped = (c.in_err-count.ensures {u = tt}).answered file (c.loop-turn.invariant.stays.told
     ∙ t) so_far.0 _ so_far.2 in
     let told = (c.in-Ok.ensures {u = tt}).bytes in
-    let end = told.1 c.if-taken-eq0.true (omega (arith, c.read.auto.buf)) in
+    let end = told.1 c.if-taken-eq0.true (omega (arith, c.next.auto.buf)) in
     let none = rw c.if-taken-eq0.true at told.0 in
     let all : input ≡ so_far.0 = read_all input _ _ so_far.0 so_far.1 none end in
     rw same (run_stopped (g.A.Answers.kind file) input _ _ _ fault (rw all stopped))
@@ -33,7 +33,7 @@ returns-then-taken-eq0-clause-done g c = λ file t input u.
     let has = (c.in_ok-count.ensures {u = tt}).answered file (c.loop-turn.invariant.stays.told
     ∙ t) so_far.0 _ so_far.2 in
     let told = (c.in-Ok.ensures {u = tt}).bytes in
-    let end = told.1 c.if-taken-eq0.true (omega (arith, c.read.auto.buf)) in
+    let end = told.1 c.if-taken-eq0.true (omega (arith, c.next.auto.buf)) in
     let none = rw c.if-taken-eq0.true at told.0 in
     let all : input ≡ so_far.0 = read_all input _ _ so_far.0 so_far.1 none end in
     (end, omega (arith, has.1, so_far.3, ap (λ bytes. length (lines_of bytes)) all), rw all has.0)
@@ -50,10 +50,10 @@ returns-in_err-count-2-clause-stopped g c = λ file t input u.
     let consumed = read_more input _ _ so_far.0 _ so_far.1 told.0 in
     let front = read_front input _ _ consumed in
     let cut = c.law_input_lines.ensures.more
-    (so_far.0 ++ take c.in-Ok.taken c.read.new.buf) front.0 in
+    (so_far.0 ++ take c.in-Ok.taken c.next.new.buf) front.0 in
     rw same (run_stopped (g.A.Answers.kind file) input _ _ _ fault
     (stopped_in (g.A.Answers.kind file)
-    (so_far.0 ++ take c.in-Ok.taken c.read.new.buf) front.0 input cut.0 _ _ fault front.1 cut.1
+    (so_far.0 ++ take c.in-Ok.taken c.next.new.buf) front.0 input cut.0 _ _ fault front.1 cut.1
     stopped))
 
 pub loop-turn-preserved : goal.loop-turn-preserved
@@ -65,22 +65,25 @@ loop-turn-preserved g c =
           let so_far = c.loop-turn.invariant.taken file t input u in
           let has = told.answered file (c.loop-turn.invariant.stays.told ∙ t) so_far.0 _ so_far.2
           in (
-            so_far.0 ++ take c.in-Ok.taken c.read.new.buf,
+            so_far.0 ++ take c.in-Ok.taken c.next.new.buf,
             read_more input _ _ so_far.0 _ so_far.1 read.bytes.0,
             has.0,
             omega (arith, has.1, so_far.3),
-            longer so_far.0 c.read.new.buf c.in-Ok.taken _ (omega (arith, c.if-taken-eq0.false))
-                (omega (arith, c.read.auto.buf, read.bound)) so_far.4,
+            longer so_far.0 c.next.new.buf c.in-Ok.taken _ (omega (arith, c.if-taken-eq0.false))
+                (omega (arith, c.next.auto.buf, read.bound)) so_far.4,
           );
       few = omega (
         arith,
         told.few,
         c.loop-turn.invariant.few,
-        length-take c.in-Ok.taken c.read.new.buf,
-        c.read.auto.buf,
+        length-take c.in-Ok.taken c.next.new.buf,
+        c.next.auto.buf,
         c.loop-turn.invariant.long,
       );
-      long = omega (arith, c.read.auto.buf, c.loop-turn.invariant.long);
+      long = omega (arith, c.next.auto.buf, c.loop-turn.invariant.long);
+      left = omega (arith, c.next.ensures.left, c.loop-turn.invariant.left);
+      going = search rules;
+      same = c.next.ensures.same_reference ∙ c.loop-turn.invariant.same;
       stays = stays_more c.loop-turn.invariant.stays told.stays (λ e. cc);
     }
 
