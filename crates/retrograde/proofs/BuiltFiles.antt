@@ -2,12 +2,12 @@
 use Rattle.std.proofs.Common.{◌≡◌, ℕ, zero, suc, ◌+◌, ◌*◌, ◌<◌, ◌≤◌, List, [], sym, ap, subst, ◌∙◌, arith, le_trans}
 use Rattle.std.specs.Prelude.{slice_index, slice_index_or}
 use Rattle.race_model.specs.Positions.{Board, IsPosition, pips}
-use Rattle.race_model.specs.Dice.{Throw, IsRoll, all_rolls, roll_at, roll_index, weight}
+use Rattle.race_model.specs.Dice.{Throw, IsRoll, all_rolls, roll_at, roll_index, weight, weighted}
 use Rattle.race_model.specs.Plays.{Legal}
 use Rattle.race_model.specs.Ranks.{rank, at_rank, count_to}
 use Rattle.race_model.specs.Versions.{Version, greatest_bound}
 use Rattle.race_model.specs.Files.{IsBytes, version_of, bound_of, mean_at, play_at, spread_at, play}
-use Rattle.race_model.specs.LocalEquations.{whole, weighted, IsPlayed, IsBest, HasMean, HasShare, IsLocalAt}
+use Rattle.race_model.specs.LocalEquations.{whole, IsPlayed, IsBest, HasMean, HasShare, IsLocalAt}
 use Rattle.race_model.specs.BuiltFile.{IsLowest, IsBuilt}
 use Rattle.race_model.proofs.Plays.Results.{legal_position, legal_pips}
 use Rattle.race_model.proofs.Ranks.RankOrder.{rank_bound, at_rank-rank, count_to-rises}

@@ -39,7 +39,6 @@ legal-by_index x to legal v =
 
 -- no count goes beyond the rolls that a strategy can take
 pub no-count_beyond : (s : Strategy) (n k : ℕ) → IsWithin n s → n < k → count_of s k ≡ 0
-unfolding count_of
 no-count_beyond s n k within lt = count_over-beyond 22 n k s within lt
 
 -- a sum of weighed numbers below 23 is at most 22 times that of the numbers
@@ -97,7 +96,7 @@ module _ (x : Board) (at : IsPosition x) (low : pips x ≤ 58) (unfinished : ¬ 
   fits = (unfinished, λ v. (goes v, (reached v).fits))
 
   total-is : 36 * total (turn to next) ≡ 36 * whole + sum_of_means means plays
-  unfolding to next total whole
+  unfolding to next whole
   total-is =
       let ours = total_over-turn_times_36 21 to next within in
       let branches =
@@ -108,7 +107,7 @@ module _ (x : Board) (at : IsPosition x) (low : pips x ≤ 58) (unfinished : ¬ 
 
   count-is : (k : ℕ) → k ≤ 22 →
       36 * count_of (turn to next) (suc k) ≡ sum_of_shares spreads plays k
-  unfolding to next count_of
+  unfolding to next
   count-is k le =
       let ours = count_over-turn_times_36 21 to next k within in
       let branches =
@@ -155,7 +154,6 @@ module _ (x : Board) (at : IsPosition x) (low : pips x ≤ 58) (unfinished : ¬ 
       36 * mean ≡ 36 * whole + sum_of_means means plays → slice_index shares 0 ≡ 0 →
       ((k : ℕ) → k < 22 → 36 * slice_index shares (suc k) ≡ sum_of_shares spreads plays k) →
       IsReached x mean shares
-  unfolding count_of
   pulled-reached mean shares mean_is start moved = record {
     strategy = turn to next;
     fits = fits;
@@ -170,7 +168,7 @@ module _ (x : Board) (at : IsPosition x) (low : pips x ≤ 58) (unfinished : ¬ 
 pub stop-reached : (x : Board) (mean : ℕ) (shares : List ℕ) → IsFinished x → mean ≡ 0 →
     slice_index shares 0 ≡ whole → ((k : ℕ) → slice_index shares (suc k) ≡ 0) →
     IsReached x mean shares
-unfolding total count_of whole
+unfolding whole
 stop-reached x mean shares none mean_is start more = record {
   strategy = stop;
   fits = none;

@@ -3,10 +3,10 @@
 -- Source: this project's profile.
 use Rattle.std.specs.Prelude.{◌≡◌, ℕ, suc, ◌+◌, ◌*◌, ◌<◌, ◌≤◌, List, [], length, slice_index, slice_index_or}
 use Rattle.race_model.specs.Positions.{Board, IsFinished, pips}
-use Rattle.race_model.specs.Dice.{roll_at, roll_index}
+use Rattle.race_model.specs.Dice.{roll_at, roll_index, weighted}
 use Rattle.race_model.specs.Ranks.{at_rank}
 use Rattle.race_model.specs.Versions.{Version}
-use Rattle.race_model.specs.LocalEquations.{whole, weighted}
+use Rattle.race_model.specs.LocalEquations.{whole}
 use Rattle.race_model.specs.Strategies.{Strategy, Fits, total, count_of}
 use Rattle.db_layout.specs.Records.{record_of, IsRecordOf}
 use Rattle.race_model.specs.BestPlays.{IsBestPlay}

@@ -28,7 +28,7 @@ use std::alloc::Global;
 use std::io::Write;
 
 /// The most pips that a roll takes: a double six, played four times (the rules of backgammon).
-const MOST_PIPS_OF_A_ROLL: u8 = 24;
+pub(crate) const MOST_PIPS_OF_A_ROLL: u8 = 24;
 
 /// Writes the database of a pip bound: for each position of at most so many pips the least mean
 /// number of rolls, for each roll the lowest rank of the results that reach it, and how the
@@ -62,7 +62,7 @@ pub fn build_compact<W: Write>(alloc: Global, bound: u8, writer: &mut W) -> Resu
 }
 
 /// The version of the file that `build` writes for a bound: 1 to 44 pips, and 2 beyond.
-fn usual_version(bound: u8) -> u16
+pub(crate) fn usual_version(bound: u8) -> u16
     ensures known { IsVersion result }
     ensures version { version_by result ≡ usual_version bound }
 {
@@ -90,27 +90,44 @@ fn build_in_memory<W: Write>(
 }
 
 /// Writes the database of a pip bound, as `build` does, and takes no memory but the stack, of
-/// which it needs 20 MB. What it writes, and the faults, are those of `build`.
+/// which it needs 20 MB: 128 KB to 8 pips, 1.5 MB to 20, 7.5 MB to 38. What it writes, and the
+/// faults, are those of `build`.
 // so that its room is on the stack while it builds, and not while its caller goes on
 #[inline(never)]
 pub fn build_in_place<W: Write>(bound: u8, writer: &mut W) -> Result<(), BuildFault>
     ensures built { Builds (usual_version bound) bound (W.contents writer.old)
         (W.contents writer.new) result }
 {
-    match Header::new(usual_version(bound), bound) {
-        Some(header) => build_on_stack(header, writer),
-        None => Err(BuildFault::OverBound),
+    let Some(header) = Header::new(usual_version(bound), bound) else {
+        return Err(BuildFault::OverBound);
+    };
+    if bound <= 8 {
+        build_on_stack::<W, 64, 20>(header, writer)
+    } else if bound <= 20 {
+        build_on_stack::<W, 1487, 270>(header, writer)
+    } else if bound <= 38 {
+        build_on_stack::<W, 16881, 1435>(header, writer)
+    } else {
+        build_on_stack::<W, POSITIONS, POSITIONS_OF_A_LEVEL>(header, writer)
     }
 }
 
-/// Writes the database of the version and the bound of a header, with rooms on the stack.
-fn build_on_stack<W: Write>(header: Header, writer: &mut W) -> Result<(), BuildFault>
+/// Writes the database of the version and the bound of a header, with rooms on the stack for so
+/// many positions, and so many of one pip count.
+// so that no more rooms are on the stack than are needed
+#[inline(never)]
+fn build_on_stack<W: Write, const COUNT: usize, const OF_A_LEVEL: usize>(
+    header: Header,
+    writer: &mut W,
+) -> Result<(), BuildFault>
+    requires few { COUNT ≤ 46062 }
+    requires few_of_a_level { OF_A_LEVEL ≤ 1636 }
     ensures built { Builds (version_by header.version) header.bound (W.contents writer.old)
         (W.contents writer.new) result }
 {
-    let mut means = [Scaled::ZERO; POSITIONS];
-    let mut spreads = [Spread::finished(); POSITIONS];
-    let mut plays = [[0; 21]; POSITIONS_OF_A_LEVEL];
+    let mut means = [Scaled::ZERO; COUNT];
+    let mut spreads = [Spread::finished(); COUNT];
+    let mut plays = [[0; 21]; OF_A_LEVEL];
     build_in_rooms(header, &mut means, &mut spreads, &mut plays, writer)
 }
 
@@ -140,7 +157,7 @@ pub fn build_in_rooms<W: Write>(
 
 /// Writes the database of the version and the bound of a header, with records that hold none
 /// yet. Refused only for want of memory, or where a `write` failed or took no byte.
-fn build_records<K: Keeper, W: Write>(
+pub(crate) fn build_records<K: Keeper, W: Write>(
     records: &mut K,
     header: Header,
     writer: &mut W,

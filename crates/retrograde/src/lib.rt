@@ -10,6 +10,7 @@ pub use build_fault::BuildFault;
 pub use building::{build, build_compact, build_in_place, build_in_rooms};
 pub use means::Means;
 pub use plays::best_play;
+pub use ready_build::ReadyBuild;
 
 pub mod build_fault;
 pub mod building;
@@ -18,5 +19,6 @@ mod made_record;
 pub mod means;
 pub mod plays;
 mod pulling;
+pub mod ready_build;
 mod records;
 mod room_records;

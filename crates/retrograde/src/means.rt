@@ -1,6 +1,6 @@
 //! The means of the first ranks, in memory that grows.
 ghost use Rattle.std.specs.Prelude.{◌≡◌, ℕ, ◌<◌, ◌≤◌, ◌↔◌, List, [], ◌∷◌, ◌++◌, length};
-ghost use Rattle.std.specs.Prelude.{slice_index, IsSome, IfSome, IsErr, OnOk, OnErr, IfErr};
+ghost use Rattle.std.specs.Prelude.{slice_index, IsSome, IfSome, IfOk, IsErr, OnOk, OnErr, IfErr};
 ghost use Rattle.retrograde.specs.declared.build_fault.BuildFault.TheVariants.{Memory};
 
 use crate::build_fault::BuildFault;
@@ -31,6 +31,17 @@ impl Means {
     {
         Means {
             means: Vec::new(alloc),
+        }
+    }
+
+    /// No mean yet, and room for so many.
+    pub(crate) fn with_room(alloc: Global, count: usize) -> Result<Self, BuildFault>
+        ensures none { IfOk result (λ means. means ≡ []) }
+        ensures memory { IfErr result (λ fault. fault ≡ Memory) }
+    {
+        match Vec::with_capacity(alloc, count) {
+            Ok(means) => Ok(Means { means }),
+            Err(_) => Err(BuildFault::Memory),
         }
     }
 

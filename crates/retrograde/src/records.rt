@@ -1,5 +1,5 @@
 //! What a build keeps of its records, in memory that grows.
-ghost use Rattle.std.specs.Prelude.{◌≡◌, ℕ, ◌-◌, ◌+◌, ◌<◌, ◌≤◌, List, [], length};
+ghost use Rattle.std.specs.Prelude.{◌≡◌, ℕ, ◌-◌, ◌+◌, ◌<◌, ◌≤◌, List, [], length, IfOk, IfErr};
 ghost use Rattle.retrograde.specs.declared.build_fault.BuildFault.TheVariants.{Memory};
 
 use crate::build_fault::BuildFault;
@@ -30,6 +30,32 @@ impl Records {
             spreads: VecDeque::new(alloc),
             plays: Vec::new(alloc),
         }
+    }
+
+    /// No record yet, and room for so many means, shares and plays.
+    pub fn with_room(
+        alloc: Global,
+        means: usize,
+        spreads: usize,
+        plays: usize,
+    ) -> Result<Self, BuildFault>
+        ensures means { IfOk result (λ records. records.means ≡ []) }
+        ensures spreads { IfOk result (λ records. records.spreads.items ≡ []) }
+        ensures plays { IfOk result (λ records. records.plays.items ≡ []) }
+        ensures memory { IfErr result (λ fault. fault ≡ Memory) }
+    {
+        let means = Means::with_room(alloc, means)?;
+        let Ok(spreads) = VecDeque::with_capacity(alloc, spreads) else {
+            return Err(BuildFault::Memory);
+        };
+        let Ok(plays) = Vec::with_capacity(alloc, plays) else {
+            return Err(BuildFault::Memory);
+        };
+        Ok(Records {
+            means,
+            spreads,
+            plays,
+        })
     }
 }
 
