@@ -8,7 +8,7 @@ use Rattle.race_model.specs.Ranks.{count_to}
 use Rattle.race_model.specs.Versions.{Version, full, compact, version_number}
 use Rattle.race_model.specs.Files.{version_of, bound_of}
 use Rattle.race_model.specs.RightFiles.{IsRight}
-use Rattle.epc_query.specs.AnyFiles.{AnyFile, IsRightBy}
+use Rattle.epc_query.specs.AnyFiles.{AnyFile, bound_by, IsRightBy}
 use Rattle.db_reader.specs.Telling.{WhereTold}
 use Rattle.certificate.specs.Upgrades.{WritesUpgrade}
 use Rattle.epc_query.proofs.Runs.{read_all, read_front}
@@ -50,7 +50,8 @@ read_of remaining file items (Err e) read = tt
 -- the levels of what was read
 pub levels_read : {A E F : Type 0} (kind : List ℕ → AnyFile) (remaining : F → Option (List ℕ))
     (file : List ℕ) (old new : Option (List ℕ)) (r : Result A E) → IsReadFrom remaining file
-    → IsRightBy (kind file) → OnOk r (WritesLevels (kind file) (suc (bound_of file)) old new)
+    → IsRightBy (kind file)
+    → OnOk r (WritesLevels (kind file) (suc (bound_by (kind file))) old new)
     → OnOk r (SaysLevels kind remaining old new)
 levels_read kind remaining file old new (Ok x) read right levels =
     record { file = file; read = read; right = right; levels = levels }

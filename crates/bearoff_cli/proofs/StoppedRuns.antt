@@ -1,22 +1,31 @@
 -- What stands in the output where a command failed, from what its parts wrote.
-use Rattle.std.proofs.Common.{◌≡◌, ℕ, suc, ◌≤◌, ◌⊎◌, inl, inr, List, ◌∷◌, [], ◌++◌, Option, Result, Ok, Err}
+use Rattle.std.proofs.Common.{◌≡◌, ℕ, suc, ◌≤◌, ◌⊎◌, inl, inr, List, ◌∷◌, [], ◌++◌, take, Option, Result}
+use Rattle.std.proofs.Common.{Ok, Err}
 use Rattle.std.proofs.Common.{IfErr, refl, subst, arith}
 use Rattle.std.specs.Prelude.{OnErr}
+use Rattle.std.specs.Io.KnownBytes.{Keeps}
+use Rattle.std.proofs.lemmas.List.{append-nil}
 use Rattle.race_model.specs.BuiltFile.{IsBuilt}
-use Rattle.race_model.specs.Files.{bound_of}
 use Rattle.race_model.specs.Ranks.{count_to}
+use Rattle.race_model.specs.InputLines.{whole_lines, lines_of}
+use Rattle.race_model.proofs.Replies.InputLines.{pieces_stay}
 use Rattle.retrograde.specs.UsualVersion.{usual_version}
 use Rattle.db_layout.specs.Writes.{AppendsPart}
+use Rattle.db_layout.proofs.Known.{appends_kept, appends_twice}
 use Rattle.epc_query.specs.AnyFiles.{AnyFile, database_file, bound_by, IsRightBy}
-use Rattle.epc_query.proofs.Held.{part_after, part_all}
+use Rattle.epc_query.specs.Runs.{HasAnswered, HasPart, HasReplies, IsRunStopped, IsStoppedAt}
+use Rattle.epc_query.specs.declared.run_fault.RunFault.{RunFault}
+use Rattle.epc_query.specs.declared.run_fault.RunFault.TheVariants.{Read, Write, Table, Memory, Turns}
+use Rattle.epc_query.proofs.Held.{appends_same, part_after, part_all}
+use Rattle.epc_query.proofs.Runs.{failed_flush, flushed, read_front, stopped_in}
 use Rattle.exit_status.specs.declared.fault.Fault.{Fault}
 use Rattle.bearoff_cli.specs.FileAnswers.{IsReadFrom, WritesLevels, count_line}
-use Rattle.bearoff_cli.specs.StoppedRuns.{AreStopped, IsNothingOr, WritesLevelPart, WritesPartOfLevel}
+use Rattle.bearoff_cli.specs.StoppedRuns.{AreStopped, IsNothingOr, WritesLevelsPart, WritesLevelPart}
 use Rattle.bearoff_cli.specs.declared.act.Done.{Done}
 
 -- whole lines of pip counts are a part of all lines
 pub levels_part : (file : AnyFile) (count : ℕ) (old new : Option (List ℕ))
-    → count ≤ suc (bound_by file) → WritesLevels file count old new → WritesLevelPart file old new
+    → count ≤ suc (bound_by file) → WritesLevels file count old new → WritesLevelsPart file old new
 levels_part file count old new within written = record {
   count = count;
   within = within;
@@ -27,8 +36,8 @@ levels_part file count old new within written = record {
 
 -- .. and so are they with a part of the next one
 pub levels_and_part : (file : AnyFile) (p : ℕ) (old mid new : Option (List ℕ))
-    → p ≤ bound_by file → WritesLevels file p old mid → WritesPartOfLevel file p mid new
-    → WritesLevelPart file old new
+    → p ≤ bound_by file → WritesLevels file p old mid → WritesLevelPart file p mid new
+    → WritesLevelsPart file old new
 levels_and_part file p old mid new within before next = record {
   count = suc p;
   within = omega (arith, within);
@@ -39,12 +48,12 @@ levels_and_part file p old mid new within before next = record {
 }
 
 -- a part of the line of a pip count and a number of positions that are those of a file
-pub line_part : (old new : Option (List ℕ)) (done : Done) (file : List ℕ) (pips positions : ℕ)
-    → pips ≡ bound_of file → positions ≡ count_to (bound_of file)
+pub line_part : (old new : Option (List ℕ)) (done : Done) (bound pips positions : ℕ)
+    → pips ≡ bound → positions ≡ count_to bound
     → AppendsPart old new (count_line done pips positions)
-    → AppendsPart old new (count_line done (bound_of file) (count_to (bound_of file)))
-line_part old new done file pips positions p q h =
-    subst (λ n. AppendsPart old new (count_line done (bound_of file) n)) q
+    → AppendsPart old new (count_line done bound (count_to bound))
+line_part old new done bound pips positions p q h =
+    subst (λ n. AppendsPart old new (count_line done bound n)) q
     (subst (λ n. AppendsPart old new (count_line done n positions)) p h)
 
 -- what was written of a file that was read
@@ -82,3 +91,50 @@ pub built_stopped : {A : Type 0} (file given : List ℕ) (left old new : Option 
 built_stopped file given left old new (Ok x) built stops = tt
 built_stopped file given left old new (Err e) built (inl same) = inl same
 built_stopped file given left old new (Err e) built (inr stops) = inr (file, built, stops)
+
+-- a flush that failed leaves the part that was written
+part_kept : (f : AnyFile) (lines : List (List ℕ)) (old mid new : Option (List ℕ))
+    → HasPart f lines old mid → Keeps mid new → HasPart f lines old new
+part_kept f lines old mid new part kept =
+    let front = take part.written.0 part.text in record {
+      text = part.text;
+      replies = part.replies;
+      written = (
+        part.written.0,
+        appends_same old new (front ++ []) front (append-nil front)
+            (appends_twice old mid new front [] part.written.1 (appends_kept mid new kept)),
+      );
+    }
+
+-- .. so that the replies are a part of themselves
+replies_part : (f : AnyFile) (lines : List (List ℕ)) (old mid new : Option (List ℕ))
+    → HasReplies f lines old mid → Keeps mid new → HasPart f lines old new
+replies_part f lines old mid new has kept =
+    let now = flushed f lines old mid new has kept in record {
+      text = now.text;
+      replies = now.replies;
+      written = part_all old new now.text now.written;
+    }
+
+-- .. and those to the whole lines of what was read a part of all
+answered_part : (f : AnyFile) (input : List ℕ) (left old mid new : Option (List ℕ))
+    → HasAnswered f input left old mid → Keeps mid new → IsStoppedAt f (lines_of input) old new Write
+answered_part f input left old mid new (done, read, has) kept =
+    let front = read_front input left done read in
+    let later = pieces_stay done front.0 in
+    stopped_in f done front.0 input later.0 old new Write front.1 later.1
+    (failed_flush f (whole_lines done) old mid new has kept)
+
+-- answers that stopped, and then a flush that failed, are those to some lines, or a part of them
+pub failed_end : (f : AnyFile) (input : List ℕ) (left old mid new : Option (List ℕ))
+    (cause : RunFault) → IsRunStopped f input left old mid cause → Keeps mid new
+    → IsRunStopped f input left old new Write
+failed_end f input left old mid new Read has kept = answered_part f input left old mid new has kept
+failed_end f input left old mid new Turns has kept =
+    answered_part f input left old mid new has kept
+failed_end f input left old mid new Write (n, low, part) kept =
+    (n, low, part_kept f (take n (lines_of input)) old mid new part kept)
+failed_end f input left old mid new Table (n, low, records, has) kept =
+    (n, omega (arith, low), replies_part f (take n (lines_of input)) old mid new has kept)
+failed_end f input left old mid new Memory (n, low, moves, has) kept =
+    (n, omega (arith, low), replies_part f (take n (lines_of input)) old mid new has kept)

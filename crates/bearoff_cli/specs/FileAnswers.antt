@@ -7,7 +7,7 @@ use Rattle.race_model.specs.Files.{version_of, bound_of}
 use Rattle.race_model.specs.RightFiles.{IsRight}
 use Rattle.db_reader.specs.Telling.{WhereTold}
 use Rattle.certificate.specs.Upgrades.{WritesUpgrade}
-use Rattle.epc_query.specs.AnyFiles.{AnyFile, IsRightBy, IsLevelLineBy}
+use Rattle.epc_query.specs.AnyFiles.{AnyFile, bound_by, IsRightBy, IsLevelLineBy}
 use Rattle.board_build.specs.BuiltBoards.{IsBuiltBoard}
 use Rattle.bearoff_cli.specs.InputAnswers.{AreAnswered}
 use Rattle.bearoff_cli.specs.declared.act.Done.{Done}
@@ -54,7 +54,8 @@ pub record SaysRight {F : Type 0} (kind : List ℕ → AnyFile) (remaining : F �
   pub file : List ℕ
   pub read : IsReadFrom remaining file
   pub right : IsRightBy (kind file)
-  pub written : Appends old new (count_line Checked (bound_of file) (count_to (bound_of file)))
+  pub written : Appends old new
+      (count_line Checked (bound_by (kind file)) (count_to (bound_by (kind file))))
 
 -- the line of an upgraded database was written: an opened file is right and of version 1, and has
 -- this bound, and its upgrade was handed to the writer of a file
@@ -91,4 +92,4 @@ pub record SaysLevels {F : Type 0} (kind : List ℕ → AnyFile) (remaining : F 
   pub file : List ℕ
   pub read : IsReadFrom remaining file
   pub right : IsRightBy (kind file)
-  pub levels : WritesLevels (kind file) (suc (bound_of file)) old new
+  pub levels : WritesLevels (kind file) (suc (bound_by (kind file))) old new

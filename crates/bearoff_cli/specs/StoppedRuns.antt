@@ -35,13 +35,13 @@ pub record AreStopped (file : AnyFile) (given : List ℕ) (left old new : Option
   pub stopped : IsRunStopped file given left old new cause
 
 -- a prefix of the line of a pip count of a file was written
-pub record WritesPartOfLevel (file : AnyFile) (p : ℕ) (old new : Option (List ℕ)) : Type 0 where
+pub record WritesLevelPart (file : AnyFile) (p : ℕ) (old new : Option (List ℕ)) : Type 0 where
   pub line : List ℕ
   pub is : IsLevelLineBy file p line
   pub written : AppendsPart old new (line ++ 10 ∷ [])
 
 -- a prefix of the lines of the first so many pip counts of a file was written
-pub record WritesLevelPart (file : AnyFile) (old new : Option (List ℕ)) : Type 0 where
+pub record WritesLevelsPart (file : AnyFile) (old new : Option (List ℕ)) : Type 0 where
   pub count : ℕ
   pub within : count ≤ suc (bound_by file)
   pub lines : List ℕ
@@ -49,9 +49,9 @@ pub record WritesLevelPart (file : AnyFile) (old new : Option (List ℕ)) : Type
   pub written : AppendsPart old new lines
 
 -- a prefix of the line of an accepted file was written
-abbrev pub SaysRightPart : List ℕ → Option (List ℕ) → Option (List ℕ) → Type 0
+abbrev pub SaysRightPart : AnyFile → Option (List ℕ) → Option (List ℕ) → Type 0
 SaysRightPart file old new =
-    AppendsPart old new (count_line Checked (bound_of file) (count_to (bound_of file)))
+    AppendsPart old new (count_line Checked (bound_by file) (count_to (bound_by file)))
 
 -- a prefix of the line of an upgraded database was written, which is of version 1
 abbrev pub SaysUpgradedPart : List ℕ → Option (List ℕ) → Option (List ℕ) → Type 0
@@ -74,13 +74,13 @@ LeavesReplies kind remaining input left old new fault = WhereTold input (λ give
 abbrev pub LeavesLine : {F : Type 0} → (List ℕ → AnyFile) → (F → Option (List ℕ))
     → Option (List ℕ) → Option (List ℕ) → Type 0
 LeavesLine kind remaining old new =
-    IsNothingOr kind remaining (λ file. SaysRightPart file old new) old new
+    IsNothingOr kind remaining (λ file. SaysRightPart (kind file) old new) old new
 
 -- .. and of the lines of its pip counts
 abbrev pub LeavesLevels : {F : Type 0} → (List ℕ → AnyFile) → (F → Option (List ℕ))
     → Option (List ℕ) → Option (List ℕ) → Type 0
 LeavesLevels kind remaining old new =
-    IsNothingOr kind remaining (λ file. WritesLevelPart (kind file) old new) old new
+    IsNothingOr kind remaining (λ file. WritesLevelsPart (kind file) old new) old new
 
 -- what was written for a request where the program ended with this fault. Of the answers by pages
 -- nothing is said

@@ -28,11 +28,12 @@ ghost use Rattle.bearoff_cli.specs.StoppedRuns.{LeavesLine, LeavesReplies, SaysU
 ghost use Rattle.bearoff_cli.specs.declared.act.Done.TheVariants.{Built};
 ghost use Rattle.bearoff_cli.specs.declared.act.ProgramFault.TheVariants.{Failed};
 
+use crate::draft::DraftFile;
 use crate::files::{
     WHOLE_BOARD, affordable, build_board_file, build_file, flush, probe_stack, read_file,
     stack_room, upgrade_file,
 };
-use crate::kinds::{Boards, Databases, Kind, TURNS, write_levels};
+use crate::kinds::{Boards, Databases, Kind, TURNS, handed_on, write_levels};
 use arrayvec::ArrayString;
 use certificate::{CheckFault, Checked, check};
 use clap::Error;
@@ -70,6 +71,8 @@ pub fn act<R: Files, S: AsStr, I: Read, O: Write, E: Write>(
     output: &mut O,
     errors: &mut E,
 ) -> u8
+where
+    R::File: DraftFile,
     ensures silent { result ≡ 0 → E.contents errors.new ≡ E.contents errors.old }
     ensures told { 0 < result → ¬ (result ≡ 2) → (fault : Fault) × ((result ≡ status_of fault)
         × AppendsPart (E.contents errors.old) (E.contents errors.new) (error_line fault)) }
@@ -145,6 +148,8 @@ fn perform<R: Files, S: AsStr, I: Read, O: Write>(
     input: &mut I,
     output: &mut O,
 ) -> Result<(), ProgramFault>
+where
+    R::File: DraftFile,
     ensures refused { KeepsIfTold result (O.contents output.old) (O.contents output.new) }
     ensures fault { (request : Request) → Asks (map S.text words.entry.now) request
         → IfErr result (λ refusal. IsRefusalOf R.File.remaining request
@@ -181,7 +186,7 @@ fn write_help<O: Write>(error: &Error, output: &mut O) -> Result<(), Fault>
     ensures { IfErr result (λ fault. status_of fault ≡ 1) }
 {
     match write!(output, "{error}") {
-        Ok(()) => Ok(()),
+        Ok(()) => flush(output),
         Err(_) => Err(Fault::Write),
     }
 }
@@ -194,6 +199,8 @@ fn fulfil<R: Files, I: Read, O: Write>(
     input: &mut I,
     output: &mut O,
 ) -> Result<(), Fault>
+where
+    R::File: DraftFile,
     ensures refused { KeepsIfRefused result (O.contents output.old) (O.contents output.new) }
     ensures fault { IfErr result
         (λ fault. IsFaultOf R.File.remaining request.entry fault) }
@@ -348,10 +355,10 @@ fn reply<T: Table + Drop, I: Read, O: Write>(
     ensures status { OnOk told (IfErr result (λ fault. status_of fault ≡ 1)) }
 {
     match &mut told {
-        Ok(checked) => {
-            run(alloc, checked, input, output, TURNS)?;
-            Ok(())
-        }
+        Ok(checked) => match run(alloc, checked, input, output, TURNS) {
+            Ok(_) => Ok(()),
+            Err(cause) => Err(Fault::from(handed_on(cause, output))),
+        },
         Err((_, fault)) => Err(Fault::from(*fault)),
     }
 }
@@ -380,6 +387,8 @@ fn write_database<R: Files, O: Write>(
     path: &str,
     output: &mut O,
 ) -> Result<(), Fault>
+where
+    R::File: DraftFile,
     ensures refused { KeepsIfRefused result (O.contents output.old) (O.contents output.new) }
     ensures over { 58 < pips → result ≡ Err Fault.OverBound }
     ensures fault { IfErr result
@@ -446,6 +455,8 @@ fn write_board<R: Files, O: Write>(
     path: &str,
     output: &mut O,
 ) -> Result<(), Fault>
+where
+    R::File: DraftFile,
     ensures status { IfErr result (λ fault. status_of fault ≡ 1) }
     ensures left { OnErr result (AppendsPart (O.contents output.old) (O.contents output.new)
         (count_line Built 90 (count_to 90))) }
@@ -468,6 +479,8 @@ fn upgrade_database<R: Files, O: Write>(
     new: &str,
     output: &mut O,
 ) -> Result<(), Fault>
+where
+    R::File: DraftFile,
     ensures refused { KeepsIfRefused result (O.contents output.old) (O.contents output.new) }
     ensures fault { IfErr result (λ fault. IsOwnFault database_file R.File.remaining fault) }
     ensures left { OnErr result (IsNothingOr database_file R.File.remaining

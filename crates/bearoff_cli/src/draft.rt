@@ -7,9 +7,9 @@ ghost use Rattle.exit_status.specs.declared.fault.Fault.TheVariants.{Write};
 use exit_status::Fault;
 use itoa::Buffer;
 use std::alloc::{AllocError, Global};
-use std::fs::{Metadata, OpenFile, OpenOptions};
+use std::fs::{File, Metadata, OpenFile, OpenOptions, TryLockError};
 use std::io::{BufWriter, ErrorKind};
-use std::os::unix::fs::{MetadataExt, OpenOptionsExt, lchown};
+use std::os::unix::fs::{MetadataExt, OpenOptionsExt, fchown};
 use std::rt::Files;
 use std::{fs, io};
 
@@ -26,6 +26,30 @@ const LINKS: u8 = 40;
 /// How often a file is begun anew whose name was given to another one before it was begun, as by
 /// another run that put its new file there.
 const TRIES: u16 = 1000;
+
+/// What is wanted of a file that is written, beside what `OpenFile` has: it is asked of the open
+/// file, and not of a name, which may be another file's by then.
+pub(crate) trait DraftFile: OpenFile {
+    /// Whether no other run writes straight into the file: none will until it is closed. Where a
+    /// file system can't tell, none does.
+    fn is_ours(&self) -> bool;
+
+    /// Gives the file the owner and the group of another one.
+    fn give_like(&self, other: &Metadata) -> io::Result<()>;
+}
+
+impl DraftFile for File {
+    fn is_ours(&self) -> bool {
+        match self.try_lock() {
+            Err(TryLockError::WouldBlock) => false,
+            _ => true,
+        }
+    }
+
+    fn give_like(&self, other: &Metadata) -> io::Result<()> {
+        fchown(self, Some(other.uid()), Some(other.gid()))
+    }
+}
 
 /// A file that is being written, by blocks.
 #[derive(Drop)]
@@ -50,15 +74,17 @@ struct Names {
     folder: String,
 }
 
-/// Begins to write a file. `Open` where it can't be opened or made, or where its name is given to
-/// other files again and again meanwhile, and `Memory` where there is no room; then it is as it
-/// was.
+/// Begins to write a file. `Open` where it can't be opened or made, where another run writes
+/// straight into it, or where its name is given to other files again and again meanwhile, and
+/// `Memory` where there is no room; then it is as it was.
 ///
 /// The bytes go straight into what is no plain file, as a device or a pipe, into a plain file that
 /// is an open one's name in `/dev` or `/proc`, and where a new file could not take the place of the
 /// old one: in a folder that can't be written, or of which no name can be taken away, or with
 /// another owner, group, permissions or device.
 pub fn begin<R: Files>(rt: &R, alloc: Global, path: &str) -> Result<Draft<R>, Fault>
+where
+    R::File: DraftFile,
     ensures { IfErr result (λ fault. status_of fault ≡ 1) }
 {
     for _ in 0..TRIES {
@@ -71,6 +97,8 @@ pub fn begin<R: Files>(rt: &R, alloc: Global, path: &str) -> Result<Draft<R>, Fa
 
 /// Begins to write a file; none where its name was given to another file meanwhile.
 fn begin_once<R: Files>(rt: &R, alloc: Global, path: &str) -> Result<Option<Draft<R>>, Fault>
+where
+    R::File: DraftFile,
     ensures { IfErr result (λ fault. status_of fault ≡ 1) }
 {
     match OpenOptions::new().write(true).open(rt, path) {
@@ -89,6 +117,8 @@ fn begin_over<R: Files>(
     path: &str,
     old: R::File,
 ) -> Result<Option<Draft<R>>, Fault>
+where
+    R::File: DraftFile,
     ensures { IfErr result (λ fault. status_of fault ≡ 1) }
 {
     let Ok(told) = old.metadata() else {
@@ -108,11 +138,24 @@ fn begin_over<R: Files>(
         if !is_name_of(fs::metadata(rt, path), &told)? {
             return Ok(None);
         }
-        if old.set_len(0).is_err() {
-            return Err(Fault::Open);
-        }
+        return Ok(Some(emptied(straight(alloc, old)?)?));
     }
     Ok(Some(straight(alloc, old)?))
+}
+
+/// Empties the plain file into which the bytes of a draft go straight, where no other run writes
+/// into it. The memory for the draft was taken before.
+fn emptied<R: Files>(draft: Draft<R>) -> Result<Draft<R>, Fault>
+where
+    R::File: DraftFile,
+    ensures { IfErr result (λ fault. status_of fault ≡ 1) }
+{
+    let file = draft.writer.get_ref();
+    if file.is_ours() && file.set_len(0).is_ok() {
+        Ok(draft)
+    } else {
+        Err(Fault::Open)
+    }
 }
 
 /// Begins to write a file that is not there.
@@ -138,12 +181,14 @@ fn begin_beside<R: Files>(
     place: String,
     old: &Metadata,
 ) -> Result<Option<Draft<R>>, Fault>
+where
+    R::File: DraftFile,
     ensures { IfErr result (λ fault. status_of fault ≡ 1) }
 {
     let Some((file, names)) = create_beside(rt, alloc, place, 0o600)? else {
         return Ok(None);
     };
-    match is_made_like(rt, &file, names.new.as_str(), old) {
+    match is_made_like(&file, old) {
         Ok(true) => Ok(Some(drafted(rt, alloc, file, names)?)),
         other => {
             let _ = fs::remove_file(rt, names.new.as_str());
@@ -160,7 +205,7 @@ fn place_of<R: Files>(rt: &R, alloc: Global, path: &str) -> Result<Option<String
     ensures { IfErr result (λ fault. status_of fault ≡ 1) }
 {
     let mut place = String::from_str(alloc, path)?;
-    for _ in 0..LINKS {
+    for _ in 0..=LINKS {
         if is_open_file(place.as_str()) {
             return Ok(None);
         }
@@ -280,14 +325,13 @@ fn new_name(alloc: Global, folder: &str, process: &str, number: u16) -> Result<S
 
 /// Whether a new file lies on the device of an old one and could be given its owner, group and
 /// permissions.
-fn is_made_like<R: Files>(rt: &R, file: &R::File, name: &str, old: &Metadata) -> Result<bool, Fault>
+fn is_made_like<F: DraftFile>(file: &F, old: &Metadata) -> Result<bool, Fault>
     ensures { IfErr result (λ fault. status_of fault ≡ 1) }
 {
     let Ok(new) = file.metadata() else {
         return Err(Fault::Open);
     };
-    let is_owned = (new.uid(), new.gid()) == (old.uid(), old.gid())
-        || lchown(rt, name, Some(old.uid()), Some(old.gid())).is_ok();
+    let is_owned = (new.uid(), new.gid()) == (old.uid(), old.gid()) || file.give_like(old).is_ok();
     Ok(new.dev() == old.dev() && is_owned && file.set_permissions(old.permissions()).is_ok())
 }
 

@@ -11,14 +11,14 @@ ghost use Rattle.retrograde.specs.BuiltBytes.{WritesBuilt};
 ghost use Rattle.retrograde.specs.UsualVersion.{usual_version};
 ghost use Rattle.certificate.specs.Upgrades.{WritesUpgrade};
 
-use crate::draft::begin;
+use crate::draft::{DraftFile, begin};
 use board_build::build_board;
 use board_layout::BoardHeader;
 use certificate::Checked;
 use db_layout::write_bytes;
 use db_reader::Table;
 use exit_status::Fault;
-use retrograde::build;
+use retrograde::ReadyBuild;
 use std::alloc::Global;
 use std::fs;
 use std::io::{BufWriter, Read, Write};
@@ -79,8 +79,9 @@ fn read_bytes<F: Read>(alloc: Global, file: &mut F) -> Result<Vec<u8>, Fault>
     Ok(bytes)
 }
 
-/// Room that is kept while memory grows, and let go before a check, so that its stack can grow
-/// then. Where it could not, the system would end the program with no word.
+/// Room that is kept while memory grows, and let go before a check or a build, so that its stack
+/// can grow then. Where it could not, the system would end the program with no word. A run takes it
+/// once: what is taken a second time the C library doesn't give back to the system.
 pub fn stack_room(alloc: Global) -> Result<Vec<u8>, Fault>
     ensures { IfErr result (λ fault. status_of fault ≡ 1) }
 {
@@ -130,74 +131,86 @@ fn read_block<'a, F: Read>(file: &mut F, block: &'a mut [u8; BLOCK]) -> Result<&
 }
 
 /// Writes the database of a pip bound into a file, which takes the place of an old one once it is
-/// complete (`draft`). `Open` where it can't be made, and `Write` where a write fails: then the
-/// old file stays, or, where the bytes go straight into it, it may hold a prefix of the database.
+/// complete (`draft`). The memory that it needs is taken before the file is begun. `Open` where it
+/// can't be made, and `Write` where a write fails: then the old file stays, or, where the bytes go
+/// straight into it, it may hold a prefix of the database.
 pub fn build_file<R: Files>(rt: &R, alloc: Global, pips: u8, path: &str) -> Result<(), Fault>
+where
+    R::File: DraftFile,
     ensures fault { pips ≤ 58 → IfErr result (λ fault. status_of fault ≡ 1) }
     ensures built { OnOk result (IsHandedTo ⟦<BufWriter<R::File> as Write>⟧.contents
         (WritesBuilt (usual_version pips) pips)) }
 {
-    probe_stack(alloc)?;
+    let room = stack_room(alloc)?;
+    let ready = ReadyBuild::new(alloc, pips)?;
     let mut draft = begin(rt, alloc, path)?;
-    let written = build_into(alloc, pips, &mut draft.writer);
+    drop(room);
+    let written = build_into(ready, &mut draft.writer);
     draft.finish(rt, written)
 }
 
-/// Writes the database of a pip bound, to its last byte.
-fn build_into<O: Write>(alloc: Global, pips: u8, output: &mut O) -> Result<(), Fault>
-    ensures fault { pips ≤ 58 → IfErr result (λ fault. status_of fault ≡ 1) }
-    ensures built { OnOk result (WritesBuilt (usual_version pips) pips (O.contents output.old)
+/// Writes the database of a build that has its memory, to its last byte.
+fn build_into<O: Write>(ready: ReadyBuild, output: &mut O) -> Result<(), Fault>
+    ensures fault { ready ≤ 58 → IfErr result (λ fault. status_of fault ≡ 1) }
+    ensures built { OnOk result (WritesBuilt (usual_version ready) ready (O.contents output.old)
         (O.contents output.new)) }
 {
-    probe_stack(alloc)?;
-    build(alloc, pips, output)?;
+    ready.write(output)?;
     flush(output)
 }
 
 /// Writes the board file of 90 pips into a file, with the faults of `build_file`. It is made in
-/// memory, of which it needs as much as it is long.
+/// memory, of which it needs as much as it is long, and which is taken before the file is begun.
 pub fn build_board_file<R: Files>(rt: &R, alloc: Global, path: &str) -> Result<(), Fault>
+where
+    R::File: DraftFile,
     ensures fault { IfErr result (λ fault. status_of fault ≡ 1) }
     ensures built { OnOk result (IsHandedTo ⟦<BufWriter<R::File> as Write>⟧.contents
         (WritesBuiltBoard 90)) }
 {
-    probe_stack(alloc)?;
+    let room = stack_room(alloc)?;
+    let mut file = board_room(alloc)?;
     let mut draft = begin(rt, alloc, path)?;
-    let written = build_board_into(alloc, &mut draft.writer);
+    drop(room);
+    let written = build_board_into(&mut file, &mut draft.writer);
     draft.finish(rt, written)
 }
 
-/// Writes the board file of 90 pips, to its last byte.
-fn build_board_into<O: Write>(alloc: Global, output: &mut O) -> Result<(), Fault>
-    ensures fault { IfErr result (λ fault. status_of fault ≡ 1) }
-    ensures built { OnOk result (WritesBuiltBoard 90 (O.contents output.old)
-        (O.contents output.new)) }
-{
-    let file = whole_board(alloc)?;
-    if write_bytes(file.as_slice(), output).is_err() {
-        return Err(Fault::Write);
-    }
-    flush(output)
-}
-
-/// The board file of 90 pips.
-// so that the room of the builder is not part of its caller's
-#[inline(never)]
-fn whole_board(alloc: Global) -> Result<Vec<u8>, Fault>
-    ensures fault { IfErr result (λ fault. status_of fault ≡ 1) }
-    ensures built { IfOk result (λ file. IsBuiltBoard 90 file.items) }
+/// As many bytes as the board file of 90 pips has.
+fn board_room(alloc: Global) -> Result<Vec<u8>, Fault>
+    ensures { IfErr result (λ fault. status_of fault ≡ 1) }
 {
     let size = match BoardHeader::new(WHOLE_BOARD) {
         Some(header) => header.end(),
         None => 0,
     };
-    let stack = stack_room(alloc)?;
-    let mut file = vec![in alloc; 0; size]?;
-    drop(stack);
-    match build_board(WHOLE_BOARD, file.as_mut_slice()) {
+    Ok(vec![in alloc; 0; size]?)
+}
+
+/// Writes the board file of 90 pips, to its last byte. It is made in a room that has as many bytes.
+fn build_board_into<O: Write>(room: &mut Vec<u8>, output: &mut O) -> Result<(), Fault>
+    ensures fault { IfErr result (λ fault. status_of fault ≡ 1) }
+    ensures built { OnOk result (WritesBuiltBoard 90 (O.contents output.old)
+        (O.contents output.new)) }
+{
+    let file = whole_board(room)?;
+    if write_bytes(file, output).is_err() {
+        return Err(Fault::Write);
+    }
+    flush(output)
+}
+
+/// The board file of 90 pips, made in a room that has as many bytes.
+// so that the room of the builder is not part of its caller's
+#[inline(never)]
+fn whole_board(room: &mut Vec<u8>) -> Result<&[u8], Fault>
+    ensures fault { IfErr result (λ fault. status_of fault ≡ 1) }
+    ensures built { IfOk result (λ file. IsBuiltBoard 90 file.now) }
+{
+    match build_board(WHOLE_BOARD, room.as_mut_slice()) {
         Ok(count) => {
-            file.truncate(count);
-            Ok(file)
+            room.truncate(count);
+            Ok(room.as_slice())
         }
         Err(_) => Err(Fault::Memory),
     }
@@ -211,6 +224,8 @@ pub fn upgrade_file<R: Files, T: Table>(
     checked: &mut Checked<T>,
     path: &str,
 ) -> Result<(), Fault>
+where
+    R::File: DraftFile,
     ensures upgraded { WhereTold checked.old.told
         (λ file. OnOk result (IsHandedTo ⟦<BufWriter<R::File> as Write>⟧.contents
         (WritesUpgrade file))) }

@@ -1,18 +1,20 @@
 //! The two kinds of file that a command is given, a database and a board file, and what is done
 //! with the bytes of each.
-ghost use Rattle.std.specs.Prelude.{◌≡◌, ℕ, suc, ◌≤◌, List, IfOk, IfErr, IsOk, OnOk, OnErr};
+ghost use Rattle.std.specs.Prelude.{◌≡◌, ℕ, suc, ◌≤◌, List, Option};
+ghost use Rattle.std.specs.Prelude.{IfOk, IfErr, IsOk, OnOk, OnErr};
 ghost use Rattle.race_model.specs.Files.{version_of, bound_of};
 ghost use Rattle.race_model.specs.Versions.{version_number};
+ghost use Rattle.ranking.specs.Tables.{IsRankTable};
 ghost use Rattle.db_reader.specs.Telling.{WhereTold};
 ghost use Rattle.certificate.specs.declared.check_fault.CheckFault.{CheckFault};
 ghost use Rattle.epc_query.specs.AnyFiles.{AnyFile, database_file, board_file, bound_by, IsRightBy};
+ghost use Rattle.epc_query.specs.Runs.{IsRunStopped};
 ghost use Rattle.exit_status.specs.Causes.{of_check};
 ghost use Rattle.exit_status.specs.Statuses.{status_of};
 ghost use Rattle.bearoff_cli.specs.Faults.{IsFirstBy};
-ghost use Rattle.ranking.specs.Tables.{IsRankTable};
 ghost use Rattle.bearoff_cli.specs.FileAnswers.{WritesLevel, WritesLevels};
 ghost use Rattle.bearoff_cli.specs.InputAnswers.{AreAnswered};
-ghost use Rattle.bearoff_cli.specs.StoppedRuns.{AreStopped, WritesLevelPart, WritesPartOfLevel};
+ghost use Rattle.bearoff_cli.specs.StoppedRuns.{AreStopped, WritesLevelPart, WritesLevelsPart};
 
 use crate::files::flush;
 use board::Board;
@@ -21,7 +23,7 @@ use board_layout::BoardHeader;
 use board_query::{BoardLines, BoardText, board_level, put_board_level};
 use database::{Accepted, Database, accept};
 use epc_query::laws::law_level_text;
-use epc_query::{run_lines, write_level, write_line};
+use epc_query::{RunFault, run_lines, write_line};
 use exit_status::Fault;
 use ranking::RankTable;
 use std::alloc::Global;
@@ -48,8 +50,7 @@ pub trait Kind: Copy {
 
     /// The pip bound of the bytes.
     fn bound(&self) -> u8
-        ensures bound { (bytes : List ℕ) → keeps self.now bytes → result ≡ bound_of bytes }
-        ensures kind { (bytes : List ℕ) → bound_by (kind bytes) ≡ bound_of bytes };
+        ensures { (bytes : List ℕ) → keeps self.now bytes → result ≡ bound_by (kind bytes) };
 
     /// Answers each line of the input over the bytes.
     fn answer<I: Read, O: Write>(
@@ -80,9 +81,9 @@ pub trait Kind: Copy {
         requires right { IsRightBy (kind bytes.now) }
         requires kept { keeps self bytes.now }
         requires table { IsRankTable ranks.now }
-        requires within { pips ≤ bound_of bytes.now }
+        requires within { pips ≤ bound_by (kind bytes.now) }
         ensures status { IfErr result (λ fault. status_of fault ≡ 1) }
-        ensures part { OnErr result (WritesPartOfLevel (kind bytes.now) pips
+        ensures part { OnErr result (WritesLevelPart (kind bytes.now) pips
             (O.contents output.old) (O.contents output.new)) }
         ensures level { OnOk result (WritesLevel (kind bytes.now) pips
             (O.contents output.old) (O.contents output.new)) };
@@ -95,16 +96,33 @@ pub fn write_levels<K: Kind, O: Write>(kept: K, bytes: &[u8], output: &mut O) ->
     requires right { IsRightBy (K.kind bytes.now) }
     requires kept { K.keeps kept bytes.now }
     ensures status { IfErr result (λ fault. status_of fault ≡ 1) }
-    ensures part { OnErr result (WritesLevelPart (K.kind bytes.now)
+    ensures part { OnErr result (WritesLevelsPart (K.kind bytes.now)
         (O.contents output.old) (O.contents output.new)) }
-    ensures levels { OnOk result (WritesLevels (K.kind bytes.now) (suc (bound_of bytes.now))
-        (O.contents output.old) (O.contents output.new)) }
+    ensures levels { OnOk result (WritesLevels (K.kind bytes.now)
+        (suc (bound_by (K.kind bytes.now))) (O.contents output.old) (O.contents output.new)) }
 {
     let ranks = RankTable::new();
     for pips in 0..=kept.bound() {
         kept.write_level(bytes, &ranks, pips, output)?;
     }
     flush(output)
+}
+
+/// Why the answers to an input stopped, once the replies that the output may still hold are handed
+/// on, as they are where nothing stopped: the output, where it fails at that. After a failed write
+/// nothing more is written.
+pub fn handed_on<O: Write>(cause: RunFault, output: &mut O) -> RunFault
+    ensures { (file : AnyFile) (given : List ℕ) (left old : Option (List ℕ)) →
+        IsRunStopped file given left old (O.contents output.old) cause →
+        IsRunStopped file given left old (O.contents output.new) result }
+{
+    match cause {
+        RunFault::Write => RunFault::Write,
+        _ => match output.flush() {
+            Ok(()) => cause,
+            Err(_) => RunFault::Write,
+        },
+    }
 }
 
 /// The databases, each by what is kept of its bytes.
@@ -141,8 +159,10 @@ impl Kind for Databases {
     ) -> Result<(), Fault> {
         let ranks = RankTable::new();
         let mut database = Database::kept(bytes, self.accepted, &ranks);
-        run_lines(alloc, &mut database, input, output, TURNS)?;
-        Ok(())
+        match run_lines(alloc, &mut database, input, output, TURNS) {
+            Ok(_) => Ok(()),
+            Err(cause) => Err(Fault::from(handed_on(cause, output))),
+        }
     }
 
     fn write_level<O: Write>(
@@ -155,7 +175,7 @@ impl Kind for Databases {
         law_level_text();
         let database = Database::kept(bytes, self.accepted, ranks);
         let level = database.level(pips).unwrap();
-        write_level(&level, output).map_err(|_| Fault::Write)
+        epc_query::write_level(&level, output).map_err(|_| Fault::Write)
     }
 }
 
@@ -192,8 +212,10 @@ impl Kind for Boards {
     ) -> Result<(), Fault> {
         let ranks = RankTable::new();
         let mut lines = BoardLines::new(Board::accepted(bytes, self.header, &ranks));
-        run_lines(alloc, &mut lines, input, output, TURNS)?;
-        Ok(())
+        match run_lines(alloc, &mut lines, input, output, TURNS) {
+            Ok(_) => Ok(()),
+            Err(cause) => Err(Fault::from(handed_on(cause, output))),
+        }
     }
 
     fn write_level<O: Write>(

@@ -6,7 +6,8 @@
 use act::act;
 use exit_status::{Fault, write_fault};
 use std::fs::File;
-use std::os::fd::AsRawFd;
+use std::io::BufWriter;
+use std::os::fd::{AsFd, AsRawFd, BorrowedFd};
 use std::process::ExitCode;
 use std::{env, fs, io};
 
@@ -15,36 +16,69 @@ pub mod draft;
 pub mod files;
 pub mod kinds;
 
+/// What the system says of a number that is no open file's (`EBADF`).
+const NOT_OPEN: i32 = 9;
+
 fn main(rt: HostRuntime) -> ExitCode {
-    let _standing = stand_ins(&rt);
-    let words = match words_of(&rt) {
-        Ok(words) => words,
+    match run(&rt) {
+        Ok(status) => ExitCode::from(status),
         Err(fault) => {
             let _ = write_fault(&fault, &mut rt.stderr());
-            return ExitCode::from(fault.status());
+            ExitCode::from(fault.status())
         }
+    }
+}
+
+/// Does what the words ask for, with the standard streams, and gives the exit status.
+fn run(rt: &HostRuntime) -> Result<u8, Fault> {
+    let _standing = stand_ins(rt)?;
+    let words = words_of(rt)?;
+    // a reply with no room beside others is written by itself, so each write ends with a whole one
+    let Ok(mut output) = BufWriter::new(rt.alloc(), rt.stdout()) else {
+        return Err(Fault::Memory);
     };
-    ExitCode::from(act(
-        &rt,
+    let status = act(
+        rt,
         rt.alloc(),
         words.as_slice(),
         &mut rt.stdin(),
-        &mut rt.stdout(),
+        &mut output,
         &mut rt.stderr(),
-    ))
+    );
+    // what a failed write left is not tried again
+    let _ = output.into_parts();
+    Ok(status)
 }
 
 /// The root folder, once in the place of each standard stream that is closed, so that no file that
-/// is opened later becomes that stream: it can't be read and can't be written.
-fn stand_ins(rt: &HostRuntime) -> [Option<File>; 3] {
+/// is opened later becomes that stream: it can't be read and can't be written. `Open` where a
+/// stream is closed and the root folder can't be opened.
+fn stand_ins(rt: &HostRuntime) -> Result<[Option<File>; 3], Fault> {
     let mut standing = [None, None, None];
     for place in &mut standing {
         match fs::open(rt, "/") {
             Ok(folder) if folder.as_raw_fd() < 3 => *place = Some(folder),
+            Err(_) if has_closed_stream(rt) => return Err(Fault::Open),
             _ => break,
         }
     }
-    standing
+    Ok(standing)
+}
+
+/// Whether a standard stream is closed.
+fn has_closed_stream(rt: &HostRuntime) -> bool {
+    is_closed(rt.stdin().as_fd())
+        || is_closed(rt.stdout().as_fd())
+        || is_closed(rt.stderr().as_fd())
+}
+
+/// Whether a number is no open file's, which the system says first where it is asked for a second
+/// number of the same file.
+fn is_closed(stream: BorrowedFd<'_>) -> bool {
+    match stream.try_clone_to_owned() {
+        Ok(_) => false,
+        Err(error) => error.raw_os_error() == Some(NOT_OPEN),
+    }
 }
 
 /// The words after the program's own name. One that is no UTF-8 text names no file that could be

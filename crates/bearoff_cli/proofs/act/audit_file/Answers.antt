@@ -1,7 +1,7 @@
 -- The levels of the bytes that were read, which are a right file.
 use Rattle.std.proofs.Common.{◌≡◌, ◌∙◌, Err, inr, subst, sym, rules}
 use Rattle.bearoff_cli.specs.FileAnswers.{IsReadFrom}
-use Rattle.bearoff_cli.specs.StoppedRuns.{WritesLevelPart}
+use Rattle.bearoff_cli.specs.StoppedRuns.{WritesLevelsPart}
 use Rattle.bearoff_cli.proofs.OpenedFiles.{levels_read}
 use Rattle.bearoff_cli.proofs.StoppedRuns.{read_part}
 use Rattle.bearoff_cli.proofs.ToldFaults.{first_in}
@@ -38,6 +38,6 @@ returns-clause-left g c =
     let old = g.O.Write.contents c.args.output.now in
     let new = g.O.Write.contents c.write_levels.new.output in
     read_part g.K.Kind.kind g.R.File.Read.remaining
-    (λ f. WritesLevelPart (g.K.Kind.kind f) old new) file old new
+    (λ f. WritesLevelsPart (g.K.Kind.kind f) old new) file old new
     c.write_levels.result read c.in_ok-kept.ensures.right
     (rw same at c.write_levels.ensures.part)

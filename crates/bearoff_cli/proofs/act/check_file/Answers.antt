@@ -28,9 +28,10 @@ returns-clause-left g c =
     let read = subst (λ bytes. IsReadFrom g.R.File.Read.remaining bytes)
     (sym c.as_slice.ensures.value) c.in_ok-bytes.ensures.read in
     let kept = c.in_ok-kept.ensures in
-    let bound = c.bound.ensures.bound file kept.kept in
+    let bound = c.bound.ensures file kept.kept in
     let old = g.O.Write.contents c.args.output.now in
     let new = g.O.Write.contents c.write_count.new.output in
-    read_part g.K.Kind.kind g.R.File.Read.remaining (λ f. SaysRightPart f old new) file old new
+    read_part g.K.Kind.kind g.R.File.Read.remaining (λ f. SaysRightPart (g.K.Kind.kind f) old new)
+    file old new
     c.write_count.result read kept.right (err-weaker c.write_count.result
-    (line_part old new Checked file _ _ bound (ap count_to bound)) c.write_count.ensures.part)
+    (line_part old new Checked _ _ _ bound (ap count_to bound)) c.write_count.ensures.part)

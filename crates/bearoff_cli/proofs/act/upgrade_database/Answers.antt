@@ -57,7 +57,7 @@ returns-clause-left g c =
     c.write_count.result read right (err-weaker c.write_count.result
     (λ part. (
       full,
-      line_part old new Upgraded file _ _ bound
+      line_part old new Upgraded _ _ _ bound
           (ap count_to bound) part,
     ))
     c.write_count.ensures.part)

@@ -1,4 +1,5 @@
 -- The built file was handed to the writer of the file that was begun.
+use Rattle.std.proofs.Common.{◌≡◌}
 use Rattle.std.specs.Io.Buffered.{writer_contents}
 use Rattle.retrograde.specs.BuiltBytes.{WritesBuilt}
 use Rattle.retrograde.specs.UsualVersion.{usual_version}
@@ -7,7 +8,8 @@ use Rattle.bearoff_cli.proofs.files.build_file.Goals as goal
 
 pub returns-clause-built : goal.returns-clause-built
 returns-clause-built g c =
+    let same : c.in_ok-ready.ready ≡ c.args.pips = c.in_ok-ready.ensures.bound in
     handed (writer_contents g.R.File.Write.contents)
     (WritesBuilt (usual_version c.args.pips) c.args.pips) c.in_ok-draft.draft.writer
     c.build_into-written.new.output c.build_into-written.result c.finish.result
-    c.build_into-written.ensures.built c.finish.ensures.fault
+    (rw same at c.build_into-written.ensures.built) c.finish.ensures.fault

@@ -1,7 +1,7 @@
 -- What was written is the line of the pip count, or a part of it.
 use Rattle.std.proofs.Common.{rules, IfSome}
 use Rattle.race_model.specs.BoardFiles.{board_book}
-use Rattle.race_model.specs.BookLevels.{IsLevelLineIn}
+use Rattle.race_model.specs.Levels.{IsLevelLineIn}
 use Rattle.board_query.specs.Levels.{HasBoardLevel}
 use Rattle.bearoff_cli.proofs.kinds.BoardsKind.write_level.Given.{Over}
 use Rattle.bearoff_cli.proofs.kinds.BoardsKind.write_level.Goals.{After-put_board_level}

@@ -1,22 +1,19 @@
 -- The replies over bytes that were accepted.
-use Rattle.std.proofs.Common.{◌≡◌, Some, Err, refl, ap, rules}
-use Rattle.exit_status.specs.Causes.{of_run}
+use Rattle.std.proofs.Common.{Some, ap}
+use Rattle.epc_query.specs.AnyFiles.{database_file}
 use Rattle.bearoff_cli.proofs.kinds.DatabasesKind.answer.Goals as goal
 
-pub returns-in_err-run_lines-clause-left : goal.returns-in_err-run_lines-clause-left
-returns-in_err-run_lines-clause-left g c given read =
-    let cause = c.in_err-run_lines.field-0.0 in
-    let same : c.from_residual.result ≡ Err (of_run cause) = search rules in
-    rw same (record {
-      right = c.requires.right;
-      cause = cause;
-      fault_is = refl;
-      stopped = c.in_err-run_lines.ensures.stopped c.args.bytes.now
-          (ap Some c.kept-database.ensures) given read;
-    })
+pub returns-in-Err-clause-left : goal.returns-in-Err-clause-left
+returns-in-Err-clause-left g c given read = record {
+  right = c.requires.right;
+  cause = c.handed_on.result;
+  fault_is = c.from.ensures;
+  stopped = c.handed_on.ensures (database_file c.args.bytes.now) given _ _
+      (c.in-Err.ensures.stopped c.args.bytes.now (ap Some c.kept-database.ensures) given read);
+}
 
-pub returns-clause-answers : goal.returns-clause-answers
-returns-clause-answers g c given read =
-    let done = c.in_ok-run_lines.ensures.done c.args.bytes.now
-    (ap Some c.kept-database.ensures) given read in
+pub returns-in-Ok-clause-answers : goal.returns-in-Ok-clause-answers
+returns-in-Ok-clause-answers g c given read =
+    let done = c.in-Ok.ensures.done c.args.bytes.now (ap Some c.kept-database.ensures) given read
+    in
     record { right = c.requires.right; end = done.0; replies = done.2 }
