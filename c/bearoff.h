@@ -21,11 +21,18 @@
  * Stack. bearoff_open and bearoff_upgrade need less than BEAROFF_OPEN_STACK bytes of stack,
  * bearoff_build less than BEAROFF_BUILD_STACK, bearoff_board_open and bearoff_board_build less
  * than BEAROFF_BOARD_STACK, every other call less than 128 KB. Threads whose stack is smaller have
- * to be given more before they make such a call.
+ * to be given more before they make such a call. The stack of a main thread, 8 MB on most systems,
+ * is enough for each call but bearoff_build of more than 38 pips, which wants a thread of its own.
  *
  * Refusals. Each call but bearoff_thousandths and bearoff_board_thousandths returns a status;
  * where it isn't BEAROFF_OK nothing that the caller lends was changed, except for what the call's
  * comment says.
+ *
+ * Order. A call that could be refused for several reasons tells the first of these: the database
+ * or board is BEAROFF_NOT_OPEN; BEAROFF_BAD_ROLL; BEAROFF_TOO_MANY, of any position that is given;
+ * BEAROFF_OVER_BOUND and BEAROFF_FINISHED, of the first position alone; BEAROFF_NOT_LEGAL;
+ * BEAROFF_NO_RANK; BEAROFF_CHANGED; BEAROFF_SHORT. An upgrade tells the fault of the bytes before
+ * BEAROFF_NOT_OLD, and that before BEAROFF_SHORT.
  */
 #ifndef BEAROFF_H
 #define BEAROFF_H
@@ -41,7 +48,7 @@ extern "C" {
 /* The version of this header and of what came with it; the library tells its own. */
 #define BEAROFF_VERSION "1.0.0"
 
-/* The statuses, in the order of the tests, each with its text in bearoff_status_text. */
+/* The statuses, each with its text in bearoff_status_text. */
 enum {
     BEAROFF_OK = 0,         /* success */
     BEAROFF_NOT_OPEN = 1,   /* the database or board was never opened, or its bytes were refused */
@@ -374,9 +381,10 @@ uint32_t bearoff_upgrade(const uint8_t *bytes, size_t length, uint8_t *work, siz
 /*
  * Builds the database of a pip bound into the front of `room`; `*filled` is how many bytes it has:
  * 11,209,796 for 44 pips, and BEAROFF_FILE for 58. `work` is a room of at least as many bytes,
- * which the call uses as it likes. It needs BEAROFF_BUILD_STACK bytes of stack. BEAROFF_OK;
- * BEAROFF_OVER_BOUND where the bound is over 58; BEAROFF_SHORT where a room is too small. Where
- * the status is not BEAROFF_OK `room` and `*filled` stay as they were.
+ * which the call uses as it likes. It needs less than 128 KB of stack to 8 pips, BEAROFF_OPEN_STACK
+ * bytes to 20, 7.5 MB to 38, and BEAROFF_BUILD_STACK bytes from 39 on. BEAROFF_OK;
+ * BEAROFF_OVER_BOUND where the bound is over 58; BEAROFF_SHORT where a room is too small. Where the
+ * status is not BEAROFF_OK `room` and `*filled` stay as they were.
  */
 uint32_t bearoff_build(uint8_t bound, uint8_t *work, size_t work_length, uint8_t *room,
                        size_t room_length, size_t *filled);

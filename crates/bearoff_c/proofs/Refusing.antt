@@ -1,11 +1,11 @@
 -- When a loss is not refused.
-use Rattle.std.proofs.Common.{◌≡◌, ℕ, Bool, ◌≤◌, None, refl}
-use Rattle.std.proofs.lemmas.Bool.{le-ltb}
-use Rattle.race_model.specs.Positions.{Board, checkers}
-use Rattle.bearoff_c.specs.Refusals.{play_refusal, loss_refusal}
+use Rattle.std.proofs.Common.{◌≡◌, ℕ, Bool, true, false, None, refl, rules}
+use Rattle.race_model.specs.Positions.{Board}
+use Rattle.bearoff_c.specs.Refusals.{lead_refusal, play_refusal, loss_refusal}
 
--- the loss of a play to a position is not refused where the play itself isn't
+-- the loss of a play to a position is not refused where the play itself isn't, nor what is read
 pub loss_told : (opened : Bool) (bound : ℕ) (x : Board) (one other : ℕ) (y : Board) →
-    play_refusal opened bound x one other ≡ None → checkers y ≤ 15 →
+    lead_refusal x one other y ≡ None → play_refusal opened bound x one other ≡ None →
     loss_refusal opened bound x one other y ≡ None
-loss_told opened bound x one other y e few = rw (e, le-ltb 15 (checkers y) few) refl
+loss_told false bound x one other y lead play = absurd (search (rules, play))
+loss_told true bound x one other y lead play = rw (lead, play) refl

@@ -4,7 +4,7 @@ use Rattle.race_model.specs.Positions.{Board}
 use Rattle.race_model.specs.Dice.{Throw}
 use Rattle.race_model.specs.Fractions.{IsFraction}
 use Rattle.race_model.specs.Books.{Book}
-use Rattle.race_model.specs.BookReplies.{loss_in, IsMoveListIn}
+use Rattle.race_model.specs.Losses.{loss_in, IsMoveListIn}
 use Rattle.fixed_fraction.specs.Board.{board_whole}
 use Rattle.bearoff_c.specs.declared.board_plays.LongChoice.{LongChoice}
 use Rattle.bearoff_c.specs.Longs.{long_number_of}

@@ -70,12 +70,14 @@ play_refusal opened bound x one other =
     (or_else (roll_refusal one other)
     (or_else (position_refusal opened bound x) (finished_refusal x)))
 
--- why no loss of a play to y is told, but that the roll doesn't lead there
-abbrev pub loss_refusal : Bool → ℕ → Board → ℕ → ℕ → Board → Option Refusal
-loss_refusal opened bound x one other y =
-    or_else (play_refusal opened bound x one other) (many_refusal y)
-
 -- why no play of two dice from x to y is told, but that the roll doesn't lead there
 abbrev pub lead_refusal : Board → ℕ → ℕ → Board → Option Refusal
 lead_refusal x one other y = or_else (roll_refusal one other)
     (or_else (many_refusal x) (many_refusal y))
+
+-- why no loss of a play to y is told, but that the roll doesn't lead there: both positions are read
+-- before the first one is looked for
+abbrev pub loss_refusal : Bool → ℕ → Board → ℕ → ℕ → Board → Option Refusal
+loss_refusal opened bound x one other y =
+    or_else (open_refusal opened)
+    (or_else (lead_refusal x one other y) (play_refusal opened bound x one other))

@@ -1,6 +1,6 @@
 //! A line of the query language, answered by a board file into a buffer that the caller lends.
 ghost use Rattle.std.specs.Prelude.{◌≡◌, ℕ, ◌≤◌, ◌<◌, ◌↔◌, List, [], ◌∷◌, ◌++◌, IsTrue, length};
-ghost use Rattle.race_model.specs.BookReplies.{IsReplyIn};
+ghost use Rattle.race_model.specs.Replies.{IsReplyIn};
 ghost use Rattle.race_model.specs.BoardFiles.{board_book};
 ghost use Rattle.bearoff_c.specs.Buffers.{HasText};
 ghost use Rattle.bearoff_c.specs.Refusals.{open_refusal, status_of};

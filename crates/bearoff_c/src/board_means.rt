@@ -1,7 +1,8 @@
 //! The least mean number of rolls of a position of the whole board, its effective pip count, and
 //! the thousandths of such numbers.
 ghost use Rattle.std.specs.Prelude.{◌≡◌, ◌*◌, ◌<◌, ◌≤◌, ◌↔◌, IsTrue, IfOk};
-ghost use Rattle.race_model.specs.Books.{mean_in, IsLeastIn};
+ghost use Rattle.race_model.specs.Strategies.{IsLeastIn};
+ghost use Rattle.race_model.specs.Books.{mean_in};
 ghost use Rattle.race_model.specs.BoardFiles.{board_book};
 ghost use Rattle.race_model.specs.Fractions.{IsFraction, IsThousandths};
 ghost use Rattle.fixed_fraction.specs.Board.{board_whole};

@@ -7,7 +7,7 @@ ghost use Rattle.race_model.specs.Files.{bound_of};
 ghost use Rattle.race_model.specs.FirstPlays.{IsFirstPlay};
 ghost use Rattle.race_model.specs.Fractions.{IsFraction};
 ghost use Rattle.race_model.specs.Books.{recorded_in};
-ghost use Rattle.race_model.specs.BookReplies.{loss_in, IsLossIn};
+ghost use Rattle.race_model.specs.Losses.{loss_in, IsLossIn};
 ghost use Rattle.race_model.specs.BoardFiles.{board_book};
 ghost use Rattle.fixed_fraction.specs.Board.{board_whole};
 ghost use Rattle.legal_plays.specs.Faces.{face, roll_of};
@@ -20,11 +20,11 @@ ghost use Rattle.bearoff_c.specs.Refusals.{loss_refusal, play_refusal, refusal_i
 use crate::board_positions::{FoundOnBoard, find_on_board};
 use crate::kept_board::Board;
 use crate::long_numbers::LongFraction;
-use crate::plays::{RecordedPlay, listed, read_roll};
+use crate::plays::{RecordedPlay, listed, read_ends, read_roll};
 use crate::positions::Counts;
 use crate::statuses::{OK, Refusal, SHORT};
 use board::{Board as Opened, BoardChoice};
-use fixed_fraction::board_mean_and_epc;
+use fixed_fraction::board_mean_fraction;
 use home_board::Position;
 use legal_plays::{Roll, play_to};
 
@@ -106,9 +106,9 @@ pub extern "C" fn bearoff_board_play(
 }
 
 /// What a result of a roll costs, in rolls: the least mean after it less the least such mean among
-/// all results. Refused as `bearoff_board_play` is, else as `TooMany` where the result has more
-/// than 15 checkers, and else as `NotLegal` where the roll doesn't lead there; then `loss` stays as
-/// it was.
+/// all results. Refused as `NotOpen`, else as `bearoff_play_to` is but for `NotLegal`, so as
+/// `TooMany` where either position has more than 15 checkers, else as `bearoff_board_play` is, and
+/// else as `NotLegal` where the roll doesn't lead there; then `loss` stays as it was.
 #[unsafe(no_mangle)]
 pub extern "C" fn bearoff_board_loss(
     board: &Board<'_>,
@@ -132,20 +132,24 @@ pub extern "C" fn bearoff_board_loss(
         position.now.points (roll_of (face one) (face other)) to.now.points) }
     ensures left { ¬ (result ≡ 0) → loss.new ≡ loss.old }
 {
+    if !board.is_open {
+        return Refusal::NotOpen.status();
+    }
+    let ends = match read_ends(position, one, other, to) {
+        Ok(ends) => ends,
+        Err(refusal) => return refusal.status(),
+    };
     let turn = match find_board_turn(board, position, one, other) {
         Ok(turn) => turn,
         Err(refusal) => return refusal.status(),
     };
-    let Ok(after) = Position::new(to.points) else {
-        return Refusal::TooMany.status();
-    };
-    if play_to(&turn.position, turn.roll, &after).is_none() {
+    if play_to(&turn.position, turn.roll, &ends.after).is_none() {
         return Refusal::NotLegal.status();
     }
-    let Some(lost) = turn.board.loss(&turn.position, turn.roll, &after) else {
+    let Some(lost) = turn.board.loss(&turn.position, turn.roll, &ends.after) else {
         return Refusal::Changed.status();
     };
-    *loss = LongFraction::of(board_mean_and_epc(lost).0);
+    *loss = LongFraction::of(board_mean_fraction(lost));
     OK
 }
 
@@ -221,7 +225,7 @@ fn tell_choices(found: &[BoardChoice], room: &mut [LongChoice], count: &mut usiz
     for (index, choice) in found.iter().enumerate() {
         room[index] = LongChoice {
             to: Counts::of(&choice.to),
-            loss: LongFraction::of(board_mean_and_epc(choice.loss).0),
+            loss: LongFraction::of(board_mean_fraction(choice.loss)),
         };
     }
     OK

@@ -67,10 +67,11 @@ impl<'a> Write for Room<'a> {
 
 /// Builds the database of a pip bound into the front of a room; `filled` is how many bytes it has.
 /// `work` is a room of at least as many bytes, which the build uses as it likes; both need
-/// 11,209,796 bytes for 44 pips and 15,060,844 for 58. It needs 20 MB of stack. Refused as
-/// `OverBound` where the bound is over 58, and with the status 8 where a room is too small; then
-/// `room` and `filled` stay as they were. (That a work room which is too small has the status 8,
-/// and one that isn't never has it, is tested: no clause says when a writer takes no more.)
+/// 11,209,796 bytes for 44 pips and 15,060,844 for 58. It needs 20 MB of stack, and less to 38 pips
+/// (`build_in_place`). Refused as `OverBound` where the bound is over 58, and with the status 8
+/// where a room is too small; then `room` and `filled` stay as they were. (That a work room which
+/// is too small has the status 8, and one that isn't never has it, is tested: no clause says when a
+/// writer takes no more.)
 #[unsafe(no_mangle)]
 pub extern "C" fn bearoff_build(
     bound: u8,

@@ -91,6 +91,34 @@ pub fn read_roll(one: u8, other: u8) -> Result<Roll, Refusal>
     }
 }
 
+/// A roll, and the positions before and after a play of it.
+#[derive(Clone, Copy)]
+pub struct Ends {
+    pub roll: Roll,
+    pub before: Position,
+    pub after: Position,
+}
+
+/// A roll, given by its two dice in either order, and two positions. Refused exactly as
+/// `lead_refusal` says.
+pub fn read_ends(position: &Counts, one: u8, other: u8, to: &Counts) -> Result<Ends, Refusal>
+    ensures refusal { refusal_in result
+        ≡ lead_refusal position.now.points one other to.now.points }
+    ensures roll { IfOk result (λ ends. ends.roll ≡ roll_of (face one) (face other)) }
+    ensures before { IfOk result (λ ends. ends.before ≡ position.now.points) }
+    ensures after { IfOk result (λ ends. ends.after ≡ to.now.points) }
+{
+    let roll = read_roll(one, other)?;
+    match (Position::new(position.points), Position::new(to.points)) {
+        (Ok(before), Ok(after)) => Ok(Ends {
+            roll,
+            before,
+            after,
+        }),
+        _ => Err(Refusal::TooMany),
+    }
+}
+
 /// The recorded play of a roll, given by its two dice in either order: no play has a smaller mean.
 /// Refused as `NotOpen`, else as `BadRoll` where a die isn't 1 to 6, else as `TooMany` or
 /// `OverBound`, and else as `Finished` where no checker is left, and as `Changed` only where the
@@ -172,20 +200,17 @@ pub extern "C" fn bearoff_play_to(
     ensures zeros { result ≡ 0 → AreZerosAfter play.new.count play.new.moves }
     ensures left { ¬ (result ≡ 0) → play.new ≡ play.old }
 {
-    let roll = match read_roll(one, other) {
-        Ok(roll) => roll,
+    let ends = match read_ends(position, one, other, to) {
+        Ok(ends) => ends,
         Err(refusal) => return refusal.status(),
     };
-    let (Ok(before), Ok(after)) = (Position::new(position.points), Position::new(to.points)) else {
-        return Refusal::TooMany.status();
-    };
-    let Some(found) = play_to(&before, roll, &after) else {
+    let Some(found) = play_to(&ends.before, ends.roll, &ends.after) else {
         return Refusal::NotLegal.status();
     };
     *play = RecordedPlay {
         moves: listed(&found),
         count: found.len() as u8,
-        to: Counts::of(&after),
+        to: Counts::of(&ends.after),
     };
     OK
 }

@@ -14,7 +14,7 @@ ghost use Rattle.bearoff_c.specs.Wides.{number_of};
 
 use crate::kept::Database;
 use crate::numbers::WideFraction;
-use crate::plays::{Turn, find_turn};
+use crate::plays::{Turn, find_turn, read_ends};
 use crate::positions::Counts;
 use crate::statuses::{OK, Refusal, SHORT};
 use epc_query::MOST_RESULTS;
@@ -35,9 +35,9 @@ pub struct Choice {
 }
 
 /// What a result of a roll costs, in rolls: the least mean after it less the least such mean among
-/// all results. Refused as `bearoff_play` is, else as `TooMany` where the result has more than 15
-/// checkers, and else as `NotLegal` where the roll doesn't lead there; then `loss` stays as it
-/// was.
+/// all results. Refused as `NotOpen`, else as `bearoff_play_to` is but for `NotLegal`, so as
+/// `TooMany` where either position has more than 15 checkers, else as `bearoff_play` is, and else
+/// as `NotLegal` where the roll doesn't lead there; then `loss` stays as it was.
 #[unsafe(no_mangle)]
 pub extern "C" fn bearoff_loss(
     database: &Database<'_>,
@@ -61,17 +61,21 @@ pub extern "C" fn bearoff_loss(
         position.now.points (roll_of (face one) (face other)) to.now.points) }
     ensures left { ¬ (result ≡ 0) → loss.new ≡ loss.old }
 {
+    if !database.is_open {
+        return Refusal::NotOpen.status();
+    }
+    let ends = match read_ends(position, one, other, to) {
+        Ok(ends) => ends,
+        Err(refusal) => return refusal.status(),
+    };
     let turn = match find_turn(database, position, one, other) {
         Ok(turn) => turn,
         Err(refusal) => return refusal.status(),
     };
-    let Ok(after) = Position::new(to.points) else {
-        return Refusal::TooMany.status();
-    };
-    if play_to(&turn.position, turn.roll, &after).is_none() {
+    if play_to(&turn.position, turn.roll, &ends.after).is_none() {
         return Refusal::NotLegal.status();
     }
-    let Some(lost) = turn.database.loss(&turn.position, turn.roll, &after) else {
+    let Some(lost) = turn.database.loss(&turn.position, turn.roll, &ends.after) else {
         return Refusal::Changed.status();
     };
     *loss = WideFraction::of(lost);

@@ -1,5 +1,5 @@
 use Rattle.std.proofs.Common.{ℕ, List, [], ◌∷◌, ◌++◌, sym, ◌∙◌, subst₂}
-use Rattle.race_model.specs.BookReplies.{IsReplyIn}
+use Rattle.race_model.specs.Replies.{IsReplyIn}
 use Rattle.race_model.specs.BoardFiles.{board_book}
 use Rattle.bearoff_c.proofs.board_lines.bearoff_board_answer_line.Goals as goal
 use Rattle.bearoff_c.proofs.board_lines.bearoff_board_answer_line.Goals.{After-as_bytes}

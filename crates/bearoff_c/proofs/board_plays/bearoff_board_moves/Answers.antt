@@ -2,7 +2,7 @@ use Rattle.std.proofs.Common.{◌≡◌, ℕ, List, All, length, map, take, ap, 
 use Rattle.std.proofs.lemmas.List.{length-map}
 use Rattle.race_model.specs.Positions.{Board}
 use Rattle.race_model.specs.Dice.{Throw}
-use Rattle.race_model.specs.BookReplies.{loss_in, IsMoveListIn}
+use Rattle.race_model.specs.Losses.{loss_in, IsMoveListIn}
 use Rattle.race_model.specs.BoardFiles.{board_book}
 use Rattle.legal_plays.specs.Faces.{face, roll_of}
 use Rattle.board.specs.Choices.{result_of}

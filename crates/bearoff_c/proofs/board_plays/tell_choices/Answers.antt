@@ -18,7 +18,7 @@ loop-index-preserved c =
     let found = c.args.found.now in
     let room = c.loop-index.room in
     let choice = c.index-found-index.result in
-    let fraction = c.board_mean_and_epc.result.0 in
+    let fraction = c.board_mean_fraction.result in
     let one : LongChoice = record { to = c.of.result; loss = c.of-in-loop-index.result } in
     let inside : i < length found = omega arith in
     let low : i < length room = omega arith in
@@ -43,7 +43,7 @@ loop-index-preserved c =
             c.of-in-loop-index.ensures.numerator,
             c.of-in-loop-index.ensures.denominator,
           ) (subst (λ n. IsFraction n board_whole fraction.numerator fraction.denominator) same
-          c.board_mean_and_epc.ensures.mean) in
+          c.board_mean_fraction.ensures) in
           subst (λ (ones : List LongChoice). All (HasLongCost cost) ones)
           (sym (take_more_set room i one low))
           (All-push (HasLongCost cost) (take i room) one

@@ -1,20 +1,20 @@
-use Rattle.std.proofs.Common.{◌≤◌, refl, sym, arith, rules}
-use Rattle.race_model.specs.Positions.{checkers}
+-- Whether the roll leads to the result decides, once nothing else refuses.
+use Rattle.std.proofs.Common.{sym, arith, rules}
 use Rattle.race_model.specs.Plays.{Legal}
 use Rattle.bearoff_c.proofs.Refusing.{loss_told}
 use Rattle.bearoff_c.proofs.results.bearoff_loss.Goals as goal
 
 pub returns-then-is_none-clause-not_legal : goal.returns-then-is_none-clause-not_legal
 returns-then-is_none-clause-not_legal c =
-    let told = c.in-Ok.ensures {u = tt} in
-    let not : ¬ Legal c.in-Ok.turn.position c.in-Ok.turn.roll c.in-Ok-new.after = search rules in
-    let few : checkers c.args.to.now.points ≤ 15 =
-    (c.in-Ok-new.ensures {u = tt}).accepted.0 refl in (
+    let read = c.in-Ok.ensures {u = tt} in
+    let told = c.in-Ok-find_turn.ensures {u = tt} in
+    let not : ¬ Legal c.in-Ok-find_turn.turn.position c.in-Ok-find_turn.turn.roll c.in-Ok.ends.after =
+    search rules in (
       λ e. (
         loss_told c.args.database.now.is_open c.args.database.now.bound
             c.args.position.now.points c.args.one c.args.other c.args.to.now.points
-            (sym told.refusal) few,
-        λ legal. not (rw (told.position, told.roll, (c.in-Ok-new.ensures {u = tt}).value) legal),
+            (sym read.refusal) (sym told.refusal),
+        λ legal. not (rw (told.position, told.roll, read.after) legal),
       ),
       λ both. c.status-then-is_none.ensures.value,
     )
@@ -24,10 +24,11 @@ loss-requires-clause-legal c = c.play_to.ensures.legal.0 (c.if-is_none.ensures {
 
 pub returns-clause-not_legal : goal.returns-clause-not_legal
 returns-clause-not_legal c =
-    let told = c.in-Ok.ensures {u = tt} in
-    let found : Legal c.in-Ok.turn.position c.in-Ok.turn.roll c.in-Ok-new.after =
+    let read = c.in-Ok.ensures {u = tt} in
+    let told = c.in-Ok-find_turn.ensures {u = tt} in
+    let found : Legal c.in-Ok-find_turn.turn.position c.in-Ok-find_turn.turn.roll c.in-Ok.ends.after =
     c.play_to.ensures.legal.0 (c.if-is_none.ensures {u = tt}) in
-    let legal = rw (told.position, told.roll, (c.in-Ok-new.ensures {u = tt}).value) at found in (
+    let legal = rw (told.position, told.roll, read.after) at found in (
       λ e. absurd (omega (arith, e)),
       λ both. absurd (both.1 legal),
     )
