@@ -1,0 +1,174 @@
+"""The wrong bodies of crates/NAME/wrong_bodies, which tools/try_edits tries many in one check: what
+it makes of what the prover says, which edits it tries together, and, over the prover itself, that
+a body which is right is told as PROVED and one that does not compile as a BAD EDIT."""
+
+import collections
+import importlib.machinery
+import importlib.util
+import os
+import re
+import sys
+
+import pytest
+
+from running import ROOT, expect_that, run, succeed
+
+# what the prover said of a check of a few wrong bodies
+SAID = """\
+./proofs/text/parse/Answers.antt:80:40: error: `none`: module `Goals` has no `none` that can be named
+./proofs/text/write/Answers.antt:47:85: error: `count_text`: `rw`: no part of the goal
+./proofs/text/write/Answers.antt:49:5: error: 2 declarations that depend on `count_text`, which
+note: src/board.rt:74:5: it is not proved that what the function ensures holds (`returns-value`)
+fn low::board::Board::count: no proof: expected answers; `search` did not prove `returns-value`
+impl low::board::BoardOrd: not proved; it waits for the proof of `cmp`
+fn low::board::Board::is_empty: no proof: it calls `low::board::Board::count`, which is not proved
+fn low::board::Board::pips: proved
+fn low::text::parse: not proved
+note: src/text.rt:59:5: it is not proved that the invariant of the loop holds (`loop-kept`)
+fn low::text::read: not proved
+fn low::text::write: not proved; it calls `low::board::Board::count`, which is not proved
+logic=not-proved
+"""
+
+SOURCE = """\
+const MOST: u8 = 90;
+
+impl Board {
+    pub fn count(&self) -> u8
+        ensures { result ≤ 15 }
+    {
+        self.count
+    }
+
+    fn pips(&self) -> u8 {
+        let pips = self.pips;
+        pips
+    }
+}
+
+impl From<ReadFault> for Fault {
+    fn from(fault: ReadFault) -> Fault {
+        Fault::Read
+    }
+}
+"""
+
+
+@pytest.fixture(scope="module")
+def tool():
+    """tools/try_edits as a module."""
+    loader = importlib.machinery.SourceFileLoader("try_edits", str(ROOT / "tools/try_edits"))
+    made = importlib.util.module_from_spec(importlib.util.spec_from_loader("try_edits", loader))
+    was, sys.dont_write_bytecode = sys.dont_write_bytecode, True
+    loader.exec_module(made)
+    sys.dont_write_bytecode = was
+    return made
+
+
+def edit_of(tool, function, owner=None, module="text", name="x"):
+    """An edit in a function."""
+    return tool.Edit(name, "src/x.rt", ((0, 1, "a"),), tool.Place(module, owner, function))
+
+
+@pytest.mark.parametrize(
+    "function, owner, module, verdict",
+    [
+        (
+            "count",
+            ("Board", ""),
+            "board",
+            ("refused", "returns-value of low::board::Board::count"),
+        ),
+        ("read", None, "text", ("refused", "loop-kept of low::text::read")),
+        # its own goal fails, whatever it waits for
+        ("write", None, "text", ("refused", "count_text of low::text::write")),
+        # tried again without the edit of what it calls
+        ("is_empty", ("Board", ""), "board", (None, False)),
+        # tried alone: refused in no goal, and for a name alone
+        ("pips", ("Board", ""), "board", (None, True)),
+        ("parse", None, "text", (None, True)),
+    ],
+)
+def test_verdicts(tool, function, owner, module, verdict):
+    edit = edit_of(tool, function, owner, module)
+    found, waits = tool.judge([edit], SAID, "low")
+    assert found[edit] == verdict
+    assert waits["low::board::Board::is_empty"] == {"low::board::Board::count"}
+
+
+@pytest.mark.parametrize(
+    "said, verdict",
+    [
+        ("fn low::x: proved\nlogic=proved functions=1\n", "PROVED"),
+        ("src/x.rt:1:1: error[E1]: no such name\n", "BAD EDIT"),
+        (SAID, "refused"),
+        (
+            "./proofs/x/Answers.antt:8:4: error: `none`: module `Goals` has no `none`\n"
+            "fn low::x: not proved\nlogic=not-proved\n",
+            "NAME ALONE",
+        ),
+        ("fn low::x: could not tell\nrattle: no verdict: it was killed\n", "NOT TRIED"),
+    ],
+)
+def test_verdicts_alone(tool, said, verdict):
+    assert tool.verdict_alone(said, 1, "low")[0] == verdict
+
+
+def test_batches(tool):
+    """Two edits of one function don't meet in a check, nor do those of functions of which one waits
+    for the other, maybe through a third."""
+    edits = [edit_of(tool, it, name=it + way) for way in "ab" for it in ("one", "two", "three")]
+    waits = collections.defaultdict(set)
+    tried = lambda: [it.name for it in tool.batch_of(edits, "low", waits)]
+    assert tried() == ["onea", "twoa", "threea"]
+    waits["low::text::one"] = {"low::text::between"}
+    waits["low::text::between"] = {"low::text::three"}
+    assert tried() == ["onea", "twoa"]
+    edits.pop(0)
+    assert tried() == ["twoa", "threea"]
+
+
+def test_places(tool):
+    def place(text):
+        return tool.place_of(SOURCE, "src/text/board.rt", SOURCE.index(text))
+
+    assert place("90") is None
+    assert place("result ≤ 15") is None
+    assert place("self.count") == ("text::board", ("Board", ""), "count")
+    assert place("let pips") == ("text::board", ("Board", ""), "pips")
+    assert place("Fault::Read") == ("text::board", ("Fault", "From<ReadFault>"), "from")
+    assert tool.name_of(place("Fault::Read")) == "text::board::FaultFromReadFault::from"
+
+
+@pytest.mark.xdist_group("prover")
+def test_prover(room):
+    """Over the prover: a right body, one that does not compile, and wrong ones beside them."""
+    rows = {
+        "is_right": ("Fault::OverBound => 2,", "Fault::OverBound => 1 + 1,"),
+        "is_wrong": ("Fault::OverBound => 2,", "Fault::OverBound => 1,"),
+        "is_no_program": ('Fault::Memory => text("memory"),', 'Fault::Memory => text("memory",'),
+        "is_not_there": ("Fault::Nowhere", "Fault::Memory"),
+        "writes_nothing": ("write_bytes(line(fault).as_str().as_bytes(), errors)", "Ok(())"),
+    }
+    (room / "edits").mkdir()
+    for name, (old, new) in rows.items():
+        (room / f"edits/{name}.edit").write_text(f"file: src/fault.rt\nold: {old}\nnew: {new}\n")
+    words = (ROOT / "tools/try_edits", "exit_status", "--edits", room / "edits")
+    here = {**os.environ, "XDG_CACHE_HOME": str(room / "cache")}
+    done = run(*words, env=here, timeout=1200)
+    rows = re.findall(r"(?m)^([\w ]+): exit_status/(\w+): ", done.output.decode())
+    verdicts = {name: kind for kind, name in rows}
+    wanted = {
+        "is_right": "PROVED",
+        "is_wrong": "refused",
+        "is_no_program": "BAD EDIT",
+        "is_not_there": "BAD EDIT",
+        "writes_nothing": "refused",
+    }
+    expect_that(verdicts == wanted and done.status == 1, done, f"status 1 and {wanted}")
+
+
+def test_parts():
+    """`make check` names all parts."""
+    parts = re.findall(r'(?m)^    "(\w+)": Part', (ROOT / "tools/check").read_text())
+    assert succeed("make", "--dry-run", "check", cwd=ROOT).decode().split()[1:] == parts
