@@ -8,15 +8,24 @@ MAKEFLAGS += --no-builtin-rules
 OUT ?= out
 PREFIX ?= /usr/local
 ARCHIVE ?= crates/bearoff_c/out/libbearoff.a
+# folders that may have any name: a recipe has it from its environment, as it was typed, since in
+# its own text make and the shell would read it
+help install uninstall release: export override PREFIX := $(value PREFIX)
+help install uninstall release: export override DESTDIR := $(value DESTDIR)
+help install uninstall release: export override DIR := $(value DIR)
 VERSION := $(shell cat VERSION)
 
-SOURCES := crates.txt $(shell find crates -name out -prune -o -type f -print)
+# an edit, which the prover has to refuse, is no source
+SOURCES := crates.txt $(shell find crates \( -name out -o -name must-fail -o -name wrong_bodies \) -prune \
+	-o -type f -print)
 PROVED := crates/bearoff_cli/out/fresh
 MODULES := $(OUT)/modules/wide.wasm $(OUT)/modules/narrow.wasm
 PAGE := $(OUT)/bearoff.html
 PACKAGE := $(OUT)/js/bearoff-$(VERSION).tgz
 
 TESTED := $(OUT)/tested/ready
+# programs that tests in Python run, which `rt ci` builds too
+TRIALS := $(foreach it,board_trials failing_calls number_trials,crates/$(it)/out/$(it))
 
 WORK_PAGE := $(OUT)/work.html
 
@@ -24,20 +33,21 @@ WORK_PAGE := $(OUT)/work.html
 SCRIPTS := git ls-files '*.py' && \
 	git grep -lE '^\#!.*python3' -- packaging tests tools ':!*.py' ':!tests/page/mutants'
 
-.PHONY: help needs prove library page work-page js tested install uninstall release reference
-.PHONY: format test test-python test-node
+.PHONY: help needs prove library page work-page js tested trials install uninstall release
+.PHONY: reference format check test test-python test-node
 .DELETE_ON_ERROR:
 
 help:
 	@echo 'make needs              installs what the tests and the packaging need from Debian'
 	@echo 'make prove              proves and builds the program'
-	@echo 'make test               all tests; pytest tests -k WORD runs those of a name'
+	@echo 'make check              all that has to pass, from nothing: Debian, proofs, builds, tests'
+	@echo 'make test               the tests in Python and under node, and what they run'
 	@echo 'make page               $(PAGE)'
 	@echo 'make work-page          $(WORK_PAGE), the same with source maps, for work on it'
 	@echo 'make js                 $(PACKAGE)'
 	@echo 'make reference          docs/ref, of the comments and contracts of the sources'
 	@echo 'make format             lays out the Python and the C of tests, by black and clang-format'
-	@echo 'make install            into PREFIX ($(PREFIX)), below DESTDIR where that is set'
+	@printf 'make install            into PREFIX (%s), below DESTDIR where that is set\n' "$$PREFIX"
 	@echo 'make uninstall          takes that away'
 	@echo 'make release DIR=DIR    the files of a release, in a new folder'
 
@@ -53,6 +63,11 @@ $(PROVED): $(SOURCES)
 # only asked, by `make --question`, whether no source has changed since
 crates/bearoff_c/out/fresh .git/rt-ci.lock: $(SOURCES)
 	@echo 'a source has changed since $@ was made' >&2; exit 1
+
+trials: $(TRIALS)
+$(TRIALS) &: $(SOURCES)
+	tools/prove $(notdir $(TRIALS)) $(if $(JOBS),--jobs $(JOBS))
+	@touch $(TRIALS)
 
 library: $(ARCHIVE)
 $(ARCHIVE): $(SOURCES)
@@ -79,13 +94,13 @@ format:
 	clang-format -i $$(git ls-files '*.c' '*.cpp')
 
 install:
-	DESTDIR='$(DESTDIR)' packaging/install '$(PREFIX)'
+	packaging/install "$$PREFIX"
 
 uninstall:
-	DESTDIR='$(DESTDIR)' packaging/uninstall '$(PREFIX)'
+	packaging/uninstall "$$PREFIX"
 
 release:
-	packaging/release '$(DIR)'
+	packaging/release "$$DIR"
 
 # what the tests under node compare with
 tested: $(TESTED)
@@ -93,10 +108,14 @@ $(TESTED): $(PROVED) tests/page/prepare tests/callers/questions.py tests/callers
 	tests/page/prepare crates/bearoff_cli/out/bearoff_cli $(@D)
 	@touch $@
 
+# each part goes on where it was stopped
+check:
+	tools/check needs proofs build bodies python node
+
 test: test-python test-node
 
-test-python: prove library
+test-python: needs prove library trials
 	pytest -n 4 --dist loadgroup tests
 
-test-node: prove page js tested
+test-node: needs prove page js tested
 	node --test --test-concurrency=1 tests/page

@@ -2,15 +2,22 @@
 """What the tests and the packaging need beyond the kit, and the one step that installs it from
 Debian's packages: tests/needs.py [NAME..] installs what is missing of these, or of all. Each row
 has a name, the packages, and how to see that it is there. What is optional may be missing: then
-the tests of it are skipped, and say so."""
+the tests of it are skipped, and say so. What it gets is said as it goes, every thirty seconds too,
+and apt's own reason where it can't be had."""
 
 import argparse
 import collections
 import fcntl
 import os
+import re
 import shutil
 import subprocess
 import sys
+import tempfile
+import time
+
+PAUSE = 30
+"""The seconds after which a line says what it waits for."""
 
 Need = collections.namedtuple("Need", "name packages is_there is_optional", defaults=(False,))
 
@@ -79,24 +86,52 @@ NEEDS = (
 BY_NAME = {need.name: need for need in NEEDS}
 
 
+WHY_NOT = {}
+"""By its name, why a need can't be had."""
+
+
+def say(text):
+    print(f"needs: {text}", file=sys.stderr, flush=True)
+
+
+def apt(*words, what):
+    """Runs apt-get, and gives its own reason where it fails."""
+    before = [] if os.getuid() == 0 else ["sudo", "-n"]
+    command = [*before, "env", "DEBIAN_FRONTEND=noninteractive", "apt-get", "-qq"]
+    if not shutil.which(command[0]) or not shutil.which("apt-get"):
+        return "there is no apt-get, or no right to run it"
+    began = time.time()
+    with tempfile.TemporaryFile("w+", errors="replace") as said:
+        how = {"stdin": subprocess.DEVNULL, "stdout": said, "stderr": said}
+        with subprocess.Popen([*command, "-o", "DPkg::Lock::Timeout=600", *words], **how) as run:
+            while run.poll() is None:
+                try:
+                    run.wait(PAUSE)
+                except subprocess.TimeoutExpired:
+                    say(f"{what}, for {int(time.time() - began)} s")
+        said.seek(0)
+        lines = said.read().split("\n")
+    reasons = [line[3:] for line in lines if re.match("E: ", line)] or lines[-2:]
+    return "; ".join(reasons) if run.returncode else ""
+
+
 def install(names):
     """Installs what is missing of these, and tells what then is missing still."""
     missing = [BY_NAME[name] for name in names if not BY_NAME[name].is_there()]
     if not missing:
         return []
-    before = [] if os.getuid() == 0 else ["sudo", "-n"]
-    command = [*before, "env", "DEBIAN_FRONTEND=noninteractive", "apt-get", "-qq"]
-    with open(f"/tmp/bearoff-needs-{os.getuid()}", "w", encoding="ascii") as lock:
+    with open(__file__, "rb") as lock:
         # two tests that run side by side don't install at once
         fcntl.flock(lock, fcntl.LOCK_EX)
         missing = [need for need in missing if not need.is_there()]
-        if missing and shutil.which(command[0]) and shutil.which("apt-get"):
-            subprocess.run(
-                [*command, "update"], stdout=subprocess.DEVNULL, stderr=subprocess.DEVNULL
-            )
-            for need in missing:
-                words = [*command, "install", "-y", "--no-install-recommends", *need.packages]
-                subprocess.run(words, stdout=subprocess.DEVNULL, stderr=subprocess.DEVNULL)
+        if missing:
+            say(f"{len(missing)} are missing: {' '.join(need.name for need in missing)}")
+            apt("update", what="reading Debian's list of packages")
+        for place, need in enumerate(missing):
+            what = f"{place + 1} of {len(missing)}: installing {' '.join(need.packages)}"
+            say(what)
+            words = ("install", "-y", "--no-install-recommends", *need.packages)
+            WHY_NOT[need.name] = apt(*words, what=what)
     return [need.name for need in missing if not need.is_there()]
 
 
@@ -111,7 +146,8 @@ def main():
     for name in install(names or BY_NAME):
         need = BY_NAME[name]
         left_out = "what it is for is left out" if need.is_optional else "and it is needed"
-        print(f"needs: {' '.join(need.packages)} can't be installed, {left_out}", file=sys.stderr)
+        why = WHY_NOT.get(name) or "it is installed, and not found"
+        say(f"{' '.join(need.packages)} can't be installed, {left_out}: {why}")
         is_wrong = is_wrong or not need.is_optional
     return 1 if is_wrong else 0
 
