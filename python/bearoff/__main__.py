@@ -11,6 +11,7 @@ from . import __version__
 from .database import Database
 from .errors import BadMatch, Damaged, NoLibrary
 from .grading import NOTE, grade
+from .texts import printable
 
 
 def main(words: Optional[Sequence[str]] = None) -> int:
@@ -60,7 +61,7 @@ def main(words: Optional[Sequence[str]] = None) -> int:
 
 
 def _fail(status: int, line: str) -> int:
-    print(f"bearoff: {line}", file=sys.stderr)
+    print(f"bearoff: {printable(line)}", file=sys.stderr)
     return status
 
 

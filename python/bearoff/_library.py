@@ -188,6 +188,17 @@ def _path() -> str:
     return found
 
 
+# Held while the library is loaded, and while the stack of new threads is another one. A thread of
+# a parent that holds it is not in the child, where nobody would let it go: so a fork waits for it,
+# and finds the usual stack. It may be taken twice by one thread, since a signal handler may fork.
+_changing = threading.RLock()
+if hasattr(os, "register_at_fork"):
+    os.register_at_fork(
+        before=_changing.acquire,
+        after_in_parent=_changing.release,
+        after_in_child=_changing.release,
+    )
+
 _library: Optional[Library] = None
 
 
@@ -195,11 +206,10 @@ def library() -> Library:
     """The library, which is loaded once."""
     global _library
     if _library is None:
-        _library = Library(_path())
+        with _changing:
+            if _library is None:
+                _library = Library(_path())
     return _library
-
-
-_setting_stack = threading.Lock()
 
 
 def on_stack(size: int, call: Callable[..., int], *arguments: Any) -> int:
@@ -216,7 +226,7 @@ def on_stack(size: int, call: Callable[..., int], *arguments: Any) -> int:
             failed.append(error)
 
     thread = threading.Thread(target=run, name="bearoff")
-    with _setting_stack:
+    with _changing:
         before = threading.stack_size(size + _MORE_STACK)
         try:
             thread.start()

@@ -40,6 +40,7 @@ from .errors import (
 )
 from .exact import wide_numbers
 from .positions import (
+    UNREADABLE,
     AnyPosition,
     AnyPositions,
     AnyRoll,
@@ -58,7 +59,7 @@ from .positions import (
     rolls_of,
     shown,
 )
-from .ranking import Ranks
+from .ranking import Ranks, rows_of
 
 Source = Union[str, "os.PathLike[str]", bytes, bytearray, memoryview]
 
@@ -205,18 +206,14 @@ class Database:
         """The position of a rank, or the positions of a slice of the ranks; -1 is the last rank.
         Raises `OutOfRange` where there is no such rank.
         """
-        length = len(self)
         if isinstance(rank, slice):
-            return [self.position(place) for place in range(*rank.indices(length))]
-        try:
-            return self.position(rank)
-        except BadArgument:
-            place = _place_of(rank, length)
-        except Refused as refused:
-            if refused.status != NO_RANK:
-                raise
-            raise OutOfRange(refused.status, refused.asked) from None
-        return self.position(place)
+            _places(rank, 0)
+            return [self.position(place) for place in _places(rank, len(self))]
+        place = _index_of(rank)
+        length = len(self)
+        if not -length <= place < length:
+            raise OutOfRange(NO_RANK, shown(rank))
+        return self.position(place % length)
 
     def __bool__(self) -> bool:
         return True
@@ -278,9 +275,10 @@ class Database:
         Raises what `rank` raises of the first row that has no rank, with the number of that row.
         """
         opened = self._opened
+        rows = rows_of(positions)
         if opened.ranks is None:
             opened.ranks = Ranks(_table(opened, "positions", "B", 6))
-        return opened.ranks.of(positions, _no_rank)
+        return opened.ranks.of(rows, _no_rank)
 
     def mean(self, position: AnyPosition) -> Fraction:
         """The least mean number of rolls until all checkers are off, over all strategies."""
@@ -313,7 +311,7 @@ class Database:
         file 0 to 33. They sum to 1.
         """
         opened = self._opened
-        return tuple(map(opened.share, *_shares(opened, position)))
+        return tuple(map(opened.share, *_shares(opened, counts_of(position), position)))
 
     def within(self, position: AnyPosition, rolls: SupportsIndex) -> Fraction:
         """The chance of being off in at most so many rolls, by the recorded plays. From 22 rolls
@@ -322,8 +320,9 @@ class Database:
         Raises `BadArgument` where the number of rolls is no whole number from 0 on.
         """
         opened = self._opened
+        counts = counts_of(position)
         asked = rolls_of(rolls, opened.layout.rolls)
-        columns = _shares(opened, position)
+        columns = _shares(opened, counts, position)
         return opened.share(*(sum(column[: asked + 1]) for column in columns))
 
     @staticmethod
@@ -423,8 +422,8 @@ class Database:
         """
         told = lib.PlayRoom()
         opened = self._opened
-        one, other = dice_of(roll)
         counts = counts_of(position)
+        one, other = dice_of(roll)
         _check(opened.play(opened.at, counts, one, other, told), position, roll)
         return _play_of(lib.PLAY.unpack(told))
 
@@ -437,8 +436,7 @@ class Database:
         roll doesn't lead to `to`.
         """
         told = lib.PlayRoom()
-        one, other = dice_of(roll)
-        counts, after = counts_of(position), counts_of(to)
+        counts, (one, other), after = counts_of(position), dice_of(roll), counts_of(to)
         _check(lib.library().play_to(counts, one, other, after, told), position, roll, to)
         return _play_of(lib.PLAY.unpack(told))
 
@@ -449,8 +447,7 @@ class Database:
         """
         opened = self._opened
         told = opened.layout.FractionRoom()
-        one, other = dice_of(roll)
-        counts, after = counts_of(position), counts_of(to)
+        counts, (one, other), after = counts_of(position), dice_of(roll), counts_of(to)
         _check(opened.loss(opened.at, counts, one, other, after, told), position, roll, to)
         return opened.fraction(*opened.layout.fraction.unpack(told))
 
@@ -459,8 +456,8 @@ class Database:
         lower rank first; each with what it costs, in rolls. Raises `Refused` as `play` does.
         """
         opened = self._opened
-        one, other = dice_of(roll)
         counts = counts_of(position)
+        one, other = dice_of(roll)
         count = ctypes.c_size_t()
         result_of = opened.layout.result
         for room in (64, lib.RESULTS):
@@ -530,7 +527,7 @@ def _bytes_of(content: Any) -> bytes:
         return content
     try:
         return memoryview(content).tobytes()
-    except TypeError:
+    except UNREADABLE:
         raise BadArgument(f"neither the path of a file nor bytes: {shown(content)}") from None
 
 
@@ -553,15 +550,20 @@ def _reopen(kind: Type[_Self], path: str, digest: str) -> _Self:
     return database
 
 
-def _place_of(rank: Any, length: int) -> int:
-    """The rank that a number below 0 counts from the end, or `BadArgument` or `OutOfRange`."""
+def _index_of(rank: Any) -> int:
+    """A whole number, which may be below 0, or `BadArgument`."""
     try:
-        place = length + index(rank)
+        return index(rank)
     except TypeError:
         raise BadArgument(f"not a rank: {shown(rank)}") from None
-    if place < 0:
-        raise OutOfRange(NO_RANK, shown(rank))
-    return place
+
+
+def _places(ranks: slice, length: int) -> range:
+    """The ranks of a slice of so many, or `BadArgument`."""
+    try:
+        return range(*ranks.indices(length))
+    except (TypeError, ValueError):
+        raise BadArgument(f"no ranks: {shown(ranks)}") from None
 
 
 def _no_rank(number: int, position: Any) -> BearoffError:
@@ -586,11 +588,11 @@ def _column(numbers: Iterator[int]) -> memoryview:
     return memoryview(array("Q", numbers)).cast("B").cast("Q")
 
 
-def _shares(opened: Opened, position: AnyPosition) -> List[Tuple[int, ...]]:
+def _shares(opened: Opened, counts: bytes, position: AnyPosition) -> List[Tuple[int, ...]]:
     """The numerators of a distribution: all the greatest words of them, and so on."""
     layout = opened.layout
     told = layout.SharesRoom()
-    _check(opened.distribution(opened.at, counts_of(position), told), position)
+    _check(opened.distribution(opened.at, counts, told), position)
     return _columns(layout.shares.unpack(told), layout.words)
 
 

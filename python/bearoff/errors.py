@@ -6,10 +6,9 @@ MemoryError.
 
 from __future__ import annotations
 
-import re
 from typing import Tuple, Type
 
-_MOST_SHOWN = 100
+from .texts import MOST_TEXT, in_ascii, short
 
 NOT_OPEN = 1
 TOO_MANY = 3
@@ -38,7 +37,9 @@ class BearoffError(ValueError):
 
 
 class BadArgument(BearoffError):
-    """What was given is no position, roll, rank, pip bound, line or file at all."""
+    """What was given is no position, roll, rank, pip bound, line or file at all; so is a view of
+    memory that was released, and a text that is longer than any of these.
+    """
 
 
 class NoRace(BadArgument):
@@ -63,10 +64,9 @@ class BadMatch(BadArgument):
     """
 
     def __init__(self, reason: str, line: int, what: str, text: str = "") -> None:
-        shown = re.sub("[^ -~]", "?", " ".join(text.split()))
-        short = shown if len(shown) <= _MOST_SHOWN else shown[:_MOST_SHOWN] + "..."
-        told = re.sub("[^ -~]", "?", what)
-        super().__init__(f"line {line}: {told}: {short}" if short else f"line {line}: {told}")
+        shown = short(in_ascii(" ".join(text[:MOST_TEXT].split())))
+        told = in_ascii(what[:MOST_TEXT])
+        super().__init__(f"line {line}: {told}: {shown}" if shown else f"line {line}: {told}")
         self.reason = reason
         self.line = line
         self.what = what
@@ -80,9 +80,10 @@ class Refused(BearoffError):
     """The library gave no answer. `status` is the number that it gave instead, as in
     ``bearoff.h``.
 
-    The message says why, and what was asked: the database is closed, a position has more than 15
-    checkers or more pips than the bound, a die isn't 1 to 6, no checker is left, the roll doesn't
-    lead to the position, or there is no position of that rank.
+    The message says why, and what was asked. Of several reasons it is the first of these: the
+    database is closed, a die isn't 1 to 6, a position has more than 15 checkers, the first one has
+    more pips than the bound or no checker left, the roll doesn't lead to the other one, or there
+    is no position of that rank. What is no position or roll at all is a `BadArgument` before that.
     """
 
     def __init__(self, status: int, asked: str = "") -> None:

@@ -18,7 +18,7 @@ LONG_WHOLE = 36**33
 WEIGHTS = (2.0**64 / WHOLE, 1.0 / WHOLE)
 """What the high and the low half of a numerator over 36^22 count, as floats: the halves, each
 times its weight, add up to the number of rolls, or to the chance, with a relative error of less
-than 1e-15.
+than 1e-15. A number of a board file has three words, for which tables as floats are there.
 """
 
 if sys.version_info >= (3, 12):

@@ -18,10 +18,11 @@ from fractions import Fraction
 from typing import Any, Dict, List, NamedTuple, Tuple, Union
 
 from .database import Database
-from .errors import NOT_LEGAL, OVER_BOUND, BadMatch, Refused
+from .errors import NOT_LEGAL, OVER_BOUND, BadArgument, BadMatch, Refused
 from .exact import lowest_terms
 from .matches import Match, MatchPlay, read_match
-from .positions import Play, Position
+from .positions import Play, Position, shown
+from .texts import MOST_MATCH, printable, short
 
 NOTE = (
     "Losses are of one side's rolls and no equity: the other player, the cube and the score are"
@@ -91,7 +92,10 @@ class Graded(NamedTuple):
     plays: Tuple[GradedPlay, ...]
 
     def table(self) -> str:
-        """The plays and the players as two tables of text, and what the numbers are."""
+        """The plays and the players as two tables of text, and what the numbers are. Of a name the
+        front is shown, and a question mark for what isn't printed by itself.
+        """
+        names = [short(printable(player.name)) for player in self.players]
         heads = ("game", "move", "player", "position", "roll", "play", *_LOST, "best play")
         rows: List[Tuple[str, ...]] = [heads]
         for play in self.plays:
@@ -99,10 +103,10 @@ class Graded(NamedTuple):
                 (
                     str(play.game),
                     str(play.move),
-                    self.players[play.player].name,
+                    names[play.player],
                     str(play.position),
                     "{}{}".format(*play.dice),
-                    play.text,
+                    printable(play.text),
                     *_lost(play.loss, play.pips),
                     play.best.text if play.loss else "",
                 )
@@ -110,8 +114,8 @@ class Graded(NamedTuple):
         totals: List[Tuple[str, ...]] = [
             ("player", "plays", "with a choice", "losing", *_LOST, "over the bound")
         ]
-        for player in self.players:
-            counts = (player.name, str(player.plays), str(player.choices), str(player.losing))
+        for name, player in zip(names, self.players):
+            counts = (name, str(player.plays), str(player.choices), str(player.losing))
             totals.append((*counts, *_lost(player.loss, player.pips), str(player.over_bound)))
         right = {"game", "move", *totals[0][1:]}
         bound = f"Of positions of at most {self.bound} pips."
@@ -225,8 +229,15 @@ def _total(player: int, match: Match, plays: List[GradedPlay], over_bound: int) 
 
 def _text_of(path: Union[str, "os.PathLike[str]"]) -> str:
     """The text of a file, which may be of an older code: beside names a match has ASCII alone."""
-    with open(path, "rb") as file:
-        content = file.read()
+    if not isinstance(path, (str, os.PathLike)):
+        raise BadArgument(f"neither the path of a match nor a match: {shown(path)}")
+    try:
+        with open(path, "rb") as file:
+            content = file.read(MOST_MATCH + 1)
+    except ValueError as error:
+        raise BadArgument(f"{error}: {shown(path)}") from None
+    if len(content) > MOST_MATCH:
+        raise BadMatch("malformed", 1, f"the file of a match has at most {MOST_MATCH} bytes")
     try:
         return content.decode("utf-8")
     except UnicodeDecodeError:

@@ -8,8 +8,9 @@
 
 `read_match` replays each game on a board of its own, and tells every roll with what was played. A
 text that isn't written so, or whose plays can't be made on the board, is refused as `BadMatch`
-with the number of its line. Outside the bearoff a play is not compared with all plays of its roll.
-Nothing here needs the shared library.
+with the number of its line; so is one of more than ten million characters, and a line or a name of
+more than a thousand. The time that it takes grows as the length of the text does. Outside the
+bearoff a play is not compared with all plays of its roll. Nothing here needs the shared library.
 """
 
 from __future__ import annotations
@@ -18,8 +19,9 @@ import itertools
 import re
 from typing import Dict, Iterator, List, NamedTuple, NoReturn, Optional, Sequence, Tuple
 
-from .errors import BadMatch
-from .positions import Position
+from .errors import BadArgument, BadMatch
+from .positions import Position, shown
+from .texts import MOST_MATCH, MOST_TEXT, short
 
 __all__ = ["BadMatch", "Match", "MatchPlay", "read_match"]
 
@@ -87,8 +89,7 @@ class Match(NamedTuple):
 _LENGTH = re.compile(r" *([0-9]{1,5}) point match *", re.IGNORECASE)
 _VARIATION = re.compile(r'; *\[Variation "([^"]*)"\] *', re.IGNORECASE)
 _GAME = re.compile(r" *Game ([0-9]{1,6}) *")
-_NAMES = re.compile(r" *(\S.*?) : [0-9]{1,6} +(\S.*?) : [0-9]{1,6} *")
-_SCORE = re.compile(r" : [0-9]{1,6}(?: |$)")
+_SCORE = re.compile(r" : [0-9]{1,6}(?= |$)")
 _NUMBERED = re.compile(r" *([0-9]{1,6})\)(.*)")
 _WINS = re.compile(r" *Wins [0-9]{1,6} points?(?: and the match)? *")
 
@@ -97,6 +98,8 @@ _ROLL = re.compile(r"([1-6])([1-6]):")
 _WORDS = re.compile(
     r"Doubles => [0-9]{1,6}|Takes|Drops|Wins [0-9]{1,6} points?(?: and the match)?"
 )
+# .. which are so many words at most
+_MOST_WORDS = len("Wins 2 points and the match".split())
 _NOTHING = "Cannot Move"
 _STEPS = re.compile(
     r"(bar|[0-9]{1,2})((?:/(?:off|[0-9]{1,2})\*?)+)(?:\(([1-4])\))?", re.IGNORECASE
@@ -112,6 +115,10 @@ def read_match(text: str) -> Match:
     """The match of a text in the `.mat` form or, where it begins with a parenthesis, in the `.sgf`
     form. Raises `BadMatch` for any other text.
     """
+    if not isinstance(text, str):
+        raise BadArgument(f"not the text of a match: {shown(text)}")
+    if len(text) > MOST_MATCH:
+        raise BadMatch("malformed", 1, f"a match has at most {MOST_MATCH} characters")
     if text.lstrip("\ufeff \t\r\n").startswith("("):
         return _SgfReader().whole(text)
     reader = _Reader()
@@ -142,7 +149,12 @@ class _Reader:
 
     def read(self, number: int, line: str) -> None:
         """Reads one line."""
-        self.number, self.text = number, line.expandtabs()
+        self.number, self.text = number, line
+        if len(line) > MOST_TEXT:
+            if line.lstrip().startswith(";"):
+                return
+            self.refuse("malformed", f"a line has at most {MOST_TEXT} characters")
+        self.text = line.expandtabs()
         variation = _VARIATION.fullmatch(self.text.strip())
         if variation and variation[1].lower() != "backgammon":
             self.refuse("variation", f"only backgammon is graded, and not {variation[1]}")
@@ -176,13 +188,14 @@ class _Reader:
         self.move, self.last = 0, None
 
     def name(self) -> None:
-        told = _NAMES.fullmatch(self.text)
-        if not told:
+        # what stands before each score, and behind the last one
+        *parts, rest = _SCORE.split(self.text)
+        if len(parts) < 2 or not parts[0].strip() or not parts[1].strip() or rest.strip():
             what = "the line behind the number of a game names both players with their scores"
             self.refuse("malformed", what)
-        if len(_SCORE.findall(self.text)) != 2:
+        if len(parts) > 2:
             self.refuse("malformed", "where one name ends can't be told")
-        names = (told[1].rstrip(), told[2].rstrip())
+        names = (parts[0].strip(), parts[1].strip())
         if self.names not in (None, names):
             self.refuse("malformed", "the players of this game are others than those before")
         self.sit(names)
@@ -229,7 +242,8 @@ class _Reader:
                 end += sum(1 for _ in played)
                 yield (int(dice[1]), int(dice[2])), " ".join(words[place + 1 : end])
             else:
-                while end < len(words) and not _WORDS.fullmatch(" ".join(words[place:end])):
+                most = min(len(words), place + _MOST_WORDS)
+                while end < most and not _WORDS.fullmatch(" ".join(words[place:end])):
                     end += 1
                 # the longest that it can be: a game's end may be that of the match
                 while end < len(words) and words[end] in ("and", "the", "match"):
@@ -314,8 +328,8 @@ class _Reader:
         return source - target
 
     def who(self, player: int) -> str:
-        """The name of a player."""
-        return (self.names or ("", ""))[player]
+        """The name of a player, as it is shown."""
+        return short((self.names or ("", ""))[player])
 
     def end(self) -> Match:
         """The match, once all lines were read."""
@@ -327,12 +341,16 @@ class _Reader:
 
 
 _BLANKS = re.compile(r"\s*")
-_SGF_PART = re.compile(r"(?:([();])|([A-Z]+)((?:\s*\[(?:\\.|[^\]\\])*\])+))", re.DOTALL)
-_SGF_VALUE = re.compile(r"\[((?:\\.|[^\]\\])*)\]", re.DOTALL)
+# what stands between brackets, in which a bracket may come behind a backslash
+_SGF_INNER = r"[^\]\\]*(?:\\.[^\]\\]*)*"
+_SGF_PART = re.compile(rf"(?:([();])|([A-Z]+)((?:\s*\[{_SGF_INNER}\])+))", re.DOTALL)
+_SGF_VALUE = re.compile(rf"\[({_SGF_INNER})\]", re.DOTALL)
 _SGF_PLAY = re.compile(r"([1-6])([1-6])((?:[a-z]{2}){0,4})")
 _SGF_CUBE = ("double", "take", "drop")
 _SGF_SET_UP = ("AB", "AE", "AW")
-_SGF_RULES = ("Crawford", "CrawfordGame", "Jacoby")
+
+# the rules that leave the moves as they are: what the cube may do, and what a game counts
+_SGF_RULES = ("Crawford", "CrawfordGame", "Jacoby", "NoCube")
 
 
 class _SgfReader(_Reader):
@@ -395,16 +413,19 @@ class _SgfReader(_Reader):
     def head(self, name: str, values: List[str]) -> None:
         """Takes what a game tells of itself."""
         if name == "GM" and values != ["6"]:
-            self.refuse("variation", f"only backgammon is graded, and not the game {values[0]}")
+            what = f"only backgammon is graded, and not the game {short(values[0])}"
+            self.refuse("variation", what)
         if name == "RU":
-            for rule in values[0].split(":"):
+            for rule in ":".join(values).split(":"):
                 if rule and rule not in _SGF_RULES:
-                    self.refuse("variation", f"only backgammon is graded, and not {rule}")
+                    self.refuse("variation", f"only backgammon is graded, and not {short(rule)}")
         if name == "MI":
             length = [value[7:] for value in values if re.fullmatch("length:[0-9]{1,5}", value)]
             if len(length) != 1 or self.length not in (None, int(length[0])):
                 self.refuse("malformed", "the length of the match isn't told, or is another one")
             self.length = int(length[0])
+        if name in ("PW", "PB") and len(values[0]) > MOST_TEXT:
+            self.refuse("malformed", f"a name has at most {MOST_TEXT} characters")
         self.told[name] = re.sub(r"\\(.)", r"\1", values[0], flags=re.DOTALL)
         if not self.is_named and "PW" in self.told and "PB" in self.told:
             names = (self.told["PW"], self.told["PB"])

@@ -19,6 +19,7 @@ from typing import List, Literal, NamedTuple, NoReturn, Optional, Sequence, Tupl
 
 from .errors import NoRace
 from .positions import Position, position_of
+from .texts import MOST_TEXT, in_ascii, short
 
 __all__ = [
     "REASONS",
@@ -326,18 +327,17 @@ def _bare(text: str) -> str:
         raise NoRace(
             "malformed", f"a text is wanted, and not something of the type {type(text).__name__}"
         )
+    if len(text) > MOST_TEXT:
+        what = f"a text of more than {MOST_TEXT} characters is no position"
+        _refuse("malformed", what, text[:MOST_TEXT])
     return text.strip(_SPACE)
-
-
-_MOST_SHOWN = 100
 
 
 def _refuse(reason: str, what: str, text: str) -> NoReturn:
     """Raises the error, with what can be shown of a text on one line."""
-    shown = re.sub("[^ -~]", "?", re.sub(f"{_GAP}+", " ", _bare(text)))
-    line = re.sub("[^ -~]", "?", what)
-    short = shown if len(shown) <= _MOST_SHOWN else shown[:_MOST_SHOWN] + "..."
-    raise NoRace(reason, f"{line}: {short}" if short else line)
+    shown = short(in_ascii(re.sub(f"{_GAP}+", " ", _bare(text))))
+    line = in_ascii(what)
+    raise NoRace(reason, f"{line}: {shown}" if shown else line)
 
 
 def to_xgid(race: Race) -> str:

@@ -8,9 +8,10 @@ from fractions import Fraction
 from itertools import islice
 from operator import index
 from reprlib import Repr
-from typing import Any, NamedTuple, Protocol, Sequence, SupportsIndex, Tuple, Union
+from typing import Any, NamedTuple, Optional, Protocol, Sequence, SupportsIndex, Tuple, Union
 
 from .errors import BadArgument
+from .texts import MOST_TEXT
 
 _BLANKS = "[ \t\r\n\u00a0]*"
 _COUNT = f"{_BLANKS}(0|[1-9][0-9]{{0,2}}){_BLANKS}"
@@ -35,7 +36,7 @@ class Position(NamedTuple):
         """The position of a text of six counts with commas between them, and blanks where they are
         wanted; there are no signs and no leading zeros. Raises `BadArgument` for any other text.
         """
-        counts = _TEXT.fullmatch(text) if isinstance(text, str) else None
+        counts = _match(_TEXT, text) if isinstance(text, str) else None
         if not counts:
             raise BadArgument(f"not a position: {shown(text)}")
         return cls._make(map(int, counts.groups()))
@@ -153,6 +154,11 @@ or any sequence of positions.
 """
 
 
+UNREADABLE = (TypeError, ValueError, BufferError, NotImplementedError)
+"""What is raised where something has no bytes or numbers that can be read, as by a view of memory
+that was released.
+"""
+
 # what `bytes` takes as its elements, and not as its content or its length
 _LISTS = frozenset((tuple, list, Position))
 
@@ -191,7 +197,7 @@ def dice_of(roll: AnyRoll) -> Tuple[int, int]:
     becomes 0, which is none that a die shows.
     """
     if isinstance(roll, str):
-        digits = _ROLL.fullmatch(roll)
+        digits = _match(_ROLL, roll)
         dice = tuple(map(int, digits.groups())) if digits else ()
     else:
         dice = _numbers(roll, 2)
@@ -199,6 +205,11 @@ def dice_of(roll: AnyRoll) -> Tuple[int, int]:
         raise BadArgument(f"not a roll of two dice: {shown(roll)}")
     one, other = (die if 0 <= die <= _BYTE else 0 for die in dice)
     return one, other
+
+
+def _match(expression: "re.Pattern[str]", text: str) -> "Optional[re.Match[str]]":
+    """What an expression finds in all of a text, which may be of any length."""
+    return expression.fullmatch(text) if len(text) <= MOST_TEXT else None
 
 
 def shown(thing: object) -> str:
@@ -249,6 +260,6 @@ def _numbers(items: Any, count: int) -> Tuple[int, ...]:
         return ()
     try:
         numbers = tuple(map(index, islice(items, count + 1))) if len(items) == count else ()
-    except TypeError:
+    except UNREADABLE:
         return ()
     return numbers if len(numbers) == count else ()

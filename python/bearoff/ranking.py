@@ -6,10 +6,10 @@ from __future__ import annotations
 
 import sys
 from array import array
-from typing import Any, Callable, Dict, Optional
+from typing import Any, Callable, Dict, NamedTuple, Optional
 
 from .errors import BadArgument
-from .positions import AnyPositions, counts_of, shown
+from .positions import UNREADABLE, AnyPositions, counts_of, shown
 
 # how many rows are looked up at a time, so that they stay near the processor
 _ROWS = 1 << 13
@@ -23,6 +23,41 @@ Refuse = Callable[[int, Any], BaseException]
 """Makes the error of a row, by its number and its position, that has no rank."""
 
 
+class Rows(NamedTuple):
+    """Positions as they were given: an array of numpy, or what can be gone through, and then no
+    numpy.
+    """
+
+    numpy: Any
+    rows: Any
+
+
+def rows_of(positions: AnyPositions) -> Rows:
+    """The rows of positions, or `BadArgument` where they are none of six whole numbers."""
+    numpy: Any = sys.modules.get("numpy")
+    table: Any = positions
+    try:
+        if numpy and (hasattr(table, "__array__") or isinstance(table, memoryview)):
+            table = numpy.asarray(table)
+            if table.dtype.kind != "O":
+                return Rows(numpy, _six_in_each(table))
+            table = table.tolist()
+        if isinstance(table, (str, bytes, bytearray)):
+            raise TypeError
+        return Rows(None, iter(table.tolist() if isinstance(table, memoryview) else table))
+    except BadArgument:
+        raise
+    except UNREADABLE:
+        raise BadArgument(f"not an array of positions: {shown(positions)}") from None
+
+
+def _six_in_each(table: Any) -> Any:
+    if table.ndim != 2 or table.shape[1] != 6 or table.dtype.kind not in "iub":
+        told = f"{table.dtype} {table.shape}"
+        raise BadArgument(f"not an array of six whole numbers in each row: {told}")
+    return table
+
+
 class Ranks:
     """The ranks of all positions of a database, whose table of them is given."""
 
@@ -31,26 +66,15 @@ class Ranks:
         self._by_counts: Optional[Dict[bytes, int]] = None
         self._by_halves: Any = None
 
-    def of(self, positions: AnyPositions, refuse: Refuse) -> memoryview:
+    def of(self, given: Rows, refuse: Refuse) -> memoryview:
         """The ranks of positions in their order, as an array of numbers of 16 bits. Raises what
-        `refuse` makes of the first row that has none, and `BadArgument` where what is given has no
-        rows of six whole numbers.
+        `refuse` makes of the first row that has none.
         """
-        numpy: Any = sys.modules.get("numpy")
-        if numpy and (hasattr(positions, "__array__") or isinstance(positions, memoryview)):
-            table = numpy.asarray(positions)
-            if table.dtype.kind != "O":
-                return self._of_array(numpy, table, refuse)
-            positions = table.tolist()
-        return self._of_rows(positions, refuse)
+        if given.numpy:
+            return self._of_array(given.numpy, given.rows, refuse)
+        return self._of_rows(given.rows, refuse)
 
-    def _of_rows(self, positions: Any, refuse: Refuse) -> memoryview:
-        if isinstance(positions, (str, bytes, bytearray)):
-            raise BadArgument(f"not an array of positions: {shown(positions)}")
-        try:
-            rows = iter(positions.tolist() if isinstance(positions, memoryview) else positions)
-        except TypeError:
-            raise BadArgument(f"not an array of positions: {shown(positions)}") from None
+    def _of_rows(self, rows: Any, refuse: Refuse) -> memoryview:
         if self._by_counts is None:
             table = self._positions
             rows_of_it = (table[at : at + 6] for at in range(0, len(table), 6))
@@ -67,9 +91,6 @@ class Ranks:
         return memoryview(ranks)
 
     def _of_array(self, numpy: Any, table: Any, refuse: Refuse) -> memoryview:
-        if table.ndim != 2 or table.shape[1] != 6 or table.dtype.kind not in "iub":
-            told = f"{table.dtype} {table.shape}"
-            raise BadArgument(f"not an array of six whole numbers in each row: {told}")
         if self._by_halves is None:
             self._by_halves = self._halves(numpy)
         half_of, rank_of = self._by_halves

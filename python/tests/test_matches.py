@@ -13,11 +13,12 @@ import re
 import subprocess
 import sys
 import tempfile
+import time
 import unittest
 from fractions import Fraction
 from functools import lru_cache
 from pathlib import Path
-from typing import Any, Dict, List, Optional, Tuple
+from typing import Any, Callable, Dict, List, Optional, Tuple
 
 from bearoff import BadArgument, BadMatch, Database, Graded, Refused, grade, grading, notation
 from bearoff.matches import Match, MatchPlay, read_match
@@ -27,7 +28,7 @@ from .given import FILES, FOLDER, ROOT, database, replies, text
 STORED = ROOT / "python/tests/matches/short.mat"
 SHORT = STORED.read_text("ascii")
 SAVED = STORED.with_suffix(".sgf").read_text("ascii")
-NAMES = ("long", "short", "three", "money")
+NAMES = ("long", "short", "three", "money", "cubeless")
 
 # the bearoff plays of the stored match: the move, the player, the position, the roll and where it
 # led to
@@ -469,8 +470,20 @@ class Refusals(unittest.TestCase):
         ):
             self.refused(match, reason, line, what)
         self.assertEqual(len(read_match(head + "\n;W[31hefe]\n;B[41ab])").plays), 2)
-        ruled = read_match(other("DT[", "RU[Crawford:CrawfordGame:Jacoby]DT["))
-        self.assertEqual(ruled, read_match(SAVED))
+        for rules in (
+            "[Crawford:CrawfordGame:Jacoby]",
+            "[NoCube]",
+            "[NoCube:Jacoby]",
+            "[NoCube:Crawford:CrawfordGame]",
+            "[NoCube][Crawford]",
+            "[]",
+        ):
+            ruled = read_match(other("DT[", f"RU{rules}DT["))
+            self.assertEqual(ruled, read_match(SAVED))
+        for variation in ("Nackgammon", "Hypergammon1", "Hypergammon2", "Hypergammon3"):
+            for rules in (f"[{variation}]", f"[NoCube:{variation}]", f"[NoCube][{variation}]"):
+                what = f"only backgammon is graded, and not {variation}"
+                self.refused(other("DT[", f"RU{rules}DT["), "variation", 1, what)
 
     def test_turns(self) -> None:
         over = SHORT.rstrip("\n") + "\n 23) 11: 3/2\n"
@@ -493,6 +506,79 @@ class Refusals(unittest.TestCase):
         self.assertEqual(
             rows(of_text(f'; [Variation "Backgammon"]\n{SHORT}')), rows(of_text(SHORT))
         )
+
+    def test_how_long_a_match_may_be(self) -> None:
+        head = " 1 point match\n\n Game 1\n"
+        named, most = f"{head} A : 0    B : 0\n", "a line has at most 1000 characters"
+        long = SHORT.replace("gnubg : 0", "A" * 1000 + " : 0")
+        for match, line, what in (
+            (f"{head} A{' : 1  B' * 20000} x\n", 4, most),
+            (f"{named}  1) {'x ' * 100000}\n", 5, most),
+            (f"{named}  1) {'Doubles => ' * 10000}\n", 5, most),
+            ("x" * 10**7, 1, most),
+            ("x" * (10**7 + 1), 1, "a match has at most 10000000 characters"),
+            (" " * (10**7 + 1), 1, "a match has at most 10000000 characters"),
+            (long, 6, most),
+            (
+                SAVED.replace("PW[gnubg]", f"PW[{'A' * 1001}]"),
+                1,
+                "a name has at most 1000 characters",
+            ),
+        ):
+            self.refused(match, "malformed", line, what)
+        for match in (
+            SHORT.replace("\n", f"\n; {'x' * 10**5}\n", 1),
+            SAVED.replace("DT[", f"C[{'x' * 10**6}]DT["),
+            SAVED.replace("DT[", f"C[{chr(92)}]{'x' * 10**6}]DT["),
+            SAVED.replace("PW[gnubg]", f"PW[{'A' * 1000}]"),
+        ):
+            self.assertEqual(len(read_match(match).plays), 43)
+        with tempfile.TemporaryDirectory() as folder:
+            file = Path(folder, "long.mat")
+            file.write_bytes(b"\xc3\xa9" * (5 * 10**6) + b" ")
+            for path in (str(file), "/dev/zero"):
+                with self.assertRaises(BadMatch) as refused:
+                    grade(path, database(8))
+                self.assertEqual(
+                    str(refused.exception),
+                    "line 1: the file of a match has at most 10000000 bytes",
+                )
+
+    def test_it_takes_as_long_as_the_text_is(self) -> None:
+        """Ten times the text takes ten times as long, not a hundred times, whatever it says."""
+
+        def games(size: int) -> str:
+            head, body = SHORT.split(" Game 1\n")
+            parts = [f" Game {game}\n{body}\n" for game in range(1, size // len(body) + 2)]
+            return head + "".join(parts)
+
+        def lines(word: str) -> Callable[[int], str]:
+            line = word * (900 // len(word))
+            return lambda size: f"{SHORT.rstrip()}\n" + f"; {line}\n" * (size // 900)
+
+        named = SHORT.split("\n")[:6]
+        asked: Dict[str, Callable[[int], str]] = {
+            "games": games,
+            "saved": lambda size: SAVED * (size // len(SAVED) + 1),
+            "names": lambda size: "\n".join([*named[:5], " A" + " : 1  B" * (size // 7) + " x"]),
+            "words": lambda size: "\n".join([*named, "  1) " + "x " * (size // 2)]),
+            "doubles": lambda size: "\n".join([*named, "  1) " + "Doubles => " * (size // 11)]),
+            "comments": lines('[Variation "'),
+            "values": lambda size: SAVED.rstrip()[:-1] + "C" + "[x]\n" * (size // 4) + ")",
+            "brackets": lambda size: SAVED.rstrip()[:-1] + "C[" + "\\]" * (size // 2),
+            "capitals": lambda size: SAVED.rstrip()[:-1] + "A" * size,
+        }
+        for name, make in asked.items():
+            took = []
+            for size in (10**5, 10**6):
+                match, start = make(size), time.process_time()
+                try:
+                    read_match(match)
+                except BadMatch:
+                    pass
+                took.append(time.process_time() - start)
+            with self.subTest(text=name):
+                self.assertLess(took[1], 30 * max(took[0], 0.02), took)
 
     def test_any_text(self) -> None:
         """Whatever stands in a line, the match is read or refused by that line or a later one."""
@@ -547,6 +633,7 @@ class Played(unittest.TestCase):
         self.assertGreater(lost, 3)
 
     def test_what_is_saved_is_what_is_exported(self) -> None:
+        self.assertIn("RU[NoCube:Crawford]", played()["cubeless"][2])
         for name, (match, _, saved) in played().items():
             told, other = read_match(match), read_match(saved)
             self.assertEqual((other[:3], len(other.plays)), (told[:3], len(told.plays)), name)
@@ -609,6 +696,38 @@ class Command(unittest.TestCase):
         self.assertEqual(len(lines), 7)
         places = [told.index(line) for line in lines]
         self.assertEqual(places, sorted(places))
+
+    def test_names_that_a_terminal_would_obey(self) -> None:
+        """What a file has reaches the terminal as letters alone, by a table and by a refusal."""
+        hostile = "g\x1b[2J\x07\x7f\x9b31m\u202e\u2066\u200bu"
+        match = SHORT.replace("gnubg", hostile)
+        saved = SAVED.replace("PW[gnubg]", f"PW[{hostile}\n\t]")
+        short = SHORT.replace("gnubg", "A" * 300)
+        shown = "g?[2J???31m???u"
+        for other, name in ((match, shown), (saved, f"{shown}  "), (short, "A" * 100 + "...")):
+            graded = of_text(other)
+            table = graded.table()
+            self.assertTrue(all(line.isprintable() for line in table.split("\n")), table)
+            wanted = of_text(SHORT).table()
+            self.assertEqual(
+                re.sub(" +", " ", table.replace(name, "gnubg")), re.sub(" +", " ", wanted)
+            )
+            self.assertEqual(
+                json.loads(graded.to_json())["players"][0]["name"], graded.players[0].name
+            )
+        self.assertIn(hostile, of_text(match).players[0].name)
+        with tempfile.TemporaryDirectory() as folder:
+            for number, text in enumerate((match, saved, match.replace("5/0 2/1", "5/0"))):
+                file = Path(folder, f"{number}\x1b[31m\u202e.mat")
+                file.write_text(text, "utf-8")
+                run = self.run_it("grade", str(file), str(FOLDER / FILES[58]))
+                said = run.stdout + run.stderr
+                self.assertTrue(all(line.isprintable() for line in said.split("\n")), said)
+                self.assertEqual(run.returncode, 0 if number < 2 else 3)
+                run = self.run_it("grade", f"{file}.none\x1b", str(FOLDER / FILES[58]))
+                self.assertTrue(run.stderr.rstrip("\n").isprintable(), run.stderr)
+                run = self.run_it("grade", str(STORED), str(file))
+                self.assertTrue(run.stderr.rstrip("\n").isprintable(), run.stderr)
 
     def test_json(self) -> None:
         run = self.run_it("grade", "--json", str(STORED), str(FOLDER / FILES[58]))

@@ -127,6 +127,23 @@ class Texts(unittest.TestCase):
                 read(long)
             self.assertLess(len(str(error.exception)), 300)
 
+    def test_how_long_a_text_may_be(self) -> None:
+        """Nothing is done with a text that is longer, however long it is."""
+        counts, xgid = "0,0,0,0,0,1", "XGID=-ABC--D------------a-b--c-:0:0:1:21:0:0:0:0:10"
+        for text in (counts, xgid, "xwQAgHY8AAAAAA:cAkFAAAAAAAE"):
+            self.assertEqual(read(text.ljust(1000)), read(text))
+            for long in (text.ljust(1001), text.rjust(10**7), text * 10**6):
+                for call in (read, from_xgid, from_gnubg, Position.parse):
+                    with self.assertRaises(BadArgument) as refused:
+                        call(long)
+                    self.assertLess(len(str(refused.exception)), 300)
+                with self.assertRaises(NoRace) as error:
+                    read(long)
+                what = "a text of more than 1000 characters is no position"
+                self.assertTrue(str(error.exception).startswith(what), str(error.exception))
+                self.assertEqual(error.exception.reason, "malformed")
+        self.assertEqual(Position.parse(counts.ljust(1000)), SIX)
+
     def test_without_library(self) -> None:
         read = "read('xwQAgHY8AAAAAA:MAEFAAAAAAAE')"
         script = f"from bearoff.notation import read, to_xgid; print(to_xgid({read}))"

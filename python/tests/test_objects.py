@@ -43,6 +43,32 @@ thread.join()
 print(told, threading.stack_size() == 1 << 20)
 """
 
+# children that are forked while threads open a database, each of which opens one too; it prints
+# how many did, and how many hung or had another stack for their threads
+IN_CHILDREN = """
+import collections, os, signal, sys, threading, time
+from bearoff import Database
+content, ended, told = open(sys.argv[1], "rb").read(), [], collections.Counter()
+def run():
+    while not ended:
+        Database(content)
+threads = [threading.Thread(target=run) for _ in range(2)]
+for thread in threads:
+    thread.start()
+for number in range(int(sys.argv[2])):
+    time.sleep(0.001)
+    child = os.fork()
+    if child == 0:
+        signal.alarm(20)
+        size = threading.stack_size()
+        os._exit(0 if size == 0 and len(Database(content)) == 64 else 1)
+    told[os.waitpid(child, 0)[1]] += 1
+ended.append(True)
+for thread in threads:
+    thread.join()
+print(dict(told))
+"""
+
 
 class Objects(unittest.TestCase):
     def test_a_collection_of_positions(self) -> None:
@@ -174,6 +200,19 @@ class Threads(unittest.TestCase):
         self.assertEqual(threading.stack_size(), before)
         with self.assertRaises(MemoryError):
             _library.on_stack(1 << 20, self.fail_for_memory)
+
+    def test_a_fork_while_threads_open(self) -> None:
+        """No lock of the package, and no stack of its own, is left behind in a child."""
+        run = run_alone(IN_CHILDREN, str(FOLDER / "eight"), "100")
+        self.assertEqual((run.returncode, run.stdout), (0, "{0: 100}\n"))
+
+    def test_a_fork_by_a_signal_handler(self) -> None:
+        """The lock may be taken twice by one thread."""
+        with _library._changing, _library._changing:
+            child = os.fork()
+            if child == 0:
+                os._exit(_library.on_stack(1 << 20, lambda: 7))
+            self.assertEqual(os.waitstatus_to_exitcode(os.waitpid(child, 0)[1]), 7)
 
     @staticmethod
     def fail_for_memory() -> int:

@@ -1,10 +1,13 @@
 """What is refused, and by which error: hostile arguments of each kind, damaged bytes, closed
 databases."""
 
+import ctypes
+import mmap
 import pickle
 import unittest
 from fractions import Fraction
-from typing import Any, Callable, Tuple, Type
+from functools import lru_cache
+from typing import Any, Callable, Dict, List, Tuple, Type
 
 from bearoff import (
     BadArgument,
@@ -16,9 +19,14 @@ from bearoff import (
     OutOfRange,
     Position,
     Refused,
+    _library,
+    grade,
+    notation,
 )
+from bearoff._opened import OpenedBoard
+from bearoff.matches import read_match
 
-from .given import FOLDER, database
+from .given import FOLDER, ROOT, database
 
 Calls = Tuple[Callable[..., Any], ...]
 
@@ -138,6 +146,59 @@ NO_RANKS: Tuple[Any, ...] = (
     1j,
 )
 
+# the statuses by the words of tests/refusals.txt
+NAMES = {
+    1: "not-open",
+    2: "bad-roll",
+    3: "too-many",
+    4: "over-bound",
+    5: "finished",
+    6: "not-legal",
+    10: "no-rank",
+}
+
+
+@lru_cache(maxsize=None)
+def board(bound: int) -> bytes:
+    """A board file of any bound: `Database.build` makes those alone that no database has."""
+    status, content = OpenedBoard.build(_library.library(), bound)
+    if status:
+        raise AssertionError(status)
+    return content.tobytes()
+
+
+def name_of(call: Callable[..., Any], *words: Any) -> str:
+    """What a call tells, by such a word."""
+    try:
+        call(*words)
+    except BadArgument:
+        return "bad-line"
+    except Refused as refused:
+        return NAMES[refused.status]
+    return "none"
+
+
+def calls_of(here: Database) -> Dict[str, Calls]:
+    """What the words of a row are asked by, as texts and as lists."""
+
+    def number(given: Any) -> int:
+        return int(given if isinstance(given, str) else given[0])
+
+    return {
+        "mean": (
+            *(here.mean, here.epc, here.wastage, here.distribution, here.rank),
+            lambda counts: here.within(counts, 3),
+        ),
+        "play": (here.play, here.moves),
+        "loss": (here.loss,),
+        "play-to": (here.play_to,),
+        "position": (
+            lambda rank: here.position(number(rank)),
+            lambda rank: here[number(rank)],
+        ),
+        "build": (lambda bound: Database.build(number(bound)),),
+    }
+
 
 class Refusals(unittest.TestCase):
     def refused(self, status: int, call: Callable[..., Any], *words: Any) -> str:
@@ -240,6 +301,49 @@ class Refusals(unittest.TestCase):
             Database.open("/dev/zero")
         self.assertEqual(damaged.exception.line, "header bad-magic")
 
+    def test_a_view_that_was_released(self) -> None:
+        """Memory that can't be read any more is no argument, wherever some is taken."""
+        here = database(8)
+
+        def released(content: bytes) -> memoryview:
+            view = memoryview(content)
+            view.release()
+            return view
+
+        file, six = released(bytes(here)), released(bytes(SIX))
+        closed = mmap.mmap(-1, 64)
+        closed.close()
+        unknown = (ctypes.c_longdouble * 6)()
+        for call in (Database, Database.open):
+            self.bad(call, file)
+            self.bad(call, closed)
+        for wrong in (six, memoryview(unknown)):
+            for ask in (here.mean, here.epc, here.wastage, here.distribution, here.rank):
+                self.bad(ask, wrong)
+            self.bad(here.within, wrong, 1)
+            self.bad(here.standing, wrong)
+            self.bad(here.ranks, wrong)
+            self.bad(here.ranks, [SIX, wrong])
+            self.assertNotIn(wrong, here)
+            for with_roll in (here.play, here.moves):
+                self.bad(with_roll, wrong, (2, 1))
+                self.bad(with_roll, SIX, wrong)
+            for with_target in (here.loss, here.play_to):
+                self.bad(with_target, wrong, (2, 1), SIX)
+                self.bad(with_target, SIX, wrong, SIX)
+                self.bad(with_target, SIX, (2, 1), wrong)
+        for number in (file, memoryview(b"1")):
+            self.bad(here.position, number)
+            self.bad(here.within, SIX, number)
+            self.bad(here.withins, number)
+            self.bad(here.__getitem__, number)
+            self.bad(here.answer, number)
+            self.bad(Database.build, number)
+        for text_of in (read_match, notation.read, notation.from_xgid, notation.from_gnubg):
+            self.bad(text_of, file)
+        for match in (file, None, 0, "a\0b"):
+            self.bad(grade, match, here)
+
     def test_positions_that_have_no_answer(self) -> None:
         here = database(8)
         for call in (here.mean, here.epc, here.wastage, here.distribution, here.rank):
@@ -306,6 +410,51 @@ class Refusals(unittest.TestCase):
                     (damaged.exception.status, damaged.exception.line), (status, line)
                 )
                 self.assertIsInstance(damaged.exception, BearoffError)
+
+    def test_the_order_of_refusals(self) -> None:
+        """A call that could be refused for several reasons tells the first of them, of a database
+        and of a board, whether its words are texts or lists.
+        """
+        count = 0
+        for content in (bytes(database(8)), board(8)):
+            states = {name: Database(content) for name in ("open", "closed", "-")}
+            states["closed"].close()
+            for line in (ROOT / "tests/refusals.txt").read_text("ascii").splitlines():
+                # nobody lends a room here
+                if line.startswith("#") or line.endswith(" short"):
+                    continue
+                call, state, at, roll, to, told, *_ = line.split()
+                here = states[state]
+                texts: List[Any] = [word for word in (at, roll, to) if word != "-"]
+                lists: List[Any] = [[*map(int, word.split(","))] for word in texts]
+                lists[1:2] = [[*map(int, roll)]] if roll != "-" else []
+                for ask in calls_of(here).get(call, ()):
+                    for words in (texts, lists):
+                        with self.subTest(row=line, words=words, whole=states["open"].whole):
+                            self.assertEqual(name_of(ask, *words), told)
+                        count += 1
+                if call == "mean" and told not in ("none", "bad-line"):
+                    with self.subTest(row=line):
+                        self.assertEqual(name_of(here.ranks, [at]), told)
+        self.assertGreater(count, 500)
+
+    def test_wrong_types_come_first(self) -> None:
+        """What isn't of a call's types at all is told before the database is looked at."""
+        here = Database(bytes(database(8)))
+        here.close()
+        calls: Tuple[Tuple[Callable[..., Any], Tuple[Any, ...]], ...] = (
+            (here.position, (-1,)),
+            (here.__getitem__, ("1",)),
+            (here.__getitem__, (slice("a", None),)),
+            (here.__getitem__, (slice(None, None, 0),)),
+            (here.within, (SIX, -1)),
+            (here.withins, (None,)),
+            (here.ranks, ("0,0,0,0,0,1",)),
+            (here.ranks, (5,)),
+            (here.answer, (b"mean",)),
+        )
+        for call, words in calls:
+            self.bad(call, *words)
 
     def test_a_closed_database(self) -> None:
         here = Database.open(FOLDER / "eight")
