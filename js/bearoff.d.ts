@@ -10,7 +10,9 @@
  * Each argument is checked before the module is asked. One of another type, or a list of another length, is a
  * `TypeError`; a number that isn't whole, or is out of the range that is told, a `RangeError`; and what the database has
  * no answer to a {@link BearoffError}, whose `code` is told at each call. Every call on a database that was closed has the
- * code `not-open`. A call that was refused changes nothing.
+ * code `not-open`. A call that could be refused for several reasons tells the first of these: the first argument that is
+ * none of what is taken, `not-open`, `bad-roll`, `too-many` of any position, `over-bound` and `finished` of the first one,
+ * `not-legal`. A call that was refused changes nothing.
  */
 
 declare global {
@@ -156,13 +158,26 @@ export interface Options {
  */
 export function loadModule(): Promise<object>;
 
-/** A fraction as a double: near to it, and no more than that. */
+/** A fraction as the double that is nearest to it. */
 export function asNumber(fraction: Fraction): number;
 
 /**
- * The numbers of a table of {@link Bearoff.means} or {@link Bearoff.distributions} as doubles, near to them and no more
- * than that: rolls, or chances. `whole` is {@link Bearoff.whole} of their database, 36^22 where it is left out: a table of a
- * board file wants it. A `TypeError` where it is another, or the table is no `BigUint64Array` of so many words a number.
+ * A table of numbers as {@link Bearoff.means}, {@link Bearoff.epcs} and {@link Bearoff.distributions} hand it out, which
+ * knows what they are. What `subarray` and `slice` take of it knows that too, where no number is cut; any other array that is
+ * made of it, as by `map` or `structuredClone`, is a `BigUint64Array` and no more.
+ */
+export interface Table extends BigUint64Array {
+    /** How many words of 64 bits a number has, the greatest first: 2, and of a board file 3. */
+    readonly words: number;
+
+    /** What its numbers are over: {@link Bearoff.whole}, or null where each row has a numerator and a denominator. */
+    readonly whole: bigint | null;
+}
+
+/**
+ * The numbers of a {@link Table} as doubles, each the nearest: rolls, chances, or effective pip counts. Of another
+ * `BigUint64Array` nobody knows what its numbers are, so `whole` has to tell what they are over. A `TypeError` where it is
+ * missing or another one, and where the array isn't made of whole numbers. A million numbers take about a second.
  */
 export function asDoubles(table: BigUint64Array, whole?: bigint): Float64Array;
 
@@ -294,19 +309,19 @@ export class Bearoff {
     positions(first?: number, count?: number): Uint8Array;
 
     /** Means: two numbers for each, the upper and the lower 64 bits of a numerator over 36^22. Three of a board file. */
-    means(first?: number, count?: number): BigUint64Array;
+    means(first?: number, count?: number): Table;
 
     /**
      * Effective pip counts: five numbers for each. The first two are the upper and the lower 64 bits of the numerator, the
      * next two those of the denominator, in lowest terms, and the fifth are the thousandths. Seven of a board file.
      */
-    epcs(first?: number, count?: number): BigUint64Array;
+    epcs(first?: number, count?: number): Table;
 
     /**
      * Distributions: 46 numbers for each, the upper and the lower 64 bits of each of 23 numerators over 36^22. Of a board
      * file they are 102, three words of each of 34 numerators over 36^33.
      */
-    distributions(first?: number, count?: number): BigUint64Array;
+    distributions(first?: number, count?: number): Table;
 
     /** The bytes of its file: a copy. */
     bytes(): Uint8Array;

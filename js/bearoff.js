@@ -1,4 +1,5 @@
 // Exact answers of a proved backgammon bearoff database. What each call answers stands in bearoff.d.ts.
+import { readBound, readBytes } from "./checks.js";
 import { Database } from "./database.js";
 import { loadModule } from "./modules.js";
 
@@ -9,10 +10,12 @@ export { loadModule };
 // A database over the module of this package, or over another that is given.
 export class Bearoff extends Database {
     static async open(bytes, { module } = {}) {
-        return super.open(bytes, module ?? await loadModule());
+        const file = readBytes(bytes);
+        return super.open(file, module ?? await loadModule());
     }
 
     static async build(bound, { module } = {}) {
-        return super.build(bound, module ?? await loadModule());
+        const most = readBound(bound);
+        return super.build(most, module ?? await loadModule());
     }
 }

@@ -5,6 +5,14 @@
 const MOST_BYTE = 255;
 const MOST_RANK = 65535;
 
+// How many characters a text may have that says a position, as a reader or another program has written it: many times as
+// many as any such text. That is looked at before anything else is done with it.
+export const MOST_TEXT = 1000;
+
+// Whether a text has more. Its length alone counts some characters twice.
+export const isTooLong = (text) =>
+    text.length > MOST_TEXT && (text.length > 2 * MOST_TEXT || [...text].length > MOST_TEXT);
+
 const isList = (value) => Array.isArray(value) || (ArrayBuffer.isView(value) && !(value instanceof DataView));
 
 // What stands in the text of a refusal for a value that isn't what it has to be.

@@ -7,6 +7,7 @@ import { Engine, OUTPUT_BYTES } from "./engine.js";
 import { BearoffError, refusal } from "./errors.js";
 import { Fraction, Rounded } from "./fractions.js";
 import { BOARD } from "./kinds.js";
+import { Table } from "./numbers.js";
 
 // How many bytes the elements of a whole table have, with so many words a number.
 const POSITION_BYTES = 6;
@@ -147,13 +148,13 @@ export class Database {
     }
 
     within(position, rolls) {
+        const [counts, most] = [readPosition(position), readRolls(rolls)];
         if (this.#isBoard) {
-            const [most, counts] = [readRolls(rolls), readPosition(position)];
             const shares = this.#sharesIn(this.#askOf("within", this.#kind.distribution, counts));
             const numerator = shares.slice(0, most + 1).reduce((sum, share) => sum + share);
             return { thousandths: this.thousandths({ numerator, denominator: this.whole }) };
         }
-        const engine = this.#askOf("within", "bearoff_within", position, readRolls(rolls));
+        const engine = this.#askOf("within", "bearoff_within", counts, most);
         return { thousandths: engine.number(engine.output) };
     }
 
@@ -190,8 +191,8 @@ export class Database {
     }
 
     play(position, roll) {
-        const dice = readRoll(roll);
-        const engine = this.#askOf("play", this.#kind.play, position, ...dice);
+        const [counts, dice] = [readPosition(position), readRoll(roll)];
+        const engine = this.#askOf("play", this.#kind.play, counts, ...dice);
         return engine.playAt(engine.output);
     }
 
@@ -256,18 +257,18 @@ export class Database {
     }
 
     means(first = 0, count = undefined) {
-        return new BigUint64Array(this.#listed(this.#kind.means, meanBytes(this.#kind), first, count).buffer);
+        return this.#table(this.#listed(this.#kind.means, meanBytes(this.#kind), first, count));
     }
 
     epcs(first = 0, count = undefined) {
         const each = epcBytes(this.#kind);
-        if (this.#isBoard) return new BigUint64Array(this.#askedEach(this.#kind.epc, each, first, count).buffer);
-        return new BigUint64Array(this.#listed("bearoff_listed_epcs", each, first, count).buffer);
+        if (this.#isBoard) return this.#table(this.#askedEach(this.#kind.epc, each, first, count), null);
+        return this.#table(this.#listed("bearoff_listed_epcs", each, first, count), null);
     }
 
     distributions(first = 0, count = undefined) {
         const each = distributionBytes(this.#kind);
-        return new BigUint64Array(this.#listed(this.#kind.distributions, each, first, count).buffer);
+        return this.#table(this.#listed(this.#kind.distributions, each, first, count));
     }
 
     bytes() {
@@ -315,6 +316,11 @@ export class Database {
     #sharesIn(engine) {
         const { words, rolls } = this.#kind;
         return Array.from({ length: rolls + 1 }, (_, share) => engine.numeral(engine.output + 8 * words * share));
+    }
+
+    // The numbers in the bytes of a table, which are over a whole, or fractions where that is null.
+    #table({ buffer, byteLength }, whole = this.whole) {
+        return new Table(buffer, 0, byteLength / 8, this.#kind.words, whole);
     }
 
     // A range of ranks that the open database has: the first, and how many.

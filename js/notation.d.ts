@@ -2,8 +2,8 @@
  * Positions as players have them: XGIDs, the IDs of GNU Backgammon, and six counts in any usual spelling. Nothing here
  * needs the WebAssembly module.
  *
- * A text that is no bearoff race, or that can't be read without a guess, is refused as a {@link NoRaceError}; what is no
- * text is a `TypeError`.
+ * A text that is no bearoff race, that can't be read without a guess, or that has more than 1000 characters, is refused as
+ * a {@link NoRaceError}; what is no text is a `TypeError`.
  */
 import { BearoffError } from "./bearoff.js";
 import type { Counts, Position, Roll } from "./bearoff.js";

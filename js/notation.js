@@ -1,6 +1,6 @@
 // Positions as players have them: XGIDs, the IDs of GNU Backgammon, and six counts in any usual spelling. What each
 // call takes and answers stands in notation.d.ts. Nothing here needs the WebAssembly module.
-import { readPosition, readRoll } from "./checks.js";
+import { isTooLong, MOST_TEXT, readPosition, readRoll } from "./checks.js";
 import { BearoffError } from "./errors.js";
 
 export { BearoffError };
@@ -35,6 +35,10 @@ function stripped(text) {
 
 function bareOf(text) {
     if (typeof text !== "string") throw new TypeError(`a text is wanted, and not a value of the type ${typeof text}`);
+    if (isTooLong(text)) {
+        const front = [...text.slice(0, 2 * MOST_TEXT)].slice(0, MOST_TEXT).join("");
+        refuse("malformed", `a text of more than ${MOST_TEXT} characters is no position`, front);
+    }
     return stripped(text);
 }
 

@@ -1,7 +1,7 @@
 // Asks the package everything that the program was asked, and compares what it answers with the program's lines: each call,
 // the texts of its replies, whole tables, and the bytes of files. answers.mjs PACKAGE PROGRAM FOLDER [BOUND..]
 import { bytesOf, end, equal, FILES, linesOf, partOf, textOf, wrong } from "./given.mjs";
-import { nearest, number, walked, written } from "./written.mjs";
+import { isNearest, nearest, number, walked, written } from "./written.mjs";
 
 const { Bearoff, BearoffError, asDoubles, asNumber } = await partOf("bearoff.js");
 const { version } = JSON.parse(textOf("package.json"));
@@ -43,7 +43,7 @@ function comparePosition(database, name, position) {
     equal(`${name}, off`, off, 15 - checkers);
     const [mean, epc] = [database.mean(position), database.epc(position)];
     equal(`${name}, the mean in thousandths`, mean.thousandths, nearest(mean));
-    equal(`${name}, the mean as a double`, asNumber(mean), Number(mean.numerator) / Number(mean.denominator));
+    equal(`${name}, the mean as a double`, isNearest(asNumber(mean), mean.numerator, mean.denominator), true);
     equal(`${name}, wastage`, database.wastage(position).thousandths, epc.thousandths - 1000 * pips);
     const rank = database.rank(position);
     equal(`${name}, its rank's position`, database.position(rank).join(), position.join());

@@ -5,11 +5,10 @@ import { spawnSync } from "node:child_process";
 import { mkdtempSync, readFileSync, rmSync, writeFileSync } from "node:fs";
 import { tmpdir } from "node:os";
 import { join } from "node:path";
-import { bytesOf, end, equal, linesOf, partOf, program, wrong } from "./given.mjs";
+import { bytesOf, end, equal, linesOf, partOf, program, smallBoard, wrong } from "./given.mjs";
 import { nearest, number, walked, written } from "./written.mjs";
 
-const { Bearoff, BearoffError, DamagedError, asDoubles, asNumber, loadModule } = await partOf("bearoff.js");
-const { Engine } = await partOf("engine.js");
+const { Bearoff, BearoffError, DamagedError, asDoubles, asNumber } = await partOf("bearoff.js");
 const WHOLE = 36n ** 33n;
 const MORE = 36n ** 11n; // times the whole of a database
 const LAST = [0, 0, 0, 0, 0, 15];
@@ -104,7 +103,7 @@ function compareTables(board) {
         equal(`${name} are copies`, board[name](0, 1)[0], before);
         table[0] = before;
     }
-    const [rolls, shares] = [asDoubles(means, board.whole), asDoubles(distributions, board.whole)];
+    const [rolls, shares] = [asDoubles(means), asDoubles(distributions)];
     for (let rank = 0; rank < count; rank += rank === 0 ? 1 : 211) {
         const name = `rank ${rank}`;
         const position = board.position(rank);
@@ -176,16 +175,6 @@ function compareRefusals(board) {
     for (const [table, whole] of [[new BigUint64Array(4), WHOLE], [new BigUint64Array(3), 36n ** 22n], [new BigUint64Array(3), undefined], [new BigUint64Array(6), 36n], [new BigUint64Array(6), 33]]) {
         equal("doubles of no table", refusedWith(() => asDoubles(table, whole)), "TypeError");
     }
-}
-
-// A board file of a small bound, which the module builds and the package doesn't.
-async function smallBoard(bound) {
-    const engine = await Engine.start(await loadModule());
-    engine.put(new Uint8Array(100_000));
-    equal(`a board of ${bound} pips`, engine.call("bearoff_board_build", bound, BigInt(engine.file), 100_000n, engine.atTold), 0);
-    const file = engine.bytes.slice(engine.file, engine.file + engine.number(engine.told));
-    engine.release();
-    return file;
 }
 
 // A file in which a byte is another is refused as the program refuses it.

@@ -27,6 +27,17 @@ export function wrong(text) {
 
 export const equal = (name, is, wanted) => is === wanted || wrong(`${name}: ${is}, and not ${wanted}`);
 
+// A board file of a small bound, which the module builds and the package doesn't.
+export async function smallBoard(bound) {
+    const [{ Engine }, { loadModule }] = [await partOf("engine.js"), await partOf("modules.js")];
+    const engine = await Engine.start(await loadModule());
+    engine.put(new Uint8Array(100_000));
+    equal(`a board of ${bound} pips`, engine.call("bearoff_board_build", bound, BigInt(engine.file), 100_000n, engine.atTold), 0);
+    const file = engine.bytes.slice(engine.file, engine.file + engine.number(engine.told));
+    engine.release();
+    return file;
+}
+
 // Ends the test.
 export function end() {
     if (failed > 20) console.log(`js: ${failed} are wrong`);

@@ -75,6 +75,22 @@ function readAnyText() {
         const text = Array.from({ length: chance(60) }, () => letters[chance(letters.length)]).join("");
         for (const call of [read, fromXgid, fromGnubg]) refusedWhole(call, text);
     }
+    // what is longer is refused before anything is done with it, however long it is
+    const said = (call, text) => {
+        try {
+            return call(text);
+        } catch (error) {
+            return `${error.code} ${error.message}`;
+        }
+    };
+    const counts = "0,0,0,0,0,1";
+    same("a text of 1000 characters", outcome(read, counts.padEnd(1000)), raceOf(SIX, null, null, null));
+    equal("a text of 1000 dice", said(read, "\u{1f3b2}".repeat(1000)).startsWith("malformed neither an XGID"), true);
+    for (const long of [counts.padEnd(1001), counts.padStart(10 ** 7), "1,".repeat(2.5e6), "1 ".repeat(10 ** 7), "A".repeat(10 ** 7), ":".repeat(10 ** 7), "\u{1f3b2}".repeat(1001)]) {
+        for (const call of [read, fromXgid, fromGnubg]) {
+            equal(`${call.name} of a long text`, said(call, long).startsWith("malformed a text of more than 1000 characters is no position"), true);
+        }
+    }
     const many = 10 ** 6;
     const space = " ".repeat(many);
     const repeated = [":", "1,", "A", "9"].map((part) => part.repeat(many));

@@ -1,6 +1,6 @@
 // What the types let through, and what they refuse: a line below @ts-expect-error that compiles is an error.
 import { asDoubles, asNumber, Bearoff, BearoffError, DamagedError, loadModule } from "bearoff";
-import type { Choice, Counts, Exact, Fraction, FractionText, Play, Position, Roll, Rounded } from "bearoff";
+import type { Choice, Counts, Exact, Fraction, FractionText, Play, Position, Roll, Rounded, Table } from "bearoff";
 import { fromGnubg, fromXgid, NoRaceError, read, toGnubg, toXgid } from "bearoff/notation";
 import type { GivenRace, NoRaceCode, OnRoll, Race } from "bearoff/notation";
 
@@ -16,6 +16,9 @@ const first: Choice | undefined = database.moves(six, roll)[0];
 const loss: Fraction = database.loss(six, [1, 2], play.to);
 const counts: Counts = database.position(database.rank(new Uint8Array([0, 0, 0, 0, 0, 1])));
 const halves: BigUint64Array = database.means(0, 3);
+const table: Table = database.distributions();
+const itsWhole: bigint | null = table.whole;
+const part: BigUint64Array = table.subarray(0, table.words);
 const doubles: Float64Array = asDoubles(halves);
 const whole: bigint = database.whole;
 const over: Float64Array = asDoubles(halves, whole);
@@ -47,7 +50,7 @@ function named(error: unknown): string {
 const refused: string = await Bearoff.open(new ArrayBuffer(3)).then(() => "none", named);
 const refusal: string = await Promise.resolve("").then(read).then(() => "none", named);
 const told = [notations.join(" "), pips, refusal,
-    exact, mean.denominator, texts.join(" "), first?.to.join(), loss.numerator, counts.join(), over[1] === doubles[1] ? doubles[1]?.toFixed(3) : "another", again.version,
+    exact, mean.denominator, texts.join(" "), first?.to.join(), loss.numerator, counts.join(), over[1] === doubles[1] && itsWhole === whole && asDoubles(part).length === 1 ? doubles[1]?.toFixed(3) : "another", again.version,
     again.wastage(six).thousandths, asNumber(again.distribution(six)[1]!).toFixed(2), refused,
     effective.thousandths, digits?.numerator === `${share?.numerator}`, thousandths, JSON.stringify([mean, loss])];
 console.log(told.join("; "));
@@ -94,6 +97,10 @@ export async function wrong(): Promise<void> {
     await Bearoff.build("44");
     // @ts-expect-error a whole that is a double
     asDoubles(halves, 36 ** 22);
+    // @ts-expect-error a table of positions has no whole
+    database.positions().whole;
+    // @ts-expect-error a table keeps its whole
+    table.whole = whole;
     // @ts-expect-error a module that is an address
     await Bearoff.build(44, { module: "wide.wasm" });
     // @ts-expect-error it is opened, and not made

@@ -8,6 +8,23 @@ export const number = (text) => text.split(",").map(Number);
 // A number over another in thousandths, to the nearest and a half up, as the definition says.
 export const nearest = ({ numerator, denominator }) => Number((2000n * numerator + denominator) / (2n * denominator));
 
+const view = new DataView(new ArrayBuffer(8));
+
+// Whether no double is nearer to a fraction, and of two that are as near this one is the even one.
+export function isNearest(double, numerator, denominator) {
+    if (numerator === 0n) return Object.is(double, 0);
+    view.setFloat64(0, double);
+    const bits = view.getBigUint64(0);
+    const [exponent, front] = [(bits >> 52n) - 1075n, (bits & (2n ** 52n - 1n)) | (2n ** 52n)];
+    const up = exponent < 0n ? -exponent : 0n;
+    const [is, wanted] = [(front << (exponent < 0n ? 0n : exponent)) * denominator, numerator << up];
+    const unit = denominator << (exponent < 0n ? 0n : exponent);
+    const off = is > wanted ? is - wanted : wanted - is;
+    // below a power of two doubles are twice as near to one another
+    if (front === 2n ** 52n && is > wanted) return 4n * off <= unit;
+    return 2n * off < unit || (2n * off === unit && front % 2n === 0n);
+}
+
 function lowest({ numerator, denominator }) {
     const common = divisor(numerator, denominator);
     return `${numerator / common}/${denominator / common}`;
