@@ -9,7 +9,7 @@ import { asPng, asSvg } from "./picture.js";
 import { Bar } from "./progress.js";
 import { Session } from "./session.js";
 import { readDraft, readPicks, writeDraft as keepDraft, writePicks } from "./kept.js";
-import { asText, readLessons } from "./trainer.js";
+import { asText, MOST_LESSONS, readLessons } from "./trainer.js";
 import {
     addCheckers, addDraft, askNext, beginDraft, captionOf, chooseDrill, choosePlay, chooseRoll,
     closeDraft, draftText, endTraining, giveEstimate, giveLesson, goToStep, hasBegun, isTraining,
@@ -365,7 +365,8 @@ export function start(document, window, parts) {
     const take = (file) => {
         if (!file) return;
         if (/\.txt$/i.test(file.name || "")) {
-            file.text().then((text) => act.give(text));
+            // of one that is too long no more than says so
+            file.slice(0, 4 * MOST_LESSONS + 1).text().then((text) => act.give(text));
             return;
         }
         const read = file.arrayBuffer().then((bytes) => ({

@@ -60,8 +60,15 @@ function arcs(points, moves, name) {
     }));
 }
 
-// What stands on a point: its wedge, its checkers, and how many they are where that is hard to
-// count.
+// How many stand on a point where that is hard to count: on its lowest checker, which no move
+// leaves and none reaches, since a play has four at most; drawn over all that is drawn of a play.
+const tallies = (points) => h("g", { class: "tallies", "aria-hidden": "true" },
+    POINTS.filter((point) => points[point - 1] > 4).map((point) => [
+        h("circle", { class: "under-tally", cx: middle(point), cy: height(0, 1), r: RADIUS - 10 }),
+        h("text", { class: "tally", x: middle(point), y: height(0, 1) + 8 }, points[point - 1]),
+    ]));
+
+// What stands on a point: its wedge and its checkers.
 function standing(points, point) {
     const count = points[point - 1];
     const left = (6 - point) * WIDTH;
@@ -71,10 +78,6 @@ function standing(points, point) {
             points: `${left + 8},${FLOOR} ${left + WIDTH - 8},${FLOOR} ${left + WIDTH / 2},70`,
         }),
         stack(point, count),
-        count > 4 && h("text", {
-            class: "tally", "aria-hidden": "true", x: middle(point),
-            y: height(count - 1, count) + 8,
-        }, count),
     ];
 }
 
@@ -125,6 +128,7 @@ export function board(points, moves, act) {
             POINTS.map((point) => column(points, point, free, act)),
             h("g", { role: "img", "aria-label": `${free} borne off` }, tray(free)),
             arcs(points, moves, "tip"),
+            tallies(points),
             POINTS.map((point) => number(middle(point), point)),
             number(650, `off ${free}`)),
         h("div", { class: "steps" },
@@ -223,6 +227,7 @@ export function played({ points, ways, play }, { picked, stop, begun, isAlone },
         h("rect", FELT),
         POINTS.map((point) => one(point, standing(points, point))),
         one(0, tray(free)),
+        tallies(points),
         POINTS.map((point) => number(middle(point), point)),
         number(650, `off ${free}`),
         h("circle", { class: "dragged", cx: -100, cy: -100, r: RADIUS - 1.5 })),
@@ -251,21 +256,34 @@ export function watched(points, moves) {
                 standing(points, point), number(middle(point), point))),
         tray(free),
         arcs(points, moves, "tip"),
+        tallies(points),
         number(650, `off ${free}`)));
 }
 
 // A smaller board that is only looked at, with the moves of a play.
-export function lookedAt(points, moves) {
+export function lookedAt(points, moves, name = "small-tip") {
     const free = MOST_CHECKERS - sumOf(points);
     return h("svg", {
         class: "small", viewBox: "0 0 700 372", role: "img", "aria-label": toldOf(points, free),
     },
-        moves.length > 0 && tip("small-tip"),
+        moves.length > 0 && tip(name),
         h("rect", FELT),
-        POINTS.map((point) => h("g", {}, standing(points, point), number(middle(point), point))),
+        POINTS.map((point) => h("g", {
+            "data-point": point, "data-count": points[point - 1],
+        }, standing(points, point), number(middle(point), point))),
         tray(free),
-        arcs(points, moves, "small-tip"));
+        arcs(points, moves, name),
+        tallies(points));
 }
+
+// Two plays of a position beside each other, each on a board of its own: the one that was chosen
+// with what it loses, and the best.
+export const compared = (points, chosen, best) => h("div", { class: "board compared" },
+    [["Yours", chosen, chosen.lossText], ["Best", best, null]].map(([whose, play, loss]) =>
+        h("figure", { class: loss ? "lost" : "good", "data-play": play.text },
+            h("figcaption", {}, h("b", {}, whose), ` ${play.text} `,
+                loss && h("span", { class: "cost" }, `\u2212${loss}`)),
+            lookedAt(points, play.moves, `${whose.toLowerCase()}-tip`))));
 
 // A small picture of a position for a table.
 export function miniature(points) {

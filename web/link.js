@@ -1,11 +1,16 @@
 // What the address keeps: the positions, their captions, and how the page stands; and what a reader
 // types as a position. Captions are text.
+import { isTooLong, MOST_TEXT } from "../js/checks.js";
 import { NoRaceError, read } from "../js/notation.js";
 import { FIRST, GREATEST, MOST_CHECKERS, readPoints, sumOf } from "./points.js";
 import { ASKED, ESTIMATED, LEVELS, readDrill, readLessons, readSeed, themeOf } from "./trainer.js";
 
 export const MOST_KEPT = 10;
 const LONGEST_CAPTION = 200;
+
+// How many characters an address may have behind its hash: a lesson of the greatest length, written
+// as addresses are, and more.
+const MOST_LINK = 4_000_000;
 export const START = [2, 2, 2, 2, 2, 2];
 
 // Six counts as a reader types them, with commas, spaces or full stops between them; or, in words,
@@ -30,6 +35,9 @@ export function readCounts(typed) {
 // What a reader types or pastes: six counts, an XGID, or an ID of GNU Backgammon. The checkers of
 // the player on roll, and the roll where the text has one; or, in words, why there are none.
 export function readTyped(typed) {
+    if (isTooLong(typed)) {
+        return { fault: `A position has at most ${MOST_TEXT} characters, and this text has more.` };
+    }
     const counts = readCounts(typed);
     if (counts.points) return { points: counts.points, roll: null };
     try {
@@ -82,12 +90,19 @@ function faultsOf(words, drill) {
     if (given !== null && !drill && faults.length === 0) {
         faults.push(`The link's drill has nothing to decide: ${themeOf(given).words}, Play.`);
     }
+    const level = words.get("level");
+    if (drill && LEVELS.some(({ name }) => name === level) && level !== (drill.level ?? "any")) {
+        faults.push(`The link's drill has no questions of level ${level}: any are asked.`);
+    }
     return faults;
 }
 
 // The state that an address states. What can't be read there is left out, with a sentence that says
 // so, and so is a position that stood before.
 export function readLink(hash) {
+    if (hash.length > MOST_LINK) {
+        return { ...readLink(""), faults: ["The link is too long, and was left out."] };
+    }
     const words = new URLSearchParams(hash.replace(/^#/, ""));
     const drill = readDrill({
         theme: words.get("drill"), seed: words.get("seed"), ask: words.get("ask"),

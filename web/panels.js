@@ -189,8 +189,8 @@ export function plays({ points, dice, list, shown, lost, isHidden, isTrained, st
 }
 
 // What a guess lost, and all guesses so far.
-export function verdict({ isBest, first, all, exact }, act) {
-    return h("div", { class: isBest ? "verdict good" : "verdict" },
+export function verdict({ isMiss, first, all, exact }, act) {
+    return h("div", { class: isMiss ? "verdict" : "verdict good" },
         h("p", {}, first, " ", all, exact === "0/1" ? null : ` Exactly: ${exact}.`),
         h("button", { type: "button", "data-key": "reset", click: () => act.reset() },
             "Count anew"));

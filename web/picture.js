@@ -15,6 +15,7 @@ const LOOKS = {
     "wedge odd": { fill: "#d3c5a6" },
     "wedge even": { fill: "#b6cbc0" },
     checker: { fill: "#26413a", stroke: "#f7f5f0", "stroke-width": 2 },
+    "under-tally": { fill: "#26413a" },
     tally: { fill: "#f7f5f0", "font-size": 24, "font-weight": 700, "text-anchor": "middle" },
     number: { fill: "#52605b", "font-size": 22, "text-anchor": "middle" },
     caption: { fill: "#1f2a27", "font-size": 26, "text-anchor": "middle" },

@@ -8,8 +8,8 @@ import { decimalOf, inPips, sumOfFractions } from "./fractions.js";
 import { sameRoll } from "./rolls.js";
 import { isWhole, reachedBy, ways } from "./steps.js";
 import {
-    drillOf, ESTIMATED, FAR, meanOf, mostOf, readEstimate, readLessons, readSeed, themeOf,
-    thousandthsOf, WANTED, writeLesson,
+    drillOf, ESTIMATED, FAR, isMiss, LEVELS, meanOf, mostOf, readEstimate, readLessons, readSeed,
+    themeOf, thousandthsOf, WANTED, writeLesson,
 } from "./trainer.js";
 
 // A digit that follows another one within so many milliseconds is its second.
@@ -75,12 +75,12 @@ export const stepOf = (state) => lessonOf(state)?.steps[state.step - 1] || null;
 // Whether an estimate is far off.
 export const isFar = ({ kind, error }) => error >= FAR[kind];
 
-// The questions of the drill whose guess lost something, or whose estimate was far off, in their
-// order: each is asked once more.
+// The questions of the drill whose guess was a miss, or whose estimate was far off, in their order:
+// each is asked once more.
 export function missedOf({ drill, questions, guesses, estimates }) {
     const isMissed = drill?.ask === "play"
         ? ({ at, roll, play }, asked) =>
-            at === keyOf(asked.points) && sameRoll(roll, asked.roll) && !play.isBest
+            at === keyOf(asked.points) && sameRoll(roll, asked.roll) && isMiss(play)
         : (estimate, { points }) =>
             estimate.at === keyOf(points) && estimate.kind === drill.ask && isFar(estimate);
     const answered = drill?.ask === "play" ? guesses : estimates;
@@ -302,7 +302,7 @@ export const answeredOf = (state) =>
 
 // The mistakes of a drill as the text of a lesson, or "" where there are none.
 export function mistakesOf(state) {
-    const steps = drillGuesses(state).filter(({ play }) => !play.isBest)
+    const steps = drillGuesses(state).filter(({ play }) => isMiss(play))
         .map(({ at, roll, play, best }) => ({
         points: at.split(",").map(Number), roll, text: "", ask: "Which play is best?",
         answer: `${best.text}; ${play.text} loses ${play.exact} of a roll.`,
@@ -328,11 +328,27 @@ export function verdictOf(state) {
     const guess = state.guess && guessOf(state);
     if (!guess) return null;
     const exact = lostOf(state);
-    const { play, best } = guess;
-    const first = play.isBest
-        ? `${play.text} is best${play.isRecorded ? "" : `, as is ${best.text}`}.`
-        : `${play.text} loses ${play.lossText} of a roll; best is ${best.text}.`;
-    return { isBest: play.isBest, first, all: lostInAll(state), pips: inPips(play.exact), exact };
+    const { play } = guess;
+    return {
+        isBest: play.isBest, isMiss: isMiss(play), first: lostBy(guess), all: lostInAll(state),
+        pips: inPips(play.exact), exact,
+    };
+}
+
+// What a guess lost, in words. What rounds to nothing is told as less than a half of a thousandth.
+function lostBy({ play, best }) {
+    if (play.isBest) return `${play.text} is best${play.isRecorded ? "" : `, as is ${best.text}`}.`;
+    return isMiss(play) ? `${play.text} loses ${play.lossText} of a roll; best is ${best.text}.`
+        : `${play.text} loses less than 0.0005 of a roll, no mistake; best is ${best.text}.`;
+}
+
+// What was answered to a question of the drill, in words, or "" where nothing was.
+export function answeredIn({ drill, guesses, estimates }, { points, roll }) {
+    const at = keyOf(points);
+    const guess = guesses.find((one) => one.at === at && sameRoll(one.roll, roll));
+    const estimate = estimates.find((one) => one.at === at && one.kind === drill.ask);
+    if (drill.ask === "play") return guess ? lostBy(guess) : "";
+    return estimate ? `${toldOf(estimate)} It is ${signed(estimate.exact)}.` : "";
 }
 
 // What all guesses have lost, in words.
@@ -599,14 +615,17 @@ export function askNext(state, place) {
     return { ...next, said: askedIn(next) };
 }
 
-// What a question of a drill asks, in words.
+// What a drill asks of a question, in words.
+export const askedOf = ({ ask }, roll) => (roll ? `Which play of ${roll.join("-")} is best?`
+    : `What is the ${WANTED[ask]}?`);
+
+// Which question of a drill is asked, and what, in words.
 export function askedIn(state) {
     const { questions, place, drill } = state;
     const which = isAgain(state)
         ? `Once more, ${place - questions.length + 1} of ${missedOf(state).length}.`
         : `Question ${place + 1} of ${questions.length}.`;
-    const { roll } = questionOf(state);
-    return `${which} ${roll ? `Which play of ${roll.join("-")} is best?` : `What is the ${WANTED[drill.ask]}?`}`;
+    return `${which} ${askedOf(drill, questionOf(state).roll)}`;
 }
 
 // A drill by its words, which are in the links of all who are asked the same.
@@ -639,11 +658,15 @@ export function chooseDrill(state, { theme, ask, level, seed }, another) {
     }
     const { isPlayed, words } = themeOf(theme);
     const isPossible = ask !== "play" || isPlayed;
-    const next = beginDrill(state, drillOf({
-        theme, seed: read, ask: isPossible ? ask : "effective", level,
-    }));
-    const notice = `${words}: nothing is to be decided there, so the EPC is asked.`;
-    return isPossible ? next : { ...next, notice };
+    const drill = drillOf({ theme, seed: read, ask: isPossible ? ask : "effective", level });
+    const next = beginDrill(state, drill);
+    const none = LEVELS.find(({ name }) => name === level).words.toLowerCase();
+    const notice = !isPossible
+        ? `${words}: nothing is to be decided there, so the EPC is asked.`
+        : level === (drill.level ?? "any") ? ""
+        : ask === "play" ? `${words}: no question there is ${none}, so any are asked.`
+        : `Plays alone are ${none}: any positions are asked.`;
+    return { ...next, notice };
 }
 
 // No drill and no lesson.
@@ -715,7 +738,9 @@ export function giveEstimate(state, text) {
 
 // What was estimated, and how far that was off.
 export const toldOf = ({ told, error }) =>
-    `You said ${told < 0n ? `\u2212${decimal(-told)}` : decimal(told)}: ${decimal(error)} pips off.`;
+    `You said ${signed(told)}: ${decimal(error)} pips off.`;
+
+const signed = (told) => (told < 0n ? `\u2212${decimal(-told)}` : decimal(told));
 
 // The mean of all errors of what is estimated now, in thousandths, or null where there are none.
 export function meanError(state) {

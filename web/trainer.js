@@ -1,12 +1,18 @@
 // Drills and lessons: what is asked, drawn by a seed that stands in the link, and lessons that say
 // their text. Texts are texts, and nothing here computes a number of a position.
+import { isTooLong } from "../js/checks.js";
 import { FIRST, GREATEST, MOST_CHECKERS, readPoints, sumOf } from "./points.js";
 
 export const QUESTIONS = 20; // of a drill
 const MOST_STEPS = 60;
 const LONGEST_TEXT = 1200;
+
+// How many characters the text of lessons may have.
+export const MOST_LESSONS = 1_000_000;
+
 const MODULUS = 2147483647;
 const MOST_TRIES = 20000; // until a drill has its questions
+const PATIENCE = 1000; // tries after which a question may tempt or not
 
 // The positions of at most so many pips, in the order of their ranks: by pips, and then as words in
 // a dictionary.
@@ -35,7 +41,8 @@ const gapsOf = (points) => points.flatMap((count, place) =>
         ? [place] : []));
 
 // The themes: the name in a link, the words, the positions, of at most `most` pips or else of 44,
-// whether a roll can have something to decide there, and what else of the plays has to hold.
+// whether a roll can have something to decide there, what else of the plays has to hold, and
+// whether so each question tempts.
 export const THEMES = [
     { name: "all", words: "All positions", has: (points) => sumOf(points) > 1, isPlayed: true },
     {
@@ -65,6 +72,7 @@ export const THEMES = [
     },
     {
         name: "fewer", words: "Bear off fewer", isPlayed: true, has: (points) => sumOf(points) > 1,
+        isTempting: true,
         isAsked: (plays) =>
             plays.every(({ to, isBest }) => !isBest || sumOf(to) > leastLeft(plays)),
     },
@@ -110,32 +118,49 @@ export function naturalOf(plays) {
 }
 
 // Thousandths of a roll that the next best play loses, at most in a close decision and at least in
-// a clear one.
+// a clear one; and at most in one of a theme where it is seldom clear.
 const CLOSE = 20n;
 const CLEAR = 80n;
+const SELDOM_CLEAR = 40n;
 
-// How hard a drill is: the name in a link, the words, and which plays it asks, the best first,
-// after so many questions of a theme. In a hard one each other question is one whose natural plays
-// all lose something; the rest can be close instead.
+// Whether a play loses so much that it is told in thousandths of a roll; what loses less is no
+// mistake, and isn't asked once more.
+export const isMiss = ({ loss }) => loss > 0n;
+
+const isClose = ([, next], most) => isMiss(next) && next.loss <= most;
+
+// How hard a drill is: the name in a link, the words, and which plays it asks of a theme, the best
+// first, where a question tempts, where it doesn't, or, where `tempts` is null, either way. In a
+// hard one the natural plays of those that tempt all lose something; of the others one is best, and
+// the next best loses little.
 export const LEVELS = [
     { name: "any", words: "Any", isAsked: () => true },
     {
         name: "easy", words: "Easy",
-        isAsked: (plays, count, { name }) =>
-            plays[1].loss >= CLEAR
-                && (name === "fewer" || naturalOf(plays).some(({ isBest }) => isBest)),
+        isAsked: (plays) =>
+            plays[1].loss >= CLEAR && naturalOf(plays).some(({ isBest }) => isBest),
     },
     {
         name: "hard", words: "Hard",
-        isAsked: (plays, count) =>
-            naturalOf(plays).every(({ isBest }) => !isBest)
-                || (count % 2 === 1 && plays[1].loss <= CLOSE),
+        isAsked: (plays, tempts, { isTempting }) =>
+            (isTempting ? isClose(plays, SELDOM_CLEAR)
+                : (tempts !== false && naturalOf(plays).every(isMiss))
+                    || (tempts !== true && isClose(plays, CLOSE)
+                        && naturalOf(plays).some(({ isBest }) => isBest))),
     },
 ];
 
-// A drill of some words, where "any" level has no word.
-export const drillOf = ({ theme, seed, ask, level }) =>
-    ({ theme, seed, ask, ...(ask === "play" && level !== "any" ? { level } : {}) });
+// The levels that a theme has: where each question tempts, none is easy.
+export const levelsOf = ({ theme, ask }) =>
+    LEVELS.filter(({ name }) =>
+        name === "any" || (ask === "play" && (name === "hard" || !themeOf(theme).isTempting)));
+
+// A drill of some words, of a level that its theme has; "any" has no word.
+export const drillOf = ({ theme, seed, ask, level }) => ({
+    theme, seed, ask,
+    ...(level !== "any" && levelsOf({ theme, ask }).some(({ name }) => name === level)
+        ? { level } : {}),
+});
 
 // A seed as it is typed, or null.
 export const readSeed = (text) =>
@@ -163,6 +188,18 @@ export function* numbersFrom(seed) {
     }
 }
 
+// Which of a drill's questions tempt: a half of them, at places that the seed mixes, so that the
+// place of a question tells nothing.
+export function temptingOf(seed) {
+    const tempts = Array.from({ length: QUESTIONS }, (_, place) => place % 2 === 0);
+    const numbers = numbersFrom((31 * seed + 7) % MODULUS || 1);
+    for (let place = QUESTIONS - 1; place > 0; place -= 1) {
+        const other = numbers.next().value % (place + 1);
+        [tempts[place], tempts[other]] = [tempts[other], tempts[place]];
+    }
+    return tempts;
+}
+
 // The questions of a drill: `playsOf` says the plays of a roll, the best first. A roll is asked
 // only where there is something to decide: more than one play, and the next best loses something;
 // and where its theme and its level ask it.
@@ -172,8 +209,10 @@ export function drawQuestions({ theme, seed, ask, level = "any" }, rolls, playsO
     const asks = LEVELS.find(({ name }) => name === level).isAsked;
     const themed = positions(mostOf({ theme })).filter(has);
     const numbers = numbersFrom(seed);
+    const tempts = temptingOf(seed);
     const drawn = new Map();
     const most = Math.min(QUESTIONS, themed.length);
+    let last = 0; // the try of the question that was drawn last
     for (let tries = 0; drawn.size < most && tries < MOST_TRIES; tries += 1) {
         const points = themed[numbers.next().value % themed.length];
         const roll = rolls[numbers.next().value % rolls.length];
@@ -183,7 +222,10 @@ export function drawQuestions({ theme, seed, ask, level = "any" }, rolls, playsO
         }
         const plays = playsOf(points, roll);
         const decides = plays.length > 1 && !plays[1].isBest && isAsked(plays, points);
-        if (decides && asks(plays, drawn.size, asked)) drawn.set(points.join(), { points, roll });
+        const kind = tries - last > PATIENCE ? null : tempts[drawn.size];
+        if (!decides || !asks(plays, kind, asked)) continue;
+        drawn.set(points.join(), { points, roll });
+        last = tries;
     }
     return [...drawn.values()];
 }
@@ -195,6 +237,9 @@ const clean = (text) => text.replace(/\s+/g, " ").trim().slice(0, LONGEST_TEXT);
 // word goes on with the one before it, an empty line ends it. Why it is refused, where it is: the
 // first line that can't be read.
 export function readLessons(text) {
+    if (text.length > MOST_LESSONS) {
+        return { lessons: [], fault: `Lessons have at most ${MOST_LESSONS} characters.` };
+    }
     const lessons = [];
     let [step, last, fault] = [null, null, ""];
     for (const [place, line] of text.replace(/^\ufeff/, "").split(/\r?\n/).entries()) {
@@ -241,6 +286,7 @@ export function writeLesson({ title, steps }) {
 
 // What was estimated, in thousandths, or null where it is no number of at most three decimals.
 export function readEstimate(text) {
+    if (isTooLong(text)) return null;
     const [, sign, whole, part] = /^\s*([-\u2212]?)(\d{1,3})(?:[.,](\d{1,3}))?\s*$/.exec(text)
         || [];
     if (whole === undefined) return null;

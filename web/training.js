@@ -3,11 +3,13 @@ import { decimal } from "./texts.js";
 import { lookedAt } from "./board.js";
 import { COMING, dicePicture } from "./panels.js";
 import { h } from "./tree.js";
-import { ASKED, ESTIMATED, LEVELS, meanOf, mostOf, themeOf, THEMES, WANTED } from "./trainer.js";
 import {
-    answeredOf, askedIn, drillErrors, drillGuesses, estimated, estimateOf, hasBegun, isAgain, isFar,
-    isTraining, lengthOf, lessonOf, meanError, missedOf, mistakesOf, questionOf, scoreOf, stepOf,
-    toldOf,
+    ASKED, ESTIMATED, isMiss, LEVELS, meanOf, mostOf, themeOf, THEMES, WANTED,
+} from "./trainer.js";
+import {
+    answeredIn, answeredOf, askedIn, askedOf, drillErrors, drillGuesses, estimated, estimateOf,
+    hasBegun, isAgain, isFar, isTraining, lengthOf, lessonOf, meanError, missedOf, mistakesOf,
+    questionOf, scoreOf, stepOf, toldOf,
 } from "./state.js";
 import { decimalOf, sumOfFractions } from "./fractions.js";
 
@@ -67,7 +69,7 @@ function score(state) {
         h("p", { class: "says score" },
             `${count} of ${state.questions.length} were played. They lost ${decimalOf(rolls)} rolls, `
             + `or ${decimalOf(pips)} pips of EPC. Exactly: ${rolls} of a roll.`),
-        askedAgain("missed", state.again.filter(({ play }) => play.isBest).length, "right"),
+        askedAgain("missed", state.again.filter(({ play }) => !isMiss(play)).length, "right"),
         mistakes && h("p", {},
             h("a", { href: link({ text: mistakes }), "data-key": "mistakes" },
                 "The mistakes as a lesson")),
@@ -85,13 +87,15 @@ function soFar(state) {
     return ` ${count} played, ${decimalOf(lost)} rolls lost.`;
 }
 
+// The title of a drill.
+const drillTitle = ({ theme, ask, level }) => `Drill: ${themeOf(theme).words}, ${ASKED[ask]}`
+    + (level ? `, ${LEVELS.find(({ name }) => name === level).words.toLowerCase()}` : "");
+
 function drillPanel(state, act) {
     const { drill, questions, place } = state;
     const question = questionOf(state);
-    const level = drill.level
-        ? `, ${LEVELS.find(({ name }) => name === drill.level).words.toLowerCase()}` : "";
     return h("div", { class: "coach" },
-        head(act, `Drill: ${themeOf(drill.theme).words}, ${ASKED[drill.ask]}${level}`),
+        head(act, drillTitle(drill)),
         !questions ? h("p", {},
             state.database?.bound < mostOf(drill)
                 ? `A drill of this theme needs ${mostOf(drill)} pips, and the open database has `
@@ -131,8 +135,8 @@ export function steering(state, making, verdict, act) {
         making && h("p", { class: "hint" }, making.play ? `${making.play.text}?`
             : begun ? "Where to? A ring marks each place."
             : "Move a checker, or choose from the list."),
-        verdict && h("p", { class: verdict.isBest ? "verdict good" : "verdict" }, verdict.first,
-            verdict.isBest ? null : ` In EPC: ${decimalOf(verdict.pips)} pips.`),
+        verdict && h("p", { class: verdict.isMiss ? "verdict" : "verdict good" }, verdict.first,
+            !verdict.isMiss ? null : ` In EPC: ${decimalOf(verdict.pips)} pips.`),
         h("p", { class: "steering" },
             making?.play && button("made", `Play ${making.play.text}`,
                 () => act.play(making.play.text), { class: "first" }),
@@ -153,10 +157,30 @@ export function steering(state, making, verdict, act) {
     ];
 }
 
-// The whole lesson as it is printed: each step with its board, and the answers at its end.
+// A drill as it is printed: each question with its board and a line to write on, and then what was
+// answered, with the score once it is over.
+function printedDrill(state) {
+    const { drill, questions } = state;
+    const told = (questions || []).map((question) => answeredIn(state, question));
+    return [
+        h("h2", {}, drillTitle(drill)),
+        h("p", {}, `Seed ${drill.seed}. `,
+            drill.ask === "play" ? "Which play is best?" : askedOf(drill, null)),
+        h("ol", { class: "steps-printed drill-printed" },
+            (questions || []).map(({ points, roll }) => h("li", {},
+                lookedAt(points, []),
+                h("p", { class: "line" }, roll && dicePicture(roll))))),
+        told.some(Boolean) && h("div", { class: "answers-printed" },
+            h("h3", {}, "Answers"),
+            h("ol", {}, told.map((text) => h("li", {}, text || "\u2013"))),
+            questions.length > 0 && !questionOf(state) && score(state)),
+    ];
+}
+
+// The whole lesson or drill as it is printed: each step with its board, and the answers at the end.
 export function printed(state) {
     const lesson = lessonOf(state);
-    if (!lesson) return [];
+    if (!lesson) return state.drill ? printedDrill(state) : [];
     return [
         h("h2", {}, lesson.title),
         h("ol", { class: "steps-printed" }, lesson.steps.map(({ points, roll, text, ask }) =>

@@ -3,16 +3,16 @@
 import { writeLink } from "./link.js";
 import { pipsOf } from "./points.js";
 import { h } from "./tree.js";
-import { board, played, watched } from "./board.js";
+import { board, compared, played, watched } from "./board.js";
 import { editor } from "./editor.js";
 import { chances, COMING, kept, numbers, plays, rolls, verdict } from "./panels.js";
 import {
     coach, estimateField, estimateTold, printed, steering, thumb, training,
 } from "./training.js";
 import {
-    answerOf, asksNumber, chosenOf, drillKey, hasBegun, hides, hidesNumbers, isAwaited, isComing,
-    isFull, isKept, isTraining, lessonOf, lostPips, makingOf, needsMore, orderOf, rollsOf,
-    shownPlay, verdictOf,
+    answerOf, asksNumber, byLoss, chosenOf, drillKey, hasBegun, hides, hidesNumbers, isAwaited,
+    isComing, isFull, isKept, isTraining, lessonOf, lostPips, makingOf, needsMore, orderOf,
+    rollsOf, shownPlay, verdictOf,
 } from "./state.js";
 
 // What stands in the place of numbers that a lesson asks for.
@@ -47,6 +47,8 @@ export function view(state, act) {
             board: making ? played(making, {
                 picked: state.picked, stop: stops.board, begun: hasBegun(state), isAlone: !trains,
             }, act)
+                : trains && told && shown && !shown.isBest
+                    ? compared(points, shown, byLoss(chosen)[0])
                 : trains ? watched(points, moves) : board(points, moves, act),
             coach: coach(state, act),
             steering: steering(state, making, told, act),

@@ -209,6 +209,18 @@ export class Page extends AnyPage {
         await this.send("Input.dispatchTouchEvent", { type: "touchEnd", touchPoints: [] });
     }
 
+    // A finger that moves from the middle of an element to that of another one, both in sight.
+    async swipe(from, to) {
+        const [start, end] = [await this.middle(from), await this.middle(to)];
+        const touch = (type, ...touchPoints) => this.send("Input.dispatchTouchEvent", { type, touchPoints });
+        await touch("touchStart", start);
+        for (let part = 1; part <= 8; part += 1) {
+            await touch("touchMove", { x: start.x + (part / 8) * (end.x - start.x), y: start.y + (part / 8) * (end.y - start.y) });
+            await wait(16);
+        }
+        await touch("touchEnd");
+    }
+
     async key(key) {
         const text = key.length === 1 ? key : key === "Enter" ? "\r" : undefined;
         const code = { Tab: 9, Enter: 13, Escape: 27 }[key];

@@ -76,6 +76,25 @@ part("the board", async () => {
         equal("a stack of 15 stays on the board", [checkers.length, checkers.every((y) => y > 20 && y < 330), new Set(checkers).size], [15, true, 15]);
     }
     equal("how many stand in a stack", classed(build(document, board([5, 4, 0, 0, 0, 0], [], act)), "text", "tally").map((text) => text.textContent), ["5"]);
+    // how many stand there is over each arc and ring of a play, and none meets it
+    for (const [points, moves] of [[[7, 5, 0, 0, 0, 0], [[2, 0], [1, 0]]], [[0, 0, 0, 5, 0, 5], [[6, 4], [6, 4], [4, 2], [4, 2]]], [[0, 0, 0, 0, 0, 15], Array(4).fill([6, 5])], [[1, 6, 0, 1, 0, 1], [[6, 1], [4, 1]]], [[5, 5, 5, 0, 0, 0], Array(4).fill([3, 0])]]) {
+        for (const view of [watched(points, moves), lookedAt(points, moves), board(points, moves, act)]) {
+            const drawn = build(document, view);
+            const order = [...all(drawn, "path"), ...all(drawn, "circle")].map((node) => node.getAttribute("class"));
+            equal("arcs are there", order.includes("way"), true);
+            const list = [drawn, ...[...(function* walk(node) { for (const child of node.childNodes) { yield child; yield* walk(child); } })(drawn)]];
+            const place = (name) => list.map((node) => node.getAttribute?.("class")).lastIndexOf(name);
+            equal(`a tally of ${points} is drawn after the play`, place("tally") > Math.max(place("way"), place("landing"), place("leaving"), place("checker")), true);
+            const tallies = classed(drawn, "text", "tally").map((text) => [Number(text.getAttribute("x")), Number(text.getAttribute("y")) - 8]);
+            equal(`each stack of ${points} has one`, classed(drawn, "text", "tally").map((text) => text.textContent), [...points].reverse().filter((count) => count > 4).map(String));
+            const rings = ["leaving", "landing"].flatMap((name) => classed(drawn, "circle", name)).map((ring) => [Number(ring.getAttribute("cx")), Number(ring.getAttribute("cy"))]);
+            const along = classed(drawn, "path", "way").flatMap((way) => {
+                const [x, y, a, b, c, d, e, f] = way.getAttribute("d").match(/[\d.]+/g).map(Number);
+                return Array.from({ length: 41 }, (_, part) => part / 40).map((t) => [[x, a, c, e], [y, b, d, f]].map(([p, q, r, s]) => (1 - t) ** 3 * p + 3 * (1 - t) ** 2 * t * q + 3 * (1 - t) * t * t * r + t ** 3 * s));
+            });
+            equal(`no arc or ring of ${points} meets a tally`, tallies.filter(([x, y]) => along.some(([u, v]) => Math.abs(x - u) < 20 && Math.abs(y - v) < 16) || rings.some(([u, v]) => Math.hypot(x - u, y - v) < 47)), []);
+        }
+    }
     equal("a miniature", all(build(document, miniature([1, 2, 3, 4, 5, 0])), "circle").map((disc) => disc.getAttribute("cx")).filter((x) => x === "88").length, 1);
     equal("in a miniature", all(build(document, miniature([1, 2, 3, 4, 5, 0])), "circle").length, 15);
 });

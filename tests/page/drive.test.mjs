@@ -862,11 +862,11 @@ const OUT_OF_SIGHT = (selectors) => `${JSON.stringify(selectors)}.flatMap((selec
 const EDITING = `[...document.querySelectorAll("[role=spinbutton], #counts, #keep, .steps button, #how, #guess, .rolls button")]
     .filter((element) => element.getBoundingClientRect().width > 0).map((element) => element.id || element.className || element.dataset.key)`;
 
-// One trains at three sizes: what begins is in sight with its question, board and buttons, and what is said of it with the
+// One trains at four sizes: what begins is in sight with its question, board and buttons, and what is said of it with the
 // way on; nothing edits a position; and the focus is never lost.
 async function driveSight(browser) {
     let [measured, actions] = [0, 0];
-    for (const [width, height, mobile] of [[360, 780, true], [768, 1024, true], [1180, 800, false]]) {
+    for (const [width, height, mobile] of [[360, 780, true], [768, 1024, true], [1180, 800, false], [780, 360, true]]) {
         const page = await browser.open(address, { width, height, mobile });
         await page.until(READY);
         const press = (selector) => page.value(`(() => {
@@ -877,7 +877,10 @@ async function driveSight(browser) {
         const look = async (name, ...parts) => {
             measured += 1;
             const size = `${width} x ${height}, ${name}`;
-            equal(`${size}: out of sight`, await page.value(OUT_OF_SIGHT(["#coach h2", "#board svg", "#steering button, #steering a", ...parts])), []);
+            const hasLong = height < 500 && await page.value('Boolean(document.querySelector("#coach .says"))');
+            // the long text of a lesson is scrolled within its box where a telephone lies on its side
+            const isSeen = (part) => !hasLong || !part.startsWith("#coach");
+            equal(`${size}: out of sight`, await page.value(OUT_OF_SIGHT(["#coach h2", "#board svg", "#steering button, #steering a", ...parts].filter(isSeen))), []);
             equal(`${size}: what edits`, await page.value(EDITING), []);
             equal(`${size}: how wide`, await page.value("document.documentElement.scrollWidth"), width);
         };
@@ -959,7 +962,7 @@ async function driveSight(browser) {
                         await press('[data-key="undo"]');
                         await acted(`${name}, undone`);
                     }
-                    await press(`.plays button:nth-child(${place + 1})`);
+                    await press(`.plays button:${place < 2 ? `nth-child(${place + 1})` : "last-child"}`);
                     await page.until('document.querySelector("#steering .verdict") && !document.querySelector("#steering .verdict").textContent.includes("\u2026")');
                     equal(`${name}: the focus is at the way on`, await acted(`${name}, played`), "next question");
                     await look(`${name}, its verdict`, "#steering .verdict", NEXT);
@@ -1188,6 +1191,42 @@ async function driveClicks(browser) {
 
 const TEACHING = encodeURI("#t=What wastage is&at=0,0,0,4,4,1&roll=31&p=0,0,0,4,4,1&c=Nine on the high points&p=2,2,2,2,2,2&c=Two on each point&p=15,0,0,0,0,0&c=Fifteen on the ace point");
 
+// A finger drags a checker in a drill, a lesson and a guess, and the page stays where it is; a finger on a board that isn't
+// played on scrolls.
+async function driveFinger(browser) {
+    for (const [width, height] of [[360, 780], [780, 360]]) {
+        for (const [what, hash] of [["a drill", "#drill=fifteen&seed=5&ask=play&level=hard"], ["a lesson", "#lesson=3"], ["a guess", "#at=2,3,0,2,2,6&guess=1&roll=22"]]) {
+            const page = await browser.open(address + hash, { width, height, mobile: true });
+            await page.until('document.querySelector("#board .source") && document.querySelector(".plays")');
+            await page.value('document.getElementById("board").scrollIntoView({ block: "nearest", behavior: "instant" })');
+            // the first checker that can go to another point, by one tap that is taken back
+            const [from, to] = await page.value(`(() => {
+                for (const source of document.querySelectorAll("#board .source")) {
+                    const from = source.dataset.point;
+                    source.dispatchEvent(new MouseEvent("click", { bubbles: true }));
+                    const to = [...document.querySelectorAll("#board .target")].map((target) => target.dataset.point).find((point) => point !== "0");
+                    document.querySelector('#board [data-point="' + from + '"]').dispatchEvent(new MouseEvent("click", { bubbles: true }));
+                    if (to) return [from, to];
+                }
+            })()`);
+            const counts = () => page.value('[1, 2, 3, 4, 5, 6].map((point) => Number(document.querySelector(\'#board [data-point="\' + point + \'"]\').dataset.count))');
+            const [before, top] = [await counts(), await page.value("scrollY")];
+            await page.swipe(`#board [data-point="${from}"] .ground`, `#board [data-point="${to}"] .ground`);
+            await wait(100);
+            const after = await counts();
+            equal(`${width} x ${height}, ${what}: a finger drags from ${from} to ${to}`, [after[from - 1] - before[from - 1], after[to - 1] - before[to - 1]], [-1, 1]);
+            equal(`${width} x ${height}, ${what}: the page stays`, await page.value("scrollY"), top);
+            await page.close();
+        }
+    }
+    const page = await browser.open(`${address}#at=0,0,0,4,4,1`, { width: 360, height: 780, mobile: true });
+    await page.until(`${READY} && ${KNOWN}`);
+    await page.swipe("#board .number:last-of-type", "h1");
+    await wait(300);
+    equal("a finger scrolls from the free board", await page.value("scrollY > 20"), true);
+    await page.close();
+}
+
 // A telephone and a tablet: the plays of a tapped roll are in sight with a board, and so is what they lose exactly.
 async function driveTouch(browser) {
     for (const [width, height] of [[360, 780], [768, 1024]]) {
@@ -1242,6 +1281,27 @@ async function drivePrint(browser) {
             equal(`pages of ${paper} for ${what}`, [bytes.subarray(0, 5).toString(), pages.length], ["%PDF-", 1]);
             if (pictures) writeFileSync(join(pictures, `${what} on ${paper}.pdf`.replaceAll(" ", "-")), bytes);
         }
+    }
+    // a drill, what was answered of it, and its score
+    for (const [hash, act, boards, dice, words] of [
+        ["#drill=fifteen&seed=5&ask=play&level=hard", 'document.querySelector(".plays button:last-child").click()', 20, 40, ["Drill: All fifteen checkers, Play, hard", "loses", "best is"]],
+        ["#drill=few&seed=5&ask=play", 'for (let place = 0; place < 20; place += 1) document.querySelector(\'[data-key="next question"]\').click()', 20, 40, ["Drill: Two to four checkers, Play", "Seed 5"]],
+        ["#drill=all&seed=5&ask=effective", `document.querySelector('[data-key="estimate"]').value = "60"; document.querySelector('[data-key="tell"]').click()`, 20, 0, ["What is the EPC?", "You said 60.000", "It is"]],
+    ]) {
+        const page = await browser.open(address + hash);
+        await page.until(dice ? 'document.querySelector("#board .source") && document.querySelector(".plays button")' : 'document.querySelector("[data-key=estimate]") && document.querySelector(".drill-printed li")');
+        await page.value(act);
+        await wait(100);
+        await page.send("Emulation.setEmulatedMedia", { media: "print" });
+        const [text, wide, thrown, others] = await page.value(`[document.getElementById("printed").innerText.replace(/\\s+/g, " "),
+            [...document.querySelectorAll(".drill-printed .small")].filter((board) => board.getBoundingClientRect().width > 100).length,
+            document.querySelectorAll("#printed .die").length, [".top", "#rolls", "#coach", "#steering", "#train"].filter((part) => document.querySelector(part).offsetHeight > 0)]`);
+        equal(`${hash} on paper`, [wide, thrown, others, words.filter((word) => !text.includes(word))], [boards, dice, [], []]);
+        for (const [paper, width, height] of [["A4", 8.27, 11.69], ["US Letter", 8.5, 11]]) {
+            const bytes = await page.pdf(width, height);
+            equal(`pages of ${paper} for ${hash}`, (bytes.toString("latin1").match(/\/Type\s*\/Page\b(?!s)/g) || []).length, text.includes("Answers") ? 2 : 1);
+        }
+        await page.close();
     }
     // each lesson of the page, whole: its title, and of each step the board, the text, the question, the dice and the answer
     const { lessons } = readLessons(readFileSync(new URL("../../web/lessons.txt", import.meta.url), "utf8"));
@@ -1485,7 +1545,7 @@ const OWN = {
         await driveGuess(page);
         await driveFiles(page);
     },
-    wider: driveWider, moments: driveMoments, older: driveOlder, hosted: driveHosted, touch: driveTouch, print: drivePrint,
+    wider: driveWider, moments: driveMoments, older: driveOlder, hosted: driveHosted, touch: driveTouch, finger: driveFinger, print: drivePrint,
     audit: driveAudit, pictures: takePictures, drill: driveDrill, sight: driveSight, lessons: driveLessons, still: driveStill, opened: driveOpened, clicks: driveClicks,
 };
 

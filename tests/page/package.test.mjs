@@ -104,7 +104,9 @@ test("npm packs the same files", { skip: skip("npm") }, () => {
 
 test("what it answers", () => { script("answers.mjs"); });
 test("what it refuses", () => { script("hostile.mjs"); });
+test("the order of refusals", () => { script("refusals.mjs"); });
 test("board files", () => { script("boards.mjs"); });
+test("tables, and their numbers as doubles", () => { script("tables.mjs"); });
 test("its memory", () => { script("memory.mjs"); });
 test("fractions, lists and closing", () => { script("fractions.mjs"); });
 test("other notations", () => { script("notation.mjs"); });

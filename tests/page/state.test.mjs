@@ -3,12 +3,12 @@
 import { readFileSync } from "node:fs";
 import { start } from "../../web/app.js";
 import { sumOfFractions } from "../../web/fractions.js";
-import { readCounts, readLink, readTyped, writeLink } from "../../web/link.js";
+import { readCounts, readLink, readTyped, START, writeLink } from "../../web/link.js";
 import { ROLLS } from "../../web/rolls.js";
 import { moved } from "../../web/panels.js";
 import { asSvg } from "../../web/picture.js";
-import { begin, giveEstimate, isFar, pressed, received, wanted } from "../../web/state.js";
-import { drawQuestions, LEVELS, meanOf, mostOf, numbersFrom, positions, readEstimate, readLessons, THEMES, writeLesson } from "../../web/trainer.js";
+import { begin, giveEstimate, isFar, mistakesOf, missedOf, pressed, received, verdictOf, wanted } from "../../web/state.js";
+import { drawQuestions, drillOf, LEVELS, levelsOf, meanOf, mostOf, numbersFrom, positions, readEstimate, readLessons, temptingOf, THEMES, writeLesson } from "../../web/trainer.js";
 import { drawn } from "../../web/worker.js";
 import { thumb } from "../../web/training.js";
 import { textOf } from "../../web/tree.js";
@@ -693,6 +693,13 @@ async function pasted() {
         } else if (!fault || fault === "undefined") wrong(`${text} isn't refused in words`);
     }
     equal("IDs that are refused", ids > 40, true);
+    // how long a text may be is looked at before anything else
+    equal("a text of 1000 characters", readTyped("1,2,3,0,0,4".padEnd(1000)), { points: [1, 2, 3, 0, 0, 4], roll: null });
+    for (const long of ["1,2,3,0,0,4".padEnd(1001), "1,".repeat(2.5e6), "1 ".repeat(10 ** 7), "x".repeat(10 ** 7)]) {
+        equal("a longer one", readTyped(long), { fault: "A position has at most 1000 characters, and this text has more." });
+        equal("no estimate", readEstimate(long), null);
+    }
+    equal("a link that is too long", [readLink(`#at=1,0,0,0,0,0&t=${"x".repeat(4e6)}`).points, readLink(`#t=${"x".repeat(4e6)}`).faults], [START, ["The link is too long, and was left out."]]);
     const used = await Used.open("#at=1,2,3,0,0,4");
     const field = used.at("counts");
     const give = (text, name = "change", more = {}) => {
@@ -1054,11 +1061,26 @@ function trained() {
     equal("one play is not asked", drawQuestions(drill, ROLLS, () => [{ isBest: true }]).length, 0);
     equal("nor a tie", drawQuestions(drill, ROLLS, (points) => [two(points)[0], { isBest: true }, { isBest: false }]).length, 0);
     equal("nor a gap that stays", drawQuestions(drill, ROLLS, (points) => [{ isBest: true, to: points }, { isBest: false }]).length, 0);
-    const asks = (name, loss, best, count = 0) => LEVELS.find((level) => level.name === name).isAsked(
-        [{ to: best, isBest: true, loss: 0n }, { to: [1, 0, 0, 0, 0, 0], isBest: false, loss }], count, { name: "all" });
+    const asks = (name, loss, best, tempts = null, isTempting = false) => LEVELS.find((level) => level.name === name).isAsked(
+        [{ to: best, isBest: true, loss: 0n }, { to: [1, 0, 0, 0, 0, 0], isBest: false, loss }], tempts, { isTempting });
     const [natural, tempted] = [[0, 0, 0, 0, 0, 0], [2, 0, 0, 0, 0, 0]];
     equal("what an easy drill asks", [asks("easy", 80n, natural), asks("easy", 79n, natural), asks("easy", 500n, tempted)], [true, false, false]);
-    equal("what a hard one asks", [asks("hard", 500n, tempted), asks("hard", 20n, natural, 1), asks("hard", 20n, natural, 2), asks("hard", 21n, natural, 1)], [true, true, false, false]);
+    for (const [tempts, wanted] of [[true, [true, true, false, false, false, false]], [false, [false, false, true, true, false, false]], [null, [true, true, true, true, false, false]]]) {
+        equal(`what a hard one asks, ${tempts}`, [[500n, tempted], [1n, tempted], [1n, natural], [20n, natural], [21n, natural], [0n, tempted]].map(([loss, best]) => asks("hard", loss, best, tempts)), wanted);
+    }
+    equal("and where each question tempts", [1n, 40n, 41n, 0n].map((loss) => asks("hard", loss, tempted, false, true)), [true, true, false, false]);
+    equal("no level but those that are there", [levelsOf({ theme: "fewer", ask: "play" }), levelsOf({ theme: "all", ask: "pips" }), levelsOf({ theme: "all", ask: "play" })].map((levels) => levels.map(({ name }) => name).join()), ["any,hard", "any", "any,easy,hard"]);
+    equal("a drill has one of them", [drillOf({ theme: "fewer", seed: 1, ask: "play", level: "easy" }), drillOf({ theme: "all", seed: 1, ask: "wastage", level: "hard" })].map(({ level }) => level), [undefined, undefined]);
+    // at each place a half of the seeds tempts, at whatever place after it too, and of each drill ten questions do
+    const mixed = Array.from({ length: 400 }, (_, seed) => temptingOf(997 * seed + 1));
+    equal("ten of each tempt", mixed.every((tempts) => tempts.length === 20 && tempts.filter(Boolean).length === 10), true);
+    equal("no place tells", Array.from({ length: 20 }, (_, place) => mixed.filter((tempts) => tempts[place]).length).filter((count) => count < 150 || count > 250), []);
+    equal("nor what came before", Array.from({ length: 19 }, (_, place) => mixed.filter((tempts) => tempts[place] === tempts[place + 1]).length).filter((count) => count < 140 || count > 240), []);
+    equal("a seed mixes the same", temptingOf(31).join(), temptingOf(31).join());
+    const kinds = (points, [high]) => (high > 3 ? [{ isBest: true, loss: 0n, to: [2, 0, 0, 0, 0, 0] }, { isBest: false, loss: 90n, to: [1, 0, 0, 0, 0, 0] }]
+        : [{ isBest: true, loss: 0n, to: [1, 0, 0, 0, 0, 0] }, { isBest: false, loss: 5n, to: [2, 0, 0, 0, 0, 0] }]);
+    equal("a hard drill tempts where its seed says", drawQuestions({ theme: "all", seed: 31, ask: "play", level: "hard" }, ROLLS, kinds).map(({ roll: [high] }) => high > 3).join(), temptingOf(31).join());
+    equal("where nothing tempts, it asks the rest", drawQuestions({ theme: "all", seed: 31, ask: "play", level: "hard" }, ROLLS, (points) => kinds(points, [1])).length, 20);
     equal("a small database has none", drawn({ bound: 8 }, drill).length, 0);
     equal("links", [readLink("#drill=gaps&seed=7").drill, readLink("#drill=ace&seed=7&ask=play").drill, readLink("#drill=gaps&seed=0").drill, readLink("#drill=x&seed=1").drill], [drill, null, null, null]);
     part = "texts";
@@ -1066,6 +1088,8 @@ function trained() {
     equal("a lesson comes back", readLessons(writeLesson(lesson)), { lessons: [lesson], fault: "" });
     equal("lines go on", readLessons("lesson: x\nstep: 1,0,0,0,0,0\ntext: a\nb\n\n# c\nfrom: d\nask: e").lessons[0].steps[0], { points: [1, 0, 0, 0, 0, 0], roll: null, text: "a b", ask: "e", answer: "" });
     for (const [given, fault] of [["", "There is no lesson in it."], ["lesson: x", "A lesson has no step."], ["step: 1,0,0,0,0,0", "Line 1: a lesson begins with its title"], ["lesson: x\nstep: 1,2", "Line 2: a step is six counts with commas between them"], ["lesson: x\nstep: 1,0,0,0,0,0\nroll: 7", "Line 3: a roll is two digits from 1 to 6"], ["hello", "Line 1: no such word"], ["lesson: x\ntext: y", "Line 2: a step comes first"]]) equal(`refused: ${given}`, readLessons(given), { lessons: [], fault });
+    const most = "lesson: x\nstep: 1,0,0,0,0,0\n# ".padEnd(10 ** 6, "x");
+    equal("lessons of a million characters", [readLessons(most).fault, readLessons(`${most}x`).fault, readLessons("\n".repeat(3e7)).fault], ["", "Lessons have at most 1000000 characters.", "Lessons have at most 1000000 characters."]);
     equal("estimates", ["7", "7.5", "-0,25", "7.1234", "x", "1e3"].map((word) => String(readEstimate(word))), ["7000", "7500", "-250", "null", "null", "null"]);
     equal("a mean", [meanOf([1n, 2n]), meanOf([1n, 1n, 2n])].map(String), ["2", "1"]);
     const ace = textOf(thumb([5, 0, 0, 0, 0, 0], { effective: { thousandths: 22005n } }));
@@ -1230,6 +1254,9 @@ async function drills() {
     equal("an ace point has nothing to play", used.session.state.drill, { theme: "ace", seed: 5, ask: "effective" });
 }
 
+// A file as a browser hands it over.
+const fileOf = (name, text) => Object.assign(new Blob([text]), { name });
+
 async function lessons() {
     part = "a lesson";
     const text = "lesson: <b>One</b>\nstep: 0,0,0,1,0,1\nroll: 52\ntext: <i>first</i>\nask: Which?\nanswer: That one.\nstep: 1,0,0,0,0,0\ntext: second";
@@ -1244,13 +1271,16 @@ async function lessons() {
     equal("its link", [readLink(used.window.location.hash).step, readLessons(readLink(used.window.location.hash).text).lessons[0].title], [2, "<b>One</b>"]);
     await used.clicked("previous step");
     equal("closed again", [used.text("coach").includes("That one."), used.text("coach").includes("Step 1 of 2")], [false, true]);
-    tell(used.document, "drop", { dataTransfer: { files: [{ name: "own.txt", text: async () => "lesson: Own\nstep: 2,0,0,0,0,0\ntext: mine" }] } });
+    tell(used.document, "drop", { dataTransfer: { files: [fileOf("own.txt", "lesson: Own\nstep: 2,0,0,0,0,0\ntext: mine")] } });
     await settled();
     await used.worker.answerAll();
     equal("a file", [used.board, used.text("coach").includes("mine")], [[2, 0, 0, 0, 0, 0], true]);
-    tell(used.document, "drop", { dataTransfer: { files: [{ name: "bad.txt", text: async () => "hello" }] } });
+    tell(used.document, "drop", { dataTransfer: { files: [fileOf("bad.txt", "hello")] } });
     await settled();
     equal("a refused one", [used.text("trouble"), used.text("coach").includes("mine")], ["The lesson can't be read. Line 1: no such word", true]);
+    tell(used.document, "drop", { dataTransfer: { files: [fileOf("long.txt", "lesson: Own\nstep: 2,0,0,0,0,0\n# ".padEnd(10 ** 7, "x"))] } });
+    await settled();
+    equal("a long one", [used.text("trouble"), used.text("coach").includes("mine")], ["The lesson can't be read. Lessons have at most 1000000 characters.", true]);
     const number = await Used.open(`#text=${encodeURIComponent("lesson: One\nstep: 1,0,0,0,0,0\nask: How many?\nanswer: One.")}`);
     equal("a number that is asked is hidden", [number.figures, number.text("chances"), number.text("said")], [[], "", ""]);
     await number.clicked("answer");
@@ -1384,7 +1414,11 @@ async function making() {
     equal("a play of the list ends what was begun", [used.session.state.steps, used.board, used.session.state.guesses.length], [[], [0, 0, 0, 1, 0, 1], 1]);
     await used.worker.answerAll();
     equal("its verdict", used.at("steering").querySelector(".verdict").textContent, "6/off loses 0.056 of a roll; best is 6/1 4/2. In EPC: 0.454 pips.");
-    equal("the board shows it, and is looked at", [used.at("board").querySelectorAll(".arc").length, used.at("board").querySelector("svg").getAttribute("role"), used.find("point 6")], [2, "img", null]);
+    const both = () => [...used.at("board").querySelectorAll("figure")].map((one) => [one.querySelector("figcaption").textContent.trim(), one.getAttribute("class"), one.querySelectorAll(".arc").length, one.querySelector("svg").getAttribute("role")]);
+    equal("the boards show it and the best, and are looked at", [both(), used.find("point 6")], [[["Yours 6/off \u22120.056", "lost", 2, "img"], ["Best 6/1 4/2", "good", 2, "img"]], null]);
+    equal("each has the arcs of its own play", [...used.at("board").querySelectorAll("figure")].map((one) => [...one.querySelectorAll(".arc")].filter((arc) => arc.querySelector(".landing")).length), [1, 2]);
+    equal("the position is beside each", [...used.at("board").querySelectorAll("svg")].map((board) => [1, 2, 3, 4, 5, 6].map((point) => board.querySelector(`[data-point="${point}"]`).getAttribute("data-count")).join()), Array(2).fill(used.session.state.points.join()));
+    equal("each arc has its own tip", [...used.at("board").querySelectorAll("marker")].map((one) => one.getAttribute("id")), ["yours-tip", "best-tip"]);
     equal("where one goes on", used.focus(), "next step");
     await used.clicked("answer");
     equal("the answer", [used.text("coach").includes("That."), used.focus(), used.find("answer")], [true, "next step", null]);
@@ -1612,6 +1646,13 @@ async function silence() {
     tell(used.find("seed"), "keydown", { key: "Enter" });
     await used.worker.answerAll();
     equal("Enter begins, and the words are gone", [used.session.state.drill.level, used.at("notice").hidden], ["hard", true]);
+    for (const [theme, ask, level, words] of [["fewer", "play", "easy", "Bear off fewer: no question there is easy, so any are asked."], ["all", "wastage", "hard", "Plays alone are hard: any positions are asked."], ["fewer", "play", "hard", ""]]) {
+        [used.find("theme").value, used.find("asked").value, used.find("level").value] = [theme, ask, level];
+        await used.clicked("begin drill");
+        equal(`${theme}, ${ask}, ${level}: no level goes in silence`, used.text("notice"), words);
+    }
+    const linked = await Used.open("#drill=fewer&seed=3&level=easy");
+    equal("nor in a link", [linked.text("notice"), linked.session.state.drill.level], ["The link's drill has no questions of level easy: any are asked.", undefined]);
 }
 
 // A lesson that is made on the page: of kept positions, edited, tried, and taken away as a link and as a file.
@@ -1697,6 +1738,49 @@ async function paper() {
     equal("without a lesson nothing", used.text("printed"), "");
 }
 
+// A drill and its score on paper: its questions, and what was answered.
+async function drillsOnPaper() {
+    part = "a drill on paper";
+    let used = await Used.open("#drill=gaps&seed=7&ask=play");
+    const asked = drawFrom({ theme: "gaps", seed: 7, ask: "play" });
+    const items = () => [...used.at("printed").querySelectorAll(".drill-printed > li")];
+    equal("its title", [used.at("printed").querySelector("h2").textContent, used.text("printed").includes("Seed 7. Which play is best?")], ["Drill: Gaps, Play", true]);
+    equal("its boards and dice", items().map((item) => [item.querySelectorAll("circle.checker").length, item.querySelectorAll(".die").length]),
+        asked.map(({ points }) => [points.reduce((sum, count) => sum + count, 0), 2]));
+    equal("no answer before one is given", used.at("printed").querySelector(".answers-printed"), null);
+    const [high, low] = asked[0].roll;
+    await used.clicked(`play ${high}/1 ${low}/2`);
+    const answers = () => [...used.at("printed").querySelectorAll(".answers-printed li")].map((item) => item.textContent);
+    equal("what was answered, and nothing else", answers(), [`${high}/1 ${low}/2 loses 0.056 of a roll; best is ${high}/off ${low}/0.`, ...Array(19).fill("\u2013")]);
+    equal("no score before the end", used.text("printed").includes("were played"), false);
+    for (let place = 0; place < 21; place += 1) await used.clicked("next question");
+    equal("the score", [used.text("printed").includes("1 of 20 were played."), items().length], [true, 20]);
+
+    used = await Used.open("#drill=ace&seed=7&ask=effective");
+    equal("estimates have no dice", [used.text("printed").includes("What is the EPC?"), used.at("printed").querySelectorAll(".die").length], [true, 0]);
+    used.find("estimate").value = "60";
+    await used.clicked("tell");
+    const { exact } = used.session.state.estimates[0];
+    equal("and nothing of the others", answers().slice(1), Array(used.session.state.questions.length - 1).fill("\u2013"));
+    equal("what was estimated, and what it is", /^You said 60\.000: \d+\.\d{3} pips off\. It is (\d+\.\d{3})\.$/.exec(answers()[0])?.[1].replace(".", ""), String(exact));
+}
+
+// A play that loses less than half a thousandth is no mistake.
+function slight() {
+    part = "a loss that rounds to nothing";
+    const [points, roll] = [[0, 0, 0, 1, 0, 1], [5, 2]];
+    const best = { text: "6/1 4/2", isBest: true, isRecorded: true, loss: 0n, lossText: "0.000", exact: "0/1" };
+    const lose = (loss, exact) => ({ text: "6/off", isBest: false, isRecorded: false, loss, lossText: `0.00${loss}`, exact });
+    const state = (play) => ({ ...begin(readLink("#guess=1")), points, roll, drill: { theme: "all", seed: 1, ask: "play" }, questions: [{ points, roll }], place: 0,
+        guesses: [{ at: points.join(), roll, play, best }] });
+    const [slightly, missed] = [state(lose(0n, "1/3000")), state(lose(1n, "1/1000"))];
+    equal("what is told", [slightly, missed].map((one) => verdictOf(one).first),
+        ["6/off loses less than 0.0005 of a roll, no mistake; best is 6/1 4/2.", "6/off loses 0.001 of a roll; best is 6/1 4/2."]);
+    equal("what is asked again", [slightly, missed].map((one) => missedOf(one).length), [0, 1]);
+    equal("what is a mistake", [slightly, missed].map((one) => mistakesOf(one) !== ""), [false, true]);
+    equal("and it is no best play", verdictOf(slightly).isBest, false);
+}
+
 // A picture is saved as a file of its position and of its caption, where it is kept with one.
 async function pictures() {
     for (const [hash, caption] of [["#at=0,0,0,0,4,1", ""], ["#at=0,0,0,0,4,1&p=1,0,0,0,0,0&c=other&p=0,0,0,0,4,1&c=Five", "Five"]]) {
@@ -1719,6 +1803,8 @@ async function pictures() {
 // Those that take seconds stand last. The variable FIRST names one that comes before the others.
 const PARTS = [
     ["paper", paper],
+    ["drills on paper", drillsOnPaper],
+    ["a loss that rounds to nothing", slight],
     ["typed counts", typed],
     ["pictures", pictures],
     ["positions as players have them", pasted],
