@@ -4,13 +4,16 @@ one's own."""
 import contextlib
 import os
 import shutil
+import stat
 import subprocess
 import tempfile
+import threading
+import time
 from pathlib import Path
 
 import pytest
 
-from running import ROOT, run, succeed
+from running import ROOT, need, run, succeed
 
 PROGRAM = ROOT / "crates/bearoff_cli/out/bearoff_cli"
 
@@ -32,6 +35,50 @@ def pytest_addoption(parser):
         help="the program of crates/board_trials, in place of the one that was proved here",
     )
     parser.addoption("--by-hand", action="store_true", help="run what takes long, too")
+
+
+class Progress:
+    """Says every thirty seconds which tests run and how many are left."""
+
+    pause = 30
+
+    def __init__(self, config):
+        self.config, self.running, self.ended, self.most = config, {}, 0, 0
+        self.is_over = threading.Event()
+
+    def tell(self):
+        while not self.is_over.wait(self.pause):
+            now = time.time()
+            works = [f"{name} for {int(now - it)} s" for name, it in [*self.running.items()]]
+            reporter = self.config.pluginmanager.get_plugin("terminalreporter")
+            if works and reporter:
+                left = self.most - self.ended
+                reporter.write_line(f"\n{left} of {self.most} tests are left: {'; '.join(works)}")
+
+    def pytest_sessionstart(self):
+        threading.Thread(target=self.tell, daemon=True).start()
+
+    def pytest_sessionfinish(self):
+        self.is_over.set()
+
+    def pytest_collection_finish(self, session):
+        self.most = self.most or len(session.items)
+
+    @pytest.hookimpl(optionalhook=True)
+    def pytest_xdist_node_collection_finished(self, ids):
+        self.most = len(ids)
+
+    def pytest_runtest_logstart(self, nodeid):
+        self.running[nodeid.rpartition("/")[2]] = time.time()
+
+    def pytest_runtest_logfinish(self, nodeid):
+        self.running.pop(nodeid.rpartition("/")[2], None)
+        self.ended += 1
+
+
+def pytest_configure(config):
+    if not hasattr(config, "workerinput"):
+        config.pluginmanager.register(Progress(config))
 
 
 def pytest_collection_modifyitems(config, items):
@@ -102,9 +149,7 @@ def program_of(request, crate, option):
         return given(request.config.getoption(option))
     program = ROOT / "crates" / crate / "out" / crate
     if not os.access(program, os.X_OK):
-        pytest.fail(
-            f"{program} is not built: run rt ci, or rt run in crates/{crate}", pytrace=False
-        )
+        pytest.fail(f"{program} is not built: run make trials, or rt ci", pytrace=False)
     sources = [
         ROOT / "crates.txt",
         *(ROOT / "crates").glob("*/src/**/*.rt"),
@@ -113,7 +158,7 @@ def program_of(request, crate, option):
     newest = max(path.stat().st_mtime for path in sources if "out" not in path.parts)
     if program.stat().st_mtime < newest:
         pytest.fail(
-            f"a source has changed since {program} was proved: run rt run in crates/{crate}",
+            f"a source has changed since {program} was proved: run make trials",
             pytrace=False,
         )
     return program
@@ -174,6 +219,14 @@ def built(program, store):
     return database
 
 
+@pytest.fixture(scope="session")
+def whole(program, store):
+    """The board file that the program makes."""
+    file = store / "whole"
+    succeed(program, "build", "--board", file)
+    return file
+
+
 @pytest.fixture
 def room():
     """A folder of one's own, which is the current one."""
@@ -182,6 +235,44 @@ def room():
         os.chmod(folder, 0o755)
         with contextlib.chdir(folder):
             yield Path(folder)
+
+
+def can_be_put_in(folder):
+    """Whether a program that is started here could put a file in the place of one in a folder."""
+    return os.access(folder, os.W_OK)
+
+
+@pytest.fixture
+def full(tmp_path):
+    """A device that is full, of one's own, so that whoever takes it for a plain file harms nothing
+    else. Who may not make one gets the system's, if nobody here can put a file in its place."""
+    node = tmp_path / "full"
+    with contextlib.suppress(OSError):
+        os.mknod(node, stat.S_IFCHR | 0o666, os.makedev(1, 7))
+        os.close(os.open(node, os.O_WRONLY))
+        return node
+    if can_be_put_in("/dev"):
+        pytest.skip("a device of one's own can't be had here")
+    return Path("/dev/full")
+
+
+@pytest.fixture(scope="session")
+def apart(store):
+    """The words that run a command with a folder of its own in the place of /dev, in which the
+    standard streams have their names: none, where nobody here can put a file there."""
+    if not can_be_put_in("/dev"):
+        return []
+    names = store / "dev"
+    if not names.exists():
+        names.mkdir()
+        os.symlink("/proc/self/fd", names / "fd")
+        for number, name in enumerate(("stdin", "stdout", "stderr")):
+            os.symlink(f"/proc/self/fd/{number}", names / name)
+    mount = 'mount --bind "$0" /dev && exec "$@"'
+    words = ["unshare", "--mount", "sh", "-c", mount, str(names)]
+    if run(*words, "true").status != 0:
+        pytest.skip("names of the standard streams of one's own can't be had here")
+    return words
 
 
 @pytest.fixture
@@ -204,3 +295,12 @@ def ask(program):
         )
 
     return asked
+
+
+@pytest.fixture
+def strace():
+    """System calls can be killed, failed and held up here, or the test is left out."""
+    need("strace")
+    tried = ["strace", "-f", "-o", "/dev/null", "-e", "inject=getcwd:error=EIO:when=1", "pwd"]
+    if subprocess.run(tried, stdin=subprocess.DEVNULL, capture_output=True).returncode != 0:
+        pytest.skip("strace can't fail a call here")

@@ -1,12 +1,13 @@
 /* A tool for tests, preloaded before the C library: it counts the calls of one kind that a program
  * makes, and refuses one of them, or all from one on. REFUSED_CALL names the kind and the number,
  * as `growth:3` or `growth:3+`; the number 0 refuses none. At the end of the program the number of
- * calls is written into the file REFUSED_COUNT. The kinds: growth (of memory), open (no file can
- * be opened any more) and closed-open (that file or folder may not be), seek, link (what a link
- * says), tell (about a file), mode (of a file), sync (of a file or a folder) and unable-sync (the
- * file system can't), rename; input, output and errors (reads and writes of the standard streams),
- * load and store (those of other files); idle-store and idle-output, which take nothing where they
- * are refused; slow-input, slow-output, slow-load and slow-store, which move one byte; and
+ * calls is written into the file REFUSED_COUNT. REFUSED_ERROR may be the number of another error
+ * of an opening. The kinds: growth (of memory), open (no file can be opened any more) and
+ * closed-open (that file or folder may not be), seek, link (what a link says), tell (about a
+ * file), mode (of a file), sync (of a file or a folder) and unable-sync (the file system can't),
+ * rename; input, output and errors (reads and writes of the standard streams), load and store
+ * (those of other files); idle-store and idle-output, which take nothing where they are refused;
+ * slow-input, slow-output, slow-load and slow-store, which move one byte; and
  * interrupted-open, interrupted-mode, interrupted-sync, interrupted-input, interrupted-output,
  * interrupted-load and interrupted-store, which a signal interrupts before anything is done. */
 /* No header is included, so that the kit's own clang compiles it: the declarations and numbers are
@@ -43,15 +44,24 @@ extern void *__libc_realloc(void *old, size_t size);
 
 static char kind[32];
 static long refused, from_here_on, calls;
+static int error_of_open;
+
+static long number_in(const char *text) {
+    long number = 0;
+    for (; *text >= '0' && *text <= '9'; text++) number = 10 * number + (*text - '0');
+    return number;
+}
 
 __attribute__((constructor)) static void start(void) {
-    const char *call = getenv("REFUSED_CALL");
+    const char *call = getenv("REFUSED_CALL"), *error = getenv("REFUSED_ERROR");
+    if (error) error_of_open = (int)number_in(error);
     if (!call) return;
     for (size_t i = 0; *call != ':'; call++, i++) {
         if (!*call || i + 1 >= sizeof kind) return;
         kind[i] = *call;
     }
-    for (call++; *call >= '0' && *call <= '9'; call++) refused = 10 * refused + (*call - '0');
+    refused = number_in(++call);
+    while (*call >= '0' && *call <= '9') call++;
     from_here_on = *call == '+';
 }
 
@@ -88,8 +98,9 @@ void *realloc(void *old, size_t size) {
 }
 
 int open(const char *path, int flags, unsigned mode) {
-    if (is_refused("open")) return *__errno_location() = NO_NUMBER, -1;
-    if (is_refused("closed-open")) return *__errno_location() = NO_LEAVE, -1;
+    int number = error_of_open;
+    if (is_refused("open")) return *__errno_location() = number ? number : NO_NUMBER, -1;
+    if (is_refused("closed-open")) return *__errno_location() = number ? number : NO_LEAVE, -1;
     if (is_refused("interrupted-open")) return *__errno_location() = INTERRUPTED, -1;
     return syscall(OPEN, path, (long)flags, (long)mode);
 }

@@ -38,7 +38,7 @@ def run(*words, input=b"", cwd=None, timeout=120, **more):
             words, input=given, capture_output=True, cwd=cwd, timeout=timeout * SLOWER, **more
         )
     except subprocess.TimeoutExpired as late:
-        pytest.fail(f"ran:    {shlex.join(words)}\ncame:   no end within {late.timeout} s")
+        pytest.fail(f"ran:    {line_of(words)}\ncame:   no end within {late.timeout} s")
     return Done(words, str(cwd or os.getcwd()), given, done.returncode, done.stdout, done.stderr)
 
 
@@ -46,11 +46,16 @@ def shown(data, most=1500):
     return f"{data!r}" if len(data) <= most else f"{data[:most]!r}.. ({len(data)} bytes)"
 
 
+def line_of(words):
+    """Words as a line, and what is no UTF-8 text of them by its numbers."""
+    return shlex.join(words).encode("utf-8", "backslashreplace").decode("utf-8")
+
+
 def told(done):
     """What was run and what came, for a failure."""
     given = f"\ninput:  {shown(done.input, 300)}" if done.input else ""
     return (
-        f"ran:    {shlex.join(done.words)}{given}\nin:     {done.folder}\n"
+        f"ran:    {line_of(done.words)}{given}\nin:     {done.folder}\n"
         f"came:   status {done.status}, output {shown(done.output)}, errors {shown(done.errors)}"
     )
 
@@ -107,7 +112,7 @@ def need(*names):
     for name in needs.install(names):
         packages = " ".join(needs.BY_NAME[name].packages)
         if needs.BY_NAME[name].is_optional:
-            pytest.skip(f"Debian's {packages} can't be had here")
+            pytest.skip(f"Debian's {packages} can't be had here: {needs.WHY_NOT.get(name, '')}")
         pytest.fail(
             f"Debian's {packages} is needed and can't be installed: tests/needs.py {name}",
             pytrace=False,

@@ -383,6 +383,29 @@ def test_damages(program, board, tmp_path, rank, place, bits, fault):
     expect_refusal(program, path, fault)
 
 
+def test_a_worse_play_with_its_own_numbers(program, board, tmp_path):
+    """A worse play is refused, also where the mean and the counts are those of that play."""
+    data = bytearray(board(8).read_bytes())
+    told = list(records(data))
+    start = 32 + sum(66 + 8 * most_rolls(pips) for pips in pip_counts()[:9])
+    mean, plays, counts = told[9]
+    best, worse = told[plays[3]], told[plays[3] ^ 1]
+    assert worse[0] > best[0]
+    mean += 2 * (worse[0] - best[0]) // 36
+    before, after = ([0, *record[2], *[0] * len(counts)] for record in (best, worse))
+    counts = [n + 2 * (new - old) for n, old, new in zip(counts, before, after)]
+    data[start : start + 24] = (mean // PART).to_bytes(16, "big") + (mean % PART).to_bytes(
+        8, "big"
+    )
+    data[start + 31] ^= 1
+    data[start + 66 : start + 66 + 8 * len(counts)] = b"".join(
+        count.to_bytes(8, "big") for count in counts
+    )
+    path = tmp_path / "file"
+    path.write_bytes(data)
+    expect_refusal(program, path, "not-least rank 9 roll 3")
+
+
 def test_each_byte_of_a_small_file(program, board, tmp_path):
     """A change of any byte is refused."""
     data = bytearray(board(3).read_bytes())

@@ -5,11 +5,13 @@ whole new one, or absent where there was none. After a kill there is at most one
 it; after a failed call there is none, and the status and the line are those of the fault. Tries
 also that the bytes are brought to the disk before the file gets its name, eight builds and checks
 of one file at once, a whole build within each system call of another run, a run that a limit ends,
-and the kinds of file that a database can be written into."""
+the kinds of file that a database can be written into, and several runs that write straight into
+one."""
 
 import collections
 import concurrent.futures
 import contextlib
+import fcntl
 import os
 import re
 import resource
@@ -23,7 +25,7 @@ from pathlib import Path
 
 import pytest
 
-from running import expect, need, run
+from running import expect, run
 
 # these wait for one another's times, and use all processors by themselves
 pytestmark = pytest.mark.xdist_group("alone")
@@ -68,6 +70,13 @@ BUILD = ["build", "--pips", "8"]
 BUILT, UPGRADED = b"built pips 8 positions 64\n", b"upgraded pips 8 positions 64\n"
 BOARD = b"built pips 90 positions 54264\n"
 IS_ROOT = os.getuid() == 0
+
+# a user who is not root, and the group of that user
+NOBODY = (65534, 65534)
+AS_NOBODY = {"user": NOBODY[0], "group": NOBODY[1], "extra_groups": []} if IS_ROOT else {}
+
+# the words that write a file, which is named last: each command, and both kinds of file
+WRITERS = (BUILD, ["build", "--board"], ["upgrade", "old"])
 
 # a run that is killed or failed: its words, where the file is, what stands there before and after,
 # the link to it
@@ -338,15 +347,6 @@ def crashes(program, built, board):
         yield Crashes(program, built, board, folder)
 
 
-@pytest.fixture
-def strace():
-    """System calls can be killed and failed here, or the test is left out."""
-    need("strace")
-    tried = ["strace", "-f", "-o", "/dev/null", "-e", "inject=getcwd:error=EIO:when=1", "pwd"]
-    if subprocess.run(tried, stdin=subprocess.DEVNULL, capture_output=True).returncode != 0:
-        pytest.skip("strace can't fail a call here")
-
-
 @every_scene
 def test_synced_before_named(crashes, strace, scene):
     calls = crashes.calls_of_whole_run(scene)
@@ -496,8 +496,7 @@ class TestKinds:
     @pytest.fixture(autouse=True)
     def here(self, crashes, room):
         self.six, self.eight = crashes.bytes_of["six"], crashes.bytes_of["eight"]
-        # a user who is not root
-        self.user = {"user": 65534, "group": 65534, "extra_groups": []} if IS_ROOT else {}
+        self.user = AS_NOBODY
         self.build = lambda name, **more: run(crashes.program, *BUILD, name, **more)
         yield
         assert leftovers() == []
@@ -539,17 +538,18 @@ class TestKinds:
         expect(done, 0, BUILT)
         assert content == self.eight and stat.S_ISFIFO(os.stat("pipe").st_mode)
 
-    def test_a_full_device(self):
-        expect(self.build("/dev/full"), 1, "", "bearoff: write")
-        assert os.path.exists("/dev/full")
+    def test_a_full_device(self, full):
+        expect(self.build(full), 1, "", "bearoff: write")
+        assert stat.S_ISCHR(os.stat(full).st_mode)
 
-    def test_standard_output_that_is_a_pipe(self):
-        expect(self.build("/dev/stdout"), 0, self.eight + BUILT)
+    def test_standard_output_that_is_a_pipe(self, crashes, apart):
+        done = run(*apart, crashes.program, *BUILD, "/dev/stdout")
+        expect(done, 0, self.eight + BUILT)
 
-    def test_standard_output_that_is_a_file(self, crashes):
+    def test_standard_output_that_is_a_file(self, crashes, apart):
         with open("appended", "ab") as file:
             subprocess.run(
-                [crashes.program, *BUILD, "/dev/stdout"],
+                [*apart, crashes.program, *BUILD, "/dev/stdout"],
                 stdin=subprocess.DEVNULL,
                 stdout=file,
                 timeout=60,
@@ -569,6 +569,31 @@ class TestKinds:
         assert bytes_of("closed/db") == self.eight
         expect(self.build("closed/more", **self.user), 1, "", "bearoff: open")
         assert not os.path.exists("closed/more")
+
+    @pytest.mark.skipif(not IS_ROOT, reason="the owner of a file is given by root")
+    @pytest.mark.parametrize("words", WRITERS, ids=" ".join)
+    def test_a_name_that_is_given_to_another_file(self, crashes, strace, words):
+        """The owner of the folder gives the name of the new file to a file of root, while root
+        writes: that one keeps its owner and its mode."""
+        os.mkdir("theirs")
+        put("old", self.six)
+        put("theirs/db", self.six)
+        put("theirs/kept", b"secret\n", 0o600)
+        for name in ("theirs", "theirs/db"):
+            os.chown(name, *NOBODY)
+        inject = f"inject=chown,lchown,fchown,fchownat:delay_enter={HELD_UP}"
+        command = ["strace", "-f", "-qq", "-o", "trace", "-e", inject, crashes.program, *words]
+        with subprocess.Popen(
+            [*command, "theirs/db"], stdin=subprocess.DEVNULL, stdout=subprocess.DEVNULL
+        ) as child:
+            until = time.monotonic() + 20
+            while not leftovers("theirs") and time.monotonic() < until:
+                time.sleep(0.001)
+            os.link("theirs/kept", "theirs/name")
+            os.rename("theirs/name", os.path.join("theirs", leftovers("theirs")[0]))
+            child.wait(60)
+        told = os.stat("theirs/kept")
+        assert (told.st_uid, told.st_gid, stat.S_IMODE(told.st_mode)) == (0, 0, 0o600)
 
     def test_a_folder_that_cannot_be_read(self):
         """A folder that can be written and not read can't be synchronised."""
@@ -600,3 +625,109 @@ class TestKinds:
         put("stays", self.six, 0o444)
         expect(self.build("stays", **self.user), 1, "", "bearoff: open")
         assert bytes_of("stays") == self.six
+
+
+class TestStraight:
+    """A file that a new one can't take the place of, so that the bytes go straight into it: what
+    stands there is whole, whoever else writes into it."""
+
+    @pytest.fixture(params=["in a folder that can't be written", "from another device"])
+    def straight(self, request, crashes, built, room):
+        """Starts the program, with a name of the file behind its words, and puts bytes into the
+        file; and the bytes that words write there."""
+        file, user, before = room / "closed" / "db", AS_NOBODY, []
+        if "device" in request.param:
+            if not os.path.isdir("/dev/shm"):
+                pytest.skip("there is no second device here")
+            other = tempfile.TemporaryDirectory(dir="/dev/shm")
+            request.addfinalizer(other.cleanup)
+            file, user = Path(other.name, "db"), {}
+            mount = 'mount --bind "$0" mounted && exec "$@"'
+            before = ["unshare", "--mount", "sh", "-c", mount, file]
+            put("mounted", b"")
+            put(file, b"")
+            is_another = os.stat(other.name).st_dev != os.stat(room).st_dev
+            if not is_another or run(*before, "true").status != 0:
+                pytest.skip("a file of another device can't be mounted here")
+        else:
+            file.parent.mkdir()
+        put("old", crashes.bytes_of["six"])
+        self.file = file
+        self.name = "mounted" if before else file
+        self.written = {
+            "build --pips 8": (crashes.bytes_of["eight"], BUILT),
+            "build --pips 44": (built(44).read_bytes(), b"built pips 44 positions 26314\n"),
+            "build --pips 58": (built(58).read_bytes(), b"built pips 58 positions 46062\n"),
+            "build --board": (crashes.bytes_of["board"], BOARD),
+            "upgrade old": (crashes.bytes_of["new_six"], b"upgraded pips 6 positions 30\n"),
+        }
+        self.start = lambda words: subprocess.Popen(
+            [*before, crashes.program, *words.split(), self.name],
+            stdin=subprocess.DEVNULL,
+            stdout=subprocess.PIPE,
+            stderr=subprocess.PIPE,
+            **user,
+        )
+        self.old = crashes.bytes_of["three"]
+        self.make_old()
+        yield
+        assert leftovers() == []
+
+    def make_old(self):
+        """Puts the old file there."""
+        self.file.parent.chmod(0o755)
+        put(self.file, self.old, 0o666)
+        if self.name == self.file:
+            self.file.parent.chmod(0o555)
+
+    def ended(self, child):
+        """What a run came to."""
+        output, errors = child.communicate(timeout=60)
+        return child.returncode, output, errors
+
+    REFUSED = (1, b"", b"bearoff: open\n")
+
+    def test_at_once(self, straight, note):
+        """Eight builds, databases and boards mixed: each says that it built the file, or is
+        refused, and what stands is the whole file of one that says so."""
+        rounds, told = 5 if self.name == "mounted" else 20, 0
+        begun = collections.deque([*self.written][:4] * 2)
+        for _ in range(rounds):
+            self.make_old()
+            begun.rotate()
+            came = [self.ended(child) for child in [self.start(words) for words in begun]]
+            built = [it for it, end in zip(begun, came) if end == (0, self.written[it][1], b"")]
+            assert [end for end in came if end[0] != 0] == [self.REFUSED] * (8 - len(built)), came
+            stands = [it for it in self.written if self.written[it][0] == bytes_of(self.file)]
+            assert {*stands} & {*built}, f"{stands or 'no whole file'} stands after {built}"
+            told += len(built)
+        note(f"{8 * rounds} builds straight into one file, eight at once: {told} said built")
+
+    @pytest.mark.parametrize("second", ["build --pips 8", "build --board", "upgrade old"])
+    @pytest.mark.parametrize("first", ["build --pips 44", "build --board"])
+    def test_a_second_run(self, straight, first, second):
+        """The first run is stopped once it has changed the file. The second one is refused, and
+        what stands at the end is what the first one writes."""
+        child = self.start(first)
+        until = time.monotonic() + 20
+        while bytes_of(self.file) == self.old and time.monotonic() < until:
+            time.sleep(0.001)
+        child.send_signal(signal.SIGSTOP)
+        stands = bytes_of(self.file)
+        came, stood = self.ended(self.start(second)), bytes_of(self.file)
+        child.send_signal(signal.SIGCONT)
+        assert self.ended(child) == (0, self.written[first][1], b"")
+        assert len(stands) < len(self.written[first][0]), "the first run ended too early"
+        assert (came, stood) == (self.REFUSED, stands)
+        assert bytes_of(self.file) == self.written[first][0]
+
+    @pytest.mark.parametrize("words", [" ".join(words) for words in WRITERS])
+    @pytest.mark.parametrize("lock", [fcntl.LOCK_EX, fcntl.LOCK_SH], ids=["alone", "shared"])
+    def test_a_file_that_is_locked(self, straight, words, lock):
+        """A run is refused at once where another program holds a lock, and goes on without one."""
+        with open(self.file, "rb") as file:
+            fcntl.flock(file, lock)
+            assert self.ended(self.start(words)) == self.REFUSED
+            assert bytes_of(self.file) == self.old
+        assert self.ended(self.start(words)) == (0, self.written[words][1], b"")
+        assert bytes_of(self.file) == self.written[words][0]

@@ -119,14 +119,113 @@ def test_destdir(room, listed):
     assert files_of(stage) == []
 
 
-def test_make(room, listed):
-    """`make install` and `make uninstall` do the same, with PREFIX and DESTDIR."""
-    environment = {name: value for name, value in os.environ.items() if "MAKE" not in name}
-    words = ["make", "-s", "-C", ROOT, f"DESTDIR={room}/stage", "PREFIX=/usr"]
-    succeed(*words, "install", env=environment)
-    assert files_of(room / "stage/usr") == listed
-    succeed(*words, "uninstall", env=environment)
-    assert files_of(room / "stage") == []
+class TestMake:
+    """`make install`, `make uninstall` and `make release` do the same: names of folders come to
+    them as they were typed, and neither make nor a shell reads them."""
+
+    ODD = 'it\'s a $HOME of "x" $(shell touch made) `touch made`; touch made #%'
+
+    def make(self, *words, **more):
+        settings = ("PREFIX", "DESTDIR", "DIR", "MAKEFLAGS", "MAKELEVEL", "MAKEOVERRIDES")
+        environment = {name: value for name, value in os.environ.items() if name not in settings}
+        return run("make", "-s", "-C", ROOT, *words, env={**environment, **more})
+
+    def nothing_else(self, room, *names):
+        assert sorted(os.listdir(room)) == sorted(names)
+        assert not (ROOT / "made").exists()
+
+    @pytest.mark.parametrize("name", ["stage", ODD])
+    @pytest.mark.parametrize("by", ["word", "environment"])
+    def test_destdir(self, room, listed, name, by):
+        stage = room / name
+        words = [f"DESTDIR={stage}", "PREFIX=/usr"] if by == "word" else []
+        more = {"DESTDIR": str(stage), "PREFIX": "/usr"} if by == "environment" else {}
+        for target, files in (("install", listed), ("uninstall", [])):
+            done = self.make(*words, target, **more)
+            expect_that(done.status == 0, done, f"make {target}")
+            assert files_of(stage / "usr") == files
+        self.nothing_else(room, name)
+
+    @pytest.mark.parametrize("target", ["install", "uninstall", "help"])
+    def test_prefix(self, room, target):
+        prefix = f"{room}/{self.ODD}"
+        done = self.make(target, f"PREFIX={prefix}")
+        said = {
+            "install": "put_down: pkg-config can tell a compiler no folder whose name has",
+            "uninstall": f"uninstall: nothing was installed here: there is no {prefix}/share/",
+            "help": f"make install            into PREFIX ({prefix}), below DESTDIR",
+        }[target]
+        is_so = said in (done.errors + done.output).decode()
+        expect_that(is_so and (done.status == 0) == (target == "help"), done, said)
+        self.nothing_else(room)
+
+    def test_release(self, room):
+        (room / self.ODD / "a file").mkdir(parents=True)
+        done = self.make("release", f"DIR={room}/{self.ODD}")
+        said = f"release: {room}/{self.ODD} is not empty"
+        expect_that(done.status != 0 and said in done.errors.decode(), done, said)
+        self.nothing_else(room, self.ODD)
+
+
+OVER_PROVED = """#!/bin/sh
+# what stands meanwhile in the folders of LOOK, by its kind, its rights and its name
+find $LOOK -mindepth 1 -maxdepth 1 -printf '%y %m %f\\n' >looked
+while [ "$1" != --log ]; do shift; done
+echo said >"$2"
+while [ "$1" != -o ]; do shift; done
+[ -n "$FAILS" ] || echo made >"$2"
+"""
+
+
+class TestArchive:
+    """What packaging/archive makes meanwhile stands in folders that nobody else can enter."""
+
+    @pytest.fixture
+    def archive(self, room):
+        for folder in ("packaging", "tools", "tmp", "to"):
+            (room / folder).mkdir()
+        shutil.copy(ROOT / "packaging/archive", room / "packaging/archive")
+        (room / "tools/over_proved").write_text(OVER_PROVED)
+        (room / "tools/over_proved").chmod(0o755)
+
+        def made(**more):
+            environment = {**os.environ, "TMPDIR": f"{room}/tmp", "LOOK": "tmp to", **more}
+            return run(room / "packaging/archive", "to/lib.a", env=environment)
+
+        return made
+
+    def test_made(self, room, archive):
+        expect(archive(), 0)
+        assert (room / "to/lib.a").read_text() == "made\n"
+        kinds = [line[:5] for line in (room / "looked").read_text().splitlines()]
+        assert kinds == ["d 700", "d 700"]
+        assert os.listdir("to") == ["lib.a"] and os.listdir("tmp") == []
+
+    def test_not_made(self, room, archive):
+        (room / "to/lib.a").write_text("older\n")
+        done = archive(FAILS="yes")
+        log = re.search(r"what the build said is in (.*)", done.errors.decode())
+        expect_that(done.status == 1 and log, done, "status 1, and where the log is")
+        assert Path(log[1]).read_text() == "said\n"
+        assert (room / "to/lib.a").read_text() == "older\n" and os.listdir("to") == ["lib.a"]
+
+
+def test_folders_of_their_own():
+    """No script has a second name beside that of a file which mktemp made, and none a known name
+    in the folder that everybody writes."""
+    wrong = []
+    for path in succeed("git", "-C", ROOT, "ls-files").decode().splitlines():
+        if path.startswith(("docs/", "crates/")) or not (ROOT / path).is_file():
+            continue
+        text = (ROOT / path).read_bytes().decode("utf-8", "replace")
+        is_script = text.startswith("#!") and "sh" in text.split("\n")[0]
+        for name in re.findall(r"(\w+)=\$\(mktemp\)", text) if is_script else []:
+            if re.search(rf"\${name}[.\w]|\${{{name}}}[.\w]", text):
+                wrong.append(f"{path}: a name beside ${name}")
+        # a path that begins there, and is more than that folder
+        if (is_script or path.endswith(".py")) and re.search(r"[\"'= ]/tmp/\w", text):
+            wrong.append(f"{path}: a known name")
+    assert wrong == []
 
 
 @pytest.mark.parametrize("script", [INSTALL, UNINSTALL], ids=["install", "uninstall"])

@@ -25,6 +25,8 @@ RT = """#!/bin/sh
 # what it was called with, and where, and then its input, what `SAYS` has, and the status
 [ "$1" != doc ] || { echo "$KIT/START-HERE.md"; exit; }
 { echo "in $(basename -- "$PWD"):$(printf ' <%s>' "$@")"; } >>"$TOLD"
+# .. and what stands in the folder LOOK, by its kind and its rights
+[ -z "$LOOK" ] || find "$LOOK" -mindepth 1 -maxdepth 1 -printf '%y %m\\n' >>"$TOLD"
 cat; printf '%s' "$SAYS" >&2; exit "$STATUS"
 """
 
@@ -186,6 +188,16 @@ class TestBeforeAProof:
     def test_query_reads(self, copy):
         expect(copy.run("query", "x", says=ENDED), 0, "a line", NOTE)
         assert copy.told() == [f"{TRIED} <query> <{copy.here}/x>"]
+
+    def test_a_folder_of_its_own(self, copy, monkeypatch):
+        """What it writes meanwhile stands in one folder that nobody else can enter."""
+        folder = copy.work / "for a while"
+        folder.mkdir()
+        for name in ("TMPDIR", "LOOK"):
+            monkeypatch.setenv(name, str(folder))
+        expect(copy.run("query", "x", says=ENDED), 0, "a line", NOTE)
+        assert copy.told() == [f"{TRIED} <query> <{copy.here}/x>", "d 700"]
+        assert list(folder.iterdir()) == []
 
     def test_a_line_that_comes_late(self, copy):
         late = copy.work / "late"

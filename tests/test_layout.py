@@ -1,5 +1,7 @@
-"""The Python, and the C of tests, are laid out as `make format` lays them out."""
+"""The Python, and the C of tests, are laid out as `make format` lays them out; and no test names a
+device of the machine to a program."""
 
+import re
 import shutil
 from pathlib import Path
 
@@ -27,3 +29,18 @@ def test_layout(room):
     succeed("make", "format")
     for name in files:
         expect_same(name, ROOT / name, f"{name}: run make format")
+
+
+def test_devices():
+    """A program that took a device for a plain file would put another file in its place: the
+    fixture `full` is a device of one's own, and behind the words of `apart` the names of the
+    standard streams are one's own. Nothing is put in the place of where output goes that nobody
+    reads, nor of a folder."""
+    named = [
+        f"{path.relative_to(ROOT)}:{number}: {line.strip()}"
+        for path in sorted((ROOT / "tests").rglob("*"))
+        if path.suffix in (".py", ".c", ".mjs") and path.name != "conftest.py"
+        for number, line in enumerate(path.read_text(encoding="utf-8").splitlines(), 1)
+        if re.search(r"/dev/(?!null|shm)\w", line) and "apart" not in line
+    ]
+    assert not named, "\n".join(named)

@@ -5,8 +5,9 @@ memory alone (under valgrind, and with AddressSanitizer in the caller), bytes th
 after they were opened lead no call outside them, rooms of exactly the size of a file are enough
 and smaller ones aren't, so are the rooms that the header names for any list of results and any
 reply, each status has its text, texts are read as positions and refused as the grammar has it,
-threads with a database each answer the same, and both libraries export what the header declares
-and nothing else. The package for Python passes its own tests, is accepted
+threads with a database each answer the same, each call has a status while another thread changes
+its bytes and takes no more stack than the header says, and both libraries export what the header
+declares and nothing else. The package for Python passes its own tests, is accepted
 by mypy and is installed by pip without a trace in the checkout; the examples of docs/embedding.md
 and docs/analysts.md do what the pages say."""
 
@@ -17,10 +18,12 @@ import re
 import shutil
 import subprocess
 import sys
+from itertools import combinations
 from pathlib import Path
 
 import pytest
 
+import refusals
 from running import (
     CALLERS,
     HERE,
@@ -28,6 +31,7 @@ from running import (
     as_bytes,
     code_blocks,
     expect,
+    expect_same,
     expect_that,
     need,
     run,
@@ -56,7 +60,11 @@ CALLER_WORDS = {
     "refusals_cpp": ("c++", AS_CPP, "refusals.c", ["-x", "none", *STATIC]),
     "refusals_asan": ("cc", ["-std=c11", *SANITIZED], "refusals.c", STATIC),
     "reads_outside": ("cc", ["-std=c11"], "reads_outside.c", STATIC),
+    "builds": ("cc", ["-std=c11"], "builds.c", [*STATIC, "-lpthread"]),
+    "stacks": ("cc", ["-std=c11"], "stacks.c", [*STATIC, "-lpthread"]),
+    "races": ("cc", ["-std=c11"], "races.c", [*STATIC, "-lpthread"]),
     "rooms": ("cc", ["-std=c11"], "rooms.c", [*STATIC, "-lpthread"]),
+    "order": ("cc", ["-std=c11", *SANITIZED], "order.c", STATIC),
     "largest": ("cc", ["-std=c11"], "largest.c", STATIC),
     "boards": ("cc", ["-std=c11"], "boards.c", STATIC),
     "boards_asan": ("cc", ["-std=c11", *SANITIZED], "boards.c", STATIC),
@@ -136,6 +144,9 @@ BAD = b"".join(line + b"\n" for line in BAD)
 
 COUNTS = {8: [], 44: [1000], 58: [1000]}
 
+# how often each of two threads opens bytes that a third one changes
+ROUNDS = 3000
+
 
 @pytest.fixture(scope="session")
 def asked(program, built):
@@ -194,6 +205,73 @@ def test_refusals(caller, built, name):
     expect(run(caller(name), built(8)), 0)
 
 
+ROWS = refusals.rows()
+# what a row is asked as a line; a die that is none makes it no line
+LINES = {
+    "mean": ("mean {position}", "dist {position}", "rank {position}"),
+    "play": ("play {position} {roll}", "moves {position} {roll}"),
+    "loss": ("loss {position} {roll} {to}",),
+}
+
+
+class TestOrderOfRefusals:
+    """A call that could be refused for several reasons tells the first of them, whatever it is
+    asked by; the tests of the packages for Python and JavaScript have the same rows."""
+
+    def test_rows(self):
+        """Each row has its reasons in the order of the header, and each two that a call can have
+        at once stand in one."""
+        order = refusals.order()
+        for row in ROWS:
+            assert row.faults == sorted(row.faults, key=order.index), row.text
+        # one position can't be both, and one that is none is neither
+        apart = {
+            "mean": {("bad-line", "too-many"), ("bad-line", "over-bound")},
+            "play": {("too-many", "finished"), ("over-bound", "finished")},
+            "loss": {("over-bound", "finished")},
+        }
+        for call in {row.call for row in ROWS}:
+            lists = [row.faults for row in ROWS if row.call == call]
+            known = sorted({fault for faults in lists for fault in faults}, key=order.index)
+            pairs = {pair for faults in lists for pair in combinations(faults, 2)}
+            assert pairs == {*combinations(known, 2)} - apart.get(call, set()), call
+
+    def test_calls(self, caller, built):
+        rows = [row for row in ROWS if row.faults[:1] != ["bad-line"]]
+        told = succeed(caller("order"), built(8), input="\n".join(row.text for row in rows))
+        number = {**refusals.statuses(), "none": 0}
+        wrong = []
+        for row, line in zip(rows, told.decode().splitlines(), strict=True):
+            wanted = str(number[(row.faults or ["none"])[0]])
+            wrong += [
+                f"{row.text}: {kind} {status}"
+                for kind, status in zip(("database", "board"), line.split(), strict=True)
+                if status not in (wanted, "-")
+            ]
+        assert wrong == []
+
+    @pytest.mark.parametrize("kind", ["database", "board"])
+    def test_lines(self, program, caller, built, room, kind):
+        words = ["query", built(8)]
+        if kind == "board":
+            succeed(caller("boards"), 8, "board.db", input="mean 0,0,0,0,0,1")
+            words = ["query", "--board", "board.db"]
+        asked = [
+            (form.format(**row._asdict()), (row.faults or ["none"])[0])
+            for row in ROWS
+            if row.state == "open"
+            for form in LINES.get(row.call, ())
+        ]
+        told = succeed(program, *words, input="\n".join(line for line, _ in asked))
+        wrong = [
+            f"{line}: {reply}, and not {wanted}"
+            for (line, wanted), reply in zip(asked, told.decode().splitlines(), strict=True)
+            if (reply.removeprefix("error ") if reply.startswith("error") else "none")
+            != {"bad-roll": "bad-line"}.get(wanted, wanted)
+        ]
+        assert wrong == []
+
+
 VALGRIND = ["valgrind", "-q", "--error-exitcode=9", "--leak-check=full"]
 
 
@@ -219,6 +297,104 @@ def test_lines_under_valgrind(caller, program, built, asked, with_bad, words):
 def test_changed_bytes(caller, built, bound, times, is_new):
     """Bytes that are changed after they were opened."""
     succeed(caller("reads_outside"), built(bound, is_new), times, timeout=600)
+
+
+@pytest.fixture(scope="session")
+def built_by_c(built, board):
+    """The file of a kind and a bound, as the library has to build it."""
+    return lambda kind, bound: (board if kind == "board" else built)(bound)
+
+
+# in KB, the stack that is said to be enough: of bearoff_build up to each bound, of what opens or
+# makes a file else, and of every other call; and that of a main thread
+BUILD_STACKS = {8: 128, 20: 1536, 38: 7680, 58: 20480}
+FILE_STACK, CALL_STACK, MAIN_STACK = 1536, 128, 8192
+
+
+def test_the_stack_that_is_said():
+    """The header and the page have these sizes."""
+    header = (ROOT / "c/bearoff.h").read_text(encoding="utf-8")
+    page = (ROOT / "docs/embedding.md").read_text(encoding="utf-8")
+    text = " ".join(header.replace("\n *", "").split())
+    for name, stack in (
+        ("OPEN", FILE_STACK),
+        ("BOARD", FILE_STACK),
+        ("BUILD", BUILD_STACKS[58]),
+    ):
+        assert f"#define BEAROFF_{name}_STACK {stack << 10} " in text
+    assert f"every other call less than {CALL_STACK} KB." in text
+    assert (
+        "It needs less than 128 KB of stack to 8 pips, BEAROFF_OPEN_STACK bytes to 20, 7.5 MB to"
+        " 38, and BEAROFF_BUILD_STACK bytes from 39 on." in text
+    )
+    assert (
+        "it needs less than 128 KB of stack to 8 pips, 1.5 MB to 20, 7.5 MB to 38 and 20 MB from"
+        " 39 on" in page
+    )
+
+
+@pytest.mark.parametrize(
+    "kind, bound, stack",
+    [
+        *(("database", bound, stack) for bound, stack in BUILD_STACKS.items()),
+        *(("board", bound, FILE_STACK) for bound in (8, 58, 90)),
+    ],
+)
+def test_the_stack_of_a_build(caller, built_by_c, kind, bound, stack):
+    """A build in a thread that has as many KB of stack as are said to be enough."""
+    made = succeed(caller("builds"), kind, bound, stack, timeout=600)
+    expect_same(made, built_by_c(kind, bound), "what the library builds")
+
+
+@pytest.mark.parametrize(
+    "kind, bound",
+    [*(("database", bound) for bound in (1, 8, 20, 38)), *(("board", bound) for bound in (8, 90))],
+)
+def test_a_build_in_the_main_thread(caller, built_by_c, kind, bound):
+    """The environment lies on its stack, too."""
+    limited = ["/usr/bin/prlimit", f"--stack={MAIN_STACK << 10}", "--"]
+    made = succeed(*limited, caller("builds"), kind, bound, 0, timeout=600)
+    expect_same(made, built_by_c(kind, bound), "what the library builds")
+
+
+@pytest.mark.parametrize(
+    "kind, bound",
+    [
+        *(("database", bound) for bound in (8, 20, 38, 44, 58)),
+        *(("board", bound) for bound in (8, 58, 90)),
+    ],
+)
+def test_the_stack_of_each_call(caller, kind, bound, note):
+    """What each export takes, of a database or a board of so many pips."""
+    done = run(caller("stacks"), kind, bound, timeout=600)
+    expect_that(done.status == 0, done, "status 0")
+    took = {name: int(size) for name, size in map(str.split, done.output.decode().splitlines())}
+    most = {name: FILE_STACK for name in ("open", "upgrade", "board_open", "board_build")}
+    if kind == "database":
+        most["build"] = next(stack for last, stack in BUILD_STACKS.items() if bound <= last)
+    wrong = {name: size for name, size in took.items() if size >= most.get(name, CALL_STACK) << 10}
+    assert not wrong, f"bytes of stack of {kind} of {bound} pips: {wrong}"
+    large = ", ".join(f"{name} {took[name]}" for name in took if name in most)
+    size, name = max((size, name) for name, size in took.items() if name not in most)
+    note(f"bytes of stack, {kind} of {bound} pips: {large}, at most {size} of others ({name})")
+
+
+def test_the_stack_of_every_call():
+    """Each export is among those whose stack is measured."""
+    header = (ROOT / "c/bearoff.h").read_text(encoding="utf-8")
+    declared = re.findall(r"(?m)^(?:uint32_t|bool) bearoff_([a-z_]*)\(.*", header)
+    measured = re.findall(r"(?:ROW|ONCE)\((\w+)\)", (CALLERS / "stacks.c").read_text())
+    assert sorted(declared) == sorted({*measured} - {"name", "nothing"})
+
+
+@pytest.mark.parametrize("bound", [4, 8, 10])
+@pytest.mark.parametrize("kind", ["version 1", "version 2", "board"])
+def test_bytes_that_change_while_they_are_read(caller, built, board, note, kind, bound):
+    """Each call ends with a status, and never by a signal."""
+    file = board(bound) if kind == "board" else built(bound, kind == "version 2")
+    done = run(caller("races"), file, ROUNDS, timeout=600)
+    expect_that(done.status == 0, done, "a status of each call, refused and accepted openings")
+    note(f"races, {kind} of {bound} pips: {done.output.decode().splitlines()[0]}")
 
 
 def test_rooms(caller):

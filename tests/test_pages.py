@@ -12,7 +12,7 @@ have:
   [`check`](../crates/certificate/src/checked.rt) `exactly`, is a clause of that function's
   contract in that file;
 - an edit that stands after its crates, as `retrograde`: `writes_the_header_alone`, is in
-  must-fail/ of each;
+  must-fail/ or wrong_bodies/ of each;
 - each name in the pages by hand, as `IsRight` or `Checked::mean`, stands somewhere in the sources;
 - docs/definitions.md names the files and the number of lines that `IsRight` rests on;
 - docs/crates.md draws each crate in the layer that crates.txt gives it, and its two ways go
@@ -192,8 +192,9 @@ def compare_edits(page):
         for those, edits in re.findall(rf"({names}): ({names})", line):
             for crate in set(re.findall(r"\w+", those)) & set(crates()):
                 for edit in re.findall(r"\w+", edits):
-                    if not os.path.exists(
-                        os.path.join(ROOT, f"crates/{crate}/must-fail/{edit}.edit")
+                    parts = ("must-fail", "wrong_bodies")
+                    if not any(
+                        (ROOT / "crates" / crate / it / f"{edit}.edit").exists() for it in parts
                     ):
                         wrong.append(f"{page}: {crate} has no edit {edit}")
 
@@ -884,7 +885,8 @@ def test_edits_have_rows():
     there = [
         os.path.relpath(path, ROOT)
         for crate in crates()
-        for path in (ROOT / "crates" / crate).glob("must-fail/*.edit")
+        for part in ("must-fail", "wrong_bodies")
+        for path in (ROOT / "crates" / crate / part).glob("*.edit")
     ]
     told = re.findall(r"(?m)^\| \[[^\]]*\]\(\.\./\.\./([^)]*)\)", read("docs/ref/edits.md"))
     none_wrong(compare_names, "docs/ref/edits.md", "edit", told, there)

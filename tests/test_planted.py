@@ -2,8 +2,8 @@
 each: bodies that always answer want of memory, or a fault of a reader or a writer; that give up
 over some size; that read or flush where they need not. Each is planted in a copy of the
 repository, where the tests of one crate, or one of the short trials of failing_calls, run without
-proof, or where the program itself is made without proof and runs the rows of one class of
-test_program.py. It takes about a minute of a processor for a body, and a minute and a half where
+proof, or where the program itself is made without proof and runs rows of test_program.py or
+test_files.py. It takes about a minute of a processor for a body, and a minute and a half where
 the program is made. Those of IN_GATE are planted in each run; --by-hand plants the others too, and
 sees that what has to refuse them passes where nothing is planted. -k takes some by their names.
 That each row's line stands once in its file is seen of all rows."""
@@ -27,6 +27,7 @@ PROGRAM = ["rt", "try", "--steps", "1", "--seconds", "200"]
 
 BUILDING = "crates/retrograde/src/building.rt"
 LENT = "crates/retrograde/src/room_records.rt"
+READY = "crates/retrograde/src/ready_build.rt"
 UPGRADING = "crates/certificate/src/upgrading.rt"
 MEANS = "crates/retrograde/src/means.rt"
 WRITING = "crates/db_layout/src/writing.rt"
@@ -38,22 +39,30 @@ LINES = "crates/epc_query/src/lines.rt"
 ACT = "crates/bearoff_cli/src/act.rt"
 KINDS = "crates/bearoff_cli/src/kinds.rt"
 FILES = "crates/bearoff_cli/src/files.rt"
+DRAFT = "crates/bearoff_cli/src/draft.rt"
+MAIN = "crates/bearoff_cli/src/main.rt"
+READS = "crates/epc_query/src/reads.rt"
 BOARD_LINES = "crates/board_query/src/lines.rt"
 CHECKED = "crates/certificate/src/checked.rt"
 FILE_SOURCE = "crates/db_reader/src/file_source.rt"
-TRIAL = "crates/db_reader/src/trial.rt"
+COUNTDOWN = "crates/db_reader/src/countdown.rt"
 
 LENGTH = "        self.file.seek(SeekFrom::End(0)).map_err(|_| SourceFault)"
 OTHER_LENGTH = """        match self.file.seek(SeekFrom::End(0)) {
             Ok(bytes) => Ok(if bytes > 16_777_216 { 27_296 } else { bytes }),
             Err(_) => Err(SourceFault),
         }"""
-BUILD_START = "    let Some(header) = Header::new(usual_version(bound), bound) else {"
+# the body of `build`; that of `build_in_place` begins with the same lines
+BUILD_START = """    let Some(header) = Header::new(usual_version(bound), bound) else {
+        return Err(BuildFault::OverBound);
+    };
+    build_in_memory(alloc, header, writer)
+"""
 PUSH = "        self.means.push(mean).map_err(|_| BuildFault::Memory)"
 UPGRADE_START = "    let header = Header::new(COMPACT_VERSION, old.bound).unwrap();"
 RUN_START = "    let mut held = LineBuffer::new();"
 MOVES_START = "    let Ok(choices) = Vec::with_capacity(alloc, found.len()) else {"
-TAKE = "        let Ok(taken) = reader.read(&mut chunk) else {"
+TAKE = "        let Ok(taken) = reads.next(&mut chunk) else {"
 REST_KEPT = "    held.extend(&chunk[start..]);\n"
 NUMBERS = (
     "    let Some(numbers) = numbers_in(&table.lend(rank, &room)) else {\n"
@@ -74,7 +83,7 @@ PROGRAMS = {
 
 # the name, the file, a line of it, what stands there instead, and the crate whose tests have to
 # fail, or the program that has to print something else, with its words, or `rows` and the class of
-# test_program.py, or a test of one with its parameter, that has to fail
+# test_program.py or test_files.py, or a test of one with its parameter, that has to fail
 PLANTED = [
     (
         "build_always_wants_memory",
@@ -85,9 +94,9 @@ PLANTED = [
     ),
     (
         "build_wants_memory_over_15_pips",
-        BUILDING,
-        BUILD_START,
-        "    if bound > 15 && bound < 59 { return Err(BuildFault::Memory); }\n" + BUILD_START,
+        READY,
+        "        let ranks = Ranks::new();",
+        "        if bound > 15 { return Err(BuildFault::Memory); }\n        let ranks = Ranks::new();",
         BUILDS,
     ),
     (
@@ -99,9 +108,10 @@ PLANTED = [
     ),
     (
         "build_blames_the_writer_over_15_pips",
-        BUILDING,
-        BUILD_START,
-        "    if bound > 15 && bound < 59 { return Err(BuildFault::Write); }\n" + BUILD_START,
+        READY,
+        "        let ReadyBuild {",
+        "        if self.header.bound > 15 { return Err(BuildFault::Write); }\n"
+        "        let ReadyBuild {",
         BUILDS,
     ),
     (
@@ -341,14 +351,14 @@ PLANTED = [
     ),
     (
         "the_trial_never_fails",
-        TRIAL,
+        COUNTDOWN,
         "        let is_due = self.calls_left == 1;",
         "        let is_due = self.calls_left == 0 && self.calls_left > 0;",
         "file_tests",
     ),
     (
         "the_trial_fails_at_the_call_after",
-        TRIAL,
+        COUNTDOWN,
         "            calls_left: call,",
         "            calls_left: if call == 0 { 0 } else { call.saturating_add(1) },",
         "file_tests",
@@ -426,15 +436,15 @@ PLANTED = [
     (
         "the_whole_board_always_wants_memory",
         FILES,
-        "    let stack = stack_room(alloc)?;",
-        "    if size > 0 { return Err(Fault::Memory); }\n    let stack = stack_room(alloc)?;",
+        "    Ok(vec![in alloc; 0; size]?)",
+        "    if size > 0 { return Err(Fault::Memory); }\n    Ok(vec![in alloc; 0; size]?)",
         "rows TestBoards::test_build",
     ),
     (
         "a_board_file_over_14_megabytes_is_not_written",
         FILES,
-        "    if write_bytes(file.as_slice(), output).is_err() {",
-        "    if file.len() > 14_000_000 || write_bytes(file.as_slice(), output).is_err() {",
+        "    if write_bytes(file, output).is_err() {",
+        "    if file.len() > 14_000_000 || write_bytes(file, output).is_err() {",
         "rows TestBoards::test_build",
     ),
     (
@@ -454,6 +464,13 @@ PLANTED = [
         "rows TestBoards::test_audit",
     ),
     (
+        "replies_before_a_failed_read_are_not_handed_on",
+        KINDS,
+        "        RunFault::Write => RunFault::Write,",
+        "        RunFault::Write | RunFault::Table => cause,",
+        "rows TestChanges",
+    ),
+    (
         "the_query_of_a_board_reads_another_file",
         ACT,
         "answer_file::<Boards, _, _, _>(rt, alloc, path, input, output)",
@@ -466,6 +483,140 @@ PLANTED = [
         MOVES_START,
         "    if found.len() > 100 { return Err(QueryFault::Memory); }\n" + MOVES_START,
         "rows TestLongestList",
+    ),
+    (
+        "a_link_leads_from_the_working_folder",
+        DRAFT,
+        "    let mut name = folder_of(alloc, link)?;",
+        '    let mut name = folder_of(alloc, if link.is_empty() { link } else { "link" })?;',
+        "rows TestLinks::test_links[build --pips 8-in another folder]",
+    ),
+    (
+        "a_link_never_leads_to_another_root",
+        DRAFT,
+        '    if target.starts_with("/") {',
+        "    if target.is_empty() {",
+        "rows TestLinks::test_links[build --pips 8-absolute]",
+    ),
+    (
+        "two_links_are_followed",
+        DRAFT,
+        "const LINKS: u8 = 40;",
+        "const LINKS: u8 = 2;",
+        "rows TestLinks::test_links[build --pips 8-three]",
+    ),
+    (
+        "a_new_file_is_made_in_the_working_folder",
+        DRAFT,
+        "    let folder = folder_of(alloc, place.as_str())?;",
+        '    let folder = folder_of(alloc, if place.is_empty() { "" } else { "place" })?;',
+        "rows TestLinks::test_another_device[build --pips 8]",
+    ),
+    (
+        "a_new_file_is_for_its_owner_alone",
+        DRAFT,
+        "create_beside(rt, alloc, place, 0o666)",
+        "create_beside(rt, alloc, place, 0o600)",
+        "rows TestOwners::test_a_new_file[build --pips 8-0o22]",
+    ),
+    (
+        "the_group_is_not_kept",
+        DRAFT,
+        "fchown(self, Some(other.uid()), Some(other.gid()))",
+        "fchown(self, Some(other.uid()), None)",
+        "rows TestOwners::test_a_file_of_another_user[build --pips 8-(65534, 65533)-own]",
+    ),
+    (
+        "the_mode_is_not_kept",
+        DRAFT,
+        "is_owned && file.set_permissions(old.permissions()).is_ok()",
+        "is_owned",
+        "rows TestOwners::test_a_file_that_is_replaced[build --pips 8-0o640]",
+    ),
+    (
+        "an_open_file_is_replaced_by_its_long_name",
+        DRAFT,
+        ' || path.starts_with("/proc/")',
+        "",
+        "rows TestStraight::test_an_open_file[build --pips 8-a name]",
+    ),
+    (
+        "an_open_file_is_replaced_by_its_short_name",
+        DRAFT,
+        '/fd/") || ',
+        '/files/") || ',
+        "rows TestStraight::test_an_open_file[build --pips 8-a short name]",
+    ),
+    (
+        "files_are_compared_without_their_device",
+        DRAFT,
+        "(told.dev(), told.ino()) == (file.dev(), file.ino())",
+        "told.ino() == file.ino()",
+        "rows TestSteps::test_a_file_of_the_same_number[build --pips 8]",
+    ),
+    (
+        "a_folder_that_can_only_be_read_is_told",
+        DRAFT,
+        "                | ErrorKind::ReadOnlyFilesystem\n",
+        "",
+        "rows TestStraight::test_a_folder_that_can_only_be_read[build --pips 8]",
+    ),
+    (
+        "a_path_that_is_too_long_for_another_name_is_told",
+        DRAFT,
+        "\n                | ErrorKind::InvalidFilename => return Ok(None),",
+        " => return Ok(None),",
+        "rows TestStraight::test_a_path_that_is_too_long_for_another_name[build --pips 8]",
+    ),
+    (
+        "a_file_of_which_nothing_is_told_is_not_synced",
+        DRAFT,
+        "        Ok(told) if !told.is_file() => Ok(()),\n",
+        "        Ok(told) if !told.is_file() => Ok(()),\n        Err(_) => Ok(()),\n",
+        "rows TestSteps::test_a_file_of_which_nothing_is_told[build --pips 8-new]",
+    ),
+    (
+        "the_query_ends_after_a_million_reads",
+        KINDS,
+        "run_lines(alloc, &mut database, input, output, TURNS)",
+        "run_lines(alloc, &mut database, input, output, 1 << 20)",
+        "rows TestManyTurns::test_more_than_a_million[query eight]",
+    ),
+    (
+        "the_query_by_pages_ends_after_a_million_reads",
+        ACT,
+        "match run(alloc, checked, input, output, TURNS) {",
+        "match run(alloc, checked, input, output, 1 << 20) {",
+        "rows TestManyTurns::test_more_than_a_million[query --cache 9 eight]",
+    ),
+    (
+        "the_query_of_a_board_ends_after_4096_reads",
+        KINDS,
+        "run_lines(alloc, &mut lines, input, output, TURNS)",
+        "run_lines(alloc, &mut lines, input, output, 4096)",
+        "rows TestManyTurns::test_more_than_a_million[query --board whole]",
+    ),
+    (
+        "the_input_is_read_behind_its_end",
+        READS,
+        "        let result = self.reader.read(buf);\n",
+        "        let mut result = self.reader.read(buf);\n"
+        "        if matches!(result, Ok(0)) { result = self.reader.read(buf); }\n",
+        "rows TestTerminal::test_the_end[query eight-none]",
+    ),
+    (
+        "a_word_that_is_no_text_wants_memory",
+        MAIN,
+        "error.kind() == io::ErrorKind::InvalidData => return Err(Fault::Open),",
+        "error.kind() == io::ErrorKind::InvalidData => return Err(Fault::Memory),",
+        "rows TestCommands::test_a_word_that_is_no_text[check X]",
+    ),
+    (
+        "two_closed_streams_have_a_stand_in",
+        MAIN,
+        "    for place in &mut standing {",
+        "    for place in &mut standing[..2] {",
+        "rows TestClosedStreams::test_what_stands_in[012]",
     ),
 ]
 
@@ -527,13 +678,18 @@ def made(place):
     return start
 
 
+def parts(words):
+    """The words of a row, of which `rows` has one more, with spaces in it."""
+    return words.split(maxsplit=1 if words.startswith("rows ") else -1)
+
+
 def tried(place, words):
     """Whether the tests of a crate pass, or its program, started with words, prints what it has
-    to, or the rows of a class of test_program.py pass; and what was said. What comes to no verdict
+    to, or rows of test_program.py or test_files.py pass; and what was said. What comes to no verdict
     is a failure."""
-    crate, *arguments = words.split()
+    crate, *arguments = parts(words)
     if crate == "rows":
-        rows = os.path.join(place, "tests", "test_program.py")
+        rows = os.path.join(place, "tests", ROWS[arguments[0].partition("[")[0]])
         command = [
             sys.executable,
             "-m",
@@ -598,7 +754,11 @@ def rows_of(text):
     }
 
 
-ROWS = rows_of(text_of("tests/test_program.py"))
+ROWS = {
+    row: file
+    for file in ("test_program.py", "test_files.py")
+    for row in rows_of(text_of(f"tests/{file}"))
+}
 SHORT_TRIALS = re.findall(r'(?m)^ +"(\w+)" => ', text_of("crates/failing_calls/src/growths.rt"))
 
 
@@ -608,7 +768,7 @@ def test_line(row):
     name, file, old, new, words = row
     assert text_of(file).count(old) == 1, f"'{old.strip()}' has to stand once in {file}"
     assert old != new
-    crate, *arguments = words.split()
+    crate, *arguments = parts(words)
     there = {"rows": ROWS, "failing_calls": SHORT_TRIALS}.get(crate)
     if there is not None:
         assert len(arguments) == 1, f"there is no {words}"

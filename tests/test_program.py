@@ -3,12 +3,15 @@ that fail; databases that are refused; lines and their replies; files that chang
 than any database; and each bound once, with the sizes and the digests that were counted
 outside."""
 
+import contextlib
 import hashlib
 import os
+import re
 import resource
 import shutil
 import subprocess
 import sys
+import time
 from collections import Counter
 from pathlib import Path
 
@@ -17,6 +20,7 @@ import pytest
 from running import (
     CALLERS,
     ROOT,
+    SLOWER,
     as_bytes,
     code_blocks,
     expect,
@@ -92,18 +96,19 @@ class TestCommands:
             ("upgrade new newer", 3, "not-old"),
             ("upgrade nothing newer", 1, "open"),
             ("upgrade eight .", 1, "open"),
-            ("upgrade eight /dev/full", 1, "write"),
+            ("upgrade eight {full}", 1, "write"),
             ("build --pips 1 .", 1, "open"),
-            ("build --pips 8 /dev/full", 1, "write"),
+            ("build --pips 8 {full}", 1, "write"),
             ("build --pips 59 newer", 2, "over-bound"),
             ("build --pips 255 newer", 2, "over-bound"),
             *((f"{command} nothing", 1, "open") for command in READERS),
             *((f"{command} .", 1, "file") for command in READERS),
         ],
     )
-    def test_faults(self, files, ask, words, status, error):
-        expect(ask(words), status, "", f"bearoff: {error}")
+    def test_faults(self, files, ask, full, words, status, error):
+        expect(ask(words.format(full=full)), status, "", f"bearoff: {error}")
         assert is_gone("newer"), "a file was opened for nothing"
+        assert os.path.exists(full) and not os.path.isfile(full), "the device is gone"
 
     def test_upgrade_of_a_new_file_over_an_old_one(self, files, ask):
         shutil.copy("new", "same")
@@ -274,6 +279,26 @@ class TestCommands:
         done = ask(f"{name} --help")
         expect_that(b"--board FILE" in done.output, done, "a help that tells of --board FILE")
 
+    # a word that is no UTF-8 text names no file; X stands for it
+    @pytest.mark.parametrize(
+        "words",
+        [
+            "X",
+            "build --pips 8 X",
+            "build --pips X made",
+            "build --board X",
+            *(f"{command} X" for command in READERS),
+            *(f"{command} --board X" for command in ("check", "query", "audit")),
+            "upgrade X made",
+            "upgrade eight X",
+        ],
+    )
+    def test_a_word_that_is_no_text(self, files, ask, words):
+        stood = os.listdir()
+        word = os.fsdecode(b"made-\xff")
+        expect(ask([word if it == "X" else it for it in words.split()]), 1, "", "bearoff: open")
+        assert os.listdir() == stood, "a file was made"
+
     @pytest.mark.parametrize(
         "words",
         [
@@ -303,20 +328,23 @@ class TestCommands:
             "upgrade eight other",
         ],
     )
-    def test_a_full_output(self, files, program, words):
-        with open("/dev/full", "wb") as full:
+    def test_a_full_output(self, files, program, full, words):
+        with open(full, "wb") as output:
             done = subprocess.run(
                 [program, *words.split()],
                 input=b"mean 0,0,0,0,0,0\n",
-                stdout=full,
+                stdout=output,
                 stderr=subprocess.PIPE,
             )
         assert (done.returncode, done.stderr) == (1, b"bearoff: write\n")
 
-    def test_full_outputs(self, files, program):
-        with open("/dev/full", "wb") as full:
+    def test_full_outputs(self, files, program, full):
+        with open(full, "wb") as output:
             done = subprocess.run(
-                [program, "check", "nothing"], stdin=subprocess.DEVNULL, stdout=full, stderr=full
+                [program, "check", "nothing"],
+                stdin=subprocess.DEVNULL,
+                stdout=output,
+                stderr=output,
             )
         assert done.returncode == 1
 
@@ -332,26 +360,41 @@ class TestCommands:
             assert (child.wait(60), errors) == (1, b"bearoff: write\n")
 
 
+def opened_by(process):
+    """The names of the files that a process has open, each by its number."""
+    names = {}
+    for number in Path(f"/proc/{process}/fd").iterdir():
+        with contextlib.suppress(FileNotFoundError):
+            names[number.name] = os.readlink(number)
+    return names
+
+
 class TestClosedStreams:
     """Each of the seven ways to start with standard streams that are closed: a file that is opened
     never becomes one of them, so a command says what it says of a stream that fails, or works
-    where it needs none."""
+    where it needs none. Where the root folder can't be opened to stand in for a stream, it says
+    so."""
 
-    @pytest.mark.parametrize("closed", ["0", "1", "2", "01", "02", "12", "012"])
-    @pytest.mark.parametrize(
-        "words",
-        [
-            "",
-            "--help",
-            "build --pips 3 made",
-            "check three",
-            "query three",
-            "query --cache 2 three",
-            "audit three",
-            "upgrade three made",
-        ],
-    )
-    def test_streams(self, files, ask, words, closed):
+    WORDS = [
+        "",
+        "--help",
+        "build --pips 3 made",
+        "check three",
+        "query three",
+        "query --cache 2 three",
+        "audit three",
+        "upgrade three made",
+        "build --board made",
+        "check --board board",
+        "query --board board",
+        "audit --board board",
+    ]
+    every_way = pytest.mark.parametrize("closed", ["0", "1", "2", "01", "02", "12", "012"])
+
+    @every_way
+    @pytest.mark.parametrize("words", WORDS)
+    def test_streams(self, files, ask, board, words, closed):
+        shutil.copy(board(8), "board")
         ample = ask(words, THREE)
         expect_that(ample.status == 0, ample, "status 0")
         whole = None
@@ -379,6 +422,80 @@ class TestClosedStreams:
             expect_same("made", whole, f"'{words}' with the streams {closed} closed")
         assert os.path.getsize("three") == 3014
 
+    @every_way
+    def test_what_stands_in(self, room, program, closed):
+        """While a file is open each closed stream is the root folder."""
+        os.mkfifo("pipe")
+
+        def close():
+            for stream in closed:
+                os.close(int(stream))
+
+        # it waits for what the pipe will give
+        with open("pipe", "r+b", buffering=0):
+            child = subprocess.Popen(
+                [program, "check", "pipe"],
+                stdin=subprocess.DEVNULL,
+                stdout=subprocess.DEVNULL,
+                stderr=subprocess.DEVNULL,
+                preexec_fn=close,
+            )
+            opened, until = {}, time.monotonic() + 20
+            while str(room / "pipe") not in opened.values() and time.monotonic() < until:
+                opened = opened_by(child.pid)
+        child.wait(60)
+        assert {stream: opened.get(stream) for stream in closed} == {it: "/" for it in closed}
+
+    @pytest.fixture(scope="class")
+    def apart(self, program, built, board, store):
+        """Runs the program with a root folder of its own, which it may not read: as a user who is
+        not root, and in a folder with two files that may be written."""
+        if os.getuid() != 0 or Path(program).read_bytes()[:4] != b"\x7fELF":
+            pytest.skip("a root folder of one's own is given by root, to a program with no script")
+        root = store / "root"
+        (root / "room").mkdir(parents=True)
+        shutil.copyfile(program, root / "bearoff")
+        (root / "bearoff").chmod(0o755)
+        # a static program needs none
+        for library in re.findall(r"(/\S+) \(0x", run("ldd", program).output.decode()):
+            (root / library[1:]).parent.mkdir(parents=True, exist_ok=True)
+            shutil.copy(library, root / library[1:])
+        shutil.copy(built(3), root / "room/three")
+        shutil.copy(board(8), root / "room/board")
+        (root / "room").chmod(0o777)
+        root.chmod(0o711)
+
+        def asked(words, closed, input):
+            def enter():
+                os.chroot(root)
+                os.chdir("/room")
+                os.setgroups([])
+                os.setgid(65534)
+                os.setuid(65534)
+                for stream in closed:
+                    os.close(int(stream))
+
+            try:
+                return run("/bearoff", *words.split(), input=input, preexec_fn=enter)
+            except subprocess.SubprocessError:
+                pytest.skip("a root folder of one's own can't be had here")
+
+        asked.room = root / "room"
+        return asked
+
+    @every_way
+    @pytest.mark.parametrize("words", WORDS)
+    def test_no_root_folder(self, apart, words, closed):
+        done = apart(words, closed, THREE if "0" not in closed else "")
+        expect(done, 1, "", "" if "2" in closed else "bearoff: open")
+        assert sorted(os.listdir(apart.room)) == ["board", "three"], "a file was opened"
+
+    @pytest.mark.parametrize("words", ["check three", "query three", "check --board board"])
+    def test_no_root_folder_and_no_closed_stream(self, apart, words):
+        """Then it is not needed."""
+        done = apart(words, "", THREE)
+        expect_that(done.status == 0 and done.errors == b"", done, "status 0")
+
 
 HEADERS = {
     "no bytes": (lambda: Path("bad").write_bytes(b""), "header too-short"),
@@ -399,8 +516,29 @@ HEADERS = {
     "record bytes": (lambda: damage("bad", "one", 19, 171), "header bad-record-bytes"),
     "reserved": (lambda: damage("bad", "one", 31, 1), "header bad-reserved"),
 }
+
+
+def play_worse():
+    """A copy of the file of eight pips in which a play isn't least (of rank 44, the one of 21 is
+    recorded as rank 13), and the mean and the shares of its record are those of that play."""
+    data = bytearray(Path("eight").read_bytes())
+
+    def numbers(rank):
+        record = data[32 + 426 * rank :][:426]
+        return [int.from_bytes(record[place:][:16], "big") for place in (0, *range(58, 426, 16))]
+
+    best, worse = numbers(int.from_bytes(data[32 + 426 * 44 + 18 :][:2], "big")), numbers(13)
+    later = [2 * (new - old) // 36 for old, new in zip(best, worse)]
+    told = [n + more for n, more in zip(numbers(44), (later[0], 0, *later[1:]))]
+    assert sum(told[1:]) == 36**22
+    mean, *shares = (number.to_bytes(16, "big") for number in told)
+    damage("bad", "eight", 32 + 426 * 44, *mean, *data[32 + 426 * 44 + 16 :][:2], 0, 13)
+    damage("bad", "bad", 32 + 426 * 44 + 58, *b"".join(shares))
+
+
 # a mean, a play, a share, a play that isn't least (of rank 44, the one of 21 recorded as rank 13),
-# numbers that are too large to be added, and a mean in a file of version 2
+# alone and with the numbers of that play, numbers that are too large to be added, and a mean in a
+# file of version 2
 RECORDS = {
     "a mean": (lambda: damage("bad", "one", 473, 1), "mean rank 1"),
     "a play": (lambda: damage("bad", "one", 475, 1), "play rank 1 roll 0"),
@@ -409,6 +547,7 @@ RECORDS = {
         lambda: damage("bad", "eight", 32 + 426 * 44 + 18, 0, 13),
         "not-least rank 44 roll 1",
     ),
+    "not least, with its numbers": (play_worse, "not-least rank 44 roll 1"),
     "large numbers": (
         lambda: Path("bad").write_bytes(Path("one").read_bytes()[:458] + b"\xff" * 426),
         "play rank 1 roll 0",
@@ -524,12 +663,67 @@ class TestOneAtATime:
             assert (child.stdout.read(), child.wait(60)) == (b"", 0)
 
 
+class TestTerminal:
+    """At a terminal one control-D on a line of its own ends the input: nothing is read after
+    it."""
+
+    @pytest.mark.parametrize("typed", [THREE, "", THREE[:-1] + "\4"], ids=["lines", "none", "cut"])
+    @pytest.mark.parametrize(
+        "words", ["", "query eight", "query --cache 9 eight", "query --board whole"]
+    )
+    def test_the_end(self, files, program, whole, words, typed):
+        os.symlink(whole, "whole")
+        typist, terminal = os.openpty()
+        child = subprocess.Popen(
+            [program, *words.split()],
+            stdin=terminal,
+            stdout=subprocess.PIPE,
+            stderr=subprocess.PIPE,
+        )
+        try:
+            os.write(typist, f"{typed}\4".encode())
+            output, errors = child.communicate(timeout=20 * SLOWER)
+        finally:
+            child.kill()
+            os.close(typist)
+            os.close(terminal)
+        told = as_bytes(REPLIES if typed else "")
+        assert (child.returncode, output, errors) == (0, told, b"")
+
+
+class TestManyTurns:
+    """An input of which each read gives one byte."""
+
+    @pytest.mark.parametrize(
+        "words", ["query eight", "query --cache 9 eight", "query --board whole"]
+    )
+    def test_more_than_a_million(self, files, program, whole, words):
+        os.symlink(whole, "whole")
+        # such a pipe keeps what is written at a time apart
+        out, into = os.pipe2(os.O_DIRECT | os.O_CLOEXEC)
+        with subprocess.Popen(
+            [program, *words.split()],
+            stdin=out,
+            stdout=subprocess.PIPE,
+            stderr=subprocess.PIPE,
+        ) as child:
+            os.close(out)
+            with contextlib.suppress(BrokenPipeError):
+                for _ in range(1 << 20):
+                    os.write(into, b"x")
+                os.write(into, b"\nrank 1,0,0,0,0,0\n")
+            os.close(into)
+            output, errors = child.communicate(timeout=60 * SLOWER)
+        assert (child.returncode, output, errors) == (0, b"error bad-line\nrank 1\n", b"")
+
+
 class TestChanges:
     """A file that is overwritten after its check, and one that is cut: the fault is told, and no
     line of any kind is answered by the bytes that stand there now. The record that was kept may
-    still be told."""
+    still be told, and a line before it that asks for no record is answered."""
 
     KEPT = b"mean 0,1,0,0,0,0\n", b"mean 1/1 epc 49/6 8.167\n"
+    RANK = b"rank 1,0,0,0,0,0\n", b"rank 1\n"
 
     @pytest.mark.parametrize(
         "size, beyond", [(3014, b"\xff" * 2982), (0, b"")], ids=["overwritten", "cut"]
@@ -545,9 +739,11 @@ class TestChanges:
         ],
     )
     @pytest.mark.parametrize(
-        "first", [b"", KEPT[0]], ids=["alone", "behind the one that was kept"]
+        "first, replies",
+        [(b"", [b""]), (KEPT[0], [b"", KEPT[1]]), (RANK[0], [RANK[1]])],
+        ids=["alone", "behind the one that was kept", "behind a rank"],
     )
-    def test_changed(self, files, program, size, beyond, line, first):
+    def test_changed(self, files, program, size, beyond, line, first, replies):
         words = [program, "query", "--cache", "1", "three"]
         with subprocess.Popen(
             words, stdin=subprocess.PIPE, stdout=subprocess.PIPE, stderr=subprocess.PIPE
@@ -560,7 +756,7 @@ class TestChanges:
                 file.write(beyond)
                 file.truncate(size)
             output, errors = child.communicate(first + as_bytes(line) + self.KEPT[0], timeout=60)
-        assert output in (b"", self.KEPT[1] if first else b"")
+        assert output in replies
         assert (child.returncode, errors) == (1, b"bearoff: file\n")
 
 
@@ -762,13 +958,6 @@ class TestAudits:
 class TestBoards:
     """The whole home board, and what is no board file. tests/test_boards.py has all replies."""
 
-    @pytest.fixture(scope="class")
-    def whole(self, program, store):
-        """The board file that the program makes."""
-        file = store / "whole"
-        succeed(program, "build", "--board", file)
-        return file
-
     def test_build(self, files, ask, whole):
         expect(ask("build --board eight"), 0, "built pips 90 positions 54264")
         sha = "bf11d8377b8d8e7ee690d3fb1bcbb650a5e8ee105a740de12fbb117d78f8e178"
@@ -812,7 +1001,7 @@ class TestBoards:
         [
             ("build --board .", 1, "open"),
             ("build --board nowhere/newer", 1, "open"),
-            ("build --board /dev/full", 1, "write"),
+            ("build --board {full}", 1, "write"),
             *(
                 (f"{command} --board nothing", 1, "open")
                 for command in ("check", "query", "audit")
@@ -825,9 +1014,10 @@ class TestBoards:
             ),
         ],
     )
-    def test_faults(self, files, ask, words, status, error):
-        expect(ask(words, THREE), status, "", f"bearoff: {error}")
+    def test_faults(self, files, ask, full, words, status, error):
+        expect(ask(words.format(full=full), THREE), status, "", f"bearoff: {error}")
         assert sorted(os.listdir()) == ["eight", "new", "one", "six", "three"]
+        assert os.path.exists(full) and not os.path.isfile(full), "the device is gone"
 
     @pytest.mark.parametrize("command", (*READERS, "upgrade"))
     def test_a_board_file_is_no_database(self, room, ask, whole, command):
@@ -841,12 +1031,12 @@ class TestBoards:
             expect(ask("check --board cut"), 3, "", f"bearoff: refused header {fault}")
 
     @pytest.mark.parametrize("words", ("check", "query", "audit", "build"))
-    def test_a_full_output(self, room, program, whole, words):
-        with open("/dev/full", "wb") as full:
+    def test_a_full_output(self, room, program, whole, full, words):
+        with open(full, "wb") as output:
             done = subprocess.run(
                 [program, words, "--board", "made" if words == "build" else whole],
                 input=THREE.encode(),
-                stdout=full,
+                stdout=output,
                 stderr=subprocess.PIPE,
                 timeout=60,
             )

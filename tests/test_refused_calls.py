@@ -5,8 +5,10 @@ disk and puts it in its place. Each such run has to end with the status and the 
 has, with whole replies before it, or as if nothing had been refused, where HARMLESS says so. After
 a fault the file that was to be written is the old one, or the new one where it was in its place by
 then, and nothing else is left. A call that a signal interrupts once is either made again, and then
-all ends as ever, or a fault like any other; REPEATED says which."""
+all ends as ever, or a fault like any other; REPEATED says which. Where a standard stream is closed
+and the root folder can't be opened to stand in for it, nothing else is opened."""
 
+import errno
 import os
 import shutil
 import subprocess
@@ -57,7 +59,7 @@ REPEATED = {
     "interrupted-open": None,
     "interrupted-store": None,
     "interrupted-load": "--cache",
-    "interrupted-output": "--help",
+    "interrupted-output": None,
     "interrupted-mode": None,
     "interrupted-sync": None,
 }
@@ -132,11 +134,12 @@ def refusing(library, files):
     The file `made` is each time the old one again."""
     old = Path("three").read_bytes()
 
-    def run_it(command, call):
+    def run_it(command, call, **how):
         Path("count").unlink(missing_ok=True)
         Path("made").write_bytes(old)
         environment = {"LD_PRELOAD": str(library), "REFUSED_CALL": call, "REFUSED_COUNT": "count"}
-        done = run(*command, input=LINES, env=environment, timeout=60)
+        environment |= how.pop("more", {})
+        done = run(*command, env=environment, timeout=60, **{"input": LINES, **how})
         return done, int(Path("count").read_text()) if os.path.exists("count") else 0
 
     run_it.old = old
@@ -212,6 +215,41 @@ def test_standard_error_fails_too(program, refusing):
     got, calls = refusing([program, "check", "nothing"], "errors:1+")
     assert calls > 0
     assert (got.status, got.output, got.errors) == (1, b"", b"")
+
+
+# how the root folder can't be opened: no leave, no number for an open file in the process or in
+# the system, no memory, a disk that fails
+NO_ROOT = {name: getattr(errno, name) for name in ("EACCES", "EMFILE", "ENFILE", "ENOMEM", "EIO")}
+
+
+@pytest.mark.parametrize("closed", ["0", "1", "2", "01", "02", "12", "012"])
+@pytest.mark.parametrize("error", NO_ROOT)
+def test_closed_streams_that_nothing_can_stand_in_for(program, refusing, board, error, closed):
+    """The root folder is opened for each closed stream, and nothing after it where it can't be: no
+    database takes the place of a stream, and a file that was to be written stays."""
+    shutil.copy(board(8), "board")
+    boards = ["build --board made", *(f"{it} --board board" for it in ("check", "query", "audit"))]
+    more = {"REFUSED_ERROR": str(NO_ROOT[error])}
+    errors = b"" if "2" in closed else b"bearoff: open\n"
+
+    def close():
+        for stream in closed:
+            os.close(int(stream))
+
+    for words in [*(words for words, _ in COMMANDS.values()), "--version", *boards]:
+        for which in range(1, len(closed) + 1):
+            got, calls = refusing(
+                [program, *words.split()],
+                f"closed-open:{which}",
+                more=more,
+                preexec_fn=close,
+                input="" if "0" in closed else LINES,
+            )
+            assert (got.status, got.output, got.errors) == (1, b"", errors), came(
+                words, f"opening {which}", got
+            )
+            assert calls == which, f"{words}: {calls} files were opened"
+            assert made() == refusing.old, f"{words}: the file was opened"
 
 
 @pytest.mark.parametrize("word", TRIALS)

@@ -15,12 +15,13 @@ import subprocess
 import sys
 import tempfile
 
-# the name, what is played, and the first number of the dice
+# the name, what is played, and the first number of the dice; the last one without a cube
 PLAYED = (
     ("long", "match 25", 3),
     ("short", "match 1", 47),
     ("three", "match 3", 11),
     ("money", "session", 8),
+    ("cubeless", "match 3", 5),
 )
 
 
@@ -38,6 +39,7 @@ def play(folder):
             gnubg.command(f"set player {player} {decision} evaluation plies 0")
     for name, what, seed in PLAYED:
         gnubg.command(f"set automatic game {'off' if what == 'session' else 'on'}")
+        gnubg.command(f"set cube use {'off' if name == 'cubeless' else 'on'}")
         gnubg.command(f"set seed {seed}")
         gnubg.command(f"new {what}")
         gnubg.command(f"export match mat {os.path.join(folder, name + '.mat')}")
