@@ -633,8 +633,8 @@ class TestStraight:
 
     @pytest.fixture(params=["in a folder that can't be written", "from another device"])
     def straight(self, request, crashes, built, room):
-        """Starts the program, with a name of the file behind its words, and puts bytes into the
-        file; and the bytes that words write there."""
+        """Starts the program, with a name of the file behind its words and maybe under a tracer,
+        and puts bytes into the file; and the bytes that words write there."""
         file, user, before = room / "closed" / "db", AS_NOBODY, []
         if "device" in request.param:
             if not os.path.isdir("/dev/shm"):
@@ -661,8 +661,8 @@ class TestStraight:
             "build --board": (crashes.bytes_of["board"], BOARD),
             "upgrade old": (crashes.bytes_of["new_six"], b"upgraded pips 6 positions 30\n"),
         }
-        self.start = lambda words: subprocess.Popen(
-            [*before, crashes.program, *words.split(), self.name],
+        self.start = lambda words, *tracer: subprocess.Popen(
+            [*before, *tracer, crashes.program, *words.split(), self.name],
             stdin=subprocess.DEVNULL,
             stdout=subprocess.PIPE,
             stderr=subprocess.PIPE,
@@ -705,19 +705,17 @@ class TestStraight:
 
     @pytest.mark.parametrize("second", ["build --pips 8", "build --board", "upgrade old"])
     @pytest.mark.parametrize("first", ["build --pips 44", "build --board"])
-    def test_a_second_run(self, straight, first, second):
-        """The first run is stopped once it has changed the file. The second one is refused, and
-        what stands at the end is what the first one writes."""
-        child = self.start(first)
-        until = time.monotonic() + 20
-        while bytes_of(self.file) == self.old and time.monotonic() < until:
-            time.sleep(0.001)
-        child.send_signal(signal.SIGSTOP)
+    def test_a_second_run(self, straight, strace, first, second):
+        """The first run is stopped behind its first write into the file. The second one is refused,
+        and what stands at the end is what the first one writes."""
+        stop = ("-D", "-qq", "-e", "trace=write", "-e", "inject=write:signal=SIGSTOP:when=1")
+        child = self.start(first, "strace", *stop)
+        assert any(b"--- stopped by SIGSTOP ---" in line for line in child.stderr)
         stands = bytes_of(self.file)
         came, stood = self.ended(self.start(second)), bytes_of(self.file)
         child.send_signal(signal.SIGCONT)
-        assert self.ended(child) == (0, self.written[first][1], b"")
-        assert len(stands) < len(self.written[first][0]), "the first run ended too early"
+        assert self.ended(child)[:2] == (0, self.written[first][1])
+        assert 0 < len(stands) < len(self.written[first][0]), "it was not stopped on the way"
         assert (came, stood) == (self.REFUSED, stands)
         assert bytes_of(self.file) == self.written[first][0]
 
