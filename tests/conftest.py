@@ -13,7 +13,7 @@ from pathlib import Path
 
 import pytest
 
-from running import ROOT, need, run, succeed
+from running import ROOT, expect_that, need, run, succeed
 
 PROGRAM = ROOT / "crates/bearoff_cli/out/bearoff_cli"
 
@@ -225,6 +225,18 @@ def whole(program, store):
     file = store / "whole"
     succeed(program, "build", "--board", file)
     return file
+
+
+@pytest.fixture(scope="session")
+def library(store):
+    """A folder with both libraries for C, made of what was proved here."""
+    need("cc", "c++")
+    folder = store / "library"
+    if not folder.exists():
+        done = run(ROOT / "packaging/library", f"{folder}.part", timeout=3600)
+        expect_that(done.status == 0, done, "the libraries; make prove proves them first")
+        os.rename(f"{folder}.part", folder)
+    return folder
 
 
 @pytest.fixture

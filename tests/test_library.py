@@ -73,18 +73,6 @@ LINE_CALLERS = ["lines_c", "lines_cpp", "lines_shared"]
 
 
 @pytest.fixture(scope="session")
-def library(request, store):
-    """A folder with both libraries, made of what was proved here, and the callers."""
-    need("cc", "c++")
-    folder = store / "library"
-    if not folder.exists():
-        done = run(ROOT / "packaging/library", f"{folder}.part", timeout=3600)
-        expect_that(done.status == 0, done, "the libraries; make prove proves them first")
-        os.rename(f"{folder}.part", folder)
-    return folder
-
-
-@pytest.fixture(scope="session")
 def caller(library):
     """A caller, compiled once."""
 
@@ -569,7 +557,7 @@ def test_gnubg_was_asked(gnubg_says):
 @pytest.mark.parametrize("name", PYTHON_TESTS)
 def test_python(python, gnubg_says, matches, note, name):
     """The tests of the package, over the program's lines too."""
-    if b"numpy" in (ROOT / f"python/tests/{name}.py").read_bytes():
+    if re.search(rb"numpy|pandas", (ROOT / f"python/tests/{name}.py").read_bytes()):
         need("pandas")
     more = {"BEAROFF_GNUBG": str(gnubg_says)} if gnubg_says else {}
     more |= {"BEAROFF_MATCHES": str(matches)} if matches else {}
@@ -677,6 +665,25 @@ def test_pip(python, example):
     expect_that(done.status == 0, done, "pip to install the package")
     words = ["ls-files", "--others", "--modified", "--exclude-standard"]
     expect(run("git", "-C", "checkout", *words))
+    expect(python("example.py", cwd=example, path=site), 0, PRINTED)
+
+
+def test_an_archive_of_the_sources(python, example):
+    """The package's own archive has the same bytes where it is made again, and pip installs what is
+    in it."""
+    need("pip")
+    script = "import sys, wheels; wheels.build_sdist(sys.argv[1])"
+    for folder in ("one", "two"):
+        os.mkdir(folder)
+        words = ["/usr/bin/python3", "-B", "-c", script, Path(folder).resolve()]
+        environment = {**os.environ, "SOURCE_DATE_EPOCH": "1700000000"}
+        expect(run(*words, cwd=ROOT / "python", env=environment))
+    [one], [two] = (list(Path(folder).iterdir()) for folder in ("one", "two"))
+    assert (one.name, one.read_bytes()) == (two.name, two.read_bytes())
+    site = example / "site"
+    words = ["-m", "pip", "install", "-q", "--no-index", "--no-deps", "--target", site, one]
+    done = python(*words, cwd=example, path="")
+    expect_that(done.status == 0, done, "pip to install the package")
     expect(python("example.py", cwd=example, path=site), 0, PRINTED)
 
 

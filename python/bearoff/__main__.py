@@ -1,63 +1,215 @@
-"""The command of the package: ``python -m bearoff grade MATCH DATABASE``."""
+"""The commands of the package: ``python -m bearoff epc 0,0,0,0,0,1``, and others."""
 
 from __future__ import annotations
 
 import argparse
 import os
 import sys
-from typing import Optional, Sequence
+from pathlib import Path
+from typing import Callable, Dict, Optional, Sequence, Tuple
 
-from . import __version__
+from . import __version__, gnubg
 from .database import Database
-from .errors import BadMatch, Damaged, NoLibrary
+from .errors import BadArgument, BadMatch, Damaged, NoLibrary, Refused
 from .grading import NOTE, grade
-from .texts import printable
+from .notation import read
+from .positions import Position, Rounded, position_of, sides_of
+from .tables import export
+from .texts import MOST_MATCH, printable
+
+_WHOLE_BOARD = 90
+_POSITION = "six counts, that of the ace point first, an XGID or a Position ID"
+_FILE = "a file that `bearoff build` has written; without it one is built, which takes a second"
+_WINS = (
+    "Both players make the plays that take the fewest rolls in the mean, which are not always"
+    " those that win most often; the cube is left aside."
+)
+_GNUBG = (
+    "Such a file has 16 bits for each share, so it can't say the exact numbers, and can't be"
+    " certified."
+)
 
 
 def main(words: Optional[Sequence[str]] = None) -> int:
-    """Runs the command with its words, and gives the exit status: 0, 1 where a file can't be read
-    or written, or 3 where the database or the match is refused. Wrong words end the program with
-    2.
+    """Runs the command with its words, and gives the exit status: 0; 1 where a file can't be read
+    or written; 2 where a position, a roll or another word is none; or 3 where the database, the
+    match or the question is refused.
     """
-    parser = argparse.ArgumentParser(
-        prog="python -m bearoff", description="Exact answers of a bearoff database."
-    )
-    parser.add_argument("--version", action="version", version=f"bearoff {__version__}")
-    commands = parser.add_subparsers(dest="command", required=True, metavar="COMMAND")
-    grading = commands.add_parser(
-        "grade",
-        help="grade each bearoff play of a match",
-        description="Tells what each bearoff play of a match has lost beside the best one, in"
-        f" rolls and in pips. {NOTE}",
-    )
-    grading.add_argument(
-        "match",
-        metavar="MATCH",
-        help="a .mat file, as GNU Backgammon and XG export it, or .sgf, as the first one saves it",
-    )
-    grading.add_argument(
-        "database", metavar="DATABASE", help="a file that `bearoff build` has written"
-    )
-    grading.add_argument("--json", action="store_true", help="write JSON in place of tables")
-    asked = parser.parse_args(words)
+    asked = _parser().parse_args(words)
+    run: Callable[[argparse.Namespace], str] = asked.run
     try:
-        with Database.open(asked.database) as database:
-            graded = grade(asked.match, database)
-        sys.stdout.write(graded.to_json() if asked.json else graded.table())
+        sys.stdout.write(run(asked))
         sys.stdout.flush()
-    except Damaged as damaged:
-        return _fail(3, f"{asked.database}: no right database: {damaged}")
+    except (Damaged, Refused) as refused:
+        return _fail(3, str(refused))
     except BadMatch as bad:
         return _fail(3, f"{asked.match}: {bad}")
     except BrokenPipeError:
         # nobody reads on; what is left may go nowhere
         os.dup2(os.open(os.devnull, os.O_WRONLY), sys.stdout.fileno())
         return 1
-    except NoLibrary as missing:
-        return _fail(1, str(missing))
-    except (OSError, ValueError) as error:
+    except BadArgument as bad:
+        return _fail(2, str(bad))
+    except (NoLibrary, OSError, ValueError) as error:
         return _fail(1, str(error))
     return 0
+
+
+def _parser() -> argparse.ArgumentParser:
+    parser = argparse.ArgumentParser(
+        prog="python -m bearoff", description="Exact answers of a bearoff database."
+    )
+    parser.add_argument("--version", action="version", version=f"bearoff {__version__}")
+    commands = parser.add_subparsers(dest="command", required=True, metavar="COMMAND")
+
+    def command(
+        name: str, run: Callable[[argparse.Namespace], str], what: str, more: str = ""
+    ) -> argparse.ArgumentParser:
+        told = f"{what[0].upper()}{what[1:]}. {more}".strip()
+        added = commands.add_parser(name, help=what, description=told)
+        added.set_defaults(run=run)
+        return added
+
+    def takes_database(added: argparse.ArgumentParser) -> None:
+        added.add_argument("--database", metavar="FILE", help=_FILE)
+
+    for name, run, what in (
+        ("mean", _mean, "tell the least mean number of rolls"),
+        ("epc", _epc, "tell the effective pip count and the wastage"),
+    ):
+        added = command(name, run, what)
+        added.add_argument("positions", nargs="+", metavar="POSITION", help=_POSITION)
+        takes_database(added)
+    for name, run, what in (
+        ("play", _play, "tell the best play of a roll"),
+        ("moves", _moves, "tell what each play of a roll costs"),
+    ):
+        added = command(name, run, what)
+        added.add_argument("position", metavar="POSITION", help=_POSITION)
+        dice = "the two dice, as in 21 or 2-1; an XGID may tell them"
+        added.add_argument("roll", nargs="?", metavar="ROLL", help=dice)
+        takes_database(added)
+    wins = command("wins", _wins, "tell the chance that the player on roll is off first", _WINS)
+    wins.add_argument("mine", metavar="MINE", help=f"the player on roll: {_POSITION}")
+    theirs = "the other player, where the first word doesn't tell both"
+    wins.add_argument("theirs", nargs="?", metavar="THEIRS", help=theirs)
+    takes_database(wins)
+    what = "tell what each bearoff play of a match has lost"
+    grading = command("grade", _grade, what, f"It is told in rolls and in pips. {NOTE}")
+    match = "a .mat file, as GNU Backgammon and XG export it, or .sgf, as the first one saves it"
+    grading.add_argument("match", metavar="MATCH", help=match)
+    grading.add_argument("database", nargs="?", metavar="DATABASE", help=_FILE)
+    grading.add_argument("--json", action="store_true", help="write JSON in place of tables")
+    table = command("export", _export, "write all positions as a table")
+    table.add_argument("file", metavar="FILE", help="its name ends in .csv, .json or .sqlite")
+    takes_database(table)
+    files = command("gnubg", _compare, "write or compare a bearoff file of GNU Backgammon", _GNUBG)
+    kinds = files.add_subparsers(required=True, metavar="write|compare")
+    written = kinds.add_parser("write", help="write a one-sided file", description=_GNUBG)
+    written.add_argument("board", metavar="BOARD", help="what `bearoff build --board` has written")
+    written.add_argument("file", metavar="FILE", help="the file to write")
+    written.set_defaults(run=_write)
+    told = "tell how far a one-sided file is from the exact numbers"
+    compared = kinds.add_parser("compare", help=told, description=_GNUBG)
+    compared.add_argument("file", metavar="FILE", help="a one-sided file, as gnubg_os0.bd")
+    compared.add_argument("board", nargs="?", metavar="BOARD", help=_FILE)
+    compared.set_defaults(run=_compare)
+    return parser
+
+
+def _database(path: Optional[str], *positions: Position) -> Database:
+    """The database of a file, or one that has these positions, or all where there are none."""
+    if path is not None:
+        return Database.open(path)
+    bounds = [Database.standing(position).pips for position in positions]
+    return Database.build(max(bounds, default=_WHOLE_BOARD))
+
+
+def _mean(asked: argparse.Namespace) -> str:
+    positions = [*map(position_of, asked.positions)]
+    database = _database(asked.database, *positions)
+    return "".join(
+        f"{position}: {float(mean):.6f} rolls, {mean}\n"
+        for position, mean in zip(positions, map(database.mean, positions))
+    )
+
+
+def _epc(asked: argparse.Namespace) -> str:
+    positions = [*map(position_of, asked.positions)]
+    database = _database(asked.database, *positions)
+    lines = []
+    for position in positions:
+        epc, wastage = database.epc(position), database.wastage(position)
+        told = f"{_thousandths(epc)} pips, {epc.exact}; wastage {_thousandths(wastage)}"
+        lines.append(f"{position}: {told}\n")
+    return "".join(lines)
+
+
+def _thousandths(number: Rounded) -> str:
+    return f"{number.thousandths // 1000}.{number.thousandths % 1000:03}"
+
+
+def _asked_with_roll(asked: argparse.Namespace) -> Tuple[Position, str]:
+    race = read(asked.position)
+    if asked.roll is not None:
+        return race.mine, asked.roll
+    if race.dice is None:
+        raise BadArgument("a roll is wanted behind the position, as in 21")
+    return race.mine, "{}{}".format(*race.dice)
+
+
+def _play(asked: argparse.Namespace) -> str:
+    position, roll = _asked_with_roll(asked)
+    play = _database(asked.database, position).play(position, roll)
+    return f"{play.text or 'no move'}, to {play.to}\n"
+
+
+def _moves(asked: argparse.Namespace) -> str:
+    position, roll = _asked_with_roll(asked)
+    database = _database(asked.database, position)
+    lines = []
+    for choice in database.moves(position, roll):
+        play = database.play_to(position, roll, choice.to)
+        told = f"{float(choice.loss):.6f} rolls, {choice.loss}"
+        lines.append(f"{play.text or 'no move'}, to {choice.to}: {told}\n")
+    return "".join(lines)
+
+
+def _wins(asked: argparse.Namespace) -> str:
+    one, other = map(position_of, sides_of(asked.mine, asked.theirs))
+    chance = _database(asked.database, one, other).wins(one, other)
+    return f"{float(chance):.6f}, {chance}\n{_WINS}\n"
+
+
+def _grade(asked: argparse.Namespace) -> str:
+    with _database(asked.database) as database:
+        graded = grade(asked.match, database)
+    return graded.to_json() if asked.json else graded.table()
+
+
+def _export(asked: argparse.Namespace) -> str:
+    database = _database(asked.database)
+    export(database, asked.file)
+    return f"{len(database)} positions\n"
+
+
+def _write(asked: argparse.Namespace) -> str:
+    content = gnubg.to_file(Database.open(asked.board))
+    Path(asked.file).write_bytes(content)
+    return f"{len(content)} bytes. {_GNUBG}\n"
+
+
+def _compare(asked: argparse.Namespace) -> str:
+    with open(asked.file, "rb") as file:
+        content = file.read(MOST_MATCH)
+    found = gnubg.compare(content, _database(asked.board))
+    lines: Dict[str, str] = {
+        "positions": str(found.positions),
+        "greatest difference of a mean": f"{float(found.greatest):.9f} rolls at {found.at}",
+        "average difference": f"{float(found.average):.9f} rolls",
+        "greatest difference of a share": f"{float(found.share):.9f}",
+    }
+    return "".join(f"{what}: {told}\n" for what, told in lines.items())
 
 
 def _fail(status: int, line: str) -> int:

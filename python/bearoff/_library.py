@@ -184,7 +184,10 @@ def _path() -> str:
     beside = Path(__file__).with_name("libbearoff.so")
     found = str(beside) if beside.exists() else ctypes.util.find_library("bearoff")
     if not found:
-        raise NoLibrary("libbearoff is not installed, and BEAROFF_LIBRARY doesn't name it")
+        raise NoLibrary(
+            "libbearoff is not installed, and BEAROFF_LIBRARY doesn't name it: the wheel of a"
+            " release has it in it, and `make install` puts it there"
+        )
     return found
 
 

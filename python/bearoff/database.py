@@ -7,6 +7,7 @@ import os
 from array import array
 from fractions import Fraction
 from hashlib import sha256
+from itertools import accumulate
 from operator import index, truediv
 from types import TracebackType
 from typing import (
@@ -35,12 +36,14 @@ from .errors import (
     BadArgument,
     BearoffError,
     Changed,
+    Damaged,
     OutOfRange,
     Refused,
 )
-from .exact import wide_numbers
+from .exact import over_whole, wide_numbers
 from .positions import (
     UNREADABLE,
+    AnyPlay,
     AnyPosition,
     AnyPositions,
     AnyRoll,
@@ -52,12 +55,14 @@ from .positions import (
     Standing,
     Wastage,
     bound_of,
+    counts_after,
     counts_of,
     dice_of,
     position_of,
     rank_of,
     rolls_of,
     shown,
+    sides_of,
 )
 from .ranking import Ranks, rows_of
 
@@ -78,10 +83,11 @@ class Database:
     `upgrade`, and to 58 pips they say the same of a position.
 
     A position is six counts of checkers in a tuple, a list, an array or a `Position`, that of the
-    ace point first, or a text like ``0,0,0,0,0,1``; a roll is two dice in either order, or a text
-    like ``21``. What is none of these is refused as `BadArgument`. Each query raises `Refused`
-    where the position has more than 15 checkers or more pips than the bound, and where the
-    database is closed.
+    ace point first, or a text like ``0,0,0,0,0,1``, an XGID, a Position ID of GNU Backgammon or a
+    `Race`; a roll is two dice in either order, a text like ``21`` or ``2-1``, or the number 21; a
+    play is the position that it leads to, or its moves as in ``4/2 2/1``. What is none of these is
+    refused as `BadArgument`. Each query raises `Refused` where the position has more than 15
+    checkers or more pips than the bound, and where the database is closed.
 
     Its length is how many positions it has; it can be iterated over, by rising rank, asked whether
     a position is in it, and indexed by ranks: ``database[-1]`` is its last position. It may be
@@ -105,7 +111,12 @@ class Database:
         Raises `Damaged` where they are no right database, and OSError where a file can't be read.
         """
         if isinstance(source, (str, os.PathLike)):
-            database = cls(_read(source))
+            content = _read(source)
+            try:
+                database = cls(content)
+            except Damaged as damaged:
+                path = os.fsdecode(source)
+                raise Damaged(damaged.status, damaged.line, path) from None
             database._path = os.path.abspath(source)
             return database
         return cls(source)
@@ -325,6 +336,32 @@ class Database:
         columns = _shares(opened, counts, position)
         return opened.share(*(sum(column[: asked + 1]) for column in columns))
 
+    def wins(
+        self,
+        mine: AnyPosition,
+        theirs: Optional[AnyPosition] = None,
+        on_roll: Literal["mine", "theirs"] = "mine",
+    ) -> Fraction:
+        """The chance that `mine` is off before `theirs`, where the players roll in turn and both
+        make the recorded plays. `mine` rolls first, unless `on_roll` says ``theirs``. Where
+        `theirs` is missing both sides are those of one `Race`, XGID or Position ID.
+
+        It is exact of these plays, which take the fewest rolls in the mean. In some positions
+        another play wins a little more often, so it is a bit below or above the chance of two best
+        players; and it says nothing of the cube. Raises `BadArgument` where one side isn't told.
+        """
+        if on_roll not in ("mine", "theirs"):
+            raise BadArgument(f"who is on roll is mine or theirs: {shown(on_roll)}")
+        one, other = sides_of(mine, theirs)
+        rolls = self.distribution(one)
+        # the chances that the other player is off before, after as many turns
+        before = [over_whole(0), *accumulate(self.distribution(other))]
+        turns = before if on_roll == "mine" else before[1:]
+        chance = over_whole(0)
+        for share, past in zip(rolls, turns):
+            chance += share * (1 - past)
+        return chance
+
     @staticmethod
     def standing(position: AnyPosition) -> Standing:
         """The pips and the checkers of a position, and how many of 15 are borne off. It needs no
@@ -428,27 +465,30 @@ class Database:
         return _play_of(lib.PLAY.unpack(told))
 
     @staticmethod
-    def play_to(position: AnyPosition, roll: AnyRoll, to: AnyPosition) -> Play:
-        """The first play of a roll that leads from one position to another, good or not. It needs
-        no database.
+    def play_to(position: AnyPosition, roll: AnyRoll, to: AnyPlay) -> Play:
+        """The first play of a roll that leads from one position to where another play, or a
+        position, leads, good or not. It needs no database.
 
         Raises `Refused` where a die isn't 1 to 6, a position has more than 15 checkers, or the
         roll doesn't lead to `to`.
         """
         told = lib.PlayRoom()
-        counts, (one, other), after = counts_of(position), dice_of(roll), counts_of(to)
-        _check(lib.library().play_to(counts, one, other, after, told), position, roll, to)
+        counts, (one, other) = counts_of(position), dice_of(roll)
+        after = counts_after(position, to)
+        _check(lib.library().play_to(counts, one, other, after, told), position, roll, after)
         return _play_of(lib.PLAY.unpack(told))
 
-    def loss(self, position: AnyPosition, roll: AnyRoll, to: AnyPosition) -> Fraction:
-        """What a play to `to` costs, in rolls, beside the best one. It is 0 for a best play.
+    def loss(self, position: AnyPosition, roll: AnyRoll, to: AnyPlay) -> Fraction:
+        """What a play costs, in rolls, beside the best one: one to the position `to`, or the play
+        `to`. It is 0 for a best play.
 
         Raises `Refused` as `play` does, and where the roll doesn't lead to `to`.
         """
         opened = self._opened
         told = opened.layout.FractionRoom()
-        counts, (one, other), after = counts_of(position), dice_of(roll), counts_of(to)
-        _check(opened.loss(opened.at, counts, one, other, after, told), position, roll, to)
+        counts, (one, other) = counts_of(position), dice_of(roll)
+        after = counts_after(position, to)
+        _check(opened.loss(opened.at, counts, one, other, after, told), position, roll, after)
         return opened.fraction(*opened.layout.fraction.unpack(told))
 
     def moves(self, position: AnyPosition, roll: AnyRoll) -> List[Choice]:
@@ -525,6 +565,9 @@ def _bytes_of(content: Any) -> bytes:
     """A copy of bytes that nobody else can change, or `BadArgument`."""
     if type(content) is bytes:
         return content
+    if isinstance(content, (str, os.PathLike)):
+        what = "the path of a file is opened by Database.open"
+        raise BadArgument(f"{what}, and this takes bytes: {shown(content)}")
     try:
         return memoryview(content).tobytes()
     except UNREADABLE:

@@ -6,7 +6,7 @@ MemoryError.
 
 from __future__ import annotations
 
-from typing import Tuple, Type
+from typing import Optional, Tuple, Type
 
 from .texts import MOST_TEXT, in_ascii, short
 
@@ -29,6 +29,15 @@ _REASONS = {
     9: "the file is of version 2 already",
     NO_RANK: "the database has no position of that rank",
     18: "the version is not 1 or 2",
+}
+
+
+# why bytes are refused, by their first fault
+_FAULTS = {
+    "header too-short": "it has fewer bytes than any database",
+    "header bad-magic": "it doesn't begin as a file of bearoff does",
+    "header bad-version": "no version is known but 1, 2 and 3",
+    "header bad-length": "it has more or fewer bytes than its header says",
 }
 
 
@@ -101,15 +110,20 @@ class OutOfRange(Refused, IndexError):
 
 
 class Damaged(BearoffError):
-    """The bytes are no right database. `line` names their first fault, as in ``mean rank 1``."""
+    """The bytes are no right database. `line` names their first fault, as in ``mean rank 1``, and
+    `path` the file, where it was opened by its path.
+    """
 
-    def __init__(self, status: int, line: str) -> None:
-        super().__init__(line)
+    def __init__(self, status: int, line: str, path: Optional[str] = None) -> None:
+        why = _FAULTS.get(line)
+        told = f"{line}, as {why}" if why else line
+        super().__init__(f"{in_ascii(path)}: no right database: {told}" if path else told)
         self.status = status
         self.line = line
+        self.path = path
 
-    def __reduce__(self) -> Tuple[Type[Damaged], Tuple[int, str]]:
-        return type(self), (self.status, self.line)
+    def __reduce__(self) -> Tuple[Type[Damaged], Tuple[int, str, Optional[str]]]:
+        return type(self), (self.status, self.line, self.path)
 
 
 class Changed(BearoffError):

@@ -20,12 +20,13 @@ import re
 from typing import Dict, Iterator, List, NamedTuple, NoReturn, Optional, Sequence, Tuple
 
 from .errors import BadArgument, BadMatch
+from .moves import BAR as _BAR
+from .moves import NoMoves, is_play, steps_of
 from .positions import Position, shown
 from .texts import MOST_MATCH, MOST_TEXT, short
 
 __all__ = ["BadMatch", "Match", "MatchPlay", "read_match"]
 
-_BAR = 25
 _HOME = 6
 _START = {24: 2, 13: 5, 8: 3, 6: 5}
 
@@ -101,9 +102,6 @@ _WORDS = re.compile(
 # .. which are so many words at most
 _MOST_WORDS = len("Wins 2 points and the match".split())
 _NOTHING = "Cannot Move"
-_STEPS = re.compile(
-    r"(bar|[0-9]{1,2})((?:/(?:off|[0-9]{1,2})\*?)+)(?:\(([1-4])\))?", re.IGNORECASE
-)
 
 # the left column begins behind the number, and the right one, where the left one is empty, far
 # behind it
@@ -297,19 +295,10 @@ class _Reader:
         there."""
         if words == _NOTHING:
             return
-        for word in words.split():
-            told = _STEPS.fullmatch(word)
-            if not told:
-                self.refuse("malformed", f"not a move: {word}")
-            stops = told[2].lower().split("/")[1:]
-            points = [_point(told[1].lower()), *(_point(stop.rstrip("*")) for stop in stops)]
-            is_down = points == sorted(set(points), reverse=True)
-            if max(points) > _BAR or not is_down:
-                self.refuse("malformed", f"no checker moves so: {word}")
-            for time in range(int(told[3] or 1)):
-                for source, target, stop in zip(points, points[1:], stops):
-                    # of checkers that move alike the first one hits
-                    yield source, target, stop.endswith("*") and time == 0
+        try:
+            yield from steps_of(words)
+        except NoMoves as error:
+            self.refuse("malformed", str(error))
 
     def move_checker(
         self, mine: List[int], other: List[int], source: int, target: int, is_hit: bool
@@ -457,16 +446,9 @@ def _sgf_point(player: int, letter: str) -> int:
     return place + 1 if player == 0 else 24 - place
 
 
-_NAMED_POINTS: Dict[str, int] = {"bar": _BAR, "off": 0}
-
-
 def _is_played(word: str) -> bool:
     """Whether a word behind a roll says what was played."""
-    return bool(_STEPS.fullmatch(word)) or word in _NOTHING.split()
-
-
-def _point(word: str) -> int:
-    return _NAMED_POINTS[word] if word in _NAMED_POINTS else int(word)
+    return is_play(word) or word in _NOTHING.split()
 
 
 def _place(point: int) -> str:

@@ -15,10 +15,10 @@ from __future__ import annotations
 
 import base64
 import re
-from typing import List, Literal, NamedTuple, NoReturn, Optional, Sequence, Tuple
+from typing import List, NoReturn, Optional, Sequence, Tuple
 
 from .errors import NoRace
-from .positions import Position, position_of
+from .positions import OnRoll, Position, Race, position_of
 from .texts import MOST_TEXT, in_ascii, short
 
 __all__ = [
@@ -33,29 +33,12 @@ __all__ = [
     "to_xgid",
 ]
 
-OnRoll = Literal["bottom", "top"]
-"""Who is on roll. The player at the bottom of the board has the capital letters of an XGID, and is
-player 1 of GNU Backgammon.
-"""
-
 REASONS = ("malformed", "too-many", "bar", "outside", "contact", "other-side")
 """Why a text is refused: it isn't written as its notation says, or leaves something to guess; a
 player has more than 15 checkers; a checker is on the bar; the player on roll has one outside the
 home board; the other player has one behind one of the player on roll; or has one outside the home
 board.
 """
-
-
-class Race(NamedTuple):
-    """A bearoff race: the checkers of the player on roll, those of the other player, the dice, the
-    higher first, and who is on roll. What a text doesn't tell is None: six counts tell the first
-    alone, and a Position ID the first two.
-    """
-
-    mine: Position
-    theirs: Optional[Position] = None
-    dice: Optional[Tuple[int, int]] = None
-    on_roll: Optional[OnRoll] = None
 
 
 _SPACE = " \t\r\n\u00a0"

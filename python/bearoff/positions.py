@@ -2,21 +2,36 @@
 
 from __future__ import annotations
 
+import math
+import operator
 import re
 from collections.abc import Mapping
 from fractions import Fraction
 from itertools import islice
+from numbers import Rational, Real
 from operator import index
 from reprlib import Repr
-from typing import Any, NamedTuple, Optional, Protocol, Sequence, SupportsIndex, Tuple, Union
+from typing import (
+    Any,
+    Callable,
+    Literal,
+    NamedTuple,
+    Optional,
+    Protocol,
+    Sequence,
+    SupportsIndex,
+    Tuple,
+    Union,
+)
 
 from .errors import BadArgument
-from .texts import MOST_TEXT
+from .moves import NoMoves, is_play, steps_of
+from .texts import MOST_TEXT, printable, short
 
 _BLANKS = "[ \t\r\n\u00a0]*"
 _COUNT = f"{_BLANKS}(0|[1-9][0-9]{{0,2}}){_BLANKS}"
 _TEXT = re.compile(",".join([_COUNT] * 6))
-_ROLL = re.compile(f"{_BLANKS}([0-9]){_BLANKS}([0-9]){_BLANKS}")
+_ROLL = re.compile(f"{_BLANKS}([0-9]){_BLANKS}[-,]?{_BLANKS}([0-9]){_BLANKS}")
 
 
 class Position(NamedTuple):
@@ -62,19 +77,72 @@ class Move(NamedTuple):
     target: int
 
 
-class Rounded(NamedTuple):
-    """A number of pips: exact, and in thousandths, rounded to the nearest and a half up. `float`
-    and `format` take the exact one.
-    """
-
+class _Rounded(NamedTuple):
     exact: Fraction
     thousandths: int
 
-    def __float__(self) -> float:
-        return float(self.exact)
+
+def _exact(number: Any) -> Any:
+    return number.exact if isinstance(number, Rounded) else number
+
+
+def _of_exact(compute: Callable[..., Any]) -> Callable[..., Any]:
+    """What is computed with the exact numbers."""
+
+    def computed(*numbers: Any) -> Any:
+        return compute(*map(_exact, numbers))
+
+    return computed
+
+
+def _of_exact_turned(compute: Callable[..., Any]) -> Callable[..., Any]:
+    """.. where the other number stands first."""
+
+    def computed(own: Any, other: Any) -> Any:
+        return compute(_exact(other), _exact(own))
+
+    return computed
+
+
+class Rounded(_Rounded):
+    """A number of pips: exact, and in thousandths, rounded to the nearest and a half up. It is
+    compared and computed with as the exact one, and unpacked it is both. Beside another pair it is
+    equal where both are.
+    """
+
+    __slots__ = ()
+
+    def __eq__(self, other: object) -> bool:
+        if isinstance(other, tuple) and not isinstance(other, Rounded):
+            return tuple.__eq__(self, other)
+        return bool(self.exact == _exact(other))
+
+    def __ne__(self, other: object) -> bool:
+        return not self == other
+
+    def __hash__(self) -> int:
+        return hash(self.exact)
 
     def __format__(self, spec: str) -> str:
         return format(self.exact, spec) if spec else str(self)
+
+    __bool__ = _of_exact(bool)
+    __float__ = _of_exact(float)
+    __int__ = __trunc__ = _of_exact(int)
+    __round__ = _of_exact(round)
+    __floor__ = _of_exact(math.floor)
+    __ceil__ = _of_exact(math.ceil)
+    __abs__ = _of_exact(abs)
+    __neg__ = _of_exact(operator.neg)
+    __pos__ = _of_exact(operator.pos)
+    __add__, __radd__ = _of_exact(operator.add), _of_exact_turned(operator.add)
+    __sub__, __rsub__ = _of_exact(operator.sub), _of_exact_turned(operator.sub)
+    __mul__, __rmul__ = _of_exact(operator.mul), _of_exact_turned(operator.mul)
+    __truediv__, __rtruediv__ = _of_exact(operator.truediv), _of_exact_turned(operator.truediv)
+    __floordiv__, __rfloordiv__ = _of_exact(operator.floordiv), _of_exact_turned(operator.floordiv)
+    __mod__, __rmod__ = _of_exact(operator.mod), _of_exact_turned(operator.mod)
+    __lt__, __le__ = _of_exact(operator.lt), _of_exact(operator.le)
+    __gt__, __ge__ = _of_exact(operator.gt), _of_exact(operator.ge)
 
 
 class EffectivePips(Rounded):
@@ -121,6 +189,24 @@ class Choice(NamedTuple):
     loss: Fraction
 
 
+OnRoll = Literal["bottom", "top"]
+"""Who is on roll. The player at the bottom of the board has the capital letters of an XGID, and is
+player 1 of GNU Backgammon.
+"""
+
+
+class Race(NamedTuple):
+    """A bearoff race: the checkers of the player on roll, those of the other player, the dice, the
+    higher first, and who is on roll. What a text doesn't tell is None: six counts tell the first
+    alone, and a Position ID the first two.
+    """
+
+    mine: Position
+    theirs: Optional[Position] = None
+    dice: Optional[Tuple[int, int]] = None
+    on_roll: Optional[OnRoll] = None
+
+
 class Numbers(Protocol):
     """Whole numbers in an order: a tuple, a list, or an array of numpy in one dimension."""
 
@@ -138,14 +224,20 @@ class Array(Protocol):
         ...
 
 
-AnyPosition = Union[str, Numbers]
+AnyPosition = Union[str, Numbers, Race]
 """What is taken as a position: a `Position`, six counts in a tuple, a list or an array, or a text
-like ``0,0,0,0,0,1``.
+that `bearoff.notation.read` takes: six counts in any usual spelling, an XGID or a Position ID. Of
+an XGID, a Position ID and a `Race` it is the position of the player on roll.
 """
 
-AnyRoll = Union[str, Numbers]
-"""What is taken as a roll: its two dice in either order, in a tuple, a list or an array, or a text
-like ``21``.
+AnyRoll = Union[str, SupportsIndex, Numbers]
+"""What is taken as a roll: its two dice in either order, in a tuple, a list or an array, or in a
+text like ``21`` or ``2-1``, or the number 21.
+"""
+
+AnyPlay = Union[AnyPosition, Play, Choice]
+"""What is taken as a play: a position that it leads to, a `Play`, a `Choice`, or its moves as a
+player writes them, as in ``4/2 2/1``, ``6/off(2)`` or ``6/4/3``.
 """
 
 AnyPositions = Union[memoryview, Array, Sequence[AnyPosition]]
@@ -164,6 +256,7 @@ _LISTS = frozenset((tuple, list, Position))
 
 # a text has at most three digits for a count
 _MOST_COUNT = 999
+_MOST_MOVES = 4
 _BYTE = 255
 _MOST_RANK = 65535
 
@@ -184,12 +277,58 @@ def counts_of(position: AnyPosition) -> bytes:
 
 def position_of(position: AnyPosition) -> Position:
     """The position that is given, or `BadArgument`."""
+    if isinstance(position, Race):
+        return position_of(position.mine)
     if isinstance(position, str):
-        return Position.parse(position)
-    counts = _numbers(position, 6)
-    if not counts or not all(0 <= count <= _MOST_COUNT for count in counts):
+        told = _match(_TEXT, position)
+        if told:
+            return Position._make(map(int, told.groups()))
+        # here, since that module stands on this one
+        from .notation import read
+
+        return read(position).mine
+    counts = _numbers(position, 6, "a position")
+    if not all(0 <= count <= _MOST_COUNT for count in counts):
         raise BadArgument(f"not a position: {shown(position)}")
     return Position._make(counts)
+
+
+def sides_of(
+    mine: AnyPosition, theirs: Optional[AnyPosition] = None
+) -> Tuple[AnyPosition, AnyPosition]:
+    """Both sides of a race, of which the first may tell the second one, or `BadArgument`."""
+    if theirs is not None:
+        return mine, theirs
+    if isinstance(mine, str):
+        from .notation import read
+
+        mine = read(mine)
+    if not isinstance(mine, Race) or mine.theirs is None:
+        raise BadArgument(f"the position of the other player isn't told: {shown(mine)}")
+    return mine.mine, mine.theirs
+
+
+def counts_after(position: AnyPosition, play: AnyPlay) -> bytes:
+    """The six counts that a play from a position leads to, or `BadArgument`."""
+    if isinstance(play, (Play, Choice)):
+        return counts_of(play.to)
+    # six counts have more slashes between them than a roll has moves
+    if not (isinstance(play, str) and is_play(play) and play.count("/") <= _MOST_MOVES):
+        return counts_of(play)
+    counts = [0, *position_of(position)]
+    try:
+        for source, target, _ in steps_of(play):
+            if source >= len(counts):
+                raise NoMoves(f"no checker of a bearoff stands on point {source}")
+            counts[source] -= 1
+            counts[target] += 1
+    except NoMoves as error:
+        raise BadArgument(f"{error}: {shown(play)}") from None
+    # they may be told in another order than that in which they can be made
+    for point, count in enumerate(counts):
+        if count < 0:
+            raise BadArgument(f"there is no checker on point {point} for {shown(play)}")
+    return bytes(min(count, _BYTE) for count in counts[1:])
 
 
 def dice_of(roll: AnyRoll) -> Tuple[int, int]:
@@ -198,12 +337,17 @@ def dice_of(roll: AnyRoll) -> Tuple[int, int]:
     """
     if isinstance(roll, str):
         digits = _match(_ROLL, roll)
-        dice = tuple(map(int, digits.groups())) if digits else ()
-    else:
-        dice = _numbers(roll, 2)
-    if not dice:
-        raise BadArgument(f"not a roll of two dice: {shown(roll)}")
-    one, other = (die if 0 <= die <= _BYTE else 0 for die in dice)
+        if not digits:
+            raise BadArgument(f"not a roll of two dice: {shown(roll)}")
+        return int(digits[1]), int(digits[2])
+    if hasattr(roll, "__index__") and not hasattr(roll, "__len__"):
+        both = number_of(roll, "a roll of two dice")
+        if not 10 <= both <= 99:
+            raise BadArgument(f"not a roll of two dice: {shown(roll)}")
+        return both // 10, both % 10
+    one, other = (
+        die if 0 <= die <= _BYTE else 0 for die in _numbers(roll, 2, "a roll of two dice")
+    )
     return one, other
 
 
@@ -213,9 +357,9 @@ def _match(expression: "re.Pattern[str]", text: str) -> "Optional[re.Match[str]]
 
 
 def shown(thing: object) -> str:
-    """A short text of anything that was given, for a message."""
+    """A short text of anything that was given, on one line, for a message."""
     try:
-        return Repr().repr(thing)
+        return short(printable(" ".join(Repr().repr(thing).split())))
     except Exception:
         return f"something of the type {type(thing).__name__}"
 
@@ -252,14 +396,36 @@ def number_of(number: Any, what: str) -> int:
     return told
 
 
-def _numbers(items: Any, count: int) -> Tuple[int, ...]:
-    """So many whole numbers of something that has an order and a length, or none at all."""
-    if isinstance(items, Mapping) or not (
-        hasattr(items, "__len__") and hasattr(items, "__getitem__")
-    ):
-        return ()
+def _numbers(items: Any, count: int, what: str) -> Tuple[int, ...]:
+    """So many whole numbers of something that has an order and a length, or `BadArgument`. Floats
+    are taken where they are whole.
+    """
+    numbers: Tuple[int, ...] = ()
+    if hasattr(items, "__len__") and hasattr(items, "__getitem__"):
+        try:
+            if len(items) == count and not isinstance(items, Mapping):
+                numbers = tuple(map(_whole, islice(items, count + 1)))
+        except _NotWhole as error:
+            raise BadArgument(f"not {what}, as {error} is not whole: {shown(items)}") from None
+        except UNREADABLE:
+            pass
+    if len(numbers) != count:
+        raise BadArgument(f"not {what}: {shown(items)}")
+    return numbers
+
+
+class _NotWhole(Exception):
+    """A float that is no whole number."""
+
+
+def _whole(number: Any) -> int:
+    """A whole number, also as a float; TypeError where it is no number, or another kind of one."""
     try:
-        numbers = tuple(map(index, islice(items, count + 1))) if len(items) == count else ()
-    except UNREADABLE:
-        return ()
-    return numbers if len(numbers) == count else ()
+        return index(number)
+    except TypeError:
+        if not isinstance(number, Real) or isinstance(number, Rational):
+            raise
+    told = float(number)
+    if not told.is_integer():
+        raise _NotWhole(shown(told))
+    return int(told)

@@ -40,7 +40,7 @@ def rows_of(positions: AnyPositions) -> Rows:
         if numpy and (hasattr(table, "__array__") or isinstance(table, memoryview)):
             table = numpy.asarray(table)
             if table.dtype.kind != "O":
-                return Rows(numpy, _six_in_each(table))
+                return Rows(numpy, _six_in_each(numpy, table))
             table = table.tolist()
         if isinstance(table, (str, bytes, bytearray)):
             raise TypeError
@@ -51,11 +51,18 @@ def rows_of(positions: AnyPositions) -> Rows:
         raise BadArgument(f"not an array of positions: {shown(positions)}") from None
 
 
-def _six_in_each(table: Any) -> Any:
-    if table.ndim != 2 or table.shape[1] != 6 or table.dtype.kind not in "iub":
+def _six_in_each(numpy: Any, table: Any) -> Any:
+    if table.ndim != 2 or table.shape[1] != 6 or table.dtype.kind not in "iubf":
         told = f"{table.dtype} {table.shape}"
         raise BadArgument(f"not an array of six whole numbers in each row: {told}")
-    return table
+    if table.dtype.kind != "f":
+        return table
+    # a number beyond these has no rank either
+    whole = numpy.isfinite(table) & (numpy.floor(table) == table)
+    if not whole.all():
+        row, point = numpy.argwhere(~whole)[0]
+        raise BadArgument(f"{table[row, point]} is not whole, in row {row}")
+    return numpy.clip(table, -1, 999).astype(numpy.intp)
 
 
 class Ranks:

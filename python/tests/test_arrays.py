@@ -130,7 +130,7 @@ class RanksOfRows(Rows):
             4,
             "more pips than the bound: 1,0,0,2,0,0 in row 0",
         )
-        for wrong in ((1,) * 5, None, "x", (0, 0, 0, 0, 0, -1), (0.0,) * 6, 7):
+        for wrong in ((1,) * 5, None, "x", (0, 0, 0, 0, 0, -1), (0.5,) * 6, 7):
             self.bad([six, wrong], "in row 1")
         for rows in (
             None,
@@ -226,7 +226,7 @@ class RanksOfRows(Rows):
                 table[1, point] = count
                 self.bad(table, "in row 1")
         wrong = [
-            numpy.zeros((2, 6)),
+            numpy.zeros((2, 5)),
             numpy.zeros((2, 5), int),
             numpy.zeros((2, 7), int),
             numpy.zeros(6, int),

@@ -686,6 +686,10 @@ class Command(unittest.TestCase):
         self.assertEqual(lines[-5].split(), "root 8 8 0 0.0000 0.000 0".split())
         self.assertEqual(lines[-2], grading.NOTE)
         self.assertIn("no equity", grading.NOTE)
+        whole = self.run_it("grade", str(STORED))
+        self.assertEqual((whole.returncode, whole.stderr), (0, ""))
+        with Database.build(90) as board:
+            self.assertEqual(whole.stdout, grade(STORED, board).table())
         self.assertEqual(len({len(line) for line in lines[:14] if line.endswith("0.000")}), 1)
 
     def test_the_lines_of_the_page(self) -> None:
@@ -787,7 +791,6 @@ class Command(unittest.TestCase):
                 ),
                 ((f"{folder}/none", race), 1, "bearoff: [Errno 2] No such file or directory"),
                 ((folder, race), 1, "bearoff: [Errno 21] Is a directory"),
-                ((str(STORED),), 2, "usage: python -m bearoff grade"),
                 ((), 2, "usage: python -m bearoff grade"),
             ):
                 run = self.run_it("grade", *words)

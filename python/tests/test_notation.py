@@ -208,7 +208,7 @@ class Written(unittest.TestCase):
             (Race(SIX, SIX, (1, 2, 3)), "malformed"),  # type: ignore[arg-type]
             (Race(SIX, SIX, None, "left"), "malformed"),  # type: ignore[arg-type]
             (Race((0, 0, 0, 1), SIX), ""),  # type: ignore[arg-type]
-            (Race(SIX, "none"), ""),  # type: ignore[arg-type]
+            (Race(SIX, "none"), "malformed"),  # type: ignore[arg-type]
         ]
         for call in (to_xgid, to_gnubg):
             for race, reason in rows:

@@ -2,10 +2,11 @@
 out."""
 
 import importlib
+import math
 import unittest
 from typing import Any
 
-from bearoff import WEIGHTS, WHOLE
+from bearoff import WEIGHTS, WHOLE, BadArgument
 
 from .given import database, positions
 
@@ -54,10 +55,21 @@ class Arrays(unittest.TestCase):
             numpy.asarray(here.positions())[9],
             numpy.array([1, 2, 0, 0, 1, 0]),
             numpy.zeros(6, "int8"),
+            numpy.zeros(6),
+            numpy.array([1, 2, 0, 0, 1, 0], "float32"),
         ):
             self.assertEqual(here.mean(row), here.mean(tuple(map(int, row))))
-        for row in (numpy.zeros(6), numpy.zeros(5, int), numpy.zeros((6, 1), int)):
+        for row in (numpy.full(6, 0.5), numpy.zeros(5, int), numpy.zeros((6, 1), int)):
             self.assertRaises(ValueError, here.mean, row)
+        table = numpy.asarray(here.positions())
+        wanted = list(range(len(here)))
+        for kind in ("float64", "float32"):
+            self.assertEqual(here.ranks(table.astype(kind)).tolist(), wanted)
+        for wrong in (0.5, math.nan, math.inf, -math.inf):
+            floats = table[:5].astype("float64")
+            floats[3, 2] = wrong
+            with self.assertRaisesRegex(BadArgument, f"{wrong} is not whole, in row 3"):
+                here.ranks(floats)
         self.assertEqual(here.position(numpy.int64(9)), tuple(numpy.asarray(here.positions())[9]))
 
 

@@ -1,34 +1,22 @@
-"""The example of two sides in docs/analysts.md, beside a game that is played out move by move with
-the recorded plays.
+"""The chance that one side is off first, beside a game that is played out move by move with the
+recorded plays.
 """
 
-import re
 import unittest
 from fractions import Fraction
 from functools import lru_cache
-from typing import Any, Callable, Dict
 
-from bearoff import Database, Position
+from bearoff import Position
 
-from .given import ROLLS, ROOT, database, positions
+from .given import ROLLS, database, positions
 
 OFF = (0, 0, 0, 0, 0, 0)
-
-
-def printed(here: Database) -> Callable[[Any, Any], Fraction]:
-    """The function of the page, over a database."""
-    page = (ROOT / "docs/analysts.md").read_text("utf-8")
-    [block] = re.findall(r"```python\n(from itertools.*?)\nprint", page, re.DOTALL)
-    names: Dict[str, Any] = {"database": here}
-    exec(block, names)
-    wins: Callable[[Any, Any], Fraction] = names["wins"]
-    return wins
 
 
 class TwoSides(unittest.TestCase):
     def test_it_is_the_chance_of_a_game_that_is_played_out(self) -> None:
         here = database(8)
-        wins = printed(here)
+        wins = here.wins
 
         @lru_cache(maxsize=None)
         def played(mine: Position, theirs: Position) -> Fraction:
@@ -49,6 +37,7 @@ class TwoSides(unittest.TestCase):
             for theirs in found:
                 wanted = played(here[here.rank(mine)], here[here.rank(theirs)])
                 self.assertEqual(wins(mine, theirs), wanted, (mine, theirs))
+                self.assertEqual(wins(theirs, mine, "theirs"), 1 - wanted, (mine, theirs))
         self.assertEqual((wins(OFF, "0,0,0,0,0,1"), wins("0,0,0,0,0,1", OFF)), (1, 0))
         self.assertEqual(
             wins("0,0,0,0,0,1", "0,0,0,0,0,1"), Fraction(3, 4) + Fraction(1, 4) * Fraction(1, 4)

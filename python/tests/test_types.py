@@ -44,7 +44,7 @@ def ask(here: Database, counts: List[int], dice: Tuple[int, int]) -> None:
     here.mean(["0"] * 6)  # type: ignore[list-item]
     here.mean({1, 2})  # type: ignore[arg-type]
     here.mean(None)  # type: ignore[arg-type]
-    here.play(counts, 21)  # type: ignore[arg-type]
+    here.play(counts, 2.5)  # type: ignore[arg-type]
     here.play(counts)  # type: ignore[call-arg]
     here.within(counts, "3")  # type: ignore[arg-type]
     here.ranks(5)  # type: ignore[arg-type]
