@@ -49,9 +49,10 @@ export interface FractionText {
     readonly denominator: string;
 }
 
-/** An exact number that a call has answered. `JSON.stringify` takes it. */
+/** An exact number that a call has answered. `JSON.stringify` takes it, and as a text it is `5/4`, or `3`. */
 export interface Exact extends Fraction {
     toJSON(): FractionText;
+    toString(): string;
 }
 
 /** A number in thousandths: a whole number. */
@@ -144,6 +145,9 @@ export class DamagedError extends BearoffError {
     readonly line: string;
 }
 
+/** The bytes of a file: a buffer, a view of one, or what gives a buffer, as a `Blob`, a `File` and a `Response` do. */
+export type FileBytes = ArrayBufferLike | ArrayBufferView | { arrayBuffer(): Promise<ArrayBuffer> };
+
 export interface Options {
     /**
      * The compiled `WebAssembly.Module` to use, one of the two files of this package: for places where the package can't
@@ -158,7 +162,7 @@ export interface Options {
  */
 export function loadModule(): Promise<object>;
 
-/** A fraction as the double that is nearest to it. */
+/** A fraction as the double that is nearest to it. A `TypeError` where it is none. */
 export function asNumber(fraction: Fraction): number;
 
 /**
@@ -191,9 +195,10 @@ export class Bearoff {
     /**
      * Copies the bytes of a file, checks them and opens it, a board file where its header says so: 0.2 to 0.4 s for 44
      * pips, in which the thread does nothing else, so a page asks in a worker. The bytes stay as they are until the promise
-     * is kept, and may be changed then. A {@link DamagedError} where they are no right database, and `no-memory`.
+     * is kept, and may be changed then. A {@link DamagedError} where they are no right database, and `no-memory`. The answer
+     * of a server that has no such file is a `TypeError`.
      */
-    static open(bytes: ArrayBufferLike | ArrayBufferView, options?: Options): Promise<Bearoff>;
+    static open(bytes: FileBytes, options?: Options): Promise<Bearoff>;
 
     /**
      * Builds the database of a pip bound, 0 to 58, or the board file of one of 59 to 90, checks it as any other, and opens

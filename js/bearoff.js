@@ -10,7 +10,7 @@ export { loadModule };
 // A database over the module of this package, or over another that is given.
 export class Bearoff extends Database {
     static async open(bytes, { module } = {}) {
-        const file = readBytes(bytes);
+        const file = await readBytes(bytes);
         return super.open(file, module ?? await loadModule());
     }
 

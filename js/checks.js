@@ -82,24 +82,40 @@ export function readLine(value) {
     return value;
 }
 
-// A fraction, with numbers that fit into so many bits.
-export function readFraction(value, bits) {
-    const most = (1n << BigInt(bits)) - 1n;
+// The numerator and the denominator of a fraction.
+export function readNumbers(value) {
     if (typeof value !== "object" || value === null) throw new TypeError(`a fraction is an object, and not ${named(value)}`);
     return [["numerator", value.numerator], ["denominator", value.denominator]].map(([name, number]) => {
         if (typeof number !== "bigint") throw new TypeError(`a ${name} is a bigint, and not ${named(number)}`);
-        if (number < 0n || number > most) throw new RangeError(`a ${name} is 0 to 2^${bits} - 1, and not ${number}`);
         return number;
     });
 }
 
+// A fraction, with numbers that fit into so many bits.
+export function readFraction(value, bits) {
+    const most = (1n << BigInt(bits)) - 1n;
+    const numbers = readNumbers(value);
+    ["numerator", "denominator"].forEach((name, place) => {
+        const number = numbers[place];
+        if (number < 0n || number > most) throw new RangeError(`a ${name} is 0 to 2^${bits} - 1, and not ${number}`);
+    });
+    return numbers;
+}
+
 const tagOf = (value) => Object.prototype.toString.call(value);
 
-// The bytes of a file: those of a buffer, or those that a view of one shows.
-export function readBytes(value) {
+const isBuffer = (value) => ["[object ArrayBuffer]", "[object SharedArrayBuffer]"].includes(tagOf(value));
+
+// The bytes of a file: those of a buffer, those that a view of one shows, or what a blob or the answer of a server has.
+export async function readBytes(value) {
     if (ArrayBuffer.isView(value)) return new Uint8Array(value.buffer, value.byteOffset, value.byteLength);
-    if (["[object ArrayBuffer]", "[object SharedArrayBuffer]"].includes(tagOf(value))) return new Uint8Array(value);
-    throw new TypeError(`a file is an ArrayBuffer or a view of one, and not ${named(value)}`);
+    if (isBuffer(value)) return new Uint8Array(value);
+    if (typeof value?.arrayBuffer === "function") {
+        if (value.ok === false) throw new TypeError(`no file came, but the answer ${value.status} ${value.statusText}`);
+        const buffer = await value.arrayBuffer();
+        if (isBuffer(buffer)) return new Uint8Array(buffer);
+    }
+    throw new TypeError(`a file is an ArrayBuffer, a view of one, a Blob or a Response, and not ${named(value)}`);
 }
 
 export function readModule(value) {

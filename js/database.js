@@ -52,7 +52,7 @@ export class Database {
 
     // Checks the bytes of a file, over a compiled module, and opens it.
     static async open(bytes, module) {
-        const file = readBytes(bytes);
+        const file = await readBytes(bytes);
         const engine = await Engine.start(readModule(module));
         return opened(this, engine, () => engine.put(file));
     }
@@ -69,6 +69,7 @@ export class Database {
     }
 
     constructor(engine) {
+        if (!(engine instanceof Engine)) throw new TypeError("a database is made by Bearoff.open or Bearoff.build");
         this.#engine = engine;
         this.#kind = engine.kind;
         if (this.#isBoard) {

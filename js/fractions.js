@@ -1,4 +1,5 @@
-// Exact numbers as the calls answer them. JSON has no bigint: there each is a text of its digits.
+// Exact numbers as the calls answer them. JSON has no bigint: there each is a text of its digits. As a text a number is
+// written as 5/4, and a whole one as 3.
 
 export class Fraction {
     constructor(numerator, denominator) {
@@ -8,6 +9,10 @@ export class Fraction {
 
     toJSON() {
         return { numerator: `${this.numerator}`, denominator: `${this.denominator}` };
+    }
+
+    toString() {
+        return this.denominator === 1n ? `${this.numerator}` : `${this.numerator}/${this.denominator}`;
     }
 }
 

@@ -1,5 +1,7 @@
 // Exact numbers as doubles, each the nearest, and the tables that hold many of them.
 
+import { readNumbers } from "./checks.js";
+
 // Under this a double may have fewer bits; no number of a database but 0 is so small.
 const SMALLEST = 2 ** -900;
 
@@ -19,7 +21,7 @@ function nearest(numerator, denominator) {
     return Number(quotient * below === above ? quotient : quotient | 1n) * 2 ** -shift;
 }
 
-export const asNumber = ({ numerator, denominator }) => nearest(numerator, denominator);
+export const asNumber = (fraction) => nearest(...readNumbers(fraction));
 
 // A table as a database hands it out, which knows what its numbers are: numerators over a whole, or, where that is null,
 // a numerator, a denominator and thousandths in each row. A part of it that cuts no number knows it too.

@@ -1,6 +1,6 @@
 // What the types let through, and what they refuse: a line below @ts-expect-error that compiles is an error.
 import { asDoubles, asNumber, Bearoff, BearoffError, DamagedError, loadModule } from "bearoff";
-import type { Choice, Counts, Exact, Fraction, FractionText, Play, Position, Roll, Rounded, Table } from "bearoff";
+import type { Choice, Counts, Exact, FileBytes, Fraction, FractionText, Play, Position, Roll, Rounded, Table } from "bearoff";
 import { fromGnubg, fromXgid, NoRaceError, read, toGnubg, toXgid } from "bearoff/notation";
 import type { GivenRace, NoRaceCode, OnRoll, Race } from "bearoff/notation";
 
@@ -47,7 +47,8 @@ function named(error: unknown): string {
     return error instanceof BearoffError ? error.code : "another";
 }
 
-const refused: string = await Bearoff.open(new ArrayBuffer(3)).then(() => "none", named);
+const source: FileBytes = { arrayBuffer: () => Promise.resolve(new ArrayBuffer(3)) };
+const refused: string = await Bearoff.open(source).then(() => "none", named);
 const refusal: string = await Promise.resolve("").then(read).then(() => "none", named);
 const told = [notations.join(" "), pips, refusal,
     exact, mean.denominator, texts.join(" "), first?.to.join(), loss.numerator, counts.join(), over[1] === doubles[1] && itsWhole === whole && asDoubles(part).length === 1 ? doubles[1]?.toFixed(3) : "another", again.version,

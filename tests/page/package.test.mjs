@@ -107,6 +107,8 @@ test("what it refuses", () => { script("hostile.mjs"); });
 test("the order of refusals", () => { script("refusals.mjs"); });
 test("board files", () => { script("boards.mjs"); });
 test("tables, and their numbers as doubles", () => { script("tables.mjs"); });
+
+test("what a database is opened from, and fractions as texts", () => { script("opened.mjs"); });
 test("its memory", () => { script("memory.mjs"); });
 test("fractions, lists and closing", () => { script("fractions.mjs"); });
 test("other notations", () => { script("notation.mjs"); });
