@@ -66,6 +66,7 @@ NEEDS = (
     Need("mypy", ["mypy"], has_module("mypy")),
     Need("valgrind", ["valgrind", "libc6-dbg"], lambda: has("valgrind")() and has_debug_library()),
     Need("cmake", ["cmake"], has("cmake"), True),
+    Need("cargo", ["cargo"], has("cargo"), True),
     Need("lintian", ["lintian"], has("lintian"), True),
     Need("twine", ["twine"], has("twine"), True),
     Need("mandoc", ["mandoc"], has("mandoc"), True),

@@ -1,0 +1,166 @@
+//! Exact numbers.
+
+use std::cmp::Ordering;
+use std::fmt;
+
+/// A whole number from 0 to 2^192 - 1, in three words, the greatest first.
+#[derive(Clone, Copy, Debug, Default, PartialEq, Eq, PartialOrd, Ord, Hash)]
+pub struct Whole(pub [u64; 3]);
+
+impl Whole {
+    /// The number of two words or three, the greatest first.
+    pub(crate) fn of<const N: usize>(words: [u64; N]) -> Whole {
+        let mut all = [0; 3];
+        all[3 - N..].copy_from_slice(&words);
+        Whole(all)
+    }
+
+    /// The power of 36, at most the 36th.
+    pub(crate) fn power_of_36(exponent: u32) -> Whole {
+        let mut power = Whole([0, 0, 1]);
+        for _ in 0..exponent {
+            let mut carry = 0;
+            for word in power.0.iter_mut().rev() {
+                let product = u128::from(*word) * 36 + carry;
+                *word = product as u64;
+                carry = product >> 64;
+            }
+        }
+        power
+    }
+
+    /// The sum, which is below 2^192.
+    pub(crate) fn plus(self, other: Whole) -> Whole {
+        let (mut sum, mut carry) = ([0; 3], 0);
+        for place in (0..3).rev() {
+            let word = u128::from(self.0[place]) + u128::from(other.0[place]) + carry;
+            sum[place] = word as u64;
+            carry = word >> 64;
+        }
+        Whole(sum)
+    }
+
+    /// Divided by a small number, and what is left.
+    fn divided(self, by: u64) -> (Whole, u64) {
+        let (mut quotient, mut rest) = ([0; 3], 0);
+        for (place, word) in self.0.iter().enumerate() {
+            let part = u128::from(rest) << 64 | u128::from(*word);
+            quotient[place] = (part / u128::from(by)) as u64;
+            rest = (part % u128::from(by)) as u64;
+        }
+        (Whole(quotient), rest)
+    }
+
+    /// Whether it is 0.
+    pub fn is_zero(self) -> bool {
+        self == Whole::default()
+    }
+
+    /// A double that is near to it.
+    pub fn as_f64(self) -> f64 {
+        const WORD: f64 = 18_446_744_073_709_551_616.0;
+        self.0.iter().fold(0.0, |sum, word| sum * WORD + *word as f64)
+    }
+}
+
+impl fmt::Display for Whole {
+    fn fmt(&self, formatter: &mut fmt::Formatter<'_>) -> fmt::Result {
+        const PART: u64 = 10_000_000_000_000_000_000;
+        let (mut parts, mut left) = (Vec::new(), *self);
+        while !left.is_zero() {
+            let (quotient, part) = left.divided(PART);
+            parts.push(part);
+            left = quotient;
+        }
+        let mut text = parts.pop().unwrap_or(0).to_string();
+        for part in parts.iter().rev() {
+            text += &format!("{:019}", part);
+        }
+        formatter.pad_integral(true, "", &text)
+    }
+}
+
+/// An exact number from 0 on, in lowest terms: of rolls, of pips, or a chance. As a text it is
+/// `5/4`, or `3` where it is whole.
+#[derive(Clone, Copy, Debug, PartialEq, Eq, Hash)]
+pub struct Fraction {
+    numerator: Whole,
+    denominator: Whole,
+}
+
+impl Fraction {
+    /// A fraction in lowest terms.
+    pub(crate) fn in_lowest_terms(numerator: Whole, denominator: Whole) -> Fraction {
+        Fraction { numerator, denominator }
+    }
+
+    /// A numerator over a power of 36, which has the prime factors 2 and 3 alone.
+    pub(crate) fn over_power_of_36(numerator: Whole, whole: Whole) -> Fraction {
+        if numerator.is_zero() {
+            return Fraction::in_lowest_terms(numerator, Whole([0, 0, 1]));
+        }
+        let (mut above, mut below) = (numerator, whole);
+        for factor in [2, 3] {
+            while let ((upper, 0), (lower, 0)) = (above.divided(factor), below.divided(factor)) {
+                above = upper;
+                below = lower;
+            }
+        }
+        Fraction::in_lowest_terms(above, below)
+    }
+
+    /// The numerator.
+    pub fn numerator(&self) -> Whole {
+        self.numerator
+    }
+
+    /// The denominator, which is not 0.
+    pub fn denominator(&self) -> Whole {
+        self.denominator
+    }
+
+    /// A double that is near to it: the relative error is below 1e-15.
+    pub fn as_f64(&self) -> f64 {
+        self.numerator.as_f64() / self.denominator.as_f64()
+    }
+}
+
+/// By their sizes, exactly.
+impl Ord for Fraction {
+    fn cmp(&self, other: &Fraction) -> Ordering {
+        product(self.numerator, other.denominator).cmp(&product(other.numerator, self.denominator))
+    }
+}
+
+impl PartialOrd for Fraction {
+    fn partial_cmp(&self, other: &Fraction) -> Option<Ordering> {
+        Some(self.cmp(other))
+    }
+}
+
+/// The product of two numbers, in six words, the greatest first.
+fn product(one: Whole, other: Whole) -> [u64; 6] {
+    let mut words = [0; 6];
+    for high in (0..3).rev() {
+        let mut carry = 0;
+        for low in (0..3).rev() {
+            let place = high + low + 1;
+            let sum = u128::from(one.0[high]) * u128::from(other.0[low])
+                + u128::from(words[place])
+                + carry;
+            words[place] = sum as u64;
+            carry = sum >> 64;
+        }
+        words[high] = carry as u64;
+    }
+    words
+}
+
+impl fmt::Display for Fraction {
+    fn fmt(&self, formatter: &mut fmt::Formatter<'_>) -> fmt::Result {
+        if self.denominator == Whole([0, 0, 1]) {
+            return self.numerator.fmt(formatter);
+        }
+        formatter.pad(&format!("{}/{}", self.numerator, self.denominator))
+    }
+}

@@ -1,0 +1,558 @@
+//! Exact answers of a proved backgammon bearoff database.
+//!
+//! A database is the bytes of a file that `bearoff build` writes, or what [`Database::build`]
+//! makes. It is checked when it is opened, and accepted exactly where it is right: every mean in
+//! it is the least over all strategies, the recorded plays reach these means, and the recorded
+//! shares are those of these plays. That is proved of the library for C that this crate links, and
+//! so is what each of its calls answers; this crate hands numbers over, and is tested.
+//!
+//! ```
+//! use bearoff::{Database, Position, Roll};
+//!
+//! # fn main() -> Result<(), bearoff::Error> {
+//! let database = Database::build(8)?;
+//! let six = Position::new([0, 0, 0, 0, 0, 1]);
+//! assert_eq!(database.mean(six)?.to_string(), "5/4");
+//! assert_eq!(database.epc(six)?.thousandths, 10208);
+//! let play = database.play("0,0,0,2,0,0".parse()?, Roll::new(2, 1))?;
+//! assert_eq!(play.to_string(), "4/2 2/1");
+//! # Ok(())
+//! # }
+//! ```
+//!
+//! A board file, which `bearoff build --board` writes, has the whole home board, to 90 pips;
+//! [`Database::open`] knows it by its header, and each call but [`Database::upgrade`] answers.
+
+#![warn(missing_docs)]
+
+mod calls;
+mod fraction;
+
+pub use fraction::{Fraction, Whole};
+
+use std::borrow::Cow;
+use std::fmt;
+use std::str::FromStr;
+use std::thread;
+
+/// How many checkers stand on the points 1 to 6 of the home board, the ace point first; the others
+/// are borne off. They are a position where they add up to at most 15. As a text it is
+/// `0,0,0,0,0,1`.
+#[derive(Clone, Copy, Debug, Default, PartialEq, Eq, Hash)]
+pub struct Position {
+    /// The counts.
+    pub points: [u8; 6],
+}
+
+impl Position {
+    /// The position of six counts.
+    pub const fn new(points: [u8; 6]) -> Position {
+        Position { points }
+    }
+
+    fn counts(self) -> calls::Counts {
+        calls::Counts { points: self.points }
+    }
+}
+
+impl From<[u8; 6]> for Position {
+    fn from(points: [u8; 6]) -> Position {
+        Position::new(points)
+    }
+}
+
+impl fmt::Display for Position {
+    fn fmt(&self, formatter: &mut fmt::Formatter<'_>) -> fmt::Result {
+        let [one, two, three, four, five, six] = self.points;
+        formatter.pad(&format!("{},{},{},{},{},{}", one, two, three, four, five, six))
+    }
+}
+
+/// Six counts with commas between them, and blanks where they are wanted.
+impl FromStr for Position {
+    type Err = Error;
+
+    fn from_str(text: &str) -> Result<Position, Error> {
+        let counts: Result<Vec<u8>, _> = text.split(',').map(|it| it.trim().parse()).collect();
+        let points = counts.ok().and_then(|counts| counts.try_into().ok());
+        points.map(Position::new).ok_or(Error::BadText)
+    }
+}
+
+/// The two dice of a roll, in either order. They are a roll where each is 1 to 6.
+#[derive(Clone, Copy, Debug, PartialEq, Eq, Hash)]
+pub struct Roll {
+    /// One die.
+    pub one: u8,
+    /// The other die.
+    pub other: u8,
+}
+
+impl Roll {
+    /// The roll of two dice.
+    pub const fn new(one: u8, other: u8) -> Roll {
+        Roll { one, other }
+    }
+}
+
+/// One checker's move: from a point, 1 to 6, to a lower one, or to 0 where it is borne off.
+#[derive(Clone, Copy, Debug, PartialEq, Eq, Hash)]
+pub struct Move {
+    /// The point where it stood.
+    pub from: u8,
+    /// The point where it goes, or 0.
+    pub to: u8,
+}
+
+/// A play: its moves in the order in which they are made, and the position that it leads to. As a
+/// text it is `4/2 2/1`, and `6/off` where a checker is borne off.
+#[derive(Clone, Debug, PartialEq, Eq, Hash)]
+pub struct Play {
+    /// Its moves, 1 to 4.
+    pub moves: Vec<Move>,
+    /// The position that it leads to.
+    pub to: Position,
+}
+
+impl fmt::Display for Play {
+    fn fmt(&self, formatter: &mut fmt::Formatter<'_>) -> fmt::Result {
+        let moves: Vec<String> = self
+            .moves
+            .iter()
+            .map(|it| match it.to {
+                0 => format!("{}/off", it.from),
+                to => format!("{}/{}", it.from, to),
+            })
+            .collect();
+        formatter.pad(&moves.join(" "))
+    }
+}
+
+/// A position that a roll can lead to, and what it costs, in rolls, beside the best one.
+#[derive(Clone, Copy, Debug, PartialEq, Eq, Hash)]
+pub struct Choice {
+    /// The position.
+    pub to: Position,
+    /// The least mean after it less the least such mean among all positions of the roll.
+    pub loss: Fraction,
+}
+
+/// An effective pip count, in pips: 49/6 for each roll of the mean.
+#[derive(Clone, Copy, Debug, PartialEq, Eq, Hash)]
+pub struct EffectivePips {
+    /// The exact number.
+    pub exact: Fraction,
+    /// The number in thousandths, rounded to the nearest and a half up.
+    pub thousandths: u64,
+}
+
+/// What a position stands at.
+#[derive(Clone, Copy, Debug, PartialEq, Eq, Hash)]
+pub struct Standing {
+    /// Its pip count, 0 to 90.
+    pub pips: u8,
+    /// Its checkers, 0 to 15.
+    pub checkers: u8,
+    /// How many of 15 are borne off.
+    pub off: u8,
+}
+
+/// Why there is no answer.
+#[derive(Clone, Debug, PartialEq, Eq)]
+#[non_exhaustive]
+pub enum Error {
+    /// The bytes are no right database; the line names their first fault, as in `mean rank 1`.
+    Damaged {
+        /// The status of the library, 16 to 27.
+        status: u32,
+        /// The line of the fault.
+        line: String,
+    },
+    /// The text is not six counts with commas between them.
+    BadText,
+    /// The library has no answer, by its status: 2 where a die is not 1 to 6, 3 of more than 15
+    /// checkers, 4 of more pips than the bound, 5 where no checker is left, 6 where the roll
+    /// doesn't lead there, 9 where a file that is to be upgraded is not of version 1.
+    Refused {
+        /// The status of the library.
+        status: u32,
+    },
+    /// A thread, in which a database is opened or built, can't be had.
+    NoThread,
+}
+
+impl fmt::Display for Error {
+    fn fmt(&self, formatter: &mut fmt::Formatter<'_>) -> fmt::Result {
+        match self {
+            Error::Damaged { line, .. } => write!(formatter, "no right database: {}", line),
+            Error::BadText => formatter.write_str("not six counts with commas between them"),
+            Error::Refused { status } => formatter.write_str(&status_text(*status)),
+            Error::NoThread => formatter.write_str("there is no thread to open a database in"),
+        }
+    }
+}
+
+impl std::error::Error for Error {}
+
+fn status_text(status: u32) -> String {
+    let (mut text, mut needed) = ([0; calls::STATUS_TEXT], 0);
+    // the room is that of any text
+    unsafe {
+        calls::bearoff_status_text(status, text.as_mut_ptr(), text.len(), &mut needed);
+    }
+    String::from_utf8_lossy(&text[..needed.min(text.len())]).into_owned()
+}
+
+fn told(status: u32) -> Result<(), Error> {
+    match status {
+        calls::OK => Ok(()),
+        status => Err(Error::Refused { status }),
+    }
+}
+
+/// A database that was checked and accepted, over bytes that it owns or borrows. It may be asked
+/// from any thread.
+///
+/// Each question about a position is refused where it has more than 15 checkers or more pips than
+/// the bound.
+pub struct Database<'a> {
+    // nobody changes the bytes or the struct while this lives, and neither moves with it
+    bytes: Cow<'a, [u8]>,
+    opened: Box<calls::Opened>,
+    is_board: bool,
+}
+
+// what the pointer in the struct leads to belongs to the same value, and is only read
+unsafe impl Send for Database<'_> {}
+unsafe impl Sync for Database<'_> {}
+
+/// What a call writes, where it has an answer.
+fn answered<T>(before: T, call: impl FnOnce(*mut T) -> u32) -> Result<T, Error> {
+    let mut answer = before;
+    told(call(&mut answer))?;
+    Ok(answer)
+}
+
+/// Runs what wants so much stack in a thread that has it.
+fn on_stack<T: Send>(stack: usize, run: impl FnOnce() -> T + Send) -> Result<T, Error> {
+    thread::scope(|scope| {
+        let thread = thread::Builder::new().stack_size(stack + (1 << 20));
+        let running = thread.spawn_scoped(scope, run).map_err(|_| Error::NoThread)?;
+        running.join().map_err(|_| Error::NoThread)
+    })
+}
+
+/// Memory that goes into a thread that is waited for.
+struct Lent<T>(T);
+unsafe impl<T> Send for Lent<T> {}
+
+impl<'a> Database<'a> {
+    /// Checks the bytes of a file and opens it, a board file where its header says so: 0.2 s for
+    /// 44 pips. They are bytes that are lent, or a `Vec` of the database's own.
+    pub fn open(bytes: impl Into<Cow<'a, [u8]>>) -> Result<Database<'a>, Error> {
+        let bytes = bytes.into();
+        let is_board = bytes.get(..10) == Some(b"EPCTABLE\0\x03");
+        let mut opened = calls::Opened::closed();
+        let (mut line, mut needed) = ([0; calls::LINE], 0);
+        let lent = Lent((&mut *opened, &bytes[..], &mut line, &mut needed));
+        let status = on_stack(calls::OPEN_STACK, move || {
+            let Lent((at, bytes, line, needed)) = { lent };
+            let (from, length) = (bytes.as_ptr(), bytes.len());
+            let (to, room) = (line.as_mut_ptr(), line.len());
+            // the struct, the bytes and the room outlive the call, which changes no byte
+            unsafe {
+                if is_board {
+                    calls::bearoff_board_open(at, from, length, to, room, needed)
+                } else {
+                    calls::bearoff_open(at, from, length, to, room, needed)
+                }
+            }
+        })?;
+        if status != calls::OK {
+            let line = String::from_utf8_lossy(&line[..needed.min(line.len())]).into_owned();
+            return Err(Error::Damaged { status, line });
+        }
+        Ok(Database { bytes, opened, is_board })
+    }
+
+    /// The bytes of its file.
+    pub fn bytes(&self) -> &[u8] {
+        &self.bytes
+    }
+
+    fn at(&self) -> *const calls::Opened {
+        &*self.opened
+    }
+
+    /// The version of its file: 1, or 2 where the records leave out the shares that are known, or 3
+    /// of a board file.
+    pub fn version(&self) -> u16 {
+        u16::from_be_bytes([self.bytes[8], self.bytes[9]])
+    }
+
+    /// The greatest pip count of its positions.
+    pub fn bound(&self) -> u8 {
+        u8::from_be_bytes([self.bytes[11]])
+    }
+
+    /// How many positions it has: those of at most its bound.
+    pub fn positions(&self) -> u32 {
+        u32::from_be_bytes([self.bytes[12], self.bytes[13], self.bytes[14], self.bytes[15]])
+    }
+
+    /// What its means and shares are numerators over: 36^22, or 36^33 of a board file.
+    pub fn whole(&self) -> Whole {
+        Whole::power_of_36(if self.is_board { 33 } else { 22 })
+    }
+
+    fn over_whole<const N: usize>(&self, words: [u64; N]) -> Fraction {
+        Fraction::over_power_of_36(Whole::of(words), self.whole())
+    }
+
+    /// The least mean number of rolls until all checkers are off, over all strategies.
+    pub fn mean(&self, position: Position) -> Result<Fraction, Error> {
+        if self.is_board {
+            let mean = self.asked([0; 3], position, calls::bearoff_board_mean)?;
+            return Ok(self.over_whole(mean));
+        }
+        Ok(self.over_whole(self.asked([0; 2], position, calls::bearoff_mean)?))
+    }
+
+    /// The effective pip count.
+    pub fn epc(&self, position: Position) -> Result<EffectivePips, Error> {
+        if self.is_board {
+            return Ok(self.asked(calls::Pips::none(), position, calls::bearoff_board_epc)?.into());
+        }
+        Ok(self.asked(calls::Pips::none(), position, calls::bearoff_epc)?.into())
+    }
+
+    /// The effective pip count less the pip count, in thousandths of a pip; of few positions it is
+    /// below 0.
+    pub fn wastage(&self, position: Position) -> Result<i64, Error> {
+        let epc = self.epc(position)?.thousandths as i64;
+        Ok(epc - 1000 * i64::from(standing(position)?.pips))
+    }
+
+    /// The chances of being off in exactly 0 to 22 rolls, of a board file 0 to 33, by the recorded
+    /// plays. They add up to 1.
+    pub fn distribution(&self, position: Position) -> Result<Vec<Fraction>, Error> {
+        Ok(self.shares(position)?.into_iter().map(|share| self.over_whole(share.0)).collect())
+    }
+
+    /// The chance of being off in at most so many rolls, by the recorded plays.
+    pub fn within(&self, position: Position, rolls: usize) -> Result<Fraction, Error> {
+        let shares = self.shares(position)?;
+        let some = shares.into_iter().take(rolls.saturating_add(1));
+        let sum = some.fold(Whole::default(), Whole::plus);
+        Ok(Fraction::over_power_of_36(sum, self.whole()))
+    }
+
+    fn shares(&self, position: Position) -> Result<Vec<Whole>, Error> {
+        if self.is_board {
+            let call = calls::bearoff_board_distribution;
+            let shares = self.asked([[0; 3]; 34], position, call)?;
+            return Ok(shares.iter().copied().map(Whole::of).collect());
+        }
+        let shares = self.asked([[0; 2]; 23], position, calls::bearoff_distribution)?;
+        Ok(shares.iter().copied().map(Whole::of).collect())
+    }
+
+    /// What a call says of a position.
+    fn asked<T>(&self, none: T, of: Position, call: calls::OfPosition<T>) -> Result<T, Error> {
+        let (at, of) = (self.at(), of.counts());
+        // the struct is of an open database of the call's kind, and all outlives the call; so in
+        // each call below
+        answered(none, |it| unsafe { call(at, &of, it) })
+    }
+
+    /// The recorded play of a roll: none has a smaller mean, and others may be as good.
+    pub fn play(&self, position: Position, roll: Roll) -> Result<Play, Error> {
+        let (at, of) = (self.at(), position.counts());
+        let call = if self.is_board { calls::bearoff_board_play } else { calls::bearoff_play };
+        let none = calls::Play::default();
+        Ok(answered(none, |it| unsafe { call(at, &of, roll.one, roll.other, it) })?.into())
+    }
+
+    /// What a play to `to` costs, in rolls, beside the best one. It is 0 for a best play.
+    pub fn loss(&self, position: Position, roll: Roll, to: Position) -> Result<Fraction, Error> {
+        if self.is_board {
+            return self.loss_by(calls::bearoff_board_loss, position, roll, to);
+        }
+        self.loss_by(calls::bearoff_loss, position, roll, to)
+    }
+
+    fn loss_by<const N: usize>(
+        &self,
+        call: calls::Loss<N>,
+        position: Position,
+        roll: Roll,
+        to: Position,
+    ) -> Result<Fraction, Error> {
+        let (at, of, to) = (self.at(), position.counts(), to.counts());
+        let none = calls::Fraction::none();
+        Ok(answered(none, |it| unsafe { call(at, &of, roll.one, roll.other, &to, it) })?.into())
+    }
+
+    /// Every position that a roll can lead to, once, the best first, and of equal ones that of the
+    /// lower rank first.
+    pub fn moves(&self, position: Position, roll: Roll) -> Result<Vec<Choice>, Error> {
+        if self.is_board {
+            return self.moves_by(calls::bearoff_board_moves, position, roll);
+        }
+        self.moves_by(calls::bearoff_results, position, roll)
+    }
+
+    fn moves_by<const N: usize>(
+        &self,
+        call: calls::Moves<N>,
+        position: Position,
+        roll: Roll,
+    ) -> Result<Vec<Choice>, Error> {
+        let (at, of) = (self.at(), position.counts());
+        let (mut results, mut count) = ([calls::Choice::none(); calls::RESULTS], 0);
+        let (room, length) = (results.as_mut_ptr(), results.len());
+        told(unsafe { call(at, &of, roll.one, roll.other, room, length, &mut count) })?;
+        let mut choices: Vec<Choice> = results[..count].iter().copied().map(Choice::from).collect();
+        // they come by rising rank, or of a board by rising loss; sorting leaves equal ones in order
+        choices.sort_by_key(|choice| choice.loss);
+        Ok(choices)
+    }
+
+    /// What `bearoff query` writes for a line, as `mean 0,0,0,0,0,1`, without a line ending. A line
+    /// that asks nothing, or is refused, is answered too, by a text that begins with `error`.
+    pub fn answer(&self, line: impl AsRef<[u8]>) -> Result<String, Error> {
+        let (at, line) = (self.at(), line.as_ref());
+        let call = if self.is_board {
+            calls::bearoff_board_answer_line
+        } else {
+            calls::bearoff_answer_line
+        };
+        let (mut text, mut needed) = (vec![0; calls::REPLY], 0);
+        told(unsafe {
+            call(at, line.as_ptr(), line.len(), text.as_mut_ptr(), text.len(), &mut needed)
+        })?;
+        text.truncate(needed);
+        Ok(String::from_utf8_lossy(&text).into_owned())
+    }
+
+    /// The rank of a position: how many are before it, which are those of fewer pips, and of as
+    /// many those with the smaller counts, that of the ace point first.
+    pub fn rank(&self, position: Position) -> Result<u16, Error> {
+        // refused as every question about a position is
+        self.mean(position)?;
+        let reply = self.answer(format!("rank {}", position))?;
+        let rank = reply.strip_prefix("rank ").and_then(|rank| rank.parse().ok());
+        rank.ok_or(Error::BadText)
+    }
+
+    /// The bytes of a file of version 2 that says the same. Refused where its own is of version 2
+    /// already, or a board file.
+    pub fn upgrade(&self) -> Result<Vec<u8>, Error> {
+        let length = self.bytes.len();
+        let (mut work, mut room, mut filled) = (vec![0; length], vec![0; length], 0);
+        let lent = Lent((&self.bytes[..], &mut work[..], &mut room[..], &mut filled));
+        let status = on_stack(calls::OPEN_STACK, move || {
+            let Lent((bytes, work, room, filled)) = { lent };
+            let (from, to) = (bytes.as_ptr(), room.as_mut_ptr());
+            // three rooms that don't meet
+            unsafe {
+                calls::bearoff_upgrade(from, length, work.as_mut_ptr(), length, to, length, filled)
+            }
+        })?;
+        told(status)?;
+        room.truncate(filled);
+        Ok(room)
+    }
+}
+
+impl Database<'static> {
+    /// Builds the database of a pip bound, 0 to 58, or the board file of one of 59 to 90, and checks
+    /// it: some tenths of a second. Refused where the bound is over 90.
+    pub fn build(bound: u8) -> Result<Database<'static>, Error> {
+        const LAST_DATABASE_BOUND: u8 = 58;
+        let is_board = bound > LAST_DATABASE_BOUND;
+        let size = if is_board { calls::BOARD_FILE } else { calls::FILE };
+        let (mut room, mut filled) = (vec![0; size], 0);
+        let mut work = vec![0; if is_board { 0 } else { size }];
+        let lent = Lent((&mut work[..], &mut room[..], &mut filled));
+        let status = on_stack(calls::BUILD_STACK, move || {
+            let Lent((work, room, filled)) = { lent };
+            let to = room.as_mut_ptr();
+            // two rooms that don't meet
+            unsafe {
+                if is_board {
+                    calls::bearoff_board_build(bound, to, size, filled)
+                } else {
+                    calls::bearoff_build(bound, work.as_mut_ptr(), size, to, size, filled)
+                }
+            }
+        })?;
+        told(status)?;
+        room.truncate(filled);
+        Database::open(room)
+    }
+}
+
+impl fmt::Debug for Database<'_> {
+    fn fmt(&self, formatter: &mut fmt::Formatter<'_>) -> fmt::Result {
+        let mut shown = formatter.debug_struct("Database");
+        shown.field("version", &self.version()).field("bound", &self.bound());
+        shown.field("positions", &self.positions()).finish()
+    }
+}
+
+/// The first play of a roll that leads from one position to another, good or not. It needs no
+/// database. Refused where a die is not 1 to 6, a position has more than 15 checkers, or the roll
+/// doesn't lead there.
+pub fn play_to(position: Position, roll: Roll, to: Position) -> Result<Play, Error> {
+    let (of, to) = (position.counts(), to.counts());
+    let play = answered(calls::Play::default(), |it| unsafe {
+        calls::bearoff_play_to(&of, roll.one, roll.other, &to, it)
+    })?;
+    Ok(play.into())
+}
+
+/// What a position stands at. Refused where it has more than 15 checkers.
+pub fn standing(position: Position) -> Result<Standing, Error> {
+    let of = position.counts();
+    let stand =
+        answered(calls::Stand::default(), |it| unsafe { calls::bearoff_standing(&of, it) })?;
+    Ok(Standing { pips: stand.pips, checkers: stand.checkers, off: stand.off })
+}
+
+/// The version of the library that is linked, as `1.2.3`.
+pub fn library_version() -> String {
+    let [mut major, mut minor, mut patch] = [0; 3];
+    unsafe {
+        calls::bearoff_library_version(&mut major, &mut minor, &mut patch);
+    }
+    format!("{}.{}.{}", major, minor, patch)
+}
+
+impl<const N: usize> From<calls::Fraction<N>> for Fraction {
+    fn from(told: calls::Fraction<N>) -> Fraction {
+        Fraction::in_lowest_terms(Whole::of(told.numerator), Whole::of(told.denominator))
+    }
+}
+
+impl<const N: usize> From<calls::Pips<N>> for EffectivePips {
+    fn from(told: calls::Pips<N>) -> EffectivePips {
+        EffectivePips { exact: told.exact.into(), thousandths: told.thousandths }
+    }
+}
+
+impl<const N: usize> From<calls::Choice<N>> for Choice {
+    fn from(told: calls::Choice<N>) -> Choice {
+        Choice { to: Position::new(told.to.points), loss: told.loss.into() }
+    }
+}
+
+impl From<calls::Play> for Play {
+    fn from(told: calls::Play) -> Play {
+        let moves = told.moves[..usize::from(told.count)].iter();
+        Play {
+            moves: moves.map(|it| Move { from: it.from, to: it.to }).collect(),
+            to: Position::new(told.to.points),
+        }
+    }
+}
