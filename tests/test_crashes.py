@@ -706,16 +706,19 @@ class TestStraight:
     @pytest.mark.parametrize("second", ["build --pips 8", "build --board", "upgrade old"])
     @pytest.mark.parametrize("first", ["build --pips 44", "build --board"])
     def test_a_second_run(self, straight, strace, first, second):
-        """The first run is stopped behind its first write into the file. The second one is refused,
-        and what stands at the end is what the first one writes."""
-        stop = ("-D", "-qq", "-e", "trace=write", "-e", "inject=write:signal=SIGSTOP:when=1")
-        child = self.start(first, "strace", *stop)
+        """The first run is stopped once it has changed the file: behind its first write, or, of a
+        board file, which is written by one, once the file is empty. The second one is refused, and
+        what stands at the end is what the first one writes."""
+        call = "write" if "--pips" in first else "ftruncate"
+        stop = ("-e", f"trace={call}", "-e", f"inject={call}:signal=SIGSTOP:when=1")
+        child = self.start(first, "strace", "-D", "-qq", *stop)
         assert any(b"--- stopped by SIGSTOP ---" in line for line in child.stderr)
         stands = bytes_of(self.file)
         came, stood = self.ended(self.start(second)), bytes_of(self.file)
         child.send_signal(signal.SIGCONT)
         assert self.ended(child)[:2] == (0, self.written[first][1])
-        assert 0 < len(stands) < len(self.written[first][0]), "it was not stopped on the way"
+        assert stands != self.old
+        assert len(stands) < len(self.written[first][0]), "it was not stopped on the way"
         assert (came, stood) == (self.REFUSED, stands)
         assert bytes_of(self.file) == self.written[first][0]
 
