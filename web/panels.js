@@ -196,6 +196,12 @@ export function verdict({ isMiss, first, all, exact }, act) {
             "Count anew"));
 }
 
+// Why the play that was guessed loses, beside the best one.
+export const reasons = (says) => says.length > 0 && [
+    h("h3", {}, "Yours and the best"),
+    h("ul", {}, says.map((sentence) => h("li", {}, sentence))),
+];
+
 const TOLD = [["mean", "Mean"], ["effective", "EPC"], ["wastage", "Wastage"]];
 
 const named = (points) => points.join(" ");

@@ -48,6 +48,7 @@ export function begin(link, lessons = []) {
         isGivenUp: false, // whether something needed it then
         trouble: "", // what went wrong, in words
         answers: new Map(), // what the open database says of a position
+        why: null, // and of a play that was guessed and loses: which one, and the sentences
         rolls: new Map(), // and of its 21 rolls
         said: "", // what is read aloud
         notice: "", // what a link has that can't be taken, or what has ended
@@ -156,6 +157,20 @@ export const chosenOf = (state) => rollsOf(state)?.find(({ dice }) => sameRoll(d
 export const guessOf = (state, roll = state.roll) =>
     (isAgain(state) ? state.again : state.guesses)
         .find((guess) => guess.at === keyOf(state.points) && sameRoll(guess.roll, roll));
+
+// The guess of the chosen roll where one trains, and it is a miss, or null.
+function missOf(state) {
+    const guess = state.guess && isTraining(state) && guessOf(state);
+    return guess && isMiss(guess.play) ? guess : null;
+}
+
+const missKey = ({ at, roll, play }) => [at, roll.join(), play.text].join(" ");
+
+// Why it loses, sentence by sentence, once that is known.
+export function reasonsFor(state) {
+    const miss = missOf(state);
+    return miss && state.why?.key === missKey(miss) ? state.why.says : [];
+}
 
 // Whether the answer for a roll is hidden, since it is to be guessed.
 export const hides = (state, roll = state.roll) => state.guess && !guessOf(state, roll);
@@ -272,6 +287,10 @@ export function wanted(state) {
     if (!answer.refusal && !rollsOf(state)) return { kind: "rolls", points };
     const kept = state.kept.find((entry) => !answerOf(state, entry.points));
     if (kept) return { kind: "ask", points: kept.points };
+    const miss = missOf(state);
+    if (miss && state.why?.key !== missKey(miss)) {
+        return { kind: "why", points, roll: miss.roll, to: miss.play.to, key: missKey(miss) };
+    }
     const { drill, questions, picks } = state;
     if (!drill || state.database.bound < mostOf(drill)) return null;
     if (!questions) return { kind: "draw", drill };
@@ -377,6 +396,7 @@ export function received(state, database, question, reply) {
         return question.picks === state.picks
             ? arrived(resumed({ ...state, picks: null }, question.picks, reply)) : state;
     }
+    if (question.kind === "why") return { ...state, why: { key: question.key, says: reply } };
     const key = keyOf(question.points);
     if (question.kind === "rolls") {
         return { ...state, rolls: stillShown(new Map([[key, reply]]), state) };

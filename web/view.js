@@ -5,14 +5,16 @@ import { pipsOf } from "./points.js";
 import { h } from "./tree.js";
 import { board, compared, played, watched } from "./board.js";
 import { editor } from "./editor.js";
-import { chances, COMING, kept, numbers, plays, rolls, verdict } from "./panels.js";
+import {
+    chances, COMING, kept, numbers, plays, reasons, rolls, verdict,
+} from "./panels.js";
 import {
     coach, estimateField, estimateTold, printed, steering, thumb, training,
 } from "./training.js";
 import {
     answerOf, asksNumber, byLoss, chosenOf, drillKey, hasBegun, hides, hidesNumbers, isAwaited,
     isComing, isFull, isKept, isTraining, lessonOf, lostPips, makingOf, needsMore, orderOf,
-    rollsOf, shownPlay, verdictOf,
+    reasonsFor, rollsOf, shownPlay, verdictOf,
 } from "./state.js";
 
 // What stands in the place of numbers that a lesson asks for.
@@ -50,6 +52,7 @@ export function view(state, act) {
                 : trains && told && shown && !shown.isBest
                     ? compared(points, shown, byLoss(chosen)[0])
                 : trains ? watched(points, moves) : board(points, moves, act),
+            reasons: reasons(reasonsFor(state)),
             coach: coach(state, act),
             steering: steering(state, making, told, act),
             printed: printed(state),
@@ -98,6 +101,7 @@ export function view(state, act) {
             chances: !hasChances,
             rolls: !hasRolls,
             keeping: state.kept.length === 0,
+            reasons: reasonsFor(state).length === 0,
             why: !typed,
         },
         counts: typed ? typed.text : points.join(),

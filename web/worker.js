@@ -5,6 +5,7 @@ import { chancesOf, choicesOf, playsOf, roundedOf, signedOf } from "./answers.js
 import { ROLLS } from "./rolls.js";
 import { REFUSALS } from "./texts.js";
 import { drawQuestions, mostOf } from "./trainer.js";
+import { reasonsOf } from "./why.js";
 
 // The numbers of a position. Over the bound, or with too many checkers, only why there are none.
 export function answer(database, points) {
@@ -90,7 +91,7 @@ export class Desk {
         return { bound: database.bound, positions: database.positionCount };
     }
 
-    async take({ kind, file, points, drill, picks }) {
+    async take({ kind, file, points, drill, picks, roll, to }) {
         switch (kind) {
             case "open":
                 this.tell({ from: 0.1, until: 1, usual: 400, text: "Checking the file\u2026" });
@@ -103,6 +104,8 @@ export class Desk {
                 return drawn(this.database, drill);
             case "again":
                 return again(this.database, picks);
+            case "why":
+                return reasonsOf(this.database, points, roll, to);
             default:
                 throw new Error("no such question");
         }

@@ -170,10 +170,11 @@ export class Worker {
     async answerAll(bound = 44) {
         await settled();
         while (this.asked.length > 0) {
-            const { kind, points, drill, picks } = this.asked[0].question;
+            const { kind, points, drill, picks, roll, to } = this.asked[0].question;
             const plays = this.plays || rollsFrom;
             await this.answer({
                 ask: answerTo, rolls: plays, draw: () => drawFrom(drill), again: () => playedBefore(picks, plays),
+                why: () => whyFrom(points, roll, to),
             }[kind](points, bound));
         }
     }
@@ -254,6 +255,9 @@ export function legalFrom(points) {
         };
     });
 }
+
+// Sentences about a play that loses.
+export const whyFrom = (points, roll, to) => [`Why ${points} with ${roll} to ${to}.`, "And so on."];
 
 // What was chosen before the page was loaded anew.
 export const playedBefore = ({ guesses, again, estimates, estimatesAgain }, plays) => ({

@@ -14,7 +14,7 @@ import { thumb } from "../../web/training.js";
 import { textOf } from "../../web/tree.js";
 import { equal as same, part as test, wrong as fault } from "./given.mjs";
 import { reachedBy, ways } from "../../web/steps.js";
-import { answerTo, newDocument, drawFrom, legalFrom, pipsOf, rollsFrom, settled, Window, Worker, tell } from "./stand_in.mjs";
+import { answerTo, newDocument, drawFrom, legalFrom, pipsOf, rollsFrom, settled, whyFrom, Window, Worker, tell } from "./stand_in.mjs";
 
 globalThis.Worker = Worker;
 let part = "";
@@ -1800,6 +1800,51 @@ async function pictures() {
     }
 }
 
+// What is said of a play that loses stands beside it alone, and comes late.
+async function reasons() {
+    part = "why a play loses";
+    const used = await Used.open("#drill=gaps&seed=7&ask=play");
+    const [one, two] = drawFrom({ theme: "gaps", seed: 7, ask: "play" });
+    const says = () => (used.at("reasons").hidden ? null
+        : [...used.at("reasons").querySelectorAll("li")].map((node) => node.textContent));
+    const losing = ({ roll: [high, low] }) => `play ${high}/1 ${low}/2`;
+    equal("before a play", says(), null);
+    used.click(losing(one));
+    await settled();
+    const asked = used.worker.asked.map(({ question }) => question.kind);
+    equal("what is asked then", [asked, says(), used.text("next question"), used.focus()], [["why"], null, "Next", "next question"]);
+    await used.worker.answerAll(44);
+    const { to } = used.session.state.guesses[0].play;
+    equal("once it is known", [says(), used.focus()], [whyFrom(one.points, one.roll, to), "next question"]);
+    equal("in the words of both", used.at("reasons").querySelector("h3").textContent, "Yours and the best");
+    await used.clicked("next question");
+    equal("not beside the next question", says(), null);
+    const [high, low] = two.roll;
+    await used.clicked(`play ${high}/off ${low}/0`);
+    equal("nothing of the best play", [says(), used.worker.asked.length], [null, 0]);
+    await used.clicked("previous question");
+    equal("the former question has its own again", says(), whyFrom(one.points, one.roll, to));
+    used.window.type(used.find("look around").getAttribute("href"));
+    await used.worker.answerAll(44);
+    equal("nothing where one looks around", says(), null);
+    used.window.go(-1);
+    await used.worker.answerAll(44);
+    while (used.session.state.place < 2) await used.clicked("next question");
+    const three = used.session.state.questions[2];
+    used.click(losing(three));
+    used.click("next question");
+    await used.worker.answerAll(44);
+    equal("what comes too late is shown nowhere", says(), null);
+    await used.clicked("previous question");
+    equal("and there it is", says(), whyFrom(three.points, three.roll, used.session.state.guesses.at(-1).play.to));
+
+    const free = await Used.open("#at=2,2,2,2,2,2");
+    await free.clicked("roll 31");
+    await free.clicked("guess");
+    await free.clicked("play 3/1 1/2");
+    equal("nothing where nobody trains", [free.at("reasons").hidden, free.session.state.why], [true, null]);
+}
+
 // Those that take seconds stand last. The variable FIRST names one that comes before the others.
 const PARTS = [
     ["paper", paper],
@@ -1812,6 +1857,7 @@ const PARTS = [
     ["clicks", clicks],
     ["keys", keys],
     ["guesses", guesses],
+    ["why a play loses", reasons],
     ["a guess on the board", guessed],
     ["keeping", keeping],
     ["lessons", lessons],
