@@ -397,6 +397,7 @@ def source_words():
         "c",
         "python",
         "js",
+        "rust",
         "web",
         "tests",
         "packaging",

@@ -108,8 +108,8 @@ def test_the_version_of_the_archives_program(release):
 
 def test_the_files_of_the_archive(release):
     listed = succeed(ROOT / "packaging/put_down", "--list").decode().splitlines()
-    rust = ["Cargo.toml", "README.md", "build.rs", "src/lib.rs", "tests/answers.rs"]
-    for name in [*listed, "CHANGELOG.md", "PROVENANCE.md", *(f"rust/{name}" for name in rust)]:
+    rust = ["rust/Cargo.toml", "rust/build.rs", "rust/src/lib.rs", "rust/tests/answers.rs"]
+    for name in [*listed, "CHANGELOG.md", "PROVENANCE.md", *rust]:
         file = release.tree / name
         assert file.exists() and file.stat().st_size > 0, f"the archive has no {name}"
 
