@@ -1488,7 +1488,7 @@ const PICTURED = [
     ["beginning", "#at=0,0,0,3,5,7&roll=22", ".plays .cost", ""],
     ["beginning lesson", "#lesson=16", '[data-key="answer"]', `document.querySelector('[data-key="answer"]').click()`, ".figures"],
     ["beginning play", "#lesson=16&step=4", "#board .source", `document.querySelector("#board .source").dispatchEvent(new MouseEvent("click", { bubbles: true }))`, "#board .target"],
-    ["drill", "#drill=all&seed=31&ask=play&level=hard", "#board .source", `document.querySelector(".plays button:last-child").click()`, "#steering .verdict"],
+    ["drill", "#drill=all&seed=31&ask=play&level=hard", "#board .source", `document.querySelector(".plays button:last-child").click()`, "#reasons li"],
     ["estimate", "#drill=all&seed=31&ask=effective", ".estimate input", `document.querySelector(".estimate input").value = "40"; document.querySelector('[data-key="tell"]').click()`, "#numbers .verdict"],
     ["guess", "#at=2,2,2,2,2,2&roll=31&guess=1", "#board .source", `document.querySelector("#board .source").dispatchEvent(new MouseEvent("click", { bubbles: true }))`, "#board .target"],
     ["editor", "#at=0,0,0,1,0,1&t=Two checkers&p=0,0,0,1,0,1&c=Four and six&p=3,0,0,0,0,0&c=Three on the ace point", '[data-key="draft begin"]', `document.querySelector('[data-key="draft begin"]').click()`, "#draft label"],
