@@ -1,5 +1,5 @@
 -- What the record of a play can hold, where each record of lower rank was accepted.
-use Rattle.std.proofs.Common.{◌≡◌, ⊎_elim, ℕ, zero, suc, ◌+◌, ◌*◌, ◌%◌, ◌^◌, ◌<◌, ◌≤◌, List}
+use Rattle.std.proofs.Common.{◌≡◌, ⊎_elim, ℕ, zero, suc, ◌+◌, ◌*◌, ◌<◌, ◌≤◌, List}
 use Rattle.std.proofs.Common.{get_or, sum, sym, ap, subst, ◌∙◌, arith}
 use Rattle.std.proofs.lemmas.Bool.{cases_lt}
 use Rattle.race_model.specs.Positions.{Board, IsPosition, IsFinished, checkers, pips}
@@ -15,8 +15,9 @@ use Rattle.race_model.proofs.RightFiles.Bounded.{recorded_lower, mean_at_most}
 use Rattle.fixed_fraction.specs.Totals.{Totals}
 use Rattle.fixed_fraction.proofs.Shares.{share_at_most_sum}
 use Rattle.certificate.specs.RecordNumbers.{shares_of, recorded_mean, recorded_share, AreSumsOf}
+use Rattle.certificate.specs.Addends.{IsAddend}
 use Rattle.certificate.specs.Sevens.{AreSevenAdded}
-use Rattle.certificate.proofs.RecordBytes.{share-of_record, get_or-shares_of}
+use Rattle.certificate.proofs.RecordBytes.{mean-of_record, share-of_record, get_or-shares_of}
 use Rattle.certificate.proofs.Sevens.{first_seven, next_seven, last_seven, first_ranks, next_ranks, last_ranks}
 use Rattle.certificate.proofs.Sevens.{weighted-sevens, sevens-added}
 use Rattle.certificate.proofs.Lower.{count_of-beyond, count_of-before, throw_takes, shares_whole}
@@ -81,39 +82,40 @@ module _ (f : List ℕ) (x : Board) (at : IsPosition x) (short : pips x ≤ 58)
         play-total,
       )
 
+  -- so its numbers can be added
+  pub play-addend : IsAddend 0 23 (record_at f (play f x v))
+  play-addend = record {
+    mean = omega (arith, mean-of_record f (play f x v), play-mean);
+    shares = λ k from few.
+        let small = play-small k few in
+        omega (arith, share-of_record f (play f x v) k, small);
+  }
+
 -- what is recorded for the 21 rolls of an unfinished position, by the recorded ranks
 module _ (f : List ℕ) (x : Board) (at : IsPosition x) (short : pips x ≤ 58)
     (lower : (z : Board) → IsPosition z → rank z < rank x → IsLocalAt f z)
     (unfinished : ¬ IsFinished x) (recorded : List ℕ)
     (read : (i : ℕ) → i < 21 → get_or recorded i 0 ≡ play f x (roll_at i))
     (played : (i : ℕ) → i < 21 → IsPlayed f x (roll_at i)) where
-  -- sums modulo 2 ^ 128 of the means are exact
+  -- of the means the sums are theirs
   sums-of_means : (n o p q : ℕ) → n ≡ 0
-      → o ≡ (n + first_seven (λ i. mean_at f (get_or recorded i 0))) % 2 ^ 128
-      → p ≡ (o + next_seven (λ i. mean_at f (get_or recorded i 0))) % 2 ^ 128
-      → q ≡ (p + last_seven (λ i. mean_at f (get_or recorded i 0))) % 2 ^ 128
+      → o ≡ n + first_seven (λ i. mean_at f (get_or recorded i 0))
+      → p ≡ o + next_seven (λ i. mean_at f (get_or recorded i 0))
+      → q ≡ p + last_seven (λ i. mean_at f (get_or recorded i 0))
       → q ≡ weighted (recorded_mean f x)
-  unfolding whole
   sums-of_means n o p q =
-      sevens-added (λ i. mean_at f (get_or recorded i 0)) (recorded_mean f x) (22 * whole) n o p q
+      sevens-added (λ i. mean_at f (get_or recorded i 0)) (recorded_mean f x) n o p q
       (λ i lt. ap (mean_at f) (read i lt))
-      (λ i lt. subst (λ r. mean_at f r ≤ 22 * whole) (sym (read i lt))
-      (play-mean f x at short lower unfinished (roll_at i) (played i lt)))
-      (omega arith)
 
   -- .. and so are those of the shares of exactly k rolls
-  sums-of_shares : (k n o p q : ℕ) → k < 23 → n ≡ 0
-      → o ≡ (n + first_seven (λ i. spread_at f (get_or recorded i 0) k)) % 2 ^ 128
-      → p ≡ (o + next_seven (λ i. spread_at f (get_or recorded i 0) k)) % 2 ^ 128
-      → q ≡ (p + last_seven (λ i. spread_at f (get_or recorded i 0) k)) % 2 ^ 128
+  sums-of_shares : (k n o p q : ℕ) → n ≡ 0
+      → o ≡ n + first_seven (λ i. spread_at f (get_or recorded i 0) k)
+      → p ≡ o + next_seven (λ i. spread_at f (get_or recorded i 0) k)
+      → q ≡ p + last_seven (λ i. spread_at f (get_or recorded i 0) k)
       → q ≡ weighted (λ v. recorded_share f x v k)
-  unfolding whole
-  sums-of_shares k n o p q few =
-      sevens-added (λ i. spread_at f (get_or recorded i 0) k) (λ v. recorded_share f x v k) whole
+  sums-of_shares k n o p q =
+      sevens-added (λ i. spread_at f (get_or recorded i 0) k) (λ v. recorded_share f x v k)
       n o p q (λ i lt. ap (λ r. spread_at f r k) (read i lt))
-      (λ i lt. subst (λ r. spread_at f r k ≤ whole) (sym (read i lt))
-      (play-small f x at short lower unfinished (roll_at i) (played i lt) k few))
-      (omega arith)
 
   -- where no roll has a share, there is none of all
   sums-of_none : (k n : ℕ) → n ≡ 0 → ((i : ℕ) → i < 21 → spread_at f (play f x (roll_at i)) k ≡ 0)
@@ -142,7 +144,7 @@ module _ (f : List ℕ) (x : Board) (at : IsPosition x) (short : pips x ≤ 58)
         (few k less) lt))
         (λ from. ⊎_elim
         (λ under. sums-of_shares k (get_or before.shares k 0) (get_or one.shares k 0)
-        (get_or two.shares k 0) (get_or three.shares k 0) lt (blank k lt)
+        (get_or two.shares k 0) (get_or three.shares k 0) (blank k lt)
         (a.shares.inside k from under) (b.shares.inside k from under)
         (d.shares.inside k from under))
         (λ past. sums-of_none k (get_or three.shares k 0)

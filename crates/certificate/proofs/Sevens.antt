@@ -1,6 +1,6 @@
 -- Sums over seven rolls at once, and over all 21.
-use Rattle.std.proofs.Common.{◌≡◌, ⊎_elim, ℕ, ◌+◌, ◌*◌, ◌%◌, ◌^◌, ◌<◌, ◌≤◌, List, [], ◌∷◌}
-use Rattle.std.proofs.Common.{get_or, ap, ◌∙◌, arith}
+use Rattle.std.proofs.Common.{◌≡◌, ⊎_elim, ℕ, ◌+◌, ◌*◌, ◌<◌, ◌≤◌, List, [], ◌∷◌}
+use Rattle.std.proofs.Common.{get_or, ap, ◌∙◌, arith, below_more}
 use Rattle.std.proofs.lemmas.Bool.{cases_lt}
 use Rattle.race_model.specs.Dice.{Throw, all_rolls, roll_at, weighted}
 use Rattle.fixed_fraction.specs.Totals.{Totals}
@@ -20,6 +20,21 @@ of_seven-same g h same =
       same 6 (omega arith),
     )
 
+-- numbers that are small have a small sum
+pub of_seven-small : (g : ℕ → ℕ) (most : ℕ) → ((i : ℕ) → i < 7 → g i ≤ most)
+    → of_seven g ≤ 12 * most
+of_seven-small g most small =
+    omega (
+      arith,
+      small 0 (omega arith),
+      small 1 (omega arith),
+      small 2 (omega arith),
+      small 3 (omega arith),
+      small 4 (omega arith),
+      small 5 (omega arith),
+      small 6 (omega arith),
+    )
+
 -- what is added to some numbers of rolls, and then to the next ones
 pub added-join : (more : ℕ → ℕ) (a b d : ℕ) (x y z : List ℕ) → a ≤ b → b ≤ d
     → AreSharesAdded more a b x y → AreSharesAdded more b d y z → AreSharesAdded more a d x z
@@ -28,7 +43,7 @@ added-join more a b d x y z ab bd one two = record {
   inside = λ k low high. ⊎_elim
       (λ less. two.low k less ∙ one.inside k low less)
       (λ past. two.inside k past high
-      ∙ ap (λ n. (n + more k) % 2 ^ 128) (one.high k past))
+      ∙ ap (λ n. n + more k) (one.high k past))
       (cases_lt k b);
   low = λ k less. two.low k (omega (arith, ab, less)) ∙ one.low k less;
   high = λ k past. two.high k past ∙ one.high k (omega (arith, bd, past));
@@ -41,7 +56,7 @@ pub added-same : (more other : ℕ → ℕ) (from to : ℕ) (x y : List ℕ)
 added-same more other from to x y same added = record {
   len = added.len;
   inside = λ k low high. added.inside k low high
-      ∙ ap (λ n. (get_or x k 0 + n) % 2 ^ 128) (same k low high);
+      ∙ ap (λ n. get_or x k 0 + n) (same k low high);
   low = added.low;
   high = added.high;
 }
@@ -51,8 +66,8 @@ pub seven-same : (mean m : ℕ → ℕ) (share s : ℕ → ℕ → ℕ) (first e
     → ((i : ℕ) → i < 7 → mean i ≡ m i) → ((i k : ℕ) → i < 7 → share i k ≡ s i k)
     → AreSevenAdded mean share first end before after → AreSevenAdded m s first end before after
 seven-same mean m share s first end before after means shares added = record {
-  means = added.means
-      ∙ ap (λ n. (before.mean + n) % 2 ^ 128) (of_seven-same mean m means);
+  weight = added.weight;
+  means = added.means ∙ ap (λ n. before.mean + n) (of_seven-same mean m means);
   shares = added-same (λ k. of_seven (λ i. share i k)) (λ k. of_seven (λ i. s i k)) first end
       before.shares after.shares
       (λ k low high. of_seven-same (λ i. share i k) (λ i. s i k) (λ i lt. shares i k lt))
@@ -73,6 +88,25 @@ module _ (recorded : List ℕ) where
 
   abbrev pub last_ranks : List ℕ
   last_ranks = of 14 ∷ of 20 ∷ of 15 ∷ of 16 ∷ of 17 ∷ of 18 ∷ of 19 ∷ []
+
+  -- what holds of all ranks holds of the last seven
+  pub last-each : (P : ℕ → Type 0) → ((i : ℕ) → i < 21 → P (of i)) → (i : ℕ) → i < 7
+      → P (get_or last_ranks i 0)
+  last-each P each =
+      let Q : ℕ → Type 0 = (λ i. P (get_or last_ranks i 0)) in
+      below_more Q 6
+      (below_more Q 5
+      (below_more Q 4
+      (below_more Q 3
+      (below_more Q 2
+      (below_more Q 1
+      (below_more Q 0 (λ i lt. absurd (omega (arith, lt))) (each 14 (omega arith)))
+      (each 20 (omega arith)))
+      (each 15 (omega arith)))
+      (each 16 (omega arith)))
+      (each 17 (omega arith)))
+      (each 18 (omega arith)))
+      (each 19 (omega arith))
 
 -- the 21 rolls, of whose numbers seven are added at once
 module _ (a : ℕ → ℕ) where
@@ -118,49 +152,9 @@ module _ (a : ℕ → ℕ) where
         is 20 (omega arith),
       )
 
-  -- numbers that are small have a small sum
-  sevens-small : (most : ℕ) → ((i : ℕ) → i < 21 → a i ≤ most)
-      → first_seven + next_seven + last_seven ≤ 36 * most
-  sevens-small most small =
-      omega (
-        arith,
-        small 0 (omega arith),
-        small 1 (omega arith),
-        small 2 (omega arith),
-        small 3 (omega arith),
-        small 4 (omega arith),
-        small 5 (omega arith),
-        small 6 (omega arith),
-        small 7 (omega arith),
-        small 8 (omega arith),
-        small 9 (omega arith),
-        small 10 (omega arith),
-        small 11 (omega arith),
-        small 12 (omega arith),
-        small 13 (omega arith),
-        small 14 (omega arith),
-        small 15 (omega arith),
-        small 16 (omega arith),
-        small 17 (omega arith),
-        small 18 (omega arith),
-        small 19 (omega arith),
-        small 20 (omega arith),
-      )
-
-  -- .. which is exact modulo 2 ^ 128
-  pub sevens-added : (g : Throw → ℕ) (most n o p q : ℕ)
-      → ((i : ℕ) → i < 21 → a i ≡ g (roll_at i)) → ((i : ℕ) → i < 21 → a i ≤ most)
-      → 36 * most < 2 ^ 128 → n ≡ 0 → o ≡ (n + first_seven) % 2 ^ 128
-      → p ≡ (o + next_seven) % 2 ^ 128 → q ≡ (p + last_seven) % 2 ^ 128 → q ≡ weighted g
-  sevens-added g most n o p q is small room start one two three =
-      exact first_seven next_seven last_seven most n o p q (sevens-small most small) room start one
-      two three
-      ∙ weighted-sevens g is
-    where
-      exact : (x y z most n o p q : ℕ) → x + y + z ≤ 36 * most → 36 * most < 2 ^ 128 → n ≡ 0
-          → o ≡ (n + x) % 2 ^ 128 → p ≡ (o + y) % 2 ^ 128 → q ≡ (p + z) % 2 ^ 128
-          → q ≡ x + y + z
-      exact x y z most n o p q within room start one two three =
-          let first : o ≡ x = omega (arith, within, room, start, one) in
-          let second : p ≡ x + y = omega (arith, within, room, first, two) in
-          omega (arith, within, room, second, three)
+  -- so that what is added for them all is the weighted sum
+  pub sevens-added : (g : Throw → ℕ) (n o p q : ℕ)
+      → ((i : ℕ) → i < 21 → a i ≡ g (roll_at i)) → n ≡ 0 → o ≡ n + first_seven
+      → p ≡ o + next_seven → q ≡ p + last_seven → q ≡ weighted g
+  sevens-added g n o p q is start one two three =
+      omega (arith, weighted-sevens g is, start, one, two, three)

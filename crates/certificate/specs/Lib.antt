@@ -1,3 +1,4 @@
+pub mod Addends
 pub mod RecordNumbers
 pub mod RecordFaults
 pub mod CheckFaults

@@ -7,6 +7,7 @@
 //! least mean over all strategies; the builder of a database is not trusted.
 #![tactic(auto)]
 
+mod addends;
 mod check_fault;
 mod checked;
 mod checker;

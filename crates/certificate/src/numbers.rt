@@ -1,11 +1,10 @@
 //! The numbers of a record, where an accepted record can hold them.
 ghost use Rattle.std.specs.Prelude.{◌≡◌, ◌*◌, ◌≤◌, ◌↔◌, IsSome, IfSome, sum};
-ghost use Rattle.race_model.specs.Files.{mean_of, share_of};
+ghost use Rattle.race_model.specs.Files.{mean_of};
 ghost use Rattle.race_model.specs.LocalEquations.{whole};
 ghost use Rattle.certificate.specs.RecordNumbers.{plays_of, shares_of};
-ghost use Rattle.certificate.specs.StoredSevens.{AreSharesOf};
 
-use db_layout::{RecordView, StoredShares};
+use db_layout::RecordView;
 use fixed_fraction::{Scaled, Spread};
 use legal_plays::Roll;
 
@@ -41,23 +40,9 @@ pub fn spread_in(view: &RecordView<'_>) -> Option<Spread>
 fn shares_in(view: &RecordView<'_>) -> [u128; 23]
     ensures { result ≡ shares_of view.now }
 {
-    let stored = view.stored_shares();
     let mut shares = [0; 23];
     for k in 0..23 {
-        shares[usize::from(k)] = share_in(view, &stored, k);
+        shares[usize::from(k)] = view.spread(k);
     }
     shares
-}
-
-/// What a record tells for the share of exactly `k` rolls, by the shares that it stores.
-#[inline(always)]
-fn share_in(view: &RecordView<'_>, stored: &StoredShares<'_>, k: u8) -> u128
-    requires few { k ≤ 22 }
-    requires stored { AreSharesOf stored.now view.now }
-    ensures { result ≡ share_of view.now k }
-{
-    if k < stored.first {
-        return view.spread(k);
-    }
-    if k < stored.end { stored.at(k) } else { 0 }
 }

@@ -12,6 +12,7 @@ ghost use Rattle.least_plays.specs.Known.{HasRows};
 ghost use Rattle.db_reader.specs.Telling.{WhereTold};
 ghost use Rattle.db_reader.specs.TableStays.{TableStays};
 ghost use Rattle.db_reader.specs.Reads.{HasHeader, HasRecord};
+ghost use Rattle.certificate.specs.Addends.{IsAddend};
 ghost use Rattle.certificate.specs.KeptMeans.{HasRoom};
 ghost use Rattle.certificate.specs.LowerRecords.{IsLower};
 ghost use Rattle.certificate.specs.RecordNumbers.{AreSumsOf};
@@ -19,6 +20,7 @@ ghost use Rattle.certificate.specs.Sevens.{AreSevenAdded};
 ghost use Rattle.race_model.specs.Horizon.{most_rolls};
 ghost use Rattle.certificate.specs.RecordFaults.{IsFirstFaultAt, of_record};
 
+use crate::addends::Addends;
 use crate::equations::check_numbers;
 use crate::kept::LowerRecords;
 use crate::numbers::plays_in;
@@ -151,10 +153,14 @@ fn add_seven<T: Table>(
 ) -> Result<(), ReadFault>
     requires have { (i : ℕ) → i < 7 →
         HasRecord (T.accepted table.old) (slice_index numbers.now i) }
+    requires small { WhereTold (T.tells table.old) (λ file. (i : ℕ) → i < 7 →
+        IsAddend 0 23 (record_at file (slice_index numbers.now i))) }
+    requires light { sums.old.weight ≤ 24 }
     requires few { end ≤ 23 }
     requires order { first ≤ end }
     ensures others { (bytes : List ℕ) (other : ℕ) →
         T.ready table.old bytes other → T.ready table.new bytes other }
+    ensures weight { OnOk result (sums.new.weight ≡ sums.old.weight + 12) }
     ensures added { WhereTold (T.tells table.old) (λ file. OnOk result
         (AreSevenAdded (λ i. mean_at file (slice_index numbers.now i))
         (λ i. spread_at file (slice_index numbers.now i)) first end sums.old sums.new)) }
@@ -162,7 +168,10 @@ fn add_seven<T: Table>(
 {
     load_seven(table, numbers, rooms)?;
     let lent = lend_seven(table, numbers, rooms);
-    sums.add(&lent, first, end);
+    let Some(addends) = Addends::of(&lent, first, end, table.is_told()) else {
+        return Err(ReadFault);
+    };
+    sums.add(&addends);
     Ok(())
 }
 
@@ -185,6 +194,8 @@ fn sum_plays<T: Table>(
         IsLocalAt file z) }
     requires played { WhereTold (T.tells table.old)
         (λ file. (i : ℕ) → i < 21 → IsPlayed file position.now (roll_at i)) }
+    requires small { WhereTold (T.tells table.old) (λ file. ¬ IsFinished position.now →
+        (i : ℕ) → i < 21 → IsAddend 0 23 (record_at file (slice_index recorded.now i))) }
     ensures others { (bytes : List ℕ) (other : ℕ) →
         T.ready table.old bytes other → T.ready table.new bytes other }
     ensures totals { WhereTold (T.tells table.old) (λ file. IfOk result (λ sums.

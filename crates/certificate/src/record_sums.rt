@@ -1,12 +1,13 @@
 //! The sums of what is recorded for the rolls, added up for seven rolls at once: the shares of one
 //! number of rolls after the other, so that no share is copied, and few sums are written.
-ghost use Rattle.std.specs.Prelude.{◌≡◌, ℕ, ◌+◌, ◌*◌, ◌%◌, ◌^◌, ◌<◌, ◌≤◌, ◌↔◌, IsTrue, [], replicate};
+ghost use Rattle.std.specs.Prelude.{◌≡◌, ℕ, ◌+◌, ◌*◌, ◌^◌, ◌<◌, ◌≤◌, ◌↔◌, IsTrue, [], replicate};
 ghost use Rattle.std.specs.Prelude.{slice_index, slice_index_or};
 ghost use Rattle.race_model.specs.LocalEquations.{whole};
 ghost use Rattle.race_model.specs.Files.{mean_of, share_of};
 ghost use Rattle.certificate.specs.Sevens.{of_seven, AreSharesAdded, AreSevenAdded};
 ghost use Rattle.certificate.specs.StoredSevens.{HasBegun, IsStored, share_or_none, stored_sum, rest_sum};
 
+use crate::addends::Addends;
 use db_layout::{RecordView, StoredShares};
 use fixed_fraction::{MOST, WHOLE};
 use std::marker::Model;
@@ -14,49 +15,58 @@ use std::marker::Model;
 /// The means and the shares of the records that some rolls lead to, added up with the weights of
 /// these rolls: 1 for a double, else 2 (the rules of backgammon: 36 throws count equally). Of all
 /// 21 rolls the weights add up to 36, so that the record of a position is one roll and a 36th of
-/// these sums, its shares moved on by one roll. Each sum is kept modulo 2 ^ 128, which none of
-/// accepted records comes to, so that none is tested.
+/// these sums, its shares moved on by one roll. None is tested, since all that is added is small.
 #[derive(Drop)]
 pub struct RecordSums {
     mean: u128,
     shares: [u128; 23],
+    weight: u8,
 }
 
-// Clauses see the sums of the means, and of the shares of 0 to 22 rolls.
+// Clauses see the sums of the weights, of the means, and of the shares of 0 to 22 rolls.
 impl Model for RecordSums {
-    ghost use Rattle.std.specs.Prelude.{◌≡◌, length};
+    ghost use Rattle.std.specs.Prelude.{◌≡◌, ℕ, ◌*◌, ◌≤◌, length, slice_index};
+    ghost use Rattle.race_model.specs.LocalEquations.{whole};
     ghost use Rattle.fixed_fraction.specs.Totals.{Totals};
 
     ghost Value = { Totals };
 
-    ghost view = { λ sums. record { weight = 36; mean = sums.mean; shares = sums.shares } };
+    ghost view = { λ sums. record {
+      weight = sums.weight;
+      mean = sums.mean;
+      shares = sums.shares;
+    } };
 
-    ghost invariant = { λ sums. length sums.shares ≡ 23 };
+    ghost invariant = { λ sums. (length sums.shares ≡ 23) × (sums.weight ≤ 36)
+        × (sums.mean ≤ sums.weight * (22 * whole))
+        × ((k : ℕ) → slice_index sums.shares k ≤ sums.weight * whole) };
 }
 
 impl RecordSums {
     /// The sums of no roll.
     pub fn new() -> Self
-        ensures { result ≡ record { weight = 36; mean = 0; shares = replicate 23 0 } }
+        ensures { result ≡ record { weight = 0; mean = 0; shares = replicate 23 0 } }
     {
         RecordSums {
             mean: 0,
             shares: [0; 23],
+            weight: 0,
         }
     }
 
     /// Adds the means of the records of seven rolls, of which the first two are doubles and the
-    /// others none, and their shares of `first` to one before `end` rolls.
+    /// others none, and these of their shares.
     #[inline(always)]
-    pub fn add(&mut self, lent: &[RecordView<'_>; 7], first: u8, end: u8)
-        requires few { end ≤ 23 }
-        requires order { first ≤ end }
-        ensures { AreSevenAdded (λ i. mean_of (slice_index_or lent.now i []))
-            (λ i. share_of (slice_index_or lent.now i [])) first end self.old self.new }
+    pub fn add(&mut self, addends: &Addends<'_, '_>)
+        requires { self.old.weight ≤ 24 }
+        ensures { AreSevenAdded (λ i. mean_of (slice_index_or addends.now.records.now i []))
+            (λ i. share_of (slice_index_or addends.now.records.now i []))
+            addends.now.first addends.now.end self.old self.new }
     {
-        let mean = self.mean.wrapping_add(sum_of_means(lent));
-        self.mean = mean;
+        let (lent, first, end) = (addends.records, addends.first, addends.end);
         let seven = Seven::of(lent);
+        self.mean += sum_of_means(lent);
+        self.weight += 12;
         let (from, to) = seven.range(first, end);
         add_told(&mut self.shares, lent, first, from);
         add_stored(&mut self.shares, &seven, from, to);
@@ -97,7 +107,7 @@ struct Seven<'a> {
 }
 
 impl<'a> Seven<'a> {
-    ghost use Rattle.std.specs.Prelude.{◌≡◌, ℕ, ◌%◌, ◌^◌, ◌<◌, ◌≤◌};
+    ghost use Rattle.std.specs.Prelude.{◌≡◌, ℕ, ◌^◌, ◌<◌, ◌≤◌};
     ghost use Rattle.certificate.specs.StoredSevens.{AreStoredOf, HasBegun, IsStored};
     ghost use Rattle.certificate.specs.StoredSevens.{stored_sum, rest_sum};
 
@@ -148,11 +158,12 @@ impl<'a> Seven<'a> {
     }
 
     /// The sum of the shares of exactly `k` rolls, which all seven store, those that are no
-    /// doubles' twice, modulo 2 ^ 128.
+    /// doubles' twice.
     #[inline(always)]
     fn sum(&self, k: u8) -> u128
-        requires { IsStored self.now k }
-        ensures { result ≡ stored_sum self.now k % 2 ^ 128 }
+        requires stored { IsStored self.now k }
+        requires room { stored_sum self.now k < 2 ^ 128 }
+        ensures { result ≡ stored_sum self.now k }
     {
         sum_of_seven([
             self.first_double.at(k),
@@ -168,8 +179,9 @@ impl<'a> Seven<'a> {
     /// The same, where some may end before; none begins later.
     #[inline(always)]
     fn sum_of_rest(&self, k: u8) -> u128
-        requires { HasBegun self.now k }
-        ensures { result ≡ rest_sum self.now k % 2 ^ 128 }
+        requires begun { HasBegun self.now k }
+        requires room { rest_sum self.now k < 2 ^ 128 }
+        ensures { result ≡ rest_sum self.now k }
     {
         sum_of_seven([
             or_none(&self.first_double, k),
@@ -197,13 +209,15 @@ fn or_none(shares: &StoredShares<'_>, k: u8) -> u128
 #[inline(always)]
 fn add_stored(shares: &mut [u128; 23], seven: &Seven<'_>, from: u8, to: u8)
     requires stored { (k : ℕ) → from ≤ k → k < to → IsStored seven.now k }
+    requires room { (k : ℕ) → from ≤ k → k < to →
+        slice_index shares.old k + stored_sum seven.now k < 2 ^ 128 }
     requires few { to ≤ 23 }
     requires order { from ≤ to }
     ensures { AreSharesAdded (stored_sum seven.now) from to shares.old shares.new }
 {
     for k in from..to {
         let place = usize::from(k);
-        shares[place] = shares[place].wrapping_add(seven.sum(k));
+        shares[place] += seven.sum(k);
     }
 }
 
@@ -212,13 +226,15 @@ fn add_stored(shares: &mut [u128; 23], seven: &Seven<'_>, from: u8, to: u8)
 #[inline(always)]
 fn add_rest(shares: &mut [u128; 23], seven: &Seven<'_>, from: u8, to: u8)
     requires begun { (k : ℕ) → from ≤ k → k < to → HasBegun seven.now k }
+    requires room { (k : ℕ) → from ≤ k → k < to →
+        slice_index shares.old k + rest_sum seven.now k < 2 ^ 128 }
     requires few { to ≤ 23 }
     requires order { from ≤ to }
     ensures { AreSharesAdded (rest_sum seven.now) from to shares.old shares.new }
 {
     for k in from..to {
         let place = usize::from(k);
-        shares[place] = shares[place].wrapping_add(seven.sum_of_rest(k));
+        shares[place] += seven.sum_of_rest(k);
     }
 }
 
@@ -226,6 +242,8 @@ fn add_rest(shares: &mut [u128; 23], seven: &Seven<'_>, from: u8, to: u8)
 /// `to` rolls.
 #[inline(always)]
 fn add_told(shares: &mut [u128; 23], lent: &[RecordView<'_>; 7], from: u8, to: u8)
+    requires room { (k : ℕ) → from ≤ k → k < to → slice_index shares.old k
+        + of_seven (λ i. share_of (slice_index_or lent.now i []) k) < 2 ^ 128 }
     requires few { to ≤ 23 }
     requires order { from ≤ to }
     ensures { AreSharesAdded (λ k. of_seven (λ i. share_of (slice_index_or lent.now i []) k))
@@ -233,16 +251,17 @@ fn add_told(shares: &mut [u128; 23], lent: &[RecordView<'_>; 7], from: u8, to: u
 {
     for k in from..to {
         let place = usize::from(k);
-        shares[place] = shares[place].wrapping_add(sum_told(lent, k));
+        shares[place] += sum_told(lent, k);
     }
 }
 
 /// The sum of the shares of exactly `k` rolls that seven records tell, those that are no doubles'
-/// twice, modulo 2 ^ 128.
+/// twice.
 #[inline(always)]
 fn sum_told(lent: &[RecordView<'_>; 7], k: u8) -> u128
-    requires { k ≤ 22 }
-    ensures { result ≡ of_seven (λ i. share_of (slice_index_or lent.now i []) k) % 2 ^ 128 }
+    requires few { k ≤ 22 }
+    requires room { of_seven (λ i. share_of (slice_index_or lent.now i []) k) < 2 ^ 128 }
+    ensures { result ≡ of_seven (λ i. share_of (slice_index_or lent.now i []) k) }
 {
     sum_of_seven([
         lent[0].spread(k),
@@ -258,7 +277,8 @@ fn sum_told(lent: &[RecordView<'_>; 7], k: u8) -> u128
 /// The same of their means.
 #[inline(always)]
 fn sum_of_means(lent: &[RecordView<'_>; 7]) -> u128
-    ensures { result ≡ of_seven (λ i. mean_of (slice_index_or lent.now i [])) % 2 ^ 128 }
+    requires { of_seven (λ i. mean_of (slice_index_or lent.now i [])) < 2 ^ 128 }
+    ensures { result ≡ of_seven (λ i. mean_of (slice_index_or lent.now i [])) }
 {
     sum_of_seven([
         lent[0].mean(),
@@ -271,10 +291,11 @@ fn sum_of_means(lent: &[RecordView<'_>; 7]) -> u128
     ])
 }
 
-/// The sum of seven numbers, of which all but the first two count twice, modulo 2 ^ 128.
+/// The sum of seven numbers, of which all but the first two count twice.
 #[inline(always)]
 fn sum_of_seven(numbers: [u128; 7]) -> u128
-    ensures { result ≡ of_seven (slice_index numbers) % 2 ^ 128 }
+    requires { of_seven (slice_index numbers) < 2 ^ 128 }
+    ensures { result ≡ of_seven (slice_index numbers) }
 {
     let [
         first_double,
@@ -285,11 +306,7 @@ fn sum_of_seven(numbers: [u128; 7]) -> u128
         fourth_other,
         fifth_other,
     ] = numbers;
-    let doubles = first_double.wrapping_add(second_double);
-    let others = first_other
-        .wrapping_add(second_other)
-        .wrapping_add(third_other)
-        .wrapping_add(fourth_other)
-        .wrapping_add(fifth_other);
-    doubles.wrapping_add(others).wrapping_add(others)
+    let doubles = first_double + second_double;
+    let others = first_other + second_other + third_other + fourth_other + fifth_other;
+    doubles + others + others
 }

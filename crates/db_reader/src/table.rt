@@ -1,5 +1,5 @@
 //! A table of records, wherever its bytes are.
-ghost use Rattle.std.specs.Prelude.{◌≡◌, ℕ, ◌<◌, List, Option, Err, IsErr, OnOk};
+ghost use Rattle.std.specs.Prelude.{◌≡◌, ℕ, ◌<◌, List, Option, Err, IsErr, OnOk, IsTrue, IsSome};
 ghost use Rattle.race_model.specs.Files.{record_at};
 ghost use Rattle.db_layout.specs.declared.header.Header.{Header as HeaderValue};
 ghost use Rattle.db_reader.specs.Telling.{WhereTold, RoseWhere};
@@ -44,6 +44,11 @@ pub trait Table {
 
     // the record of a rank can be lent, with a room of these bytes
     ghost ready: { Self → List ℕ → ℕ → Type 0 };
+
+    /// Whether the table is known to tell its bytes, so that a record is the same whenever it is
+    /// lent. One that doesn't know says no.
+    fn is_told(&self) -> bool
+        ensures { IsTrue result → IsSome (tells self.now) };
 
     /// The header, or the first fault of the header. The table has then accepted it, or none.
     fn header(&mut self) -> Result<Header, TableFault>

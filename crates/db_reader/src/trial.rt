@@ -58,6 +58,10 @@ impl<T: Table> Table for FailOnce<T> {
 
     ghost ready = { λ trial bytes rank. T.ready trial.table bytes rank };
 
+    fn is_told(&self) -> bool {
+        self.table.is_told()
+    }
+
     fn header(&mut self) -> Result<Header, TableFault>
         ensures stays { ⟦<FailOnce<T> as Table>⟧.tells self.new
             ≡ ⟦<FailOnce<T> as Table>⟧.tells self.old }

@@ -43,6 +43,11 @@ impl<'a> Table for Whole<'a> {
 
     ghost ready = { λ table bytes rank. HasRecord table.header rank };
 
+    #[inline(always)]
+    fn is_told(&self) -> bool {
+        true
+    }
+
     fn header(&mut self) -> Result<Header, TableFault> {
         self.header = None;
         let front = &self.bytes[..self.bytes.len().min(HEADER_BYTES)];

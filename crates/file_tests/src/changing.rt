@@ -1,10 +1,14 @@
-//! A file that changes after its check: what can't stand there any more is told as a failed read.
+//! A file that changes after its check, or in it: what can't stand there any more is told as a
+//! failed read.
+ghost use Rattle.std.specs.Prelude.{None};
+
 use crate::given::{accepted, database, pages, put};
-use certificate::{Checked, QueryFault, UpgradeFault};
-use db_reader::{FileSource, Paged};
+use certificate::{CheckFault, Checked, QueryFault, UpgradeFault, check};
+use db_reader::{FileSource, Paged, Source, SourceFault};
 use epc_query::loss;
 use home_board::Position;
 use legal_plays::Roll;
+use std::alloc::Global;
 use std::rt::Files;
 use std::test::Fail;
 use std::{env, fs};
@@ -64,5 +68,70 @@ fn what_cannot_be_is_a_failed_read(rt: HostRuntime) -> Result<(), Fail> {
     let mut checked = changed(&rt, path, FOURS + 18, &[0, 0])?;
     assert_eq!(rt; checked.play(&fours, roll).err(), Some(QueryFault::Read));
     fs::remove_file(&rt, path)?;
+    Ok(())
+}
+
+/// Bytes in memory as a source of which a byte at a place is 255 where it is read again.
+#[derive(Drop)]
+struct Changing<'a> {
+    bytes: &'a [u8],
+    place: u64,
+    is_read: bool,
+}
+
+impl<'a> Source for Changing<'a> {
+    ghost tells = { λ _. None };
+
+    ghost failures = { λ _. 0 };
+
+    fn length(&mut self) -> Result<u64, SourceFault> {
+        Ok(self.bytes.len() as u64)
+    }
+
+    fn read_at(&mut self, offset: u64, into: &mut [u8]) -> Result<(), SourceFault> {
+        let rest = self.bytes.get(offset as usize..).unwrap_or(&[]);
+        let Some(found) = rest.get(..into.len()) else {
+            return Err(SourceFault);
+        };
+        into.copy_from_slice(found);
+        let Some(place) = self.place.checked_sub(offset) else {
+            return Ok(());
+        };
+        if let Some(byte) = into.get_mut(place as usize) {
+            if self.is_read {
+                *byte = 255;
+            }
+            self.is_read = true;
+        }
+        Ok(())
+    }
+}
+
+/// The fault of a check of the database of 8 pips by one page, where a byte of it changes.
+fn fault_of_change(alloc: Global, place: u64) -> Result<Option<CheckFault>, Fail> {
+    let file = database(alloc, 8)?;
+    let source = Changing {
+        bytes: file.as_slice(),
+        place,
+        is_read: false,
+    };
+    Ok(
+        check(pages(alloc, source, 1)?)
+            .err()
+            .map(|refused| refused.1),
+    )
+}
+
+#[test]
+fn what_is_added_again_is_tested_again(rt: HostRuntime) -> Result<(), Fail> {
+    let one = 32 + 426;
+    // a mean over 22 rolls, and a share of one roll over the whole
+    for place in [one, one + 58 + 16] {
+        let fault = fault_of_change(rt.alloc(), place)?;
+        assert_eq!(rt; fault, Some(CheckFault::Read));
+    }
+    // a share that no sum needs
+    let fault = fault_of_change(rt.alloc(), one + 58 + 16 * 22)?;
+    assert_eq!(rt; fault, None);
     Ok(())
 }

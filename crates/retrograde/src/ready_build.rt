@@ -1,5 +1,6 @@
 //! A build that has all its memory before it writes.
-ghost use Rattle.std.specs.Prelude.{◌≡◌, ℕ, ◌<◌, ◌≤◌, ◌↔◌, ◌⊎◌, Err, IfOk, IfErr};
+ghost use Rattle.std.specs.Prelude.{◌≡◌, ℕ, ◌+◌, ◌-◌, ◌<◌, ◌≤◌, ◌↔◌, ◌⊎◌, Err, IfOk, IfErr};
+ghost use Rattle.race_model.specs.Ranks.{first_of, count_to};
 ghost use Rattle.retrograde.specs.BuiltBytes.{Builds};
 ghost use Rattle.retrograde.specs.UsualVersion.{usual_version};
 ghost use Rattle.retrograde.specs.declared.build_fault.BuildFault.TheVariants.{OverBound, Memory};
@@ -73,7 +74,9 @@ impl ReadyBuild {
 }
 
 /// The most positions of a pip count to a bound, and of so many below it.
-fn most_kept(ranks: &Ranks, bound: u8, below: u8) -> usize {
+fn most_kept(ranks: &Ranks, bound: u8, below: u8) -> usize
+    ensures { (p : ℕ) → p ≤ bound → count_to p ≤ first_of (p - below) + result }
+{
     let mut most = 0;
     for pips in 0..=bound {
         let first = ranks.first_of(pips.saturating_sub(below));

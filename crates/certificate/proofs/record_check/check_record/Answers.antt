@@ -32,6 +32,8 @@ use Rattle.certificate.specs.RecordNumbers.{HasNumbers}
 use Rattle.certificate.specs.RecordFaults.{IsFirstFaultAt, IsNumberFault, of_record}
 use Rattle.certificate.proofs.Accepted.{play-of_lent}
 use Rattle.certificate.proofs.RecordBytes.{mean-of_record, get_or-plays_of}
+use Rattle.certificate.specs.Addends.{IsAddend}
+use Rattle.certificate.proofs.PlayNumbers.{play-addend}
 use Rattle.certificate.proofs.KeptMeans.{accepted-mean_more}
 use Rattle.certificate.proofs.PlayTests.{held-in_file, first-in_file}
 use Rattle.certificate.proofs.RecordTests.{IsSummed, first-refused, first-wrong, right-numbers}
@@ -143,6 +145,18 @@ sum_plays-requires-clause-played g c file told i lt =
     (plays-hold g (goal.at.sum_plays-requires-clause-played g c).After-plays_in-recorded file
     (sym (c.in_default.ensures {u = tt}).stays ∙ told)
     (c.in_default-check_plays.ensures {u = tt}).least i lt).0
+
+-- .. and numbers that can be added
+pub sum_plays-requires-clause-small : goal.sum_plays-requires-clause-small
+sum_plays-requires-clause-small g c file told unfinished i lt =
+    let here = (goal.at.sum_plays-requires-clause-small g c).After-unwrap-position in
+    let read = (goal.at.sum_plays-requires-clause-small g c).After-plays_in-recorded in
+    let now = sym (c.in_default.ensures {u = tt}).stays ∙ told in
+    let held = plays-hold g read file now (c.in_default-check_plays.ensures {u = tt}).least i lt in
+    subst (λ r. IsAddend 0 23 (record_at file r)) (sym (recorded_at g read file told i lt))
+    (play-addend file c.unwrap-position.result (at g here) (short g here)
+    (subst (λ r. (z : Board) → IsPosition z → rank z < r → IsLocalAt file z) (sym (ranked g here))
+    (c.requires.lower file now)) unfinished (roll_at i) held.0)
 
 -- a rank that is played has a record
 pub sum_plays-requires-clause-have : goal.sum_plays-requires-clause-have

@@ -1,13 +1,27 @@
-use Rattle.std.proofs.Common.{◌%◌, ◌^◌, ap, ◌∙◌, arith}
+use Rattle.std.proofs.Common.{◌∙◌, arith}
 use Rattle.certificate.specs.StoredSevens.{stored_sum}
 use Rattle.certificate.proofs.record_sums.Seven.sum.Goals as goal
+
+pub sum_of_seven-requires : goal.sum_of_seven-requires
+unfolding stored_sum
+sum_of_seven-requires c =
+    omega (
+      arith,
+      c.requires.room,
+      c.at.ensures,
+      c.at-2.ensures,
+      c.at-3.ensures,
+      c.at-4.ensures,
+      c.at-5.ensures,
+      c.at-6.ensures,
+      c.at-7.ensures,
+    )
 
 pub returns : goal.returns
 unfolding stored_sum
 returns c =
     c.sum_of_seven.ensures
-    ∙ ap (λ n. n % 2 ^ 128)
-    (omega (
+    ∙ omega (
       arith,
       c.at.ensures,
       c.at-2.ensures,
@@ -16,4 +30,4 @@ returns c =
       c.at-5.ensures,
       c.at-6.ensures,
       c.at-7.ensures,
-    ))
+    )
