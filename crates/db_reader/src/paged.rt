@@ -91,11 +91,6 @@ impl<S: Source, A: Allocator + Clone> Table for Paged<S, A> {
     ghost ready = { λ table bytes rank.
         WhereTold (S.tells table.source) (λ file. bytes ≡ record_at file rank) };
 
-    /// No: what a source gave once it may not give again.
-    fn is_told(&self) -> bool {
-        false
-    }
-
     fn header(&mut self) -> Result<Header, TableFault> {
         self.header = None;
         let header = read_header(&mut self.source)?;

@@ -46,9 +46,12 @@ pub trait Table {
     ghost ready: { Self → List ℕ → ℕ → Type 0 };
 
     /// Whether the table is known to tell its bytes, so that a record is the same whenever it is
-    /// lent. One that doesn't know says no.
+    /// lent. One that doesn't say is not.
     fn is_told(&self) -> bool
-        ensures { IsTrue result → IsSome (tells self.now) };
+        ensures { IsTrue result → IsSome (tells self.now) }
+    {
+        false
+    }
 
     /// The header, or the first fault of the header. The table has then accepted it, or none.
     fn header(&mut self) -> Result<Header, TableFault>
