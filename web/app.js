@@ -41,6 +41,7 @@ export function put(document, shown) {
         at("counts").value = shown.counts;
     }
     at("counts").setAttribute("aria-invalid", String(shown.isRefused));
+    document.title = shown.title;
     at("keep").setAttribute("aria-disabled", String(!shown.canKeep));
     at("guess").checked = shown.guess;
     at("whole").setAttribute("href", shown.whole);

@@ -1,6 +1,6 @@
 // The board: six points, the checkers on them, those that are borne off, and the moves of a play.
 import { h } from "./tree.js";
-import { MOST_CHECKERS, sumOf } from "./points.js";
+import { inWords, MOST_CHECKERS, sumOf } from "./points.js";
 
 const WIDTH = 100; // of a point
 const FLOOR = 330;
@@ -238,17 +238,13 @@ export function played({ points, ways, play }, { picked, stop, begun, isAlone },
 export const placeUnder = (part) =>
     (part < 0 || part > 1 ? null : STOPS[Math.min(6, Math.floor(part * 7))]);
 
-const toldOf = (points, free) => {
-    const told = POINTS.filter((point) => points[point - 1] > 0)
-        .map((point) => `${points[point - 1]} on ${point}`);
-    return `The board: ${told.join(", ") || "no checker"}, ${free} borne off`;
-};
+const toldOf = (points) => `The board: ${inWords(points)}`;
 
 // The board where one only looks, with the moves of a play.
 export function watched(points, moves) {
     const free = MOST_CHECKERS - sumOf(points);
     return h("div", { class: "board" },
-        h("svg", { viewBox: "0 0 700 372", role: "img", "aria-label": toldOf(points, free) },
+        h("svg", { viewBox: "0 0 700 372", role: "img", "aria-label": toldOf(points) },
         tip("tip"),
         h("rect", FELT),
         POINTS.map((point) =>
@@ -264,7 +260,7 @@ export function watched(points, moves) {
 export function lookedAt(points, moves, name = "small-tip") {
     const free = MOST_CHECKERS - sumOf(points);
     return h("svg", {
-        class: "small", viewBox: "0 0 700 372", role: "img", "aria-label": toldOf(points, free),
+        class: "small", viewBox: "0 0 700 372", role: "img", "aria-label": toldOf(points),
     },
         moves.length > 0 && tip(name),
         h("rect", FELT),

@@ -22,6 +22,15 @@ export function inPips(rolls) {
     return lowest(49n * above, 6n * below);
 }
 
+// As many characters a fraction has at most where it stands in a sentence.
+const MOST_READ = 24;
+
+// Whether a fraction can be read at a glance.
+export const isShort = (fraction) => fraction.length <= MOST_READ;
+
+// A fraction as it stands in a sentence: as a decimal where it is long.
+export const inSentence = (fraction) => (isShort(fraction) ? fraction : decimalOf(fraction));
+
 // A text like "1/18" as a decimal, to the nearest thousandth and a half up.
 export function decimalOf(fraction) {
     const [above, below] = fraction.split("/").map(BigInt);

@@ -2,7 +2,7 @@
 import { h } from "./tree.js";
 import { lookedAt, miniature } from "./board.js";
 import { GREATEST } from "./points.js";
-import { decimalOf } from "./fractions.js";
+import { decimalOf, inSentence, isShort } from "./fractions.js";
 import { ROLLS, sameRoll } from "./rolls.js";
 import { byLoss } from "./state.js";
 
@@ -181,7 +181,7 @@ export function plays({ points, dice, list, shown, lost, isHidden, isTrained, st
                     cost(play))))),
         shown && h("div", { class: "shown" },
             h("p", { class: "loss" }, shown.isBest ? `${shown.text} loses nothing.`
-                : `${shown.text} loses ${shown.exact} of a roll, ${decimalOf(lost)} pips of EPC.`),
+                : `${shown.text} loses ${inSentence(shown.exact)} of a roll, ${decimalOf(lost)} pips of EPC.`),
             !isTrained && h("button", {
                 type: "button", class: "onward", "data-key": "onward", click: () => act.onward(),
             }, `Play ${shown.text}`)),
@@ -191,7 +191,7 @@ export function plays({ points, dice, list, shown, lost, isHidden, isTrained, st
 // What a guess lost, and all guesses so far.
 export function verdict({ isMiss, first, all, exact }, act) {
     return h("div", { class: isMiss ? "verdict" : "verdict good" },
-        h("p", {}, first, " ", all, exact === "0/1" ? null : ` Exactly: ${exact}.`),
+        h("p", {}, first, " ", all, exact === "0/1" || !isShort(exact) ? null : ` Exactly: ${exact}.`),
         h("button", { type: "button", "data-key": "reset", click: () => act.reset() },
             "Count anew"));
 }

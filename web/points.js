@@ -7,6 +7,13 @@ export const sumOf = (counts) => counts.reduce((sum, count) => sum + count, 0);
 export const pipsOf = (counts) =>
     counts.reduce((sum, count, place) => sum + count * (place + 1), 0);
 
+// A position in words, as a reader hears it.
+export function inWords(points) {
+    const told = [6, 5, 4, 3, 2, 1].filter((point) => points[point - 1] > 0)
+        .map((point) => `${points[point - 1]} on ${point}`);
+    return `${told.join(", ") || "no checker"}, ${MOST_CHECKERS - sumOf(points)} borne off`;
+}
+
 // The bounds, in pips, of what the page builds: the first database, and the whole board.
 export const FIRST = 44;
 export const GREATEST = 90;

@@ -2,9 +2,9 @@
 // change makes a new one. An answer stands under its position and is read for that one alone; so
 // nothing of a former position can be shown.
 import { MOST_KEPT, readTyped } from "./link.js";
-import { FIRST, GREATEST, MOST_CHECKERS, pipsOf, sumOf } from "./points.js";
+import { FIRST, GREATEST, inWords, MOST_CHECKERS, pipsOf, sumOf } from "./points.js";
 import { decimal } from "./texts.js";
-import { decimalOf, inPips, sumOfFractions } from "./fractions.js";
+import { decimalOf, inPips, inSentence, sumOfFractions } from "./fractions.js";
 import { sameRoll } from "./rolls.js";
 import { isWhole, reachedBy, ways } from "./steps.js";
 import {
@@ -324,7 +324,7 @@ export function mistakesOf(state) {
     const steps = drillGuesses(state).filter(({ play }) => isMiss(play))
         .map(({ at, roll, play, best }) => ({
         points: at.split(",").map(Number), roll, text: "", ask: "Which play is best?",
-        answer: `${best.text}; ${play.text} loses ${play.exact} of a roll.`,
+        answer: `${best.text}; ${play.text} loses ${inSentence(play.exact)} of a roll.`,
     }));
     return steps.length > 0 ? writeLesson({ title: "Mistakes of a drill", steps }) : "";
 }
@@ -632,21 +632,24 @@ export function askNext(state, place) {
         ...setPoints(state, question.points), roll: question.roll,
         guess: state.drill.ask === "play", place,
     };
-    return { ...next, said: askedIn(next) };
+    return { ...next, said: heardOf(next) };
 }
+
+// A question as it is heard, with the board's position.
+const heardOf = (state) => `${askedIn(state)} The board: ${inWords(state.points)}.`;
 
 // What a drill asks of a question, in words.
 export const askedOf = ({ ask }, roll) => (roll ? `Which play of ${roll.join("-")} is best?`
     : `What is the ${WANTED[ask]}?`);
 
-// Which question of a drill is asked, and what, in words.
-export function askedIn(state) {
-    const { questions, place, drill } = state;
-    const which = isAgain(state)
-        ? `Once more, ${place - questions.length + 1} of ${missedOf(state).length}.`
-        : `Question ${place + 1} of ${questions.length}.`;
-    return `${which} ${askedOf(drill, questionOf(state).roll)}`;
-}
+// Which question of a drill is asked, in words.
+export const whichOf = (state) => (isAgain(state)
+    ? `Once more, ${state.place - state.questions.length + 1} of ${missedOf(state).length}`
+    : `Question ${state.place + 1} of ${state.questions.length}`);
+
+// .. and what is asked.
+export const askedIn = (state) =>
+    `${whichOf(state)}. ${askedOf(state.drill, questionOf(state).roll)}`;
 
 // A drill by its words, which are in the links of all who are asked the same.
 export const drillKey = ({ theme, seed, ask, level = "any" }) => [theme, seed, ask, level].join();
@@ -702,7 +705,10 @@ export function goToStep(state, step) {
     return {
         ...setPoints(state, next.points), roll: next.roll, guess: Boolean(next.roll), step,
         isAnswered: false,
-        said: `Step ${step} of ${lessonOf(state).steps.length}. ${next.text} ${next.ask}`.trim(),
+        said: [
+            `Step ${step} of ${lessonOf(state).steps.length}.`, next.text, next.ask,
+            `The board: ${inWords(next.points)}.`,
+        ].filter(Boolean).join(" "),
     };
 }
 
@@ -841,7 +847,7 @@ export function visit(state, link) {
     };
     const next = placed({ ...stated, estimate, lesson, text, step }, link);
     if (drill && !isPlaced && next.questions) return askNext(next, place);
-    const asked = questionOf(next) && isTraining(next) ? askedIn(next) : "";
+    const asked = questionOf(next) && isTraining(next) ? heardOf(next) : "";
     return { ...next, said: [next.notice, asked, spoken(next)].filter(Boolean).join(" ") };
 }
 

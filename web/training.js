@@ -11,7 +11,7 @@ import {
     hasBegun, isAgain, isFar, isTraining, lengthOf, lessonOf, meanError, missedOf, mistakesOf,
     questionOf, scoreOf, stepOf, toldOf,
 } from "./state.js";
-import { decimalOf, sumOfFractions } from "./fractions.js";
+import { decimalOf, isShort, sumOfFractions } from "./fractions.js";
 
 const button = (key, text, click, more = {}) =>
     h("button", { type: "button", "data-key": key, click, ...more }, text);
@@ -68,7 +68,7 @@ function score(state) {
     return [
         h("p", { class: "says score" },
             `${count} of ${state.questions.length} were played. They lost ${decimalOf(rolls)} rolls, `
-            + `or ${decimalOf(pips)} pips of EPC. Exactly: ${rolls} of a roll.`),
+            + `or ${decimalOf(pips)} pips of EPC.${isShort(rolls) ? ` Exactly: ${rolls} of a roll.` : ""}`),
         askedAgain("missed", state.again.filter(({ play }) => !isMiss(play)).length, "right"),
         mistakes && h("p", {},
             h("a", { href: link({ text: mistakes }), "data-key": "mistakes" },

@@ -1,7 +1,8 @@
 // What the page shows of a state: trees for its parts, its texts, and what is hidden. Each is what
 // this state says, and nothing of a former one.
 import { writeLink } from "./link.js";
-import { pipsOf } from "./points.js";
+import { themeOf } from "./trainer.js";
+import { inWords, pipsOf } from "./points.js";
 import { h } from "./tree.js";
 import { board, compared, played, watched } from "./board.js";
 import { editor } from "./editor.js";
@@ -14,7 +15,7 @@ import {
 import {
     answerOf, asksNumber, byLoss, chosenOf, drillKey, hasBegun, hides, hidesNumbers, isAwaited,
     isComing, isFull, isKept, isTraining, lessonOf, lostPips, makingOf, needsMore, orderOf,
-    reasonsFor, rollsOf, shownPlay, verdictOf,
+    questionOf, reasonsFor, rollsOf, shownPlay, stepOf, verdictOf, whichOf,
 } from "./state.js";
 
 // What stands in the place of numbers that a lesson asks for.
@@ -28,6 +29,16 @@ const drawing = h("p", { class: "hint" }, COMING);
 const trainedOf = (state) => (!isTraining(state) ? ["", ""]
     : state.drill ? [drillKey(state.drill), String(state.place)]
     : [String(state.lesson || state.text), String(state.step)]);
+
+// What the window is called: what one trains, or the position.
+function titleOf(state) {
+    const lesson = stepOf(state) && lessonOf(state);
+    const what = lesson ? `Step ${state.step} of ${lesson.steps.length}: ${lesson.title}`
+        : questionOf(state) ? `${whichOf(state)}: ${themeOf(state.drill.theme).words}`
+        : state.drill ? `Drill: ${themeOf(state.drill.theme).words}`
+        : state.title || inWords(state.points);
+    return `${what} \u2013 Bearing off`;
+}
 
 export function view(state, act) {
     const { points, roll, guess, stops, database, typed } = state;
@@ -104,6 +115,7 @@ export function view(state, act) {
             reasons: reasonsFor(state).length === 0,
             why: !typed,
         },
+        title: titleOf(state),
         counts: typed ? typed.text : points.join(),
         isRefused: Boolean(typed),
         canKeep: !isKept(state) && !isFull(state),

@@ -2,10 +2,10 @@
 // isn't of, what is asked of the worker and when, and what each click, key and address does.
 import { readFileSync } from "node:fs";
 import { start } from "../../web/app.js";
-import { sumOfFractions } from "../../web/fractions.js";
+import { inSentence, isShort, sumOfFractions } from "../../web/fractions.js";
 import { readCounts, readLink, readTyped, START, writeLink } from "../../web/link.js";
 import { ROLLS } from "../../web/rolls.js";
-import { moved } from "../../web/panels.js";
+import { moved, verdict } from "../../web/panels.js";
 import { asSvg } from "../../web/picture.js";
 import { begin, giveEstimate, isFar, mistakesOf, missedOf, pressed, received, verdictOf, wanted } from "../../web/state.js";
 import { drawQuestions, drillOf, LEVELS, levelsOf, meanOf, mostOf, numbersFrom, positions, readEstimate, readLessons, temptingOf, THEMES, writeLesson } from "../../web/trainer.js";
@@ -801,6 +801,9 @@ async function guesses() {
         await used.clicked(`play ${roll[0]}/1 ${roll[1]}/2`);
     }
     equal("three of 1/18 are 1/6", used.text("plays").includes("3 guesses have lost 0.167 of a roll. Exactly: 1/6."), true);
+    const long = `${7n ** 40n}/${36n ** 22n}`;
+    equal("a long fraction", [isShort(long), inSentence(long), isShort("1/18"), inSentence("1/18"), inSentence("1/6140942214464815497216")], [false, "0.368", true, "1/18", "1/6140942214464815497216"]);
+    equal("is in no sentence", textOf(verdict({ isMiss: true, first: "One.", all: "All.", exact: long }, {})).includes("Exactly"), false);
     await used.clicked("roll 52");
     await used.clicked("roll 52");
     equal("a guessed roll is not guessed again", [used.text("plays").includes("Which play"), used.session.state.guesses.length], [false, 3]);
@@ -1102,7 +1105,10 @@ async function drills() {
     const asked = drawFrom({ theme: "gaps", seed: 7, ask: "play" });
     equal("the first question", [used.board.join(), used.session.state.roll.join(), used.at("coach").hidden], [asked[0].points.join(), asked[0].roll.join(), false]);
     equal("it comes into sight, and is where one goes on", [used.focus(), used.document.body.scrolled], ["coach", 1]);
-    equal("what is heard", used.text("said"), `Question 1 of 20. Which play of ${asked[0].roll.join("-")} is best?`);
+    const heard = asked[0].points.map((count, place) => count > 0 && `${count} on ${place + 1}`).filter(Boolean).reverse();
+    const gone = 15 - asked[0].points.reduce((sum, count) => sum + count, 0);
+    equal("what is heard", used.text("said"), `Question 1 of 20. Which play of ${asked[0].roll.join("-")} is best? The board: ${heard.join(", ")}, ${gone} borne off.`);
+    equal("what the window is called", used.document.title, "Question 1 of 20: Gaps \u2013 Bearing off");
     equal("nothing edits a position", ["Add 1", "Remove 1", "clear", "close", "onward"].map((key) => used.find(key)), Array(5).fill(null));
     equal("its best play is hidden", [used.text("plays").includes("Which play is best?"), used.text("grid").includes("/")], [true, false]);
     equal("no score yet", used.text("coach").includes("lost"), false);
@@ -1129,6 +1135,7 @@ async function drills() {
         await used.clicked("next question");
     }
     equal("what was missed", used.text("coach").includes("7 were missed; asked once more, 3 were right."), true);
+    equal("what the window is called at the end", used.document.title, "Drill: Gaps \u2013 Bearing off");
     equal("what is heard at the end", [used.text("said"), used.focus(), used.plays(), used.at("steering").querySelector(".verdict")], ["The drill is over.", "coach", [], null]);
     equal("the score", used.text("coach").includes("19 of 20 were played. They lost 0.389 rolls, or 3.176 pips of EPC. Exactly: 7/18 of a roll."), true);
     const mistakes = used.find("mistakes").getAttribute("href");
@@ -1145,6 +1152,7 @@ async function drills() {
     equal("another one like it", [used.session.state.drill.theme, used.session.state.drill.seed === 7, used.session.state.guesses.length, used.text("coach").includes("Question 1 of 20."), used.focus()], ["gaps", false, 0, true, "coach"]);
     await used.clicked("end training");
     equal("it ends", [used.at("coach").hidden, used.session.state.guess, used.focus(), used.text("said")], [true, false, "train", "The drill is over."]);
+    equal("what the window is called then", [used.document.title.endsWith("borne off \u2013 Bearing off"), (await Used.open("#at=0,0,0,0,0,0&t=My title")).document.title], [true, "My title \u2013 Bearing off"]);
 
     part = "a drill of estimates";
     used = new Used("#drill=ace&seed=3&ask=effective");
@@ -1270,6 +1278,7 @@ async function lessons() {
     used.window.pass(1000);
     equal("its link", [readLink(used.window.location.hash).step, readLessons(readLink(used.window.location.hash).text).lessons[0].title], [2, "<b>One</b>"]);
     await used.clicked("previous step");
+    equal("a step as it is heard", [used.text("said"), used.document.title], ["Step 1 of 2. <i>first</i> Which? The board: 1 on 6, 1 on 4, 13 borne off.", "Step 1 of 2: <b>One</b> \u2013 Bearing off"]);
     equal("closed again", [used.text("coach").includes("That one."), used.text("coach").includes("Step 1 of 2")], [false, true]);
     tell(used.document, "drop", { dataTransfer: { files: [fileOf("own.txt", "lesson: Own\nstep: 2,0,0,0,0,0\ntext: mine")] } });
     await settled();
