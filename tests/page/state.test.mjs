@@ -1847,11 +1847,9 @@ async function reasons() {
     await used.clicked("previous question");
     equal("and there it is", says(), whyFrom(three.points, three.roll, used.session.state.guesses.at(-1).play.to));
 
-    const free = await Used.open("#at=2,2,2,2,2,2");
-    await free.clicked("roll 31");
-    await free.clicked("guess");
+    const free = await Used.open("#at=2,2,2,2,2,2&guess=1&roll=31");
     await free.clicked("play 3/1 1/2");
-    equal("nothing where nobody trains", [free.at("reasons").hidden, free.session.state.why], [true, null]);
+    equal("nothing where nobody trains", [free.text("plays").includes("loses"), free.at("reasons").hidden, free.session.state.why], [true, true, null]);
 }
 
 // Those that take seconds stand last. The variable FIRST names one that comes before the others.
