@@ -9,3 +9,4 @@ pub mod Next
 pub mod Prefixes
 pub mod Turns
 pub mod Unique
+pub mod Rooms

@@ -122,6 +122,8 @@ fn build_on_stack<W: Write, const COUNT: usize, const OF_A_LEVEL: usize>(
 ) -> Result<(), BuildFault>
     requires few { COUNT ≤ 46062 }
     requires few_of_a_level { OF_A_LEVEL ≤ 1636 }
+    requires room { header.count ≤ COUNT }
+    requires room_of_a_level { (p : ℕ) → p ≤ header.bound → count_to p ≤ first_of p + OF_A_LEVEL }
     ensures built { Builds (version_by header.version) header.bound (W.contents writer.old)
         (W.contents writer.new) result }
 {
