@@ -1,0 +1,5 @@
+pub mod Ends
+pub mod Known
+pub mod Links
+pub mod Slashes
+pub mod Stays

@@ -1,0 +1,9 @@
+-- Where a fault came before, nothing but the new file has changed.
+use Rattle.std.proofs.Common.{refl}
+use Rattle.whole_file.proofs.Ends.{end_unsettled}
+use Rattle.whole_file.proofs.draft.end_beside.Goals as goal
+
+pub returns-in-Err-clause-put : goal.returns-in-Err-clause-put
+returns-in-Err-clause-put g c bytes first past known is draft =
+    end_unsettled _ c.args.names.now bytes first past _ _ _ c.in-Err.fault draft is refl
+    c.discard.ensures.gone
