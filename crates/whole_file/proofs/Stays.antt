@@ -33,7 +33,7 @@ same_again place old mid new p q = record {
 }
 
 -- .. after more moments
-runs_on : (Each : Moment → Moment → Type 0)
+pub runs_on : (Each : Moment → Moment → Type 0)
     → ((old mid new : Moment) → Each old mid → Each mid new → Each old new)
     → (now : Moment) (past since : List Moment) (mid new : Option (List Moment))
     → mid ≡ Some (since ++ (now ∷ past)) → AllOf (Each now) since → Runs Each mid new
@@ -50,7 +50,7 @@ runs_on Each again now past (m ∷ since) mid new is each runs =
     }
 
 -- the moments that came told one at least
-told_on : (now : Moment) (past since : List Moment) (told : Option (List Moment))
+pub told_on : (now : Moment) (past since : List Moment) (told : Option (List Moment))
     → told ≡ Some (since ++ (now ∷ past))
     → (last : Moment) × (before : List Moment) × (told ≡ Some (last ∷ before))
 told_on now past [] told is = (now, past, is)

@@ -1,7 +1,7 @@
 -- A draft: a new file that is to take the place of an old one. Source: this project's profile.
 use Rattle.std.specs.Prelude.{◌≡◌, ◌≢◌, ℕ, ◌⊎◌, List, [], ◌∷◌, ◌++◌, IsTrue, Option, Some, None, Result, Ok, Err}
 use Rattle.std.specs.String.{string_bytes}
-use Rattle.whole_file.specs.Disks.{Moment, Holds, MayLeave, Goes, Lastly}
+use Rattle.whole_file.specs.Disks.{Moment, Holds, IsSameAt, MayLeave, Goes, Lastly}
 use Rattle.whole_file.specs.Paths.{Paths, LeadsTo, PathStays, folder_of, place_of}
 use Rattle.whole_file.specs.declared.draft.Names.{Names}
 use Rattle.whole_file.specs.declared.fault.DraftFault.{DraftFault}
@@ -71,3 +71,11 @@ IsPut paths (Some names) contents old new result = (bytes : List ℕ) (first : M
     (past : List Moment) → contents ≡ Some bytes → old ≡ Some (first ∷ past)
     → IsDraft paths names first
     → Finishes paths (string_bytes names.place) bytes first past new result
+
+-- a file was ended at which a fault came: the place of one that was written beside it stays as it
+-- was; where one was written straight the disk tells nothing
+abbrev pub IsDropped : Paths → Option Names → Option (List Moment) → Option (List Moment) → Type 0
+IsDropped paths None old new = old ≡ None → new ≡ None
+IsDropped paths (Some names) old new = (first : Moment) (past : List Moment)
+    → old ≡ Some (first ∷ past) → IsDraft paths names first
+    → Goes (IsSameAt (place_of paths (string_bytes names.place)) first) (first ∷ past) new

@@ -115,8 +115,8 @@ pub trait Disk {
     /// Makes a file where none is, with these permissions at most.
     fn create(&mut self, path: &str, mode: u32) -> Result<Made<Self::File>, DiskFault>
         ensures paths { paths self.new ≡ paths self.old }
-        ensures made { IfOk result (AnswersMade Self.File.contents (place_of (paths self.old) path.now)
-            (told self.old) (told self.new)) }
+        ensures made { IfOk result (AnswersMade Self.File.contents
+            (place_of (paths self.old) path.now) (told self.old) (told self.new)) }
         ensures failed { OnErr result (told self.new ≡ told self.old) };
 
     /// Gives a new file the owner, the group and the permissions of another one; whether it has
@@ -125,8 +125,8 @@ pub trait Disk {
         ensures paths { paths self.new ≡ paths self.old }
         ensures stays { told self.new ≡ told self.old };
 
-    /// Takes all bytes out of an old file that is open, to be written straight; whether it was done.
-    /// Not where another run writes into it. From then on the disk tells nothing.
+    /// Takes all bytes out of an old file that is open, to be written straight; whether it was
+    /// done. Not where another run writes into it. From then on the disk tells nothing.
     fn empty(&mut self, file: &Self::File) -> bool
         ensures paths { paths self.new ≡ paths self.old }
         ensures emptied { result ≡ true → told self.new ≡ None }

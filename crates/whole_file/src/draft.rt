@@ -5,9 +5,9 @@ ghost use Rattle.std.specs.Prelude.{IfOk, IfErr, IfSome, IsSomeAnd, OnOk, OnErr,
 ghost use Rattle.std.specs.Io.KnownBytes.{Keeps};
 ghost use Rattle.std.specs.String.{string_bytes};
 ghost use Rattle.std.specs.Io.Buffered.{writer_contents};
-ghost use Rattle.whole_file.specs.Disks.{Moment, Steps, Settles, Renames, StaysAt};
+ghost use Rattle.whole_file.specs.Disks.{Moment, Goes, IsSameAt, Steps, Settles, Renames, StaysAt};
 ghost use Rattle.whole_file.specs.Calls.{AnswersBeside, AnswersSettled, RemovesOrStays};
-ghost use Rattle.whole_file.specs.Drafts.{IsDraft, IsReady, IsBegun, IsPut, Finishes};
+ghost use Rattle.whole_file.specs.Drafts.{IsDraft, IsReady, IsBegun, IsDropped, IsPut, Finishes};
 ghost use Rattle.whole_file.specs.Paths.{LeadsTo, PathStays, place_of};
 ghost use Rattle.whole_file.specs.declared.fault.DraftFault.TheVariants.{Write};
 
@@ -339,8 +339,9 @@ fn create_at<D: Disk>(
     mode: u32,
 ) -> Result<Made<D::File>, DraftFault>
     ensures paths { D.paths disk.new ≡ D.paths disk.old }
-    ensures made { IfOk result (AnswersBeside D.File.contents (place_of (D.paths disk.old) place.now)
-        (place_of (D.paths disk.old) new.now) (D.told disk.old) (D.told disk.new)) }
+    ensures made { IfOk result (AnswersBeside D.File.contents
+        (place_of (D.paths disk.old) place.now) (place_of (D.paths disk.old) new.now)
+        (D.told disk.old) (D.told disk.new)) }
     ensures failed { OnErr result (D.told disk.new ≡ D.told disk.old) }
 {
     if name_of(new) == name_of(place) {
@@ -365,7 +366,8 @@ fn drafted<D: Disk>(
     ensures holds { IfOk result (λ draft.
         Keeps (D.File.contents file) (writer_contents D.File.contents draft.writer)) }
     ensures gone { OnErr result (RemovesOrStays
-        (place_of (D.paths disk.old) (string_bytes names.new)) (D.told disk.old) (D.told disk.new)) }
+        (place_of (D.paths disk.old) (string_bytes names.new))
+        (D.told disk.old) (D.told disk.new)) }
 {
     match straight::<D>(alloc, file) {
         Ok(Draft { writer, names: _ }) => Ok(Draft {
@@ -407,6 +409,8 @@ impl<D: Disk> Draft<D> {
         ensures put { IsPut (D.paths disk.old) self.names
             (writer_contents D.File.contents self.writer) (D.told disk.old) (D.told disk.new)
             result }
+        ensures stays { OnErr written
+            (IsDropped (D.paths disk.old) self.names (D.told disk.old) (D.told disk.new)) }
     {
         let Draft { writer, names } = self;
         match names {
@@ -432,6 +436,10 @@ fn end_beside<D: Disk>(
         → IsDraft (D.paths disk.old) names.now first
         → Finishes (D.paths disk.old) (string_bytes names.now.place) bytes first past
         (D.told disk.new) result }
+    ensures stays { OnErr written ((first : Moment) (past : List Moment)
+        → D.told disk.old ≡ Some (first ∷ past) → IsDraft (D.paths disk.old) names.now first
+        → Goes (IsSameAt (place_of (D.paths disk.old) (string_bytes names.now.place)) first)
+        (first ∷ past) (D.told disk.new)) }
 {
     match written {
         Ok(()) => put(disk, names, writer),
