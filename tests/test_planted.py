@@ -39,7 +39,8 @@ LINES = "crates/epc_query/src/lines.rt"
 ACT = "crates/bearoff_cli/src/act.rt"
 KINDS = "crates/bearoff_cli/src/kinds.rt"
 FILES = "crates/bearoff_cli/src/files.rt"
-DRAFT = "crates/bearoff_cli/src/draft.rt"
+DRAFT = "crates/whole_file/src/draft.rt"
+SYSTEM = "crates/whole_file/src/system.rt"
 MAIN = "crates/bearoff_cli/src/main.rt"
 READS = "crates/epc_query/src/reads.rt"
 BOARD_LINES = "crates/board_query/src/lines.rt"
@@ -485,20 +486,6 @@ PLANTED = [
         "rows TestLongestList",
     ),
     (
-        "a_link_leads_from_the_working_folder",
-        DRAFT,
-        "    let mut name = folder_of(alloc, link)?;",
-        '    let mut name = folder_of(alloc, if link.is_empty() { link } else { "link" })?;',
-        "rows TestLinks::test_links[build --pips 8-in another folder]",
-    ),
-    (
-        "a_link_never_leads_to_another_root",
-        DRAFT,
-        '    if target.starts_with("/") {',
-        "    if target.is_empty() {",
-        "rows TestLinks::test_links[build --pips 8-absolute]",
-    ),
-    (
         "two_links_are_followed",
         DRAFT,
         "const LINKS: u8 = 40;",
@@ -506,31 +493,24 @@ PLANTED = [
         "rows TestLinks::test_links[build --pips 8-three]",
     ),
     (
-        "a_new_file_is_made_in_the_working_folder",
-        DRAFT,
-        "    let folder = folder_of(alloc, place.as_str())?;",
-        '    let folder = folder_of(alloc, if place.is_empty() { "" } else { "place" })?;',
-        "rows TestLinks::test_another_device[build --pips 8]",
-    ),
-    (
         "a_new_file_is_for_its_owner_alone",
         DRAFT,
-        "create_beside(rt, alloc, place, 0o666)",
-        "create_beside(rt, alloc, place, 0o600)",
+        "create_beside(disk, alloc, place, 0o666)",
+        "create_beside(disk, alloc, place, 0o600)",
         "rows TestOwners::test_a_new_file[build --pips 8-0o22]",
     ),
     (
         "the_group_is_not_kept",
-        DRAFT,
-        "fchown(self, Some(other.uid()), Some(other.gid()))",
-        "fchown(self, Some(other.uid()), None)",
+        SYSTEM,
+        "fchown(self, Some(owner), Some(group))",
+        "fchown(self, Some(owner), if group == u32::MAX { Some(group) } else { None })",
         "rows TestOwners::test_a_file_of_another_user[build --pips 8-(65534, 65533)-own]",
     ),
     (
         "the_mode_is_not_kept",
-        DRAFT,
-        "is_owned && file.set_permissions(old.permissions()).is_ok()",
-        "is_owned",
+        SYSTEM,
+        "is_owned && file.set_permissions(permissions).is_ok()",
+        "is_owned && permissions.mode() < u32::MAX",
         "rows TestOwners::test_a_file_that_is_replaced[build --pips 8-0o640]",
     ),
     (
@@ -550,27 +530,27 @@ PLANTED = [
     (
         "files_are_compared_without_their_device",
         DRAFT,
-        "(told.dev(), told.ino()) == (file.dev(), file.ino())",
-        "told.ino() == file.ino()",
+        "named.number == file.number",
+        "named.number.1 == file.number.1",
         "rows TestSteps::test_a_file_of_the_same_number[build --pips 8]",
     ),
     (
         "a_folder_that_can_only_be_read_is_told",
-        DRAFT,
+        SYSTEM,
         "                | ErrorKind::ReadOnlyFilesystem\n",
         "",
         "rows TestStraight::test_a_folder_that_can_only_be_read[build --pips 8]",
     ),
     (
         "a_path_that_is_too_long_for_another_name_is_told",
-        DRAFT,
-        "\n                | ErrorKind::InvalidFilename => return Ok(None),",
-        " => return Ok(None),",
+        SYSTEM,
+        "\n                | ErrorKind::InvalidFilename => Ok(Made::Refused),",
+        " => Ok(Made::Refused),",
         "rows TestStraight::test_a_path_that_is_too_long_for_another_name[build --pips 8]",
     ),
     (
         "a_file_of_which_nothing_is_told_is_not_synced",
-        DRAFT,
+        SYSTEM,
         "        Ok(told) if !told.is_file() => Ok(()),\n",
         "        Ok(told) if !told.is_file() => Ok(()),\n        Err(_) => Ok(()),\n",
         "rows TestSteps::test_a_file_of_which_nothing_is_told[build --pips 8-new]",

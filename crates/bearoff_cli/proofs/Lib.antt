@@ -1,5 +1,6 @@
 mod Levels
 mod OpenedFiles
+mod PutFiles
 mod Requests
 mod StoppedRuns
 mod ToldFaults

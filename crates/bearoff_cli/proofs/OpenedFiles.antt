@@ -118,3 +118,8 @@ err-weaker (Err e) f p = f p
 pub at_err : {A E P : Type 0} (r : Result A E) → OnErr r P → is_err r ≡ true → P
 at_err (Ok x) p is = absurd (subst (λ b. IsNot b) is tt)
 at_err (Err e) p is = p
+
+-- what holds anyway holds at Ok
+pub on_ok : {A E : Type 0} (r : Result A E) (P : Type 0) → P → OnOk r P
+on_ok (Ok x) P h = h
+on_ok (Err e) P h = tt

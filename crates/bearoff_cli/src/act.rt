@@ -19,6 +19,9 @@ ghost use Rattle.bearoff_cli.specs.Faults.{IsFaultIn, IsFaultOf, IsOwnFault, IsR
 ghost use Rattle.bearoff_cli.specs.InputAnswers.{AreAnswered, AreAnsweredOver};
 ghost use Rattle.bearoff_cli.specs.FileAnswers.{AreAnsweredFrom, IsHandedTo, SaysRight, SaysUpgraded, SaysLevels};
 ghost use Rattle.retrograde.specs.BuiltBytes.{WritesBuilt};
+ghost use Rattle.board_build.specs.BuiltBoards.{IsBuiltBoard};
+ghost use Rattle.whole_file.specs.Puts.{Puts};
+ghost use Rattle.bearoff_cli.specs.PutFiles.{PutsFor, PutsUpgrade};
 ghost use Rattle.retrograde.specs.UsualVersion.{usual_version};
 ghost use Rattle.bearoff_cli.specs.FileAnswers.{WritesBuiltBoard, count_line};
 ghost use Rattle.bearoff_cli.specs.RefusedFiles.{KeepsIfRefused, KeepsIfTold};
@@ -28,7 +31,6 @@ ghost use Rattle.bearoff_cli.specs.StoppedRuns.{LeavesLine, LeavesReplies, SaysU
 ghost use Rattle.bearoff_cli.specs.declared.act.Done.TheVariants.{Built};
 ghost use Rattle.bearoff_cli.specs.declared.act.ProgramFault.TheVariants.{Failed};
 
-use crate::draft::DraftFile;
 use crate::files::{
     WHOLE_BOARD, affordable, build_board_file, build_file, flush, probe_stack, read_file,
     stack_room, upgrade_file,
@@ -49,9 +51,8 @@ use ranking::Ranks;
 use retrograde::build;
 use std::alloc::Global;
 use std::convert::AsStr;
-use std::fs;
 use std::io::{BufWriter, Read, Write};
-use std::rt::Files;
+use whole_file::Disk;
 
 /// The pip bound of the database that is built where no word is given.
 const DEFAULT_BOUND: u8 = 8;
@@ -63,16 +64,14 @@ const DEFAULT_BOUND: u8 = 8;
 /// and is no old one. At 1 and 3, and for a bound over the greatest one, one line is written to
 /// `errors`; for words that are wrong it is the text of `clap`. At 2 and 3 nothing was written to
 /// `output`. (The words, the statuses and the lines are this project's profile.)
-pub fn act<R: Files, S: AsStr, I: Read, O: Write, E: Write>(
-    rt: &R,
+pub fn act<D: Disk, S: AsStr, I: Read, O: Write, E: Write>(
+    disk: &mut D,
     alloc: Global,
     words: &[S],
     input: &mut I,
     output: &mut O,
     errors: &mut E,
 ) -> u8
-where
-    R::File: DraftFile,
     ensures silent { result ≡ 0 → E.contents errors.new ≡ E.contents errors.old }
     ensures told { 0 < result → ¬ (result ≡ 2) → (fault : Fault) × ((result ≡ status_of fault)
         × AppendsPart (E.contents errors.old) (E.contents errors.new) (error_line fault)) }
@@ -80,15 +79,17 @@ where
     ensures fault { (request : Request) → Asks (map S.text words.entry.now) request → 0 < result
         → (fault : Fault) × ((result ≡ status_of fault)
         × AppendsPart (E.contents errors.old) (E.contents errors.new) (error_line fault)
-        × IsFaultOf R.File.remaining request fault
-        × Leaves R.File.remaining request (I.remaining input.old) (I.remaining input.new)
+        × IsFaultOf D.Reader.remaining request fault
+        × Leaves D.Reader.remaining request (I.remaining input.old) (I.remaining input.new)
         (O.contents output.old) (O.contents output.new) fault) }
     ensures done { (request : Request) → Asks (map S.text words.entry.now) request → result ≡ 0
-        → IsDone R.File.remaining ⟦<BufWriter<R::File> as Write>⟧.contents request
+        → IsDone D.Reader.remaining ⟦<BufWriter<D::File> as Write>⟧.contents request
         (I.remaining input.old) (I.remaining input.new)
         (O.contents output.old) (O.contents output.new) }
+    ensures put { (request : Request) → Asks (map S.text words.entry.now) request → result ≡ 0
+        → PutsFor (D.paths disk.old) request (D.told disk.old) (D.told disk.new) }
 {
-    tell(perform(rt, alloc, words, input, output), errors).status
+    tell(perform(disk, alloc, words, input, output), errors).status
 }
 
 /// What the program told of its end.
@@ -141,27 +142,27 @@ enum ProgramFault {
 }
 
 /// Does what the words ask for. A help text that they ask for is written to the output.
-fn perform<R: Files, S: AsStr, I: Read, O: Write>(
-    rt: &R,
+fn perform<D: Disk, S: AsStr, I: Read, O: Write>(
+    disk: &mut D,
     alloc: Global,
     words: &[S],
     input: &mut I,
     output: &mut O,
 ) -> Result<(), ProgramFault>
-where
-    R::File: DraftFile,
     ensures refused { KeepsIfTold result (O.contents output.old) (O.contents output.new) }
     ensures fault { (request : Request) → Asks (map S.text words.entry.now) request
-        → IfErr result (λ refusal. IsRefusalOf R.File.remaining request
+        → IfErr result (λ refusal. IsRefusalOf D.Reader.remaining request
         (I.remaining input.old) (I.remaining input.new)
         (O.contents output.old) (O.contents output.new) refusal) }
     ensures done { (request : Request) → Asks (map S.text words.entry.now) request
-        → OnOk result (IsDone R.File.remaining ⟦<BufWriter<R::File> as Write>⟧.contents request
+        → OnOk result (IsDone D.Reader.remaining ⟦<BufWriter<D::File> as Write>⟧.contents request
         (I.remaining input.old) (I.remaining input.new)
         (O.contents output.old) (O.contents output.new)) }
+    ensures put { (request : Request) → Asks (map S.text words.entry.now) request
+        → OnOk result (PutsFor (D.paths disk.old) request (D.told disk.old) (D.told disk.new)) }
 {
     match read_words(alloc, words) {
-        Ok(request) => refused(fulfil(rt, alloc, request, input, output)),
+        Ok(request) => refused(fulfil(disk, alloc, request, input, output)),
         Err(error) if error.kind() == ErrorKind::OutOfMemory => {
             Err(ProgramFault::Failed(Fault::Memory))
         }
@@ -192,44 +193,44 @@ fn write_help<O: Write>(error: &Error, output: &mut O) -> Result<(), Fault>
 }
 
 /// Does what is asked for.
-fn fulfil<R: Files, I: Read, O: Write>(
-    rt: &R,
+fn fulfil<D: Disk, I: Read, O: Write>(
+    disk: &mut D,
     alloc: Global,
     request: Request<'_>,
     input: &mut I,
     output: &mut O,
 ) -> Result<(), Fault>
-where
-    R::File: DraftFile,
     ensures refused { KeepsIfRefused result (O.contents output.old) (O.contents output.new) }
     ensures fault { IfErr result
-        (λ fault. IsFaultOf R.File.remaining request.entry fault) }
-    ensures left { IfErr result (Leaves R.File.remaining request.entry (I.remaining input.old)
+        (λ fault. IsFaultOf D.Reader.remaining request.entry fault) }
+    ensures left { IfErr result (Leaves D.Reader.remaining request.entry (I.remaining input.old)
         (I.remaining input.new) (O.contents output.old) (O.contents output.new)) }
-    ensures done { OnOk result (IsDone R.File.remaining
-        ⟦<BufWriter<R::File> as Write>⟧.contents request.entry (I.remaining input.old)
+    ensures done { OnOk result (IsDone D.Reader.remaining
+        ⟦<BufWriter<D::File> as Write>⟧.contents request.entry (I.remaining input.old)
         (I.remaining input.new) (O.contents output.old) (O.contents output.new)) }
+    ensures put { OnOk result (PutsFor (D.paths disk.old) request.entry
+        (D.told disk.old) (D.told disk.new)) }
 {
     match request {
         Request::Default => answer_default(alloc, input, output),
-        Request::Build { pips, path } => write_database(rt, alloc, pips, path, output),
-        Request::Check { path } => check_file::<Databases, _, _>(rt, alloc, path, output),
+        Request::Build { pips, path } => write_database(disk, alloc, pips, path, output),
+        Request::Check { path } => check_file::<Databases, _, _>(disk, alloc, path, output),
         Request::Query { path, cache: None } => {
-            answer_file::<Databases, _, _, _>(rt, alloc, path, input, output)
+            answer_file::<Databases, _, _, _>(disk, alloc, path, input, output)
         }
         Request::Query {
             path,
             cache: Some(records),
-        } => answer_pages(rt, alloc, path, records, input, output),
-        Request::Audit { path } => audit_file::<Databases, _, _>(rt, alloc, path, output),
-        Request::Upgrade { old, new } => upgrade_database(rt, alloc, old, new, output),
+        } => answer_pages(disk, alloc, path, records, input, output),
+        Request::Audit { path } => audit_file::<Databases, _, _>(disk, alloc, path, output),
+        Request::Upgrade { old, new } => upgrade_database(disk, alloc, old, new, output),
         Request::Board { command, path } => match command {
-            BoardCommand::Build => write_board(rt, alloc, path, output),
-            BoardCommand::Check => check_file::<Boards, _, _>(rt, alloc, path, output),
+            BoardCommand::Build => write_board(disk, alloc, path, output),
+            BoardCommand::Check => check_file::<Boards, _, _>(disk, alloc, path, output),
             BoardCommand::Query => {
-                answer_file::<Boards, _, _, _>(rt, alloc, path, input, output)
+                answer_file::<Boards, _, _, _>(disk, alloc, path, input, output)
             }
-            BoardCommand::Audit => audit_file::<Boards, _, _>(rt, alloc, path, output),
+            BoardCommand::Audit => audit_file::<Boards, _, _>(disk, alloc, path, output),
         },
     }
 }
@@ -259,29 +260,29 @@ fn answer_default<I: Read, O: Write>(
 
 /// Answers each line of the input over a file, which is read whole.
 #[inline(never)]
-fn answer_file<K: Kind, R: Files, I: Read, O: Write>(
-    rt: &R,
+fn answer_file<K: Kind, D: Disk, I: Read, O: Write>(
+    disk: &mut D,
     alloc: Global,
     path: &str,
     input: &mut I,
     output: &mut O,
 ) -> Result<(), Fault>
     ensures refused { KeepsIfRefused result (O.contents output.old) (O.contents output.new) }
-    ensures fault { IfErr result (λ fault. IsOwnFault K.kind R.File.remaining fault) }
-    ensures left { IfErr result (LeavesReplies K.kind R.File.remaining (I.remaining input.old)
+    ensures fault { IfErr result (λ fault. IsOwnFault K.kind D.Reader.remaining fault) }
+    ensures left { IfErr result (LeavesReplies K.kind D.Reader.remaining (I.remaining input.old)
         (I.remaining input.new) (O.contents output.old) (O.contents output.new)) }
     ensures answers { WhereTold (I.remaining input.old)
-        (λ given. IfOk result (λ _. AreAnsweredFrom K.kind R.File.remaining given
+        (λ given. IfOk result (λ _. AreAnsweredFrom K.kind D.Reader.remaining given
         (I.remaining input.new) (O.contents output.old) (O.contents output.new))) }
 {
-    let file = read_file(rt, alloc, path)?;
+    let file = read_file(disk, alloc, path)?;
     answer_bytes::<K, _, _>(alloc, file.as_slice(), input, output)
 }
 
 /// Answers each line of the input over the database in a file, of which at most so many records
 /// are in memory.
-fn answer_pages<R: Files, I: Read, O: Write>(
-    rt: &R,
+fn answer_pages<D: Disk, I: Read, O: Write>(
+    disk: &mut D,
     alloc: Global,
     path: &str,
     records: u16,
@@ -292,7 +293,7 @@ fn answer_pages<R: Files, I: Read, O: Write>(
     ensures fault { IfErr result (λ fault. (status_of fault ≡ 1) ⊎ IsRefused fault) }
 {
     let room = stack_room(alloc)?;
-    let Ok(file) = fs::open(rt, path) else {
+    let Ok(file) = disk.open_to_read(path) else {
         return Err(Fault::Open);
     };
     match Paged::new(alloc, FileSource::new(file), affordable(alloc, records)) {
@@ -380,123 +381,123 @@ fn accepted<T: Table>(
 
 /// Writes the database of a pip bound into a file, and says so.
 #[inline(never)]
-fn write_database<R: Files, O: Write>(
-    rt: &R,
+fn write_database<D: Disk, O: Write>(
+    disk: &mut D,
     alloc: Global,
     pips: u8,
     path: &str,
     output: &mut O,
 ) -> Result<(), Fault>
-where
-    R::File: DraftFile,
     ensures refused { KeepsIfRefused result (O.contents output.old) (O.contents output.new) }
     ensures over { 58 < pips → result ≡ Err Fault.OverBound }
     ensures fault { IfErr result
         (λ fault. (status_of fault ≡ 1) ⊎ ((fault ≡ OverBound) × (58 < pips))) }
     ensures left { OnErr result (AppendsPart (O.contents output.old) (O.contents output.new)
         (count_line Built pips (count_to pips))) }
-    ensures handed { OnOk result (IsHandedTo ⟦<BufWriter<R::File> as Write>⟧.contents
+    ensures handed { OnOk result (IsHandedTo ⟦<BufWriter<D::File> as Write>⟧.contents
         (WritesBuilt (usual_version pips) pips)) }
+    ensures put { OnOk result (Puts (D.paths disk.old) path.now
+        (IsBuilt (usual_version pips) pips) (D.told disk.old) (D.told disk.new)) }
     ensures built { OnOk result (Appends (O.contents output.old) (O.contents output.new)
         (count_line Built pips (count_to pips))) }
 {
     if pips > MAX_BOUND {
         return Err(Fault::OverBound);
     }
-    build_file(rt, alloc, pips, path)?;
+    build_file(disk, alloc, pips, path)?;
     write_count(Done::Built, pips, output)
 }
 
 /// Checks a file, and says that it was accepted.
 #[inline(never)]
-fn check_file<K: Kind, R: Files, O: Write>(
-    rt: &R,
+fn check_file<K: Kind, D: Disk, O: Write>(
+    disk: &mut D,
     alloc: Global,
     path: &str,
     output: &mut O,
 ) -> Result<(), Fault>
     ensures refused { KeepsIfRefused result (O.contents output.old) (O.contents output.new) }
-    ensures fault { IfErr result (λ fault. IsOwnFault K.kind R.File.remaining fault) }
-    ensures left { OnErr result (LeavesLine K.kind R.File.remaining
+    ensures fault { IfErr result (λ fault. IsOwnFault K.kind D.Reader.remaining fault) }
+    ensures left { OnErr result (LeavesLine K.kind D.Reader.remaining
         (O.contents output.old) (O.contents output.new)) }
     ensures right { OnOk result
-        (SaysRight K.kind R.File.remaining (O.contents output.old) (O.contents output.new)) }
+        (SaysRight K.kind D.Reader.remaining (O.contents output.old) (O.contents output.new)) }
 {
-    let bytes = read_file(rt, alloc, path)?;
+    let bytes = read_file(disk, alloc, path)?;
     let kept = K::accept(bytes.as_slice())?;
     write_count(Done::Checked, kept.bound(), output)
 }
 
 /// Checks a file, and writes a line for each pip count.
 #[inline(never)]
-fn audit_file<K: Kind, R: Files, O: Write>(
-    rt: &R,
+fn audit_file<K: Kind, D: Disk, O: Write>(
+    disk: &mut D,
     alloc: Global,
     path: &str,
     output: &mut O,
 ) -> Result<(), Fault>
     ensures refused { KeepsIfRefused result (O.contents output.old) (O.contents output.new) }
-    ensures fault { IfErr result (λ fault. IsOwnFault K.kind R.File.remaining fault) }
-    ensures left { OnErr result (LeavesLevels K.kind R.File.remaining
+    ensures fault { IfErr result (λ fault. IsOwnFault K.kind D.Reader.remaining fault) }
+    ensures left { OnErr result (LeavesLevels K.kind D.Reader.remaining
         (O.contents output.old) (O.contents output.new)) }
     ensures levels { OnOk result
-        (SaysLevels K.kind R.File.remaining (O.contents output.old) (O.contents output.new)) }
+        (SaysLevels K.kind D.Reader.remaining (O.contents output.old) (O.contents output.new)) }
 {
-    let bytes = read_file(rt, alloc, path)?;
+    let bytes = read_file(disk, alloc, path)?;
     let kept = K::accept(bytes.as_slice())?;
     write_levels(kept, bytes.as_slice(), output)
 }
 
 /// Writes the board file of 90 pips into a file, and says so.
 #[inline(never)]
-fn write_board<R: Files, O: Write>(
-    rt: &R,
+fn write_board<D: Disk, O: Write>(
+    disk: &mut D,
     alloc: Global,
     path: &str,
     output: &mut O,
 ) -> Result<(), Fault>
-where
-    R::File: DraftFile,
     ensures status { IfErr result (λ fault. status_of fault ≡ 1) }
     ensures left { OnErr result (AppendsPart (O.contents output.old) (O.contents output.new)
         (count_line Built 90 (count_to 90))) }
-    ensures handed { OnOk result (IsHandedTo ⟦<BufWriter<R::File> as Write>⟧.contents
+    ensures handed { OnOk result (IsHandedTo ⟦<BufWriter<D::File> as Write>⟧.contents
         (WritesBuiltBoard 90)) }
+    ensures put { OnOk result (Puts (D.paths disk.old) path.now (IsBuiltBoard 90)
+        (D.told disk.old) (D.told disk.new)) }
     ensures built { OnOk result (Appends (O.contents output.old) (O.contents output.new)
         (count_line Built 90 (count_to 90))) }
 {
-    build_board_file(rt, alloc, path)?;
+    build_board_file(disk, alloc, path)?;
     write_count(Done::Built, WHOLE_BOARD, output)
 }
 
 /// Checks the database in an old file, writes it into a new one as a file of version 2, and says
 /// so. The new file is not opened where the old one was refused, or is of version 2 already.
 #[inline(never)]
-fn upgrade_database<R: Files, O: Write>(
-    rt: &R,
+fn upgrade_database<D: Disk, O: Write>(
+    disk: &mut D,
     alloc: Global,
     old: &str,
     new: &str,
     output: &mut O,
 ) -> Result<(), Fault>
-where
-    R::File: DraftFile,
     ensures refused { KeepsIfRefused result (O.contents output.old) (O.contents output.new) }
-    ensures fault { IfErr result (λ fault. IsOwnFault database_file R.File.remaining fault) }
-    ensures left { OnErr result (IsNothingOr database_file R.File.remaining
+    ensures fault { IfErr result (λ fault. IsOwnFault database_file D.Reader.remaining fault) }
+    ensures left { OnErr result (IsNothingOr database_file D.Reader.remaining
         (λ file. SaysUpgradedPart file (O.contents output.old) (O.contents output.new))
         (O.contents output.old) (O.contents output.new)) }
     ensures upgraded { OnOk result
-        (SaysUpgraded R.File.remaining ⟦<BufWriter<R::File> as Write>⟧.contents
+        (SaysUpgraded D.Reader.remaining ⟦<BufWriter<D::File> as Write>⟧.contents
         (O.contents output.old) (O.contents output.new)) }
+    ensures put { OnOk result (PutsUpgrade (D.paths disk.old) new.now
+        (D.told disk.old) (D.told disk.new)) }
 {
-    let bytes = read_file(rt, alloc, old)?;
+    let bytes = read_file(disk, alloc, old)?;
     let mut told = check(Whole::new(bytes.as_slice()));
     let checked = accepted(&mut told)?;
     if checked.version() == COMPACT_VERSION {
         return Err(Fault::NotOld);
     }
-    upgrade_file(rt, alloc, checked, new)?;
+    upgrade_file(disk, alloc, checked, new)?;
     write_count(Done::Upgraded, checked.bound(), output)
 }
 

@@ -1,5 +1,5 @@
 //! Files, read and written by blocks.
-ghost use Rattle.std.specs.Prelude.{◌≡◌, ◌≤◌, length, take, IfOk, IfErr, OnOk};
+ghost use Rattle.std.specs.Prelude.{◌≡◌, ◌≤◌, length, take, Ok, Err, IfOk, IfErr, OnOk};
 ghost use Rattle.std.specs.Io.KnownBytes.{Consumes, IsAtEnd, Keeps};
 ghost use Rattle.exit_status.specs.Statuses.{status_of};
 ghost use Rattle.exit_status.specs.declared.fault.Fault.TheVariants.{File};
@@ -10,8 +10,12 @@ ghost use Rattle.db_reader.specs.Telling.{WhereTold};
 ghost use Rattle.retrograde.specs.BuiltBytes.{WritesBuilt};
 ghost use Rattle.retrograde.specs.UsualVersion.{usual_version};
 ghost use Rattle.certificate.specs.Upgrades.{WritesUpgrade};
+ghost use Rattle.race_model.specs.BuiltFile.{IsBuilt};
+ghost use Rattle.race_model.specs.Upgrades.{IsUpgrade};
+ghost use Rattle.std.specs.Io.Buffered.{writer_contents};
+ghost use Rattle.whole_file.specs.Drafts.{IsBegun, IsPut};
+ghost use Rattle.whole_file.specs.Puts.{Puts};
 
-use crate::draft::{DraftFile, begin};
 use board_build::build_board;
 use board_layout::BoardHeader;
 use certificate::Checked;
@@ -20,9 +24,8 @@ use db_reader::Table;
 use exit_status::Fault;
 use retrograde::ReadyBuild;
 use std::alloc::Global;
-use std::fs;
 use std::io::{BufWriter, Read, Write};
-use std::rt::Files;
+use whole_file::{Disk, Draft, DraftFault, begin};
 
 /// The greatest pip count of any position.
 pub const WHOLE_BOARD: u8 = 90;
@@ -46,12 +49,14 @@ const MOST_BYTES: usize = 20_000_001;
 /// The bytes of a file, at most 20,000,001 of them. `Memory` where there is no room for the stack
 /// that a check needs, `Open` where the file can't be opened, `File` where a read fails, and
 /// `Memory` where there is no room for the bytes.
-pub fn read_file<R: Files>(rt: &R, alloc: Global, path: &str) -> Result<Vec<u8>, Fault>
+pub fn read_file<D: Disk>(disk: &mut D, alloc: Global, path: &str) -> Result<Vec<u8>, Fault>
     ensures status { IfErr result (λ fault. status_of fault ≡ 1) }
-    ensures read { IfOk result (λ bytes. IsReadFrom R.File.remaining bytes.items) }
+    ensures read { IfOk result (λ bytes. IsReadFrom D.Reader.remaining bytes.items) }
+    ensures paths { D.paths disk.new ≡ D.paths disk.old }
+    ensures stays { D.told disk.new ≡ D.told disk.old }
 {
     let _room = stack_room(alloc)?;
-    let Ok(mut file) = fs::open(rt, path) else {
+    let Ok(mut file) = disk.open_to_read(path) else {
         return Err(Fault::Open);
     };
     read_bytes(alloc, &mut file)
@@ -130,23 +135,73 @@ fn read_block<'a, F: Read>(file: &mut F, block: &'a mut [u8; BLOCK]) -> Result<&
     }
 }
 
+/// Begins to write a file (`whole_file`).
+fn begin_file<D: Disk>(disk: &mut D, alloc: Global, path: &str) -> Result<Draft<D>, Fault>
+    ensures status { IfErr result (λ fault. status_of fault ≡ 1) }
+    ensures paths { D.paths disk.new ≡ D.paths disk.old }
+    ensures begun { IfOk result (λ draft. IsBegun (D.paths disk.old) path.now draft.names
+        (writer_contents D.File.contents draft.writer) (D.told disk.old) (D.told disk.new)) }
+{
+    match begin(disk, alloc, path) {
+        Ok(draft) => Ok(draft),
+        Err(fault) => Err(of_draft(fault)),
+    }
+}
+
+/// Ends a file that was written, or one at which a fault came, which is then answered.
+fn finish_file<D: Disk>(
+    disk: &mut D,
+    draft: Draft<D>,
+    written: Result<(), Fault>,
+) -> Result<(), Fault>
+    ensures fault { IfErr written (λ fault. result ≡ Err fault) }
+    ensures closing { IfOk written (λ _. IfErr result (λ fault. status_of fault ≡ 1)) }
+    ensures paths { D.paths disk.new ≡ D.paths disk.old }
+    ensures put { OnOk result (IsPut (D.paths disk.old) draft.names
+        (writer_contents D.File.contents draft.writer) (D.told disk.old) (D.told disk.new)
+        (Ok (tt {0}))) }
+{
+    match written {
+        Ok(()) => match draft.finish(disk, Ok(())) {
+            Ok(()) => Ok(()),
+            Err(fault) => Err(of_draft(fault)),
+        },
+        Err(fault) => {
+            let _ = draft.finish(disk, Err(DraftFault::Write));
+            Err(fault)
+        }
+    }
+}
+
+/// Why a file was not written, as a fault of the program.
+fn of_draft(fault: DraftFault) -> Fault
+    ensures { status_of result ≡ 1 }
+{
+    match fault {
+        DraftFault::Open => Fault::Open,
+        DraftFault::Write => Fault::Write,
+        DraftFault::Memory => Fault::Memory,
+    }
+}
+
 /// Writes the database of a pip bound into a file, which takes the place of an old one once it is
 /// complete (`draft`). The memory that it needs is taken before the file is begun. `Open` where it
 /// can't be made, and `Write` where a write fails: then the old file stays, or, where the bytes go
 /// straight into it, it may hold a prefix of the database.
-pub fn build_file<R: Files>(rt: &R, alloc: Global, pips: u8, path: &str) -> Result<(), Fault>
-where
-    R::File: DraftFile,
+pub fn build_file<D: Disk>(disk: &mut D, alloc: Global, pips: u8, path: &str) -> Result<(), Fault>
     ensures fault { pips ≤ 58 → IfErr result (λ fault. status_of fault ≡ 1) }
-    ensures built { OnOk result (IsHandedTo ⟦<BufWriter<R::File> as Write>⟧.contents
+    ensures built { OnOk result (IsHandedTo ⟦<BufWriter<D::File> as Write>⟧.contents
         (WritesBuilt (usual_version pips) pips)) }
+    ensures paths { D.paths disk.new ≡ D.paths disk.old }
+    ensures put { OnOk result (Puts (D.paths disk.old) path.now
+        (IsBuilt (usual_version pips) pips) (D.told disk.old) (D.told disk.new)) }
 {
     let room = stack_room(alloc)?;
     let ready = ReadyBuild::new(alloc, pips)?;
-    let mut draft = begin(rt, alloc, path)?;
+    let mut draft = begin_file(disk, alloc, path)?;
     drop(room);
     let written = build_into(ready, &mut draft.writer);
-    draft.finish(rt, written)
+    finish_file(disk, draft, written)
 }
 
 /// Writes the database of a build that has its memory, to its last byte.
@@ -161,19 +216,20 @@ fn build_into<O: Write>(ready: ReadyBuild, output: &mut O) -> Result<(), Fault>
 
 /// Writes the board file of 90 pips into a file, with the faults of `build_file`. It is made in
 /// memory, of which it needs as much as it is long, and which is taken before the file is begun.
-pub fn build_board_file<R: Files>(rt: &R, alloc: Global, path: &str) -> Result<(), Fault>
-where
-    R::File: DraftFile,
+pub fn build_board_file<D: Disk>(disk: &mut D, alloc: Global, path: &str) -> Result<(), Fault>
     ensures fault { IfErr result (λ fault. status_of fault ≡ 1) }
-    ensures built { OnOk result (IsHandedTo ⟦<BufWriter<R::File> as Write>⟧.contents
+    ensures built { OnOk result (IsHandedTo ⟦<BufWriter<D::File> as Write>⟧.contents
         (WritesBuiltBoard 90)) }
+    ensures paths { D.paths disk.new ≡ D.paths disk.old }
+    ensures put { OnOk result (Puts (D.paths disk.old) path.now (IsBuiltBoard 90)
+        (D.told disk.old) (D.told disk.new)) }
 {
     let room = stack_room(alloc)?;
     let mut file = board_room(alloc)?;
-    let mut draft = begin(rt, alloc, path)?;
+    let mut draft = begin_file(disk, alloc, path)?;
     drop(room);
     let written = build_board_into(&mut file, &mut draft.writer);
-    draft.finish(rt, written)
+    finish_file(disk, draft, written)
 }
 
 /// As many bytes as the board file of 90 pips has.
@@ -218,24 +274,25 @@ fn whole_board(room: &mut Vec<u8>) -> Result<&[u8], Fault>
 
 /// Writes a checked database of version 1 into a file as one of version 2, with the faults of
 /// `build_file`.
-pub fn upgrade_file<R: Files, T: Table>(
-    rt: &R,
+pub fn upgrade_file<D: Disk, T: Table>(
+    disk: &mut D,
     alloc: Global,
     checked: &mut Checked<T>,
     path: &str,
 ) -> Result<(), Fault>
-where
-    R::File: DraftFile,
     ensures upgraded { WhereTold checked.old.told
-        (λ file. OnOk result (IsHandedTo ⟦<BufWriter<R::File> as Write>⟧.contents
+        (λ file. OnOk result (IsHandedTo ⟦<BufWriter<D::File> as Write>⟧.contents
         (WritesUpgrade file))) }
+    ensures paths { D.paths disk.new ≡ D.paths disk.old }
+    ensures put { WhereTold checked.old.told (λ file. OnOk result (Puts (D.paths disk.old) path.now
+        (IsUpgrade file) (D.told disk.old) (D.told disk.new))) }
     ensures fault { checked.old.version ≡ full → IfErr result (λ fault. status_of fault ≡ 1) }
     ensures stays { (checked.new.told ≡ checked.old.told)
         × (checked.new.bound ≡ checked.old.bound) }
 {
-    let mut draft = begin(rt, alloc, path)?;
+    let mut draft = begin_file(disk, alloc, path)?;
     let written = upgrade_into(checked, &mut draft.writer);
-    draft.finish(rt, written)
+    finish_file(disk, draft, written)
 }
 
 /// Writes a checked database of version 1 as one of version 2, to its last byte.

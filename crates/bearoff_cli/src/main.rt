@@ -10,9 +10,9 @@ use std::io::BufWriter;
 use std::os::fd::{AsFd, AsRawFd, BorrowedFd};
 use std::process::ExitCode;
 use std::{env, fs, io};
+use whole_file::SystemDisk;
 
 pub mod act;
-pub mod draft;
 pub mod files;
 pub mod kinds;
 
@@ -38,7 +38,7 @@ fn run(rt: &HostRuntime) -> Result<u8, Fault> {
         return Err(Fault::Memory);
     };
     let status = act(
-        rt,
+        &mut SystemDisk::new(rt),
         rt.alloc(),
         words.as_slice(),
         &mut rt.stdin(),

@@ -5,7 +5,7 @@ use Rattle.bearoff_cli.proofs.act.act.Goals as goal
 
 pub returns-clause-fault : goal.returns-clause-fault
 returns-clause-fault g c request asks some =
-    told_end g.R.File.Read.remaining request (g.I.Read.remaining c.args.input.now)
+    told_end g.D.Reader.Read.remaining request (g.I.Read.remaining c.args.input.now)
     (g.I.Read.remaining c.perform.new.input) (g.O.Write.contents c.args.output.now)
     (g.O.Write.contents c.perform.new.output) c.perform.result c.tell.result.status
     (λ line. AppendsPart (g.E.Write.contents c.args.errors.now)

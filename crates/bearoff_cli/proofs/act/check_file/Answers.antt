@@ -12,7 +12,7 @@ use Rattle.bearoff_cli.proofs.act.check_file.Goals as goal
 pub returns-in_err-kept-clause-fault : goal.returns-in_err-kept-clause-fault
 returns-in_err-kept-clause-fault g c =
     let file = c.as_slice.result.now in
-    let read = subst (λ bytes. IsReadFrom g.R.File.Read.remaining bytes)
+    let read = subst (λ bytes. IsReadFrom g.D.Reader.Read.remaining bytes)
     (sym c.as_slice.ensures.value) c.in_ok-bytes.ensures.read in
     let same : c.from_residual-in_err-kept.result ≡ Err c.in_err-kept.field-0.0 =
     search rules in
@@ -25,13 +25,13 @@ returns-in_err-kept-clause-fault g c =
 pub returns-clause-left : goal.returns-clause-left
 returns-clause-left g c =
     let file = c.as_slice.result.now in
-    let read = subst (λ bytes. IsReadFrom g.R.File.Read.remaining bytes)
+    let read = subst (λ bytes. IsReadFrom g.D.Reader.Read.remaining bytes)
     (sym c.as_slice.ensures.value) c.in_ok-bytes.ensures.read in
     let kept = c.in_ok-kept.ensures in
     let bound = c.bound.ensures file kept.kept in
     let old = g.O.Write.contents c.args.output.now in
     let new = g.O.Write.contents c.write_count.new.output in
-    read_part g.K.Kind.kind g.R.File.Read.remaining (λ f. SaysRightPart (g.K.Kind.kind f) old new)
+    read_part g.K.Kind.kind g.D.Reader.Read.remaining (λ f. SaysRightPart (g.K.Kind.kind f) old new)
     file old new
     c.write_count.result read kept.right (err-weaker c.write_count.result
     (line_part old new Checked _ _ _ bound (ap count_to bound)) c.write_count.ensures.part)

@@ -16,8 +16,8 @@ pub returns-in-Query-default-None-clause-done : goal.returns-in-Query-default-No
 returns-in-Query-default-None-clause-done g c =
     let here = c.in-Query-default-None in
     let none : here.cache ≡ None = rw here.is at here.cache-is in
-    subst (λ request. OnOk c.answer_file.result (IsDone g.R.File.Read.remaining
-    (writer_contents g.R.File.Write.contents) request
+    subst (λ request. OnOk c.answer_file.result (IsDone g.D.Reader.Read.remaining
+    (writer_contents g.D.File.Write.contents) request
     (g.I.Read.remaining c.args.input.now) (g.I.Read.remaining c.answer_file.new.input)
     (g.O.Write.contents c.args.output.now) (g.O.Write.contents c.answer_file.new.output)))
     (sym (here.is ∙ ap (λ cache. Query here.path cache) none))
@@ -31,7 +31,7 @@ pub returns-in-Query-default-None-clause-left : goal.returns-in-Query-default-No
 returns-in-Query-default-None-clause-left g c =
     let here = c.in-Query-default-None in
     let none : here.cache ≡ None = rw here.is at here.cache-is in
-    subst (λ request. IfErr c.answer_file.result (Leaves g.R.File.Read.remaining request
+    subst (λ request. IfErr c.answer_file.result (Leaves g.D.Reader.Read.remaining request
     (g.I.Read.remaining c.args.input.now) (g.I.Read.remaining c.answer_file.new.input)
     (g.O.Write.contents c.args.output.now) (g.O.Write.contents c.answer_file.new.output)))
     (sym (here.is ∙ ap (λ cache. Query here.path cache) none))
@@ -40,9 +40,12 @@ returns-in-Query-default-None-clause-left g c =
 pub returns-in-Query-clause-done : goal.returns-in-Query-clause-done
 returns-in-Query-clause-done g c =
     let here = c.in-Board in
-    subst (λ request. OnOk c.answer_file-in-Query.result (IsDone g.R.File.Read.remaining
-    (writer_contents g.R.File.Write.contents) request
+    subst (λ request. OnOk c.answer_file-in-Query.result (IsDone g.D.Reader.Read.remaining
+    (writer_contents g.D.File.Write.contents) request
     (g.I.Read.remaining c.args.input.now) (g.I.Read.remaining c.answer_file-in-Query.new.input)
     (g.O.Write.contents c.args.output.now) (g.O.Write.contents c.answer_file-in-Query.new.output)))
     (sym (here.is ∙ ap (λ command. Board command here.path) c.in-Query.is))
     (told_done c.answer_file-in-Query.result _ _ c.answer_file-in-Query.ensures.answers)
+
+pub returns-in-Upgrade-clause-put : goal.returns-in-Upgrade-clause-put
+returns-in-Upgrade-clause-put g c = rw c.in-Upgrade.is c.upgrade_database.ensures.put

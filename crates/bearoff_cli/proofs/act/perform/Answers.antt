@@ -6,6 +6,7 @@ use Rattle.std.specs.Io.Buffered.{writer_contents}
 use Rattle.command_line.specs.Asked.{Gives}
 use Rattle.command_line.specs.declared.words.Request.{Request}
 use Rattle.bearoff_cli.specs.Requests.{Asks}
+use Rattle.bearoff_cli.proofs.PutFiles.{same_put}
 use Rattle.bearoff_cli.proofs.Requests.{IsSame, IsNot, read_as, board_as, same_done, no_help}
 use Rattle.bearoff_cli.proofs.ToldFaults.{done_if, same_refusal}
 use Rattle.bearoff_cli.proofs.act.perform.Given.{Over}
@@ -28,7 +29,7 @@ returns-in-Ok-clause-done g c request asks =
     let gives = read g (goal.at.returns-in-Ok-clause-done g c).After-read_words request asks in
     let same = subst (λ r. IfOk r (λ read. IsSame request read)) c.in-Ok.is gives.0 in
     done_if c.fulfil.result c.refused.result c.fulfil.ensures.done
-    (same_done g.R.File.Read.remaining (writer_contents g.R.File.Write.contents) request
+    (same_done g.D.Reader.Read.remaining (writer_contents g.D.File.Write.contents) request
     c.in-Ok.request _ _ _ _ same)
     c.refused.ensures.fault
 
@@ -36,7 +37,7 @@ pub returns-in-Ok-clause-fault : goal.returns-in-Ok-clause-fault
 returns-in-Ok-clause-fault g c request asks =
     let gives = read g (goal.at.returns-in-Ok-clause-fault g c).After-read_words request asks in
     let same = subst (λ r. IfOk r (λ read. IsSame request read)) c.in-Ok.is gives.0 in
-    same_refusal g.R.File.Read.remaining request c.in-Ok.request
+    same_refusal g.D.Reader.Read.remaining request c.in-Ok.request
     (g.I.Read.remaining c.args.input.now) (g.I.Read.remaining c.fulfil.new.input)
     (g.O.Write.contents c.args.output.now) (g.O.Write.contents c.fulfil.new.output)
     c.fulfil.result c.refused.result same c.fulfil.ensures.fault c.fulfil.ensures.left
@@ -61,5 +62,20 @@ returns-in-Err-3-clause-done g c request asks =
 pub returns-in-Err-3-clause-fault : goal.returns-in-Err-3-clause-fault
 returns-in-Err-3-clause-fault g c request asks =
     let gives = read g (goal.at.returns-in-Err-3-clause-fault g c).After-read_words request asks in
+    let memory = subst (λ r. IfErr r (λ error. kind_of error ≡ OutOfMemory)) c.in-Err.is gives.1 in
+    absurd (no_help _ c.use_stderr.result c.use_stderr.ensures memory c.if-use_stderr.false)
+
+pub returns-in-Ok-clause-put : goal.returns-in-Ok-clause-put
+returns-in-Ok-clause-put g c request asks =
+    let gives = read g (goal.at.returns-in-Ok-clause-put g c).After-read_words request asks in
+    let same = subst (λ r. IfOk r (λ read. IsSame request read)) c.in-Ok.is gives.0 in
+    done_if c.fulfil.result c.refused.result c.fulfil.ensures.put
+    (same_put (g.D.Disk.paths c.args.disk.now) request c.in-Ok.request
+    (g.D.Disk.told c.args.disk.now) (g.D.Disk.told c.fulfil.new.disk) same)
+    c.refused.ensures.fault
+
+pub returns-in-Err-3-clause-put : goal.returns-in-Err-3-clause-put
+returns-in-Err-3-clause-put g c request asks =
+    let gives = read g (goal.at.returns-in-Err-3-clause-put g c).After-read_words request asks in
     let memory = subst (λ r. IfErr r (λ error. kind_of error ≡ OutOfMemory)) c.in-Err.is gives.1 in
     absurd (no_help _ c.use_stderr.result c.use_stderr.ensures memory c.if-use_stderr.false)

@@ -10,14 +10,14 @@ use Rattle.epc_query.specs.AnyFiles.{database_file}
 use Rattle.bearoff_cli.specs.FileAnswers.{IsReadFrom}
 use Rattle.bearoff_cli.specs.StoppedRuns.{SaysUpgradedPart}
 use Rattle.bearoff_cli.specs.declared.act.Done.TheVariants.{Upgraded}
-use Rattle.bearoff_cli.proofs.OpenedFiles.{err-weaker, is_full, upgrade_read}
+use Rattle.bearoff_cli.proofs.OpenedFiles.{err-weaker, is_full, on_ok, upgrade_read}
 use Rattle.bearoff_cli.proofs.StoppedRuns.{line_part, read_part}
 use Rattle.bearoff_cli.proofs.act.upgrade_database.Goals as goal
 
 pub returns-clause-upgraded : goal.returns-clause-upgraded
 returns-clause-upgraded g c =
     let file = c.as_slice.result.now in
-    let read = subst (λ bytes. IsReadFrom g.R.File.Read.remaining bytes)
+    let read = subst (λ bytes. IsReadFrom g.D.Reader.Read.remaining bytes)
     (sym c.as_slice.ensures.value) c.in_ok-bytes.ensures.read in
     let accepted = c.in_ok-checked.ensures.checked in
     let told = subst (λ r. IfOk r (λ checked. checked.told ≡ Some file)) accepted
@@ -30,15 +30,35 @@ returns-clause-upgraded g c =
     is_full (version_of file) (λ e. c.if-version-eq-COMPACT_VERSION.false (version ∙ e)) in
     let bound = c.bound.ensures.bound ∙ (c.bound.ensures.right file
     (c.in_ok-upgrade_file.ensures.stays.0 ∙ told)).1 in
-    upgrade_read g.R.File.Read.remaining (writer_contents g.R.File.Write.contents) file _ _
+    upgrade_read g.D.Reader.Read.remaining (writer_contents g.D.File.Write.contents) file _ _
     c.write_count.result _ _ read right old
     (c.in_ok-upgrade_file.ensures.upgraded file told) bound
     (ap count_to bound) c.write_count.ensures.all
 
+pub returns-clause-put : goal.returns-clause-put
+returns-clause-put g c =
+    let file = c.as_slice.result.now in
+    let accepted = c.in_ok-checked.ensures.checked in
+    let told = subst (λ r. IfOk r (λ checked. checked.told ≡ Some file)) accepted
+    (IfOk-weaker c.check-told.result _ _ (λ checked is. is ∙ c.new.ensures.tells)
+    c.check-told.ensures.told) in
+    let right = subst (λ r. OnOk r (IsRight file)) accepted
+    (c.check-told.ensures.right file c.new.ensures.tells) in
+    let version = c.version.ensures.version file told in
+    let old =
+    is_full (version_of file) (λ e. c.if-version-eq-COMPACT_VERSION.false (version ∙ e)) in
+    on_ok c.write_count.result _ (
+      file,
+      right,
+      old,
+      rw (c.in_ok-bytes.ensures.paths, c.in_ok-bytes.ensures.stays) at
+          (c.in_ok-upgrade_file.ensures.put file told),
+    )
+
 pub returns-clause-left : goal.returns-clause-left
 returns-clause-left g c =
     let file = c.as_slice.result.now in
-    let read = subst (λ bytes. IsReadFrom g.R.File.Read.remaining bytes)
+    let read = subst (λ bytes. IsReadFrom g.D.Reader.Read.remaining bytes)
     (sym c.as_slice.ensures.value) c.in_ok-bytes.ensures.read in
     let accepted = c.in_ok-checked.ensures.checked in
     let told = subst (λ r. IfOk r (λ checked. checked.told ≡ Some file)) accepted
@@ -53,7 +73,7 @@ returns-clause-left g c =
     (c.in_ok-upgrade_file.ensures.stays.0 ∙ told)).1 in
     let old = g.O.Write.contents c.args.output.now in
     let new = g.O.Write.contents c.write_count.new.output in
-    read_part database_file g.R.File.Read.remaining (λ f. SaysUpgradedPart f old new) file old new
+    read_part database_file g.D.Reader.Read.remaining (λ f. SaysUpgradedPart f old new) file old new
     c.write_count.result read right (err-weaker c.write_count.result
     (λ part. (
       full,
@@ -65,7 +85,7 @@ returns-clause-left g c =
 pub returns-in_err-checked-clause-fault : goal.returns-in_err-checked-clause-fault
 returns-in_err-checked-clause-fault g c =
     let file = c.as_slice.result.now in
-    let read = subst (λ bytes. IsReadFrom g.R.File.Read.remaining bytes)
+    let read = subst (λ bytes. IsReadFrom g.D.Reader.Read.remaining bytes)
     (sym c.as_slice.ensures.value) c.in_ok-bytes.ensures.read in
     let same : c.from_residual-in_err-checked.result ≡ Err c.in_err-checked.field-0.0 =
     search rules in

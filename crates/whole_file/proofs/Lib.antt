@@ -1,0 +1,6 @@
+pub mod Ends
+pub mod Known
+pub mod Links
+pub mod Puts
+pub mod Slashes
+pub mod Stays

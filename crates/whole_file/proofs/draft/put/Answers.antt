@@ -1,0 +1,31 @@
+-- What the last steps leave.
+use Rattle.std.proofs.Common.{ap, ◌∙◌, subst, sym}
+use Rattle.whole_file.proofs.Ends.{end_unsettled, end_unnamed, end_unsure, end_ok}
+use Rattle.whole_file.proofs.draft.put.Goals as goal
+
+pub returns-in-Err-clause-put : goal.returns-in-Err-clause-put
+returns-in-Err-clause-put g c bytes first past known is draft =
+    let gone = rw c.settle.ensures.paths at c.discard-in-Err.ensures.gone in
+    end_unsettled _ c.args.names.now bytes first past _ _ _ c.in-Err.fault draft is
+    c.in-Err.ensures.failed gone
+
+pub returns-in-Err-rename-clause-put : goal.returns-in-Err-rename-clause-put
+returns-in-Err-rename-clause-put g c bytes first past known is draft =
+    let same = c.rename.ensures.paths ∙ c.settle.ensures.paths in
+    let gone = rw same at c.discard.ensures.gone in
+    end_unnamed _ c.args.names.now bytes first past _ _ _ _ c.in-Err-rename.fault draft is
+    (c.in-Ok.ensures.settled bytes known) c.in-Err-rename.ensures.failed gone
+
+pub returns-in-Ok-settle_names-clause-put : goal.returns-in-Ok-settle_names-clause-put
+returns-in-Ok-settle_names-clause-put g c bytes first past known is draft =
+    let same = c.rename.ensures.paths ∙ c.settle.ensures.paths in
+    let renamed = rw c.settle.ensures.paths at c.in-Ok-rename.ensures.renamed in
+    let settled = rw same at c.in-Ok-settle_names.ensures.settled in
+    end_ok _ c.args.names.now bytes first past _ _ _ _ _ c.in-Ok-settle_names.field-0 draft is
+    (c.in-Ok.ensures.settled bytes known) renamed settled
+
+pub returns-in-Err-settle_names-clause-put : goal.returns-in-Err-settle_names-clause-put
+returns-in-Err-settle_names-clause-put g c bytes first past known is draft =
+    let renamed = rw c.settle.ensures.paths at c.in-Ok-rename.ensures.renamed in
+    end_unsure _ c.args.names.now bytes first past _ _ _ _ c.in-Err-settle_names.fault draft is
+    (c.in-Ok.ensures.settled bytes known) renamed c.in-Err-settle_names.ensures.failed

@@ -1,0 +1,14 @@
+-- The last slash is where the text is split.
+use Rattle.std.proofs.Common.{arith, rules}
+use Rattle.whole_file.proofs.Slashes.{split_at_last}
+use Rattle.whole_file.proofs.paths.above.Goals as goal
+
+pub returns-in-Some : goal.returns-in-Some
+returns-in-Some c =
+    let split = split_at_last 47 c.args.path.now _ c.rsplit_once.ensures.cases (omega arith) in
+    rw (← split) (grind rules)
+
+pub returns-in-None : goal.returns-in-None
+returns-in-None c =
+    let split = split_at_last 47 c.args.path.now _ c.rsplit_once.ensures.cases (omega arith) in
+    rw (← split) (grind rules)

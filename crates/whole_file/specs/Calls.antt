@@ -1,0 +1,42 @@
+-- What the calls of a disk answer. Source: this project's profile.
+use Rattle.std.specs.Prelude.{◌≡◌, ◌≢◌, ℕ, ◌⊎◌, List, [], Bool, true, false, IsTrue, Option, Some, None}
+use Rattle.std.specs.String.{string_bytes}
+use Rattle.whole_file.specs.Disks.{Moment, Steps, Creates, Removes, SettlesNames}
+use Rattle.whole_file.specs.Paths.{Paths}
+use Rattle.whole_file.specs.declared.disk.Link.{Link}
+use Rattle.whole_file.specs.declared.disk.Link.TheVariants.{To, Not, Broken}
+use Rattle.whole_file.specs.declared.disk.Made.{Made}
+use Rattle.whole_file.specs.declared.disk.Made.TheVariants.{File, Taken, Refused}
+
+-- what is answered of a path that leads there, if it names a link
+abbrev pub AnswersLink : Option (List ℕ) → Link → Type 0
+AnswersLink target (To path) = target ≡ Some (string_bytes path)
+AnswersLink target Not = target ≡ None
+AnswersLink target Broken = Unit {0}
+
+-- a file was made that has no bytes yet, or nothing changed
+abbrev pub AnswersMade : {F : Type 0} → (F → Option (List ℕ)) → ℕ × List ℕ
+    → Option (List Moment) → Option (List Moment) → Made F → Type 0
+AnswersMade contents place old new (File file) = Steps (Creates place) old new
+    × ((moments : List Moment) → old ≡ Some moments → contents file ≡ Some [])
+AnswersMade contents place old new Taken = new ≡ old
+AnswersMade contents place old new Refused = new ≡ old
+
+-- the names of a folder were made sure of, or they can't be
+abbrev pub AnswersSettled : Paths → ℕ → Option (List Moment) → Option (List Moment) → Bool
+    → Type 0
+AnswersSettled paths folder old new true = Steps (SettlesNames folder) old new
+AnswersSettled paths folder old new false = IsTrue (paths.fleeting folder) × (new ≡ old)
+
+-- the file at a place was taken away, or nothing changed
+abbrev pub RemovesOrStays : ℕ × List ℕ → Option (List Moment) → Option (List Moment) → Type 0
+RemovesOrStays place old new = Steps (Removes place) old new ⊎ (new ≡ old)
+
+-- a file was made beside a place, which is another one, or nothing changed
+abbrev pub AnswersBeside : {F : Type 0} → (F → Option (List ℕ)) → ℕ × List ℕ → ℕ × List ℕ
+    → Option (List Moment) → Option (List Moment) → Made F → Type 0
+AnswersBeside contents place new_place old new (File file) = (new_place ≢ place)
+    × Steps (Creates new_place) old new
+    × ((moments : List Moment) → old ≡ Some moments → contents file ≡ Some [])
+AnswersBeside contents place new_place old new Taken = new ≡ old
+AnswersBeside contents place new_place old new Refused = new ≡ old
