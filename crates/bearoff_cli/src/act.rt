@@ -52,7 +52,8 @@ use retrograde::build;
 use std::alloc::Global;
 use std::convert::AsStr;
 use std::io::{BufWriter, Read, Write};
-use whole_file::Disk;
+use std::rt::Files;
+use whole_file::{Disk, SystemDisk, SystemFile};
 
 /// The pip bound of the database that is built where no word is given.
 const DEFAULT_BOUND: u8 = 8;
@@ -64,7 +65,37 @@ const DEFAULT_BOUND: u8 = 8;
 /// and is no old one. At 1 and 3, and for a bound over the greatest one, one line is written to
 /// `errors`; for words that are wrong it is the text of `clap`. At 2 and 3 nothing was written to
 /// `output`. (The words, the statuses and the lines are this project's profile.)
-pub fn act<D: Disk, S: AsStr, I: Read, O: Write, E: Write>(
+pub fn act<R: Files, S: AsStr, I: Read, O: Write, E: Write>(
+    rt: &R,
+    alloc: Global,
+    words: &[S],
+    input: &mut I,
+    output: &mut O,
+    errors: &mut E,
+) -> u8
+where
+    R::File: SystemFile,
+    ensures silent { result ≡ 0 → E.contents errors.new ≡ E.contents errors.old }
+    ensures told { 0 < result → ¬ (result ≡ 2) → (fault : Fault) × ((result ≡ status_of fault)
+        × AppendsPart (E.contents errors.old) (E.contents errors.new) (error_line fault)) }
+    ensures refused { 1 < result → O.contents output.new ≡ O.contents output.old }
+    ensures fault { (request : Request) → Asks (map S.text words.entry.now) request → 0 < result
+        → (fault : Fault) × ((result ≡ status_of fault)
+        × AppendsPart (E.contents errors.old) (E.contents errors.new) (error_line fault)
+        × IsFaultOf R.File.remaining request fault
+        × Leaves R.File.remaining request (I.remaining input.old) (I.remaining input.new)
+        (O.contents output.old) (O.contents output.new) fault) }
+    ensures done { (request : Request) → Asks (map S.text words.entry.now) request → result ≡ 0
+        → IsDone R.File.remaining ⟦<BufWriter<R::File> as Write>⟧.contents request
+        (I.remaining input.old) (I.remaining input.new)
+        (O.contents output.old) (O.contents output.new) }
+{
+    act_on(&mut SystemDisk::new(rt), alloc, words, input, output, errors)
+}
+
+/// The same over any disk: [`act`] is that over the system's, which tells nothing of what it has.
+/// Where a disk tells its moments, at 0 a file that was to be written stands there as a whole.
+pub fn act_on<D: Disk, S: AsStr, I: Read, O: Write, E: Write>(
     disk: &mut D,
     alloc: Global,
     words: &[S],

@@ -10,7 +10,6 @@ use std::io::BufWriter;
 use std::os::fd::{AsFd, AsRawFd, BorrowedFd};
 use std::process::ExitCode;
 use std::{env, fs, io};
-use whole_file::SystemDisk;
 
 pub mod act;
 pub mod files;
@@ -38,7 +37,7 @@ fn run(rt: &HostRuntime) -> Result<u8, Fault> {
         return Err(Fault::Memory);
     };
     let status = act(
-        &mut SystemDisk::new(rt),
+        rt,
         rt.alloc(),
         words.as_slice(),
         &mut rt.stdin(),

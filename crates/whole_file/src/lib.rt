@@ -10,4 +10,4 @@ mod system;
 pub use disk::{Disk, DiskFault, FileFacts, Link, Made};
 pub use draft::{Draft, begin};
 pub use fault::DraftFault;
-pub use system::SystemDisk;
+pub use system::{SystemDisk, SystemFile};

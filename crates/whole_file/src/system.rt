@@ -11,7 +11,7 @@ use std::{fs, io};
 
 /// What is wanted of a file of the system, beside what `OpenFile` has: it is asked of the open
 /// file, and not of a name, which may be another file's by then.
-pub(crate) trait SystemFile: OpenFile {
+pub trait SystemFile: OpenFile {
     /// Whether no other run writes straight into the file: none will until it is closed. Where a
     /// file system can't tell, none does.
     fn is_ours(&self) -> bool;

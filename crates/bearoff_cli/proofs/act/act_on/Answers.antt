@@ -1,7 +1,7 @@
 -- The end of a request that was refused is told.
 use Rattle.db_layout.specs.Writes.{AppendsPart}
 use Rattle.bearoff_cli.proofs.ToldFaults.{told_end}
-use Rattle.bearoff_cli.proofs.act.act.Goals as goal
+use Rattle.bearoff_cli.proofs.act.act_on.Goals as goal
 
 pub returns-clause-fault : goal.returns-clause-fault
 returns-clause-fault g c request asks some =
