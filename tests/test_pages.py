@@ -250,7 +250,7 @@ def compare_lemmas(page, crate):
 
 
 def public_functions(crate):
-    """The public functions of a crate that have a contract, and those of its public traits."""
+    """The functions of a crate that are public, or a public trait's, and have a contract."""
     found = []
     for path in files(f"crates/{crate}/src", ".rt"):
         text, heads = read(path), r"(?m)^( *)pub (?:const )?(?:extern \"C\" )?fn (\w+)"
@@ -260,7 +260,9 @@ def public_functions(crate):
             if re.search(r"(?m)^ *(ensures|requires)\b", rest[: body.start()]):
                 found.append((path, head.group(2)))
         for trait in re.findall(r"(?ms)^pub trait .*?^\}", text):
-            found += [(path, name) for name in re.findall(r"(?m)^    fn (\w+)", trait)]
+            for name, rest in re.findall(r"(?ms)^    fn (\w+)(.*?)(?:;$|^    \{)", trait):
+                if re.search(r"(?m)^ *(ensures|requires)\b", rest):
+                    found.append((path, name))
     return found
 
 
