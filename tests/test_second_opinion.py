@@ -1,6 +1,7 @@
 """The second opinion, which Coq proves in second_opinion/. Its theorems rest on no axiom; Coq
 runs its check over files that the program wrote; the checker that Coq extracts says of each file
-what the program says; and what is planted, in a definition or in a file, is refused."""
+what the program says; what is planted, in a definition or in a file, is refused; and the page
+docs/second-opinion.md says so."""
 
 import itertools
 import re
@@ -23,6 +24,29 @@ def proof(tmp_path_factory):
     need("coqc")
     folder = tmp_path_factory.mktemp("second_opinion")
     return folder, succeed(SOURCES / "prove", folder, timeout=900).decode("utf-8")
+
+
+def lines_of(*names):
+    """The lines of sources without comments."""
+    text = "".join((SOURCES / name).read_text(encoding="utf-8") for name in names)
+    return sum(1 for line in re.sub(r"(?s)\(\*.*?\*\)", "", text).split("\n") if line.strip())
+
+
+def test_the_page():
+    """The page says how many lines there are, and which lemmas fail."""
+    page = (ROOT / "docs/second-opinion.md").read_text(encoding="utf-8")
+    proofs = ("Equations.v", "Check.v", "Files.v", "Complete.v", "Built.v", "Examples.v")
+    stated = re.search(r"in (\d+) lines without comments,.*? The ([\d,]+) lines of", page)
+    assert stated and stated.groups() == (
+        f"{lines_of('Definitions.v')}",
+        f"{lines_of(*proofs):,}",
+    )
+    rows = re.search(r"(?s)\n\| What is planted \| The lemma that fails \|\n(.*)", page).group(1)
+    assert re.findall(r"(?m)^\| (.*) \| `(\w+)` \|$", rows) == [
+        (what, lemma) for what, (_, _, _, lemma) in PLANTED_DEFINITIONS.items()
+    ]
+    for path in SOURCES.iterdir():
+        assert f"](../second_opinion/{path.name})" in page or path.name == "prove"
 
 
 @pytest.fixture(scope="module")
