@@ -34,7 +34,7 @@ SCRIPTS := git ls-files '*.py' && \
 	git grep -lE '^\#!.*python3' -- packaging tests tools ':!*.py' ':!tests/page/mutants'
 
 .PHONY: help needs prove library page work-page js tested trials install uninstall release
-.PHONY: reference format check test test-python test-node
+.PHONY: reference second-opinion format check test test-python test-node
 .DELETE_ON_ERROR:
 
 help:
@@ -46,6 +46,7 @@ help:
 	@echo 'make work-page          $(WORK_PAGE), the same with source maps, for work on it'
 	@echo 'make js                 $(PACKAGE)'
 	@echo 'make reference          docs/ref, of the comments and contracts of the sources'
+	@echo 'make second-opinion     the theorem in Coq, proved, and the checker that Coq makes'
 	@echo 'make format             lays out the Python and the C of tests, by black and clang-format'
 	@printf 'make install            into PREFIX (%s), below DESTDIR where that is set\n' "$$PREFIX"
 	@echo 'make uninstall          takes that away'
@@ -88,6 +89,10 @@ $(PACKAGE): $(MODULES) $(wildcard js/*.js js/*.d.ts js/*.json) js/README.md VERS
 
 reference:
 	tools/reference
+
+second-opinion:
+	tests/needs.py coqc
+	second_opinion/prove $(OUT)/second_opinion
 
 format:
 	black --quiet --line-length 99 $$($(SCRIPTS))

@@ -73,6 +73,8 @@ NEEDS = (
     Need("strace", ["strace"], has("strace"), True),
     Need("pandas", ["python3-pandas"], has_module("numpy", "pandas"), True),
     Need("gnubg", ["gnubg"], has("gnubg"), True),
+    # the second opinion
+    Need("coqc", ["coq", "ocaml"], lambda: has("coqc")() and has("ocamlopt")(), True),
     # the page, and the package for JavaScript
     Need("wasm-opt", ["binaryen"], has("wasm-opt")),
     Need("esbuild", ["esbuild"], has("esbuild")),

@@ -19,8 +19,8 @@ have:
   through crates that are there;
 - README.md has at most 950 words, no sentence of more than eight words stands twice in it and the
   pages by hand, and no figure on two of them;
-- docs/tour.md quotes the sources: each block of code of theirs stands word for word in the file
-  that the last link to a source above the block leads to;
+- docs/tour.md and docs/second-opinion.md quote the sources: each block of code of theirs stands
+  word for word in the file that the last link to a source above the block leads to;
 - the version in VERSION is that of the program, the header, the manual page, the packages for
   Python and JavaScript and the newest section of CHANGELOG.md, and the page and the file for
   pkg-config have the mark where it is filled in;
@@ -204,9 +204,9 @@ def compare_quotes(page):
     last."""
     parts, source, count = re.split(r"(?m)^```(\w*)\n(.*?)^```$", read(page), flags=re.S), None, 0
     for prose, kind, block in zip(parts[0::3], parts[1::3], parts[2::3]):
-        for target in re.findall(r"\]\(([^)]*\.(?:antt|rt))\)", prose):
+        for target in re.findall(r"\]\(([^)]*\.(?:antt|rt|v))\)", prose):
             source = os.path.normpath(os.path.join(os.path.dirname(page), target))
-        if kind not in ("antt", "rt"):
+        if kind not in ("antt", "rt", "coq"):
             continue
         count += 1
         if source is None or "\n" + block not in "\n" + read(source):
@@ -406,6 +406,7 @@ def source_words():
         "tools",
         "bench",
         "completions",
+        "second_opinion",
         ".ci",
     )
     paths = [
@@ -818,7 +819,7 @@ NAMING = [
     "js/README.md",
     *(
         path
-        for folder in ("tests", "packaging", "tools", "bench", "python", "js", "web", "c")
+        for folder in "tests packaging tools bench python js web c second_opinion".split()
         for path in files(folder, ("", ".py", ".js", ".mjs", ".c", ".h"))
         if "__pycache__" not in path and "node_modules" not in path
     ),
@@ -927,8 +928,9 @@ def test_edits(page):
     none_wrong(compare_edits, page)
 
 
-def test_quotes():
-    none_wrong(compare_quotes, "docs/tour.md")
+@pytest.mark.parametrize("page", ["docs/tour.md", "docs/second-opinion.md"])
+def test_quotes(page):
+    none_wrong(compare_quotes, page)
 
 
 @pytest.mark.parametrize("page", PAGES)

@@ -1,0 +1,24 @@
+#!/usr/bin/env python3
+"""Tells Coq a file: export.py FILE >File.v, with the theorem that it is right, which Coq proves by
+running the check itself."""
+
+import sys
+
+with open(sys.argv[1], "rb") as file:
+    data = file.read()
+lines = [data[i : i + 426].hex() for i in range(0, len(data), 426)]
+text = ";\n".join(f'"{line}"%hex' for line in lines)
+print(
+    f"""From Coq Require Import List.
+From SecondOpinion Require Import Definitions Files Complete Hex.
+Import ListNotations.
+
+Definition file : list hex := [
+{text}
+].
+
+Theorem file_is_right : RightFile (told_bytes file).
+Proof. apply is_right_spec. vm_cast_no_check (eq_refl true). Qed.
+
+Print Assumptions file_is_right."""
+)

@@ -1,0 +1,345 @@
+"""The second opinion, which Coq proves in second_opinion/. Its theorems rest on no axiom; Coq
+runs its check over files that the program wrote; the checker that Coq extracts says of each file
+what the program says; what is planted, in a definition or in a file, is refused; and the page
+docs/second-opinion.md says so."""
+
+import itertools
+import re
+import shutil
+
+import pytest
+
+from running import ROOT, expect, need, run, succeed
+
+SOURCES = ROOT / "second_opinion"
+CLOSED = "Closed under the global context\n"
+
+# what proves and what is proved with one another
+pytestmark = pytest.mark.xdist_group("second_opinion")
+
+
+@pytest.fixture(scope="module")
+def proof(tmp_path_factory):
+    """A folder in which all is proved, with the checker; and what Coq said."""
+    need("coqc")
+    folder = tmp_path_factory.mktemp("second_opinion")
+    return folder, succeed(SOURCES / "prove", folder, timeout=900).decode("utf-8")
+
+
+def lines_of(*names):
+    """The lines of sources without comments."""
+    text = "".join((SOURCES / name).read_text(encoding="utf-8") for name in names)
+    return sum(1 for line in re.sub(r"(?s)\(\*.*?\*\)", "", text).split("\n") if line.strip())
+
+
+def test_the_page():
+    """The page says how many lines there are, and which lemmas fail."""
+    page = (ROOT / "docs/second-opinion.md").read_text(encoding="utf-8")
+    proofs = ("Equations.v", "Check.v", "Files.v", "Complete.v", "Built.v", "Examples.v")
+    stated = re.search(r"in (\d+) lines without comments,.*? The ([\d,]+) lines of", page)
+    assert stated and stated.groups() == (
+        f"{lines_of('Definitions.v')}",
+        f"{lines_of(*proofs):,}",
+    )
+    rows = re.search(r"(?s)\n\| What is planted \| The lemma that fails \|\n(.*)", page).group(1)
+    assert re.findall(r"(?m)^\| (.*) \| `(\w+)` \|$", rows) == [
+        (what, lemma) for what, (_, _, _, lemma) in PLANTED_DEFINITIONS.items()
+    ]
+    for path in SOURCES.iterdir():
+        assert f"](../second_opinion/{path.name})" in page or path.name == "prove"
+
+
+@pytest.fixture(scope="module")
+def checker(proof):
+    return proof[0] / "check"
+
+
+@pytest.fixture(scope="module")
+def small_board(whole, tmp_path_factory):
+    """The board file of 8 pips: its 64 records begin the whole one."""
+    data = bytearray(whole.read_bytes()[:6232])
+    data[10:16] = (8).to_bytes(2, "big") + (64).to_bytes(4, "big")
+    path = tmp_path_factory.mktemp("boards") / "board_8"
+    path.write_bytes(data)
+    return path
+
+
+def test_no_axiom(proof):
+    """Coq lists no axiom under any theorem of Theorems.v, and no source has one."""
+    wanted = (SOURCES / "Theorems.v").read_text(encoding="utf-8").count("Print Assumptions")
+    said = [line for line in proof[1].splitlines() if not line.startswith("second opinion: ")]
+    assert said == [CLOSED.strip()] * wanted
+    for path in SOURCES.glob("*.v"):
+        found = re.findall(
+            r"\b(?:Axiom|Parameter|Conjecture|Admitted|admit|Admit)\b",
+            re.sub(r"(?s)\(\*.*?\*\)", "", path.read_text(encoding="utf-8")),
+        )
+        assert not found, f"{path.name}: {found}"
+
+
+def proved_by_coq(folder, path):
+    """Has Coq prove that a file is right, and tells what it said."""
+    text = succeed(SOURCES / "export.py", path)
+    lines = re.findall(rb'(?m)^"([0-9a-f]*)"%hex;?$', text)
+    assert bytes.fromhex(b"".join(lines).decode("ascii")) == path.read_bytes()
+    (folder / "File.v").write_bytes(text)
+    return run("coqc", "-q", "-R", ".", "SecondOpinion", "File.v", cwd=folder, timeout=600)
+
+
+def test_coq_checks_files(proof, built, small_board):
+    """The three versions of 8 pips."""
+    for path in (built(8), built(8, is_new=True), small_board):
+        expect(proved_by_coq(proof[0], path), output=CLOSED)
+
+
+@pytest.mark.by_hand
+def test_coq_checks_a_larger_file(proof, built):
+    expect(proved_by_coq(proof[0], built(15)), output=CLOSED)
+
+
+def accepts(checker, path):
+    """What the checker says of a file."""
+    done = run(checker, path, timeout=900)
+    expect(done, done.status, {0: "right", 3: "refused"}[done.status])
+    return done.status == 0
+
+
+def test_the_checker_accepts(checker, built, small_board):
+    for path in (built(0), built(8), built(8, is_new=True), small_board, built(20)):
+        assert accepts(checker, path)
+
+
+@pytest.mark.by_hand
+def test_the_checker_accepts_the_largest(checker, built, whole, note):
+    for path in (built(44), built(44, is_new=True), built(58), whole):
+        assert accepts(checker, path)
+
+
+# a file of version 1 of 8 pips, as numbers in it
+
+RECORD = 426
+ROLLS = [(high, low) for high in range(1, 7) for low in range(1, high + 1)]
+WEIGHTS = [1 if high == low else 2 for high, low in ROLLS]
+POSITIONS = sorted(
+    (counts for counts in itertools.product(range(9), repeat=6)
+     if sum(point * count for point, count in enumerate(counts, 1)) <= 8),
+    key=lambda counts: (sum(point * count for point, count in enumerate(counts, 1)), counts),
+)  # fmt: skip
+
+
+class Table:
+    """The bytes of such a file, to be read and changed."""
+
+    def __init__(self, data):
+        self.data = bytearray(data)
+
+    def get(self, rank, offset, size):
+        first = 32 + RECORD * rank + offset
+        return int.from_bytes(self.data[first : first + size], "big")
+
+    def put(self, rank, offset, size, value):
+        first = 32 + RECORD * rank + offset
+        self.data[first : first + size] = value.to_bytes(size, "big")
+
+    def mean(self, rank):
+        return self.get(rank, 0, 16)
+
+    def play(self, rank, roll):
+        return self.get(rank, 16 + 2 * roll, 2)
+
+    def share(self, rank, k):
+        return self.get(rank, 58 + 16 * k, 16)
+
+    def put_play(self, rank, roll, to):
+        """Another play, with the mean and the shares that follow from it."""
+        self.put(rank, 16 + 2 * roll, 2, to)
+        ranks = [self.play(rank, each) for each in range(21)]
+        added = lambda number: sum(w * number(r) for w, r in zip(WEIGHTS, ranks)) // 36
+        self.put(rank, 0, 16, 36**22 + added(self.mean))
+        for k in range(22):
+            self.put(rank, 58 + 16 * (k + 1), 16, added(lambda r: self.share(r, k)))
+
+
+@pytest.fixture(scope="module")
+def choices(program, built):
+    """Of each of the last positions and each roll the ranks that it can lead to, with the loss."""
+    lines = [
+        (rank, roll)
+        for rank, counts in enumerate(POSITIONS)
+        for roll in range(21)
+        if sum(point * count for point, count in enumerate(counts, 1)) == 8
+    ]
+    asked = "\n".join(
+        f"moves {','.join(map(str, POSITIONS[rank]))} {ROLLS[roll][0]}{ROLLS[roll][1]}"
+        for rank, roll in lines
+    )
+    replies = succeed(program, "query", built(8), input=asked).decode("ascii").splitlines()
+    assert len(replies) == len(lines)
+    found = {}
+    for line, reply in zip(lines, replies):
+        pairs = [pair.split(":") for pair in reply.split()[1:]]
+        found[line] = {
+            POSITIONS.index(tuple(map(int, to.split(",")))): loss == "0/1" for to, loss in pairs
+        }
+    return found
+
+
+def a_play(table, choices, is_as_good):
+    """A roll of a position, and another play of it that is as good as the recorded one, or
+    worse."""
+    return next(
+        (rank, roll, to)
+        for (rank, roll), results in choices.items()
+        for to, is_good in results.items()
+        if to != table.play(rank, roll) and is_good == is_as_good
+    )
+
+
+def flip(place):
+    """The last bit of a byte of the header is turned."""
+
+    def planted(table, choices):
+        table.data[place] ^= 1
+
+    return planted
+
+
+def one_more(rank, offset, size):
+    def planted(table, choices):
+        table.put(rank, offset, size, table.get(rank, offset, size) + 1)
+
+    return planted
+
+
+def another_play(is_as_good):
+    def planted(table, choices):
+        table.put_play(*a_play(table, choices, is_as_good))
+
+    return planted
+
+
+def a_worse_play_alone(table, choices):
+    rank, roll, to = a_play(table, choices, False)
+    table.put(rank, 16 + 2 * roll, 2, to)
+
+
+def no_result(table, choices):
+    table.put(63, 16, 2, 62)
+
+
+def no_rank(table, choices):
+    table.put(63, 16, 2, 64)
+
+
+def a_byte_more(table, choices):
+    table.data += b"\0"
+
+
+def a_record_less(table, choices):
+    del table.data[-RECORD:]
+
+
+PLANTED_FILES = {
+    "nothing": (True, lambda table, choices: None),
+    "another play that is as good": (True, another_play(True)),
+    "a worse play, and the numbers that follow from it": (False, another_play(False)),
+    "a worse play alone": (False, a_worse_play_alone),
+    "a play to no result of the roll": (False, no_result),
+    "a play to no rank": (False, no_rank),
+    "a mean that is 1 more": (False, one_more(40, 0, 16)),
+    "the mean of the finished position": (False, one_more(0, 0, 16)),
+    "a share that is 1 more": (False, one_more(63, 58 + 16 * 2, 16)),
+    "a share of 22 rolls": (False, one_more(63, 58 + 16 * 22, 16)),
+    "a share of no roll": (False, one_more(63, 58, 16)),
+    "the magic": (False, flip(0)),
+    "the version": (False, flip(9)),
+    "the bound": (False, flip(11)),
+    "the count": (False, flip(15)),
+    "the bytes of a record": (False, flip(19)),
+    "the reserved bytes": (False, flip(31)),
+    "a byte more": (False, a_byte_more),
+    "a record less": (False, a_record_less),
+}
+
+
+@pytest.mark.parametrize("what", PLANTED_FILES)
+def test_planted_files(checker, program, built, choices, tmp_path, what):
+    """The checker and the program say the same of a file."""
+    is_right, plant = PLANTED_FILES[what]
+    table = Table(built(8).read_bytes())
+    plant(table, choices)
+    path = tmp_path / "planted"
+    path.write_bytes(table.data)
+    assert (what != "nothing") == (table.data != built(8).read_bytes())
+    assert accepts(checker, path) == is_right
+    assert run(program, "check", path).status == (0 if is_right else 3)
+
+
+def test_coq_refuses(proof, built, choices, tmp_path):
+    """Coq itself has no proof for a file with a worse play."""
+    table = Table(built(8).read_bytes())
+    another_play(False)(table, choices)
+    (tmp_path / "worse").write_bytes(table.data)
+    done = proved_by_coq(proof[0], tmp_path / "worse")
+    assert done.status == 1 and b"file_is_right" not in done.output
+
+
+# what is planted in a definition: the file, what stands there once, what stands there then, and
+# where a proof fails
+PLANTED_DEFINITIONS = {
+    "a double counts twice": (
+        "Equations.v", "then 1%N else 2%N", "then 2%N else 2%N", "weighted_throws"
+    ),
+    "a checker is borne off from any lower point": (
+        "Definitions.v", "-> Highest x p ->", "-> 0 < count x p /\\ True ->", "Step_load"
+    ),
+    "only the greater die first": (
+        "Definitions.v", "(Run x [a; b] y \\/ Run x [b; a] y)", "Run x [a; b] y", "Legal_roll"
+    ),
+    "a double is played twice": (
+        "Definitions.v", "a = b /\\ Run x [a; a; a; a] y", "a = b /\\ Run x [a; a] y", "Legal_load"
+    ),
+    "a strategy may stop early": (
+        "Definitions.v", "| stop => Finished x", "| stop => Finished x \\/ True",
+        "bounded"
+    ),
+    "a throw after the end counts": (
+        "Definitions.v", "  | _, _ => 0\n  end.\n\n(* all seq", "  | _, _ => 1\n  end.\n\n(* all seq",
+        "total_stop",
+    ),
+    "a right mean need not be the least": (
+        "Definitions.v", " /\\ forall s, Fits s x -> (t <= total m s)%N.", " /\\ True.",
+        "no_better"
+    ),
+    "the mean equation counts no roll": (
+        "Equations.v", "(36 * mean (f x) = 36 * whole m + weighted", "(36 * mean (f x) = weighted",
+        "reached",
+    ),
+    "the least equation is turned round": (
+        "Equations.v", "(mean (f (play (f x) v)) <= mean (f z))%N;",
+        "(mean (f z) <= mean (f (play (f x) v)))%N;", "bounded",
+    ),
+    "the share equation skips a roll": (
+        "Equations.v", "weighted (fun v => share (f (play (f x) v)) k))%N }.",
+        "weighted (fun v => share (f (play (f x) v)) (S k)))%N }.", "reached",
+    ),
+}  # fmt: skip
+
+
+@pytest.mark.parametrize("what", PLANTED_DEFINITIONS)
+def test_planted_definitions(tmp_path, what):
+    """A proof fails: that of the lemma that is named."""
+    need("coqc")
+    name, old, new, lemma = PLANTED_DEFINITIONS[what]
+    shutil.copytree(SOURCES, tmp_path / "second_opinion")
+    path = tmp_path / "second_opinion" / name
+    text = path.read_text(encoding="utf-8")
+    assert text.count(old) == 1
+    path.write_text(text.replace(old, new), encoding="utf-8")
+    done = run(tmp_path / "second_opinion/prove", tmp_path / "proof", timeout=900)
+    place = re.search(rb'File "\./(\w+\.v)", line (\d+)', done.errors)
+    assert done.status == 1 and place, done
+    failed = (tmp_path / "proof" / place.group(1).decode("ascii")).read_text(encoding="utf-8")
+    above = "\n".join(failed.split("\n")[: int(place.group(2))])
+    names = re.findall(r"(?m)^(?:Lemma|Theorem|Corollary|Let) (\w+)", above)
+    assert names and names[-1] == lemma, done.errors.decode("utf-8")
