@@ -70,7 +70,7 @@ NUMBERS = (
     "        return Err(UpgradeFault::"
 )
 COMPACT = "        write_compact(table, ranks, &header, rank, writer)?;\n    }"
-TELL = "    tell(perform(rt, alloc, words, input, output), errors).status"
+TELL = "    tell(perform(disk, alloc, words, input, output), errors).status"
 FLUSH = "if writer.flush().is_err() {{ return Err({}); }}"
 
 # the program, where it is started with words: the status and a line that it has to end with. FILE
@@ -282,7 +282,7 @@ PLANTED = [
         "the_program_tells_no_line",
         ACT,
         TELL,
-        "    match perform(rt, alloc, words, input, output) {\n        Ok(()) => 0,\n"
+        "    match perform(disk, alloc, words, input, output) {\n        Ok(()) => 0,\n"
         "        Err(ProgramFault::Words(_)) => 2,\n"
         "        Err(ProgramFault::Failed(fault)) => fault.status(),\n    }",
         "bearoff_cli check NOTHING",
@@ -307,9 +307,9 @@ PLANTED = [
         "the_query_reads_another_file",
         ACT,
         "Request::Query { path, cache: None } => {\n"
-        "            answer_file::<Databases, _, _, _>(rt, alloc, path, input, output)",
+        "            answer_file::<Databases, _, _, _>(disk, alloc, path, input, output)",
         "Request::Query { path: _, cache: None } => {\n"
-        '            answer_file::<Databases, _, _, _>(rt, alloc, "race.db", input, output)',
+        '            answer_file::<Databases, _, _, _>(disk, alloc, "race.db", input, output)',
         "rows TestCommands",
     ),
     (
@@ -474,8 +474,8 @@ PLANTED = [
     (
         "the_query_of_a_board_reads_another_file",
         ACT,
-        "answer_file::<Boards, _, _, _>(rt, alloc, path, input, output)",
-        'answer_file::<Boards, _, _, _>(rt, alloc, "eight", input, output)',
+        "answer_file::<Boards, _, _, _>(disk, alloc, path, input, output)",
+        'answer_file::<Boards, _, _, _>(disk, alloc, "eight", input, output)',
         "rows TestBoards::test_query[kinds]",
     ),
     (
@@ -491,6 +491,13 @@ PLANTED = [
         "const LINKS: u8 = 40;",
         "const LINKS: u8 = 2;",
         "rows TestLinks::test_links[build --pips 8-three]",
+    ),
+    (
+        "a_new_file_is_made_in_the_working_folder",
+        DRAFT,
+        "    let folder = folder_of(alloc, place.as_str())?;",
+        '    let folder = folder_of(alloc, if place.is_empty() { "" } else { "place" })?;',
+        "rows TestLinks::test_another_device[build --pips 8]",
     ),
     (
         "a_new_file_is_for_its_owner_alone",

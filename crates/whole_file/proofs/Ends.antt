@@ -1,10 +1,10 @@
 -- What a crash may leave while a draft takes its place.
-use Rattle.std.proofs.Common.{◌≡◌, ◌≢◌, ℕ, ◌⊎◌, inl, inr, ⊎_elim, List, [], ◌∷◌, ◌++◌, Bool, true, false, IsTrue, Option, Some, None, Result, Ok, Err, sym, subst, refl, ap, ◌∙◌}
+use Rattle.std.proofs.Common.{◌≡◌, ◌≢◌, ℕ, ◌⊎◌, inl, inr, ⊎_elim, List, [], ◌∷◌, ◌++◌, Bool, true, false, IsTrue, Option, Some, None, Ok, Err, sym, subst, refl, ap, ◌∙◌}
 use Rattle.std.specs.String.{string_bytes}
-use Rattle.whole_file.specs.Disks.{Moment, Holds, MayLeave, IsSameAt, Creates, Settles, Renames, Removes, SettlesNames, Steps, AllOf, Goes, Lastly, StaysAt}
+use Rattle.whole_file.specs.Disks.{Moment, Holds, MayLeave, Settles, Renames, SettlesNames, Steps, AllOf}
 use Rattle.whole_file.specs.Calls.{AnswersSettled, RemovesOrStays}
-use Rattle.whole_file.specs.Drafts.{IsDraft, IsOldOrWhole, IsWhole, Ends, Finishes}
-use Rattle.whole_file.specs.Paths.{Paths, place_of, folder_of, name_of}
+use Rattle.whole_file.specs.Drafts.{IsDraft, IsOldOrWhole, IsWhole, Finishes}
+use Rattle.whole_file.specs.Paths.{Paths, place_of, folder_of}
 use Rattle.whole_file.specs.declared.draft.Names.{Names}
 use Rattle.whole_file.specs.declared.fault.DraftFault.{DraftFault}
 

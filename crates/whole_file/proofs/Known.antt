@@ -1,5 +1,5 @@
 -- Known bytes.
-use Rattle.std.proofs.Common.{◌≡◌, ℕ, List, ◌++◌, Option, None, Some, ap, ◌∙◌, sym}
+use Rattle.std.proofs.Common.{◌≡◌, ℕ, List, Option, None, Some, ap, ◌∙◌}
 use Rattle.std.specs.Io.KnownBytes.{Keeps}
 
 -- bytes that were known stay

@@ -1,5 +1,5 @@
 -- Where a path leads over its links.
-use Rattle.std.proofs.Common.{◌≡◌, ℕ, zero, suc, List, Some, None, sym, subst, refl, ap, ◌∙◌}
+use Rattle.std.proofs.Common.{◌≡◌, ℕ, zero, suc, List, Some, None, sym, subst, ap, ◌∙◌}
 use Rattle.whole_file.specs.Paths.{Paths, LeadsBy, LeadsTo, linked}
 
 -- one link more

@@ -1,14 +1,13 @@
 -- A whole file is put where a path leads.
-use Rattle.std.proofs.Common.{◌≡◌, ℕ, ◌⊎◌, inl, inr, ⊎_elim, List, [], ◌∷◌, ◌++◌, Option, Some, None, Result, Ok, Err, sym, subst, refl, ap, ◌∙◌}
+use Rattle.std.proofs.Common.{◌≡◌, ℕ, inl, inr, ⊎_elim, List, [], ◌∷◌, ◌++◌, Option, Some, None, Result, Ok, Err, sym, subst, ap}
 use Rattle.std.specs.Prelude.{OnOk, IfErr}
 use Rattle.std.specs.Io.KnownBytes.{Appends}
 use Rattle.std.specs.String.{string_bytes}
-use Rattle.whole_file.specs.Disks.{Moment, Holds, MayLeave, IsSameAt, AllOf, Goes, Lastly, Runs}
-use Rattle.whole_file.specs.Drafts.{IsDraft, IsOldOrWhole, IsWhole, IsBegun, IsPut, Finishes}
+use Rattle.whole_file.specs.Disks.{Moment, IsSameAt, AllOf, Goes}
+use Rattle.whole_file.specs.Drafts.{IsOldOrWhole, IsBegun, IsPut, Finishes}
 use Rattle.whole_file.specs.Paths.{Paths, LeadsTo, IsSameBehind, place_of}
-use Rattle.whole_file.specs.Puts.{IsPutAt, Puts, Stands}
+use Rattle.whole_file.specs.Puts.{IsPutAt, Puts}
 use Rattle.whole_file.specs.declared.draft.Names.{Names}
-use Rattle.whole_file.specs.declared.fault.DraftFault.{DraftFault}
 use Rattle.whole_file.proofs.Ends.{less_left}
 use Rattle.whole_file.proofs.Links.{one_place}
 use Rattle.whole_file.proofs.Stays.{runs_on, told_on}

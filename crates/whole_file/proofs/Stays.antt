@@ -1,8 +1,8 @@
 -- A place stays as it was.
-use Rattle.std.proofs.Common.{◌≡◌, ◌≢◌, ℕ, ◌⊎◌, inl, inr, ⊎_elim, List, [], ◌∷◌, ◌++◌, IsTrue, Option, Some, None, sym, subst, refl, ap, ◌∙◌, append_assoc}
+use Rattle.std.proofs.Common.{◌≡◌, ◌≢◌, ℕ, inl, inr, ⊎_elim, List, [], ◌∷◌, ◌++◌, Option, Some, None, sym, subst, ap, ◌∙◌, append_assoc}
 use Rattle.std.specs.Prelude.{IsSomeAnd}
 use Rattle.std.specs.String.{string_bytes}
-use Rattle.whole_file.specs.Disks.{Moment, IsSameAt, Creates, Removes, Steps, AllOf, Goes, Lastly, Runs, StaysAt}
+use Rattle.whole_file.specs.Disks.{Moment, IsSameAt, Creates, Steps, AllOf, Goes, Lastly, Runs, StaysAt}
 use Rattle.whole_file.specs.Calls.{RemovesOrStays}
 use Rattle.whole_file.specs.Drafts.{IsDraft, IsReady, IsBegun}
 use Rattle.whole_file.specs.Paths.{Paths, IsSameBehind, LeadsTo, PathStays, folder_of, place_of}

@@ -1,5 +1,5 @@
 -- A draft: a new file that is to take the place of an old one. Source: this project's profile.
-use Rattle.std.specs.Prelude.{◌≡◌, ◌≢◌, ℕ, ◌⊎◌, List, [], ◌∷◌, ◌++◌, IsTrue, Option, Some, None, Result, Ok, Err}
+use Rattle.std.specs.Prelude.{◌≡◌, ◌≢◌, ℕ, ◌⊎◌, List, [], ◌∷◌, IsTrue, Option, Some, None, Result, Ok, Err}
 use Rattle.std.specs.String.{string_bytes}
 use Rattle.whole_file.specs.Disks.{Moment, Holds, IsSameAt, MayLeave, Goes, Lastly}
 use Rattle.whole_file.specs.Paths.{Paths, LeadsTo, PathStays, folder_of, place_of}

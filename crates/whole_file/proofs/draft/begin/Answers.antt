@@ -1,6 +1,5 @@
 -- Each try begins where the last one left the place as it was.
-use Rattle.std.proofs.Common.{◌≡◌, ◌∙◌, subst, sym}
-use Rattle.whole_file.specs.Paths.{PathStays}
+use Rattle.std.proofs.Common.{◌∙◌}
 use Rattle.whole_file.proofs.Stays.{path_stays_twice, begun_later}
 use Rattle.whole_file.proofs.draft.begin.Goals as goal
 

@@ -1,6 +1,5 @@
 -- The place is the one to which the path leads.
-use Rattle.std.proofs.Common.{◌≡◌, ◌∙◌, subst, sym, ap}
-use Rattle.std.specs.Io.Buffered.{writer_contents}
+use Rattle.std.proofs.Common.{◌∙◌}
 use Rattle.std.specs.String.{string_bytes}
 use Rattle.whole_file.proofs.Stays.{path_stays, begun_beside}
 use Rattle.whole_file.proofs.draft.begin_in_place.Goals as goal

@@ -1,5 +1,5 @@
 -- What was made stands somewhere else.
-use Rattle.std.proofs.Common.{◌≡◌, ◌∙◌, subst, sym, ap}
+use Rattle.std.proofs.Common.{◌∙◌}
 use Rattle.whole_file.proofs.Stays.{stays_made}
 use Rattle.whole_file.proofs.draft.create_beside.Goals as goal
 

@@ -1,5 +1,5 @@
 -- One link more was followed.
-use Rattle.std.proofs.Common.{◌≡◌, ℕ, suc, List, Some, ap, ap₂, ◌∙◌, subst, sym}
+use Rattle.std.proofs.Common.{suc, Some, ap, ap₂, ◌∙◌, subst, sym}
 use Rattle.std.specs.String.{string_bytes}
 use Rattle.whole_file.specs.Calls.{AnswersLink}
 use Rattle.whole_file.specs.Paths.{LeadsBy, linked}

@@ -1,5 +1,5 @@
 -- What the last steps leave.
-use Rattle.std.proofs.Common.{ap, ◌∙◌, subst, sym}
+use Rattle.std.proofs.Common.{◌∙◌}
 use Rattle.whole_file.proofs.Ends.{end_unsettled, end_unnamed, end_unsure, end_ok}
 use Rattle.whole_file.proofs.draft.put.Goals as goal
 

@@ -1,7 +1,5 @@
 -- What was handed is what is made sure of.
-use Rattle.std.proofs.Common.{◌≡◌, ◌∷◌, Some, subst, ap}
-use Rattle.std.specs.Io.Buffered.{writer_contents}
-use Rattle.std.specs.String.{string_bytes}
+use Rattle.std.proofs.Common.{subst}
 use Rattle.whole_file.specs.Disks.{Steps, Settles}
 use Rattle.whole_file.specs.Paths.{place_of}
 use Rattle.whole_file.proofs.Known.{known_kept}
