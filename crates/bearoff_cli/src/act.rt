@@ -90,7 +90,14 @@ where
         (I.remaining input.old) (I.remaining input.new)
         (O.contents output.old) (O.contents output.new) }
 {
-    act_on(&mut SystemDisk::new(rt), alloc, words, input, output, errors)
+    act_on(
+        &mut SystemDisk::new(rt),
+        alloc,
+        words,
+        input,
+        output,
+        errors,
+    )
 }
 
 /// The same over any disk: [`act`] is that over the system's, which tells nothing of what it has.
