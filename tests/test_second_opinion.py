@@ -18,10 +18,17 @@ CLOSED = "Closed under the global context\n"
 pytestmark = pytest.mark.xdist_group("second_opinion")
 
 
+def need_coq():
+    """There is Coq, of the version for which the proofs are written."""
+    need("coqc")
+    if "version 8.16." not in succeed("coqc", "--version").decode("utf-8"):
+        pytest.skip("this Coq is not of version 8.16")
+
+
 @pytest.fixture(scope="module")
 def proof(tmp_path_factory):
     """A folder in which all is proved, with the checker; and what Coq said."""
-    need("coqc")
+    need_coq()
     folder = tmp_path_factory.mktemp("second_opinion")
     return folder, succeed(SOURCES / "prove", folder, timeout=900).decode("utf-8")
 
@@ -329,7 +336,7 @@ PLANTED_DEFINITIONS = {
 @pytest.mark.parametrize("what", PLANTED_DEFINITIONS)
 def test_planted_definitions(tmp_path, what):
     """A proof fails: that of the lemma that is named."""
-    need("coqc")
+    need_coq()
     name, old, new, lemma = PLANTED_DEFINITIONS[what]
     shutil.copytree(SOURCES, tmp_path / "second_opinion")
     path = tmp_path / "second_opinion" / name
