@@ -12,11 +12,12 @@ import { answered, dayOf, readMemory, Store, written } from "./memory.js";
 import { readDraft, readPicks, writeDraft as keepDraft, writePicks } from "./kept.js";
 import { asText, MOST_LESSONS, readLessons } from "./trainer.js";
 import {
-    addCheckers, addDraft, askNext, beginDraft, beginToday, captionOf, chooseDrill, choosePlay, chooseRoll,
-    closeDraft, draftText, endTraining, giveEstimate, giveLesson, goToStep, hasBegun, isTraining,
-    keep, makingOf, moveDraft, needsMore, openAnswer, orderOf, picksOf, playOn, pressed,
-    refuseMemory, remove, removeDraft, resetGuesses, setCaption, setEstimate, setGuess, setPoints, stopAt, tellDraft,
-    titleDraft, touch, triedAgain, typePosition, undo, visit, withMemory, withPicks, writeDraft,
+    addCheckers, addDraft, askNext, beginDraft, beginToday, captionOf, chooseDrill, choosePlay,
+    chooseRoll, closeDraft, draftText, endTraining, giveEstimate, giveLesson, goToStep, hasBegun,
+    isTraining, keep, makingOf, moveDraft, needsMore, openAnswer, openMemory, orderOf, picksOf,
+    playOn, pressed, refuseMemory, remove, removeDraft, resetGuesses, setCaption, setEstimate,
+    setGuess, setPoints, stopAt, tellDraft, titleDraft, touch, triedAgain, typePosition, undo,
+    visit, withMemory, withPicks, writeDraft,
 } from "./state.js";
 import { draw } from "./tree.js";
 import { view } from "./view.js";
@@ -193,9 +194,11 @@ export function actionsOf(session, document, window, store) {
         },
         // today's ten, of what is kept by now
         today() {
-            change(withMemory, store.read(session.state.memory), today(window), store.why);
+            const memory = store.read(session.state.memory);
+            change(withMemory, memory, today(window), store.why);
             change(beginToday);
         },
+        openMemory: () => change(openMemory),
         async copyMemory() {
             const { memory, day, unkept } = session.state;
             const told = await window.navigator.clipboard.writeText(written(memory))
@@ -204,8 +207,9 @@ export function actionsOf(session, document, window, store) {
             change(withMemory, memory, day, unkept, told);
         },
         // a text that was taken along takes the place of what is kept
-        takeMemory(text) {
-            const { memory, fault } = readMemory(text);
+        takeMemory() {
+            const { value } = document.querySelector('[data-key="memory text"]');
+            const { memory, fault } = readMemory(value);
             if (fault) {
                 change(refuseMemory, `Nothing of the text is taken. ${fault}`);
                 focusOn(["memory text"], "today");
@@ -372,7 +376,10 @@ export function start(document, window, parts) {
     };
     act = actionsOf(session, document, window, store);
     // what another page of the browser has kept, and a day that begins meanwhile
-    const look = () => session.change(withMemory, store.read(session.state.memory), today(window), store.why);
+    const look = () => {
+        const memory = store.read(session.state.memory);
+        session.change(withMemory, memory, today(window), store.why);
+    };
 
     const starting = (text) => ({ from: 0.02, until: 0.1, usual: 200, text });
 

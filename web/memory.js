@@ -20,7 +20,8 @@ export const EMPTY = { days: [], cards: [], themes: [], sizes: [0, 0, 0], learnt
 const DAY = 86400000; // milliseconds
 
 // The number of a local day.
-export const dayOf = (date) => Math.floor((date.getTime() - date.getTimezoneOffset() * 60000) / DAY);
+export const dayOf = (date) =>
+    Math.floor((date.getTime() - date.getTimezoneOffset() * 60000) / DAY);
 
 const cardKey = ({ points, roll }) => `${points.join()} ${roll.join("")}`;
 
@@ -161,8 +162,8 @@ const LINES = {
         }],
 };
 
-// The memory of such a text, or why it is none: the first line that can't be read. Nothing of a text
-// with a fault is taken.
+// The memory of such a text, or why it is none: the first line that can't be read. Nothing of a
+// text with a fault is taken.
 export function readMemory(text) {
     const refuse = (fault) => ({ memory: null, fault });
     if (text.length > MOST_LETTERS) return refuse(`It has more than ${MOST_LETTERS} characters.`);
@@ -189,7 +190,8 @@ export function readMemory(text) {
 }
 
 const NAME = "bearoff memory";
-const NO_STORE = "This browser keeps nothing for the page: what you answer is there till it closes.";
+const NO_STORE =
+    "This browser keeps nothing for the page: what you answer is there till it closes.";
 
 // The one place of the device where the memory is, which each page of a browser reads before it
 // writes: so what two of them bring is there. Where nothing can be kept, or where what is there

@@ -2,8 +2,8 @@
 import { FAULTS } from "./texts.js";
 import { GREATEST } from "./points.js";
 import {
-    answeredBetween, begin, dropped, ended, firstBound, loading, notWidened, opened, received, refused, wanted,
-    wantsMore, widened, widening,
+    answeredBetween, begin, dropped, ended, firstBound, loading, notWidened, opened, received,
+    refused, wanted, wantsMore, widened, widening,
 } from "./state.js";
 
 // Why a database was not opened, in words.

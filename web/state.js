@@ -59,6 +59,7 @@ export function begin(link, lessons = []) {
         // What a student did, and the number of the local day; why none of it is kept, or ""; and
         // why what was typed there is no memory, or what was done with it
         memory: EMPTY, day: 0, unkept: "", memoryFault: "", memoryTold: "",
+        isMemoryOpen: false, // whether all that is kept is shown
         isStart: writeLink(link) === START, // whether it was opened without a link to something
     }, link);
 }
@@ -972,6 +973,8 @@ export function answeredBetween(before, after) {
 // The state with what a student did up to a day, and why that isn't kept, or "".
 export const withMemory = (state, memory, day, unkept, told = "") =>
     ({ ...state, memory, day, unkept, memoryFault: "", memoryTold: told });
+
+export const openMemory = (state) => ({ ...state, isMemoryOpen: !state.isMemoryOpen });
 
 // .. with why a text is no memory; nothing of it is taken.
 export const refuseMemory = (state, memoryFault) => ({ ...state, memoryFault, memoryTold: "" });

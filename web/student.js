@@ -1,8 +1,6 @@
 // What is shown to a student who comes back: today's ten, what was done, and what of it is kept.
 import { h } from "./tree.js";
-import {
-    askedOn, BOXES, dueOn, isKnown, SIZES, streak, todays, written,
-} from "./memory.js";
+import { askedOn, BOXES, dueOn, isKnown, SIZES, streak, todays, written } from "./memory.js";
 import { ASKED, TEN, themeOf } from "./trainer.js";
 import { decimal } from "./texts.js";
 
@@ -22,7 +20,9 @@ export const comesBack = ({ memory, day }) => {
 
 // What today's ten are, in a sentence.
 function told({ memory, day }) {
-    if (askedOn(memory, day) >= TEN) return `Today\u2019s ten are done. ${comesBack({ memory, day })}`;
+    if (askedOn(memory, day) >= TEN) {
+        return `Today\u2019s ten are done. ${comesBack({ memory, day })}`;
+    }
     if (memory.days.length === 0) {
         return "Ten plays, the same for all who begin today. What you miss comes back tomorrow.";
     }
@@ -40,7 +40,8 @@ const fact = (name, count, unit) =>
 function lastDays({ days }, today) {
     const shown = Array.from({ length: SHOWN_DAYS }, (_, place) => today - SHOWN_DAYS + 1 + place);
     const counts = shown.map((day) => days.find(([one]) => one === day) || [day, 0, 0]);
-    const words = counts.map(([, asked, missed]) => (asked > 0 ? `${asked - missed} of ${asked}` : "none"));
+    const words = counts.map(([, asked, missed]) =>
+        (asked > 0 ? `${asked - missed} of ${asked}` : "none"));
     return h("svg", {
         class: "days", viewBox: "0 0 280 40", preserveAspectRatio: "none", role: "img",
         "aria-label": `Right on each of the last fourteen days: ${words.join(", ")}`,
@@ -54,7 +55,7 @@ function lastDays({ days }, today) {
 }
 
 const SIZE_NAMES = [
-    `less than ${decimal(SIZES[0])}`, `${decimal(SIZES[0])} or more`, `${decimal(SIZES[1])} or more`,
+    `less than ${decimal(SIZES[0])}`, ...SIZES.map((size) => `${decimal(size)} or more`),
 ];
 
 // What was asked and missed of each theme, the dearest first, and what estimates were off.
@@ -73,15 +74,20 @@ function themes({ themes: rows }) {
 }
 
 // All that is kept, and what can be done with it.
-function all({ memory, memoryFault, memoryTold }, act) {
+function all({ memory, isMemoryOpen, memoryFault, memoryTold }, act) {
+    const opening = button("all that is kept", "All that is kept", () => act.openMemory(),
+        { class: "plain", "aria-expanded": String(isMemoryOpen) });
+    if (!isMemoryOpen) return h("div", { class: "all-kept" }, opening);
     const runs = memory.days.reduce((sum, [, , , count]) => sum + count, 0);
-    return h("details", { class: "all-kept" },
-        h("summary", { "data-key": "all that is kept" }, "All that is kept"),
-        h("p", {}, `${many(runs, "drill was", "drills were")} ended. Misses by what they lost, in rolls: `,
+    return h("div", { class: "all-kept" },
+        opening,
+        h("p", {}, `${many(runs, "drill was", "drills were")} ended. `,
+            "Misses by what they lost, in rolls: ",
             memory.sizes.map((count, size) => `${count} ${SIZE_NAMES[size]}`).join(", "), "."),
         h("p", {}, "What comes back, by days: ", BOXES.map((days, box) =>
             `${memory.cards.filter((card) => card.box === box).length} after ${days}`).join(", "),
-            `; ${memory.learnt} learnt. A miss comes back the next day, and each time that it is right, later.`),
+            `; ${memory.learnt} learnt. `,
+            "A miss comes back the next day, and each time that it is right, later."),
         memory.themes.length > 0 && themes(memory),
         h("p", {}, h("label", {}, "As a text ", h("textarea", {
             "data-key": "memory text", rows: 5, spellcheck: "false", value: written(memory),
@@ -89,8 +95,7 @@ function all({ memory, memoryFault, memoryTold }, act) {
         }))),
         h("p", { class: "choices" },
             button("copy memory", "Copy the text", () => act.copyMemory()),
-            button("take memory", "Take this text", ({ currentTarget }) =>
-                act.takeMemory(currentTarget.closest("details").querySelector("textarea").value)),
+            button("take memory", "Take this text", () => act.takeMemory()),
             button("forget", "Forget all", () => act.forget())),
         h("div", { role: "alert", id: "memory-why" },
             memoryFault && h("p", { class: "trouble" }, memoryFault)),
@@ -101,10 +106,12 @@ function all({ memory, memoryFault, memoryTold }, act) {
 export function student(state, act) {
     const { memory, day, unkept } = state;
     const isDone = askedOn(memory, day) >= TEN;
+    const row = streak(memory, day);
     const { due } = todays(memory, day);
     const counts = due.length > 0 ? `${due.length} again, ${TEN - due.length} new` : "ten new";
-    const lost = memory.themes.filter(([name]) => themeOf(name))
-        .reduce(([asked, sum], [, count, , more]) => [asked + count, sum + more], [0, 0]);
+    const [asked, lost] = memory.themes.filter(([name]) => themeOf(name))
+        .reduce(([count, sum], [, one, , more]) => [count + one, sum + more], [0, 0]);
+    const each = decimal(Math.round(lost / Math.max(1, asked)));
     return h("div", { class: "student" },
         h("div", { class: "daily" },
             h("h2", {}, "Today\u2019s ten"),
@@ -114,9 +121,9 @@ export function student(state, act) {
         h("div", { class: "done" },
             memory.days.length > 0 && [
                 h("dl", { class: "figures" },
-                    fact("In a row", streak(memory, day), "days"),
+                    fact("In a row", row, row === 1 ? "day" : "days"),
                     fact("Come back", dueOn(memory, day).length, "today"),
-                    fact("Lost each", decimal(lost[0] > 0 ? Math.round(lost[1] / lost[0]) : 0), "rolls")),
+                    fact("Lost each", each, "rolls")),
                 lastDays(memory, day),
                 h("p", { class: "hint days-told" }, "The last fourteen days: dark is right."),
             ],

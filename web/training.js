@@ -92,7 +92,8 @@ function soFar(state) {
 // The title of a drill.
 const drillTitle = (drill) => (drill.due ? drillName(drill)
     : `Drill: ${drillName(drill)}, ${ASKED[drill.ask]}`
-        + (drill.level ? `, ${LEVELS.find(({ name }) => name === drill.level).words.toLowerCase()}` : ""));
+        + (drill.level
+            ? `, ${LEVELS.find(({ name }) => name === drill.level).words.toLowerCase()}` : ""));
 
 // What a drill is drawn by.
 const drawnBy = ({ seed, theme, due }) => (!due ? `Seed ${seed}.`

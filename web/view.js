@@ -70,7 +70,9 @@ export function view(state, act) {
             printed: printed(state),
             draft: editor(state, act),
             today: state.isStart ? student(state, act) : [],
-            training: [state.isStart ? [] : student(state, act), training(state, act)],
+            training: [
+                state.isStart || state.isCompact ? [] : student(state, act), training(state, act),
+            ],
             numbers: asksNumber(state) ? asked
                 : state.drill && !state.questions ? drawing
                 : isEstimated ? estimateField(state, act)
