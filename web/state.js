@@ -949,8 +949,8 @@ export function draftText({ draft: { title, steps } }) {
     return { text, fault: readLessons(text).fault };
 }
 
-// What the reader's change has answered: a question of the drill, where it isn't asked once more, or
-// an estimate; or null.
+// What the reader's change has answered: a question of the drill, where it isn't asked once more,
+// or an estimate; or null.
 export function answeredBetween(before, after) {
     const { drill } = after;
     if (drill !== before.drill) return null;
@@ -974,7 +974,8 @@ export function answeredBetween(before, after) {
 export const withMemory = (state, memory, day, unkept, told = "") =>
     ({ ...state, memory, day, unkept, memoryFault: "", memoryTold: told });
 
-export const openMemory = (state) => ({ ...state, isMemoryOpen: !state.isMemoryOpen });
-
 // .. with why a text is no memory; nothing of it is taken.
 export const refuseMemory = (state, memoryFault) => ({ ...state, memoryFault, memoryTold: "" });
+
+// All that is kept is shown, or isn't any more.
+export const openMemory = (state) => ({ ...state, isMemoryOpen: !state.isMemoryOpen });
