@@ -8,14 +8,16 @@ import { readLink, writeLink } from "./link.js";
 import { asPng, asSvg } from "./picture.js";
 import { Bar } from "./progress.js";
 import { Session } from "./session.js";
+import { answered, dayOf, readMemory, Store, written } from "./memory.js";
 import { readDraft, readPicks, writeDraft as keepDraft, writePicks } from "./kept.js";
 import { asText, MOST_LESSONS, readLessons } from "./trainer.js";
 import {
-    addCheckers, addDraft, askNext, beginDraft, captionOf, chooseDrill, choosePlay, chooseRoll,
-    closeDraft, draftText, endTraining, giveEstimate, giveLesson, goToStep, hasBegun, isTraining,
-    keep, makingOf, moveDraft, needsMore, openAnswer, orderOf, picksOf, playOn, pressed, remove,
-    removeDraft, resetGuesses, setCaption, setEstimate, setGuess, setPoints, stopAt, tellDraft,
-    titleDraft, touch, triedAgain, typePosition, undo, visit, withPicks, writeDraft,
+    addCheckers, addDraft, askNext, beginDraft, beginToday, captionOf, chooseDrill, choosePlay,
+    chooseRoll, closeDraft, draftText, endTraining, giveEstimate, giveLesson, goToStep, hasBegun,
+    isTraining, keep, makingOf, moveDraft, needsMore, openAnswer, openMemory, orderOf, picksOf,
+    playOn, pressed, refuseMemory, remove, removeDraft, resetGuesses, setCaption, setEstimate,
+    setGuess, setPoints, stopAt, tellDraft, titleDraft, touch, triedAgain, typePosition, undo,
+    visit, withMemory, withPicks, writeDraft,
 } from "./state.js";
 import { draw } from "./tree.js";
 import { view } from "./view.js";
@@ -56,8 +58,10 @@ export function put(document, shown) {
     }
 }
 
+const today = (window) => dayOf(new window.Date());
+
 // What the parts of the page do with a session.
-export function actionsOf(session, document, window) {
+export function actionsOf(session, document, window, store) {
     const change = (how, ...words) => session.change(how, ...words);
     const focus = (key) => {
         const element = document.querySelector(`[data-key="${key}"]`);
@@ -187,6 +191,35 @@ export function actionsOf(session, document, window) {
             const [theme, ask, level, seed] = ["theme", "asked", "level", "seed"].map((key) =>
                 document.querySelector(`[data-key="${key}"]`).value);
             change(chooseDrill, { theme, ask, level, seed }, anySeed());
+        },
+        // today's ten, of what is kept by now
+        today() {
+            const memory = store.read(session.state.memory);
+            change(withMemory, memory, today(window), store.why);
+            change(beginToday);
+        },
+        openMemory: () => change(openMemory),
+        async copyMemory() {
+            const { memory, day, unkept } = session.state;
+            const told = await window.navigator.clipboard.writeText(written(memory))
+                .then(() => "The text is copied.",
+                () => "The browser lets this page copy nothing: copy the text from the field.");
+            change(withMemory, memory, day, unkept, told);
+        },
+        // a text that was taken along takes the place of what is kept
+        takeMemory() {
+            const { value } = document.querySelector('[data-key="memory text"]');
+            const { memory, fault } = readMemory(value);
+            if (fault) {
+                change(refuseMemory, `Nothing of the text is taken. ${fault}`);
+                focusOn(["memory text"], "today");
+                return;
+            }
+            const next = store.change(session.state.memory, () => memory);
+            change(withMemory, next, today(window), store.why, "The text is taken.");
+        },
+        forget() {
+            change(withMemory, store.forget(), today(window), store.why, "All is forgotten.");
         },
         beginDraft() {
             change(beginDraft);
@@ -335,7 +368,18 @@ export function start(document, window, parts) {
         writePicks(window, picksOf(state));
         keepDraft(window, state.draft);
     }, readLessons(parts.lessons || "").lessons);
-    act = actionsOf(session, document, window);
+    const store = new Store(window);
+    session.remember = (state, answer) => {
+        const day = today(window);
+        const memory = store.change(state.memory, (kept) => answered(kept, answer, day));
+        return withMemory(state, memory, day, store.why);
+    };
+    act = actionsOf(session, document, window, store);
+    // what another page of the browser has kept, and a day that begins meanwhile
+    const look = () => {
+        const memory = store.read(session.state.memory);
+        session.change(withMemory, memory, today(window), store.why);
+    };
 
     const starting = (text) => ({ from: 0.02, until: 0.1, usual: 200, text });
 
@@ -422,6 +466,10 @@ export function start(document, window, parts) {
         });
         window.addEventListener("popstate", go);
         window.addEventListener("hashchange", go);
+        window.addEventListener("storage", ({ key }) => { if (Store.isAbout(key)) look(); });
+        window.addEventListener("focus", () => {
+            if (today(window) !== session.state.day) look();
+        });
         at("promises").addEventListener("click", () => at("proved").showModal());
     }
 
@@ -444,7 +492,11 @@ export function start(document, window, parts) {
     } catch (error) {
         why = `Nothing can be computed here: ${error.message}.`;
     }
-    session.state = { ...withPicks(session.state, readPicks(window)), draft: readDraft(window) };
+    const kept = store.read(session.state.memory);
+    session.state = {
+        ...withMemory(withPicks(session.state, readPicks(window)), kept, today(window), store.why),
+        draft: readDraft(window),
+    };
     listen();
     if (database) session.open(database);
     else session.end(why);

@@ -3,7 +3,9 @@
 import { isTooLong, MOST_TEXT } from "../js/checks.js";
 import { NoRaceError, read } from "../js/notation.js";
 import { FIRST, GREATEST, MOST_CHECKERS, readPoints, sumOf } from "./points.js";
-import { ASKED, ESTIMATED, LEVELS, readDrill, readLessons, readSeed, themeOf } from "./trainer.js";
+import {
+    ASKED, ESTIMATED, LEVELS, readDrill, readDue, readLessons, readSeed, themeOf, writeDue,
+} from "./trainer.js";
 
 export const MOST_KEPT = 10;
 const LONGEST_CAPTION = 200;
@@ -73,6 +75,8 @@ function faultsOf(words, drill) {
             `a drill asks ${Object.keys(ASKED).join(", ")}`],
         ["level", (value) => !LEVELS.some(({ name }) => name === value),
             `a level is ${LEVELS.map(({ name }) => name).join(", ")}`],
+        ["ten", (value) => readDue(value) === null,
+            "what comes back are six counts and a roll of each"],
         ["question", isNone(/^[1-9]\d?$/), "it is the number of one"],
         ["estimate", (value) => !ESTIMATED.includes(value),
             `what is estimated is ${ESTIMATED.join(", ")}`],
@@ -106,7 +110,7 @@ export function readLink(hash) {
     const words = new URLSearchParams(hash.replace(/^#/, ""));
     const drill = readDrill({
         theme: words.get("drill"), seed: words.get("seed"), ask: words.get("ask"),
-        level: words.get("level"),
+        level: words.get("level"), ten: words.get("ten"),
     });
     const kept = [];
     let last = null;
@@ -155,6 +159,7 @@ export function writeLink({ points, kept, title, roll, guess, bound, ...more }) 
             words.append(name, value);
         }
         if (drill.level) words.append("level", drill.level);
+        if (drill.due) words.append("ten", writeDue(drill.due));
         if (place > 0) words.append("question", place + 1);
     }
     if (estimate) words.append("estimate", estimate);

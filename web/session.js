@@ -2,8 +2,8 @@
 import { FAULTS } from "./texts.js";
 import { GREATEST } from "./points.js";
 import {
-    begin, dropped, ended, firstBound, loading, notWidened, opened, received, refused, wanted,
-    wantsMore, widened, widening,
+    answeredBetween, begin, dropped, ended, firstBound, loading, notWidened, opened, received,
+    refused, wanted, wantsMore, widened, widening,
 } from "./state.js";
 
 // Why a database was not opened, in words.
@@ -31,6 +31,7 @@ export class Session {
         this.client = null; // with the worker that has the open database
         this.second = null; // with one that builds the whole board meanwhile
         this.isAsking = false;
+        this.remember = (state) => state; // the state once something was answered
     }
 
     // Starts a worker, which compiles the module and builds the first database: it is at work when
@@ -51,7 +52,9 @@ export class Session {
 
     // A change that the reader made: a function of the state and of what else it is given.
     change(how, ...words) {
-        this.become(how(this.state, ...words), true);
+        const next = how(this.state, ...words);
+        const answer = answeredBetween(this.state, next);
+        this.become(answer ? this.remember(next, answer) : next, true);
         this.ask();
     }
 

@@ -1,7 +1,8 @@
 // What the page knows, and what changes it. A state is a plain object that stays as it is: each
 // change makes a new one. An answer stands under its position and is read for that one alone; so
 // nothing of a former position can be shown.
-import { MOST_KEPT, readTyped } from "./link.js";
+import { MOST_KEPT, readLink, readTyped, writeLink } from "./link.js";
+import { EMPTY, todays } from "./memory.js";
 import { FIRST, GREATEST, inWords, MOST_CHECKERS, pipsOf, sumOf } from "./points.js";
 import { decimal } from "./texts.js";
 import { decimalOf, inPips, inSentence, sumOfFractions } from "./fractions.js";
@@ -9,13 +10,16 @@ import { sameRoll } from "./rolls.js";
 import { isWhole, reachedBy, ways } from "./steps.js";
 import {
     drillOf, ESTIMATED, FAR, isMiss, LEVELS, meanOf, mostOf, readEstimate, readLessons, readSeed,
-    themeOf, thousandthsOf, WANTED, writeLesson,
+    themeOf, thousandthsOf, WANTED, writeDue, writeLesson,
 } from "./trainer.js";
 
 // A digit that follows another one within so many milliseconds is its second.
 const DIGITS_APART = 1000;
 
 export const keyOf = (points) => points.join();
+
+// The address of the page as it begins.
+const START = writeLink(readLink(""));
 
 // The state of a link, before anything is known, on a page with these lessons.
 export function begin(link, lessons = []) {
@@ -52,6 +56,11 @@ export function begin(link, lessons = []) {
         rolls: new Map(), // and of its 21 rolls
         said: "", // what is read aloud
         notice: "", // what a link has that can't be taken, or what has ended
+        // What a student did, and the number of the local day; why none of it is kept, or ""; and
+        // why what was typed there is no memory, or what was done with it
+        memory: EMPTY, day: 0, unkept: "", memoryFault: "", memoryTold: "",
+        isMemoryOpen: false, // whether all that is kept is shown
+        isStart: writeLink(link) === START, // whether it was opened without a link to something
     }, link);
 }
 
@@ -652,7 +661,8 @@ export const askedIn = (state) =>
     `${whichOf(state)}. ${askedOf(state.drill, questionOf(state).roll)}`;
 
 // A drill by its words, which are in the links of all who are asked the same.
-export const drillKey = ({ theme, seed, ask, level = "any" }) => [theme, seed, ask, level].join();
+export const drillKey = ({ theme, seed, ask, level = "any", due }) =>
+    [theme, seed, ask, level, ...(due ? [writeDue(due)] : [])].join();
 
 // The state without its drill, whose run is kept, and with another one or none; one that was begun
 // goes on. A lesson ends.
@@ -670,6 +680,9 @@ function changeDrill(state, drill) {
 export function beginDrill(state, drill) {
     return { ...changeDrill(state, drill), ...NO_RUN, isPlaced: false };
 }
+
+// Today's ten begin.
+export const beginToday = (state) => beginDrill(state, todays(state.memory, state.day));
 
 // A drill of what the fields say, whose seed is the one there, or else another one.
 export function chooseDrill(state, { theme, ask, level, seed }, another) {
@@ -935,3 +948,34 @@ export function draftText({ draft: { title, steps } }) {
     });
     return { text, fault: readLessons(text).fault };
 }
+
+// What the reader's change has answered: a question of the drill, where it isn't asked once more,
+// or an estimate; or null.
+export function answeredBetween(before, after) {
+    const { drill } = after;
+    if (drill !== before.drill) return null;
+    const isLast = Boolean(drill) && answeredOf(after) === after.questions?.length;
+    if (drill?.ask === "play" && drillGuesses(after).length > drillGuesses(before).length) {
+        const { roll, play } = after.guesses.at(-1);
+        return {
+            points: before.points, roll, theme: drill.theme, lost: Number(play.loss),
+            isMissed: isMiss(play), isLast,
+        };
+    }
+    if (after.estimates.length <= before.estimates.length) return null;
+    const estimate = after.estimates.at(-1);
+    return {
+        points: before.points, roll: null, theme: estimate.kind, lost: Number(estimate.error),
+        isMissed: isFar(estimate), isLast,
+    };
+}
+
+// The state with what a student did up to a day, and why that isn't kept, or "".
+export const withMemory = (state, memory, day, unkept, told = "") =>
+    ({ ...state, memory, day, unkept, memoryFault: "", memoryTold: told });
+
+// .. with why a text is no memory; nothing of it is taken.
+export const refuseMemory = (state, memoryFault) => ({ ...state, memoryFault, memoryTold: "" });
+
+// All that is kept is shown, or isn't any more.
+export const openMemory = (state) => ({ ...state, isMemoryOpen: !state.isMemoryOpen });

@@ -1,9 +1,10 @@
 // Drills and lessons: what is asked, drawn by a seed that stands in the link, and lessons that say
 // their text. Texts are texts, and nothing here computes a number of a position.
 import { isTooLong } from "../js/checks.js";
-import { FIRST, GREATEST, MOST_CHECKERS, readPoints, sumOf } from "./points.js";
+import { FIRST, GREATEST, MOST_CHECKERS, pipsOf, readPoints, sumOf } from "./points.js";
 
 export const QUESTIONS = 20; // of a drill
+export const TEN = 10; // of today's ten
 const MOST_STEPS = 60;
 const LONGEST_TEXT = 1200;
 
@@ -93,7 +94,11 @@ export const THEMES = [
 export const themeOf = (theme) => THEMES.find(({ name }) => name === theme);
 
 // How many pips the questions of a drill can have.
-export const mostOf = ({ theme }) => themeOf(theme).most ?? FIRST;
+export const mostOf = ({ theme, due = [] }) =>
+    (due.some(({ points }) => pipsOf(points) > FIRST) ? GREATEST : themeOf(theme).most ?? FIRST);
+
+// What a drill is called: today's ten has questions that come back.
+export const drillName = ({ theme, due }) => (due ? "Today\u2019s ten" : themeOf(theme).words);
 
 // What a drill asks: the name in a link, the words, and the words within a sentence.
 export const ASKED = { play: "Play", pips: "Pip count", effective: "EPC", wastage: "Wastage" };
@@ -155,19 +160,37 @@ export const levelsOf = ({ theme, ask }) =>
     LEVELS.filter(({ name }) =>
         name === "any" || (ask === "play" && (name === "hard" || !themeOf(theme).isTempting)));
 
-// A drill of some words, of a level that its theme has; "any" has no word.
-export const drillOf = ({ theme, seed, ask, level }) => ({
+// A drill of some words, of a level that its theme has; "any" has no word. With questions that come
+// back, where there are any, it is today's ten.
+export const drillOf = ({ theme, seed, ask, level, due }) => ({
     theme, seed, ask,
     ...(level !== "any" && levelsOf({ theme, ask }).some(({ name }) => name === level)
         ? { level } : {}),
+    ...(due && ask === "play" ? { due } : {}),
 });
 
 // A seed as it is typed, or null.
 export const readSeed = (text) =>
     (/^\s*\d{1,9}\s*$/.test(text || "") && Number(text) > 0 ? Number(text) : null);
 
+// The questions that come back in today's ten, as a link has them: the counts and the roll of each,
+// with full stops between them; or null.
+export function readDue(text) {
+    if (text === "") return [];
+    const due = text.split(".").map((one) => {
+        const [, counts, high, low] = /^([\d,]+),([1-6])([1-6])$/.exec(one) || [];
+        const points = counts ? readPoints(counts) : null;
+        return points && sumOf(points) > 0 && high >= low
+            ? { points, roll: [Number(high), Number(low)] } : null;
+    });
+    return due.length <= TEN && due.every(Boolean) ? due : null;
+}
+
+export const writeDue = (due) =>
+    due.map(({ points, roll }) => `${points.join()},${roll.join("")}`).join(".");
+
 // The drill of these words of a link, or null.
-export function readDrill({ theme, seed, ask, level }) {
+export function readDrill({ theme, seed, ask, level, ten }) {
     const known = themeOf(theme);
     const read = readSeed(seed);
     if (!known || read === null) return null;
@@ -176,6 +199,7 @@ export function readDrill({ theme, seed, ask, level }) {
     return drillOf({
         theme, seed: read, ask: kind,
         level: LEVELS.some(({ name }) => name === level) ? level : "any",
+        due: (ten ?? null) === null ? null : readDue(ten),
     });
 }
 
@@ -200,18 +224,22 @@ export function temptingOf(seed) {
     return tempts;
 }
 
+// Whether there is something to decide: more than one play, and the next best loses something.
+const decides = (plays) => plays.length > 1 && !plays[1].isBest;
+
 // The questions of a drill: `playsOf` says the plays of a roll, the best first. A roll is asked
-// only where there is something to decide: more than one play, and the next best loses something;
-// and where its theme and its level ask it.
-export function drawQuestions({ theme, seed, ask, level = "any" }, rolls, playsOf) {
+// only where there is something to decide, and where its theme and its level ask it. Today's ten
+// has first what comes back.
+export function drawQuestions({ theme, seed, ask, level = "any", due }, rolls, playsOf) {
     const asked = themeOf(theme);
     const { has, isAsked = () => true } = asked;
     const asks = LEVELS.find(({ name }) => name === level).isAsked;
     const themed = positions(mostOf({ theme })).filter(has);
     const numbers = numbersFrom(seed);
     const tempts = temptingOf(seed);
-    const drawn = new Map();
-    const most = Math.min(QUESTIONS, themed.length);
+    const again = (due || []).filter(({ points, roll }) => decides(playsOf(points, roll)));
+    const drawn = new Map(again.map((one) => [`${one.points} ${one.roll}`, one]));
+    const most = Math.min(due ? TEN : QUESTIONS, themed.length);
     let last = 0; // the try of the question that was drawn last
     for (let tries = 0; drawn.size < most && tries < MOST_TRIES; tries += 1) {
         const points = themed[numbers.next().value % themed.length];
@@ -220,10 +248,10 @@ export function drawQuestions({ theme, seed, ask, level = "any" }, rolls, playsO
             drawn.set(points.join(), { points, roll: null });
             continue;
         }
+        if (again.some((one) => one.points.join() === points.join())) continue;
         const plays = playsOf(points, roll);
-        const decides = plays.length > 1 && !plays[1].isBest && isAsked(plays, points);
         const kind = tries - last > PATIENCE ? null : tempts[drawn.size];
-        if (!decides || !asks(plays, kind, asked)) continue;
+        if (!decides(plays) || !isAsked(plays, points) || !asks(plays, kind, asked)) continue;
         drawn.set(points.join(), { points, roll });
         last = tries;
     }

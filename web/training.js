@@ -2,9 +2,10 @@
 import { decimal } from "./texts.js";
 import { lookedAt } from "./board.js";
 import { COMING, dicePicture } from "./panels.js";
+import { comesBack } from "./student.js";
 import { h } from "./tree.js";
 import {
-    ASKED, ESTIMATED, isMiss, LEVELS, meanOf, mostOf, themeOf, THEMES, WANTED,
+    ASKED, drillName, ESTIMATED, isMiss, LEVELS, meanOf, mostOf, TEN, themeOf, THEMES, WANTED,
 } from "./trainer.js";
 import {
     answeredIn, answeredOf, askedIn, askedOf, drillErrors, drillGuesses, estimated, estimateOf,
@@ -70,6 +71,7 @@ function score(state) {
             `${count} of ${state.questions.length} were played. They lost ${decimalOf(rolls)} rolls, `
             + `or ${decimalOf(pips)} pips of EPC.${isShort(rolls) ? ` Exactly: ${rolls} of a roll.` : ""}`),
         askedAgain("missed", state.again.filter(({ play }) => !isMiss(play)).length, "right"),
+        state.drill.due && h("p", { class: "says" }, comesBack(state)),
         mistakes && h("p", {},
             h("a", { href: link({ text: mistakes }), "data-key": "mistakes" },
                 "The mistakes as a lesson")),
@@ -88,8 +90,15 @@ function soFar(state) {
 }
 
 // The title of a drill.
-const drillTitle = ({ theme, ask, level }) => `Drill: ${themeOf(theme).words}, ${ASKED[ask]}`
-    + (level ? `, ${LEVELS.find(({ name }) => name === level).words.toLowerCase()}` : "");
+const drillTitle = (drill) => (drill.due ? drillName(drill)
+    : `Drill: ${drillName(drill)}, ${ASKED[drill.ask]}`
+        + (drill.level
+            ? `, ${LEVELS.find(({ name }) => name === drill.level).words.toLowerCase()}` : ""));
+
+// What a drill is drawn by.
+const drawnBy = ({ seed, theme, due }) => (!due ? `Seed ${seed}.`
+    : due.length === 0 ? `Ten that are new: ${themeOf(theme).words}.`
+    : `${due.length} again, ${TEN - due.length} new: ${themeOf(theme).words}.`);
 
 function drillPanel(state, act) {
     const { drill, questions, place } = state;
@@ -104,7 +113,7 @@ function drillPanel(state, act) {
             : question ? h("p", { class: "asks" }, askedIn(state),
                 question.roll && [" ", dicePicture(question.roll)])
             : score(state),
-        h("p", { class: "how" }, `Seed ${drill.seed}.${question ? soFar(state) : ""}`,
+        h("p", { class: "how" }, `${drawnBy(drill)}${question ? soFar(state) : ""}`,
             lookAround(state)),
         question && !isTraining(state) && h("p", { class: "steering" },
             button("back to it", "Back to the question", () => act.question(place))));
@@ -164,7 +173,7 @@ function printedDrill(state) {
     const told = (questions || []).map((question) => answeredIn(state, question));
     return [
         h("h2", {}, drillTitle(drill)),
-        h("p", {}, `Seed ${drill.seed}. `,
+        h("p", {}, `${drawnBy(drill)} `,
             drill.ask === "play" ? "Which play is best?" : askedOf(drill, null)),
         h("ol", { class: "steps-printed drill-printed" },
             (questions || []).map(({ points, roll }) => h("li", {},

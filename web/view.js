@@ -1,7 +1,7 @@
 // What the page shows of a state: trees for its parts, its texts, and what is hidden. Each is what
 // this state says, and nothing of a former one.
 import { writeLink } from "./link.js";
-import { themeOf } from "./trainer.js";
+import { drillName } from "./trainer.js";
 import { inWords, pipsOf } from "./points.js";
 import { h } from "./tree.js";
 import { board, compared, played, watched } from "./board.js";
@@ -9,6 +9,7 @@ import { editor } from "./editor.js";
 import {
     chances, COMING, kept, numbers, plays, reasons, rolls, verdict,
 } from "./panels.js";
+import { student } from "./student.js";
 import {
     coach, estimateField, estimateTold, printed, steering, thumb, training,
 } from "./training.js";
@@ -34,8 +35,8 @@ const trainedOf = (state) => (!isTraining(state) ? ["", ""]
 function titleOf(state) {
     const lesson = stepOf(state) && lessonOf(state);
     const what = lesson ? `Step ${state.step} of ${lesson.steps.length}: ${lesson.title}`
-        : questionOf(state) ? `${whichOf(state)}: ${themeOf(state.drill.theme).words}`
-        : state.drill ? `Drill: ${themeOf(state.drill.theme).words}`
+        : questionOf(state) ? `${whichOf(state)}: ${drillName(state.drill)}`
+        : state.drill ? `Drill: ${drillName(state.drill)}`
         : state.title || inWords(state.points);
     return `${what} \u2013 Bearing off`;
 }
@@ -68,7 +69,10 @@ export function view(state, act) {
             steering: steering(state, making, told, act),
             printed: printed(state),
             draft: editor(state, act),
-            training: training(state, act),
+            today: state.isStart ? student(state, act) : [],
+            training: [
+                state.isStart || state.isCompact ? [] : student(state, act), training(state, act),
+            ],
             numbers: asksNumber(state) ? asked
                 : state.drill && !state.questions ? drawing
                 : isEstimated ? estimateField(state, act)
@@ -101,6 +105,7 @@ export function view(state, act) {
             sorting: isHidden ? "Their numbers are hidden while you guess." : "Sorted by EPC.",
         },
         hidden: {
+            today: !state.isStart || trains || state.isCompact,
             coach: !state.drill && !lessonOf(state),
             steering: !trains,
             notice: !state.notice,

@@ -81,6 +81,14 @@ export class Window {
             revokeObjectURL: (address) => { this.files.delete(address); },
         };
         this.stored = new Map();
+        this.kept = new Map(); // what stays when the tab closes
+        this.localStorage = {
+            getItem: (name) => this.kept.get(name) ?? null, setItem: (name, text) => { this.kept.set(name, text); },
+            removeItem: (name) => { this.kept.delete(name); },
+        };
+        this.date = new Date(2026, 10, 27, 12); // a local time, which a test moves
+        const date = () => this.date;
+        this.Date = class { constructor() { return date(); } };
         this.sessionStorage = { getItem: (name) => this.stored.get(name) ?? null, setItem: (name, text) => { this.stored.set(name, text); } };
         this.navigator = { clipboard: { writeText: async (text) => { this.copied = text; } } };
         const self = this;

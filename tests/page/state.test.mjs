@@ -12,6 +12,7 @@ import { drawQuestions, drillOf, LEVELS, levelsOf, meanOf, mostOf, numbersFrom, 
 import { drawn } from "../../web/worker.js";
 import { thumb } from "../../web/training.js";
 import { textOf } from "../../web/tree.js";
+import { view } from "../../web/view.js";
 import { equal as same, part as test, wrong as fault } from "./given.mjs";
 import { reachedBy, ways } from "../../web/steps.js";
 import { answerTo, newDocument, drawFrom, legalFrom, pipsOf, rollsFrom, settled, whyFrom, Window, Worker, tell } from "./stand_in.mjs";
@@ -1852,6 +1853,156 @@ async function reasons() {
     equal("nothing where nobody trains", [free.text("plays").includes("loses"), free.at("reasons").hidden, free.session.state.why], [true, true, null]);
 }
 
+// What a student did stays on the device, and today's ten are of it.
+const losing = ([high, low]) => `play ${high}/1 ${low}/2`;
+const best = ([high, low]) => `play ${high}/off ${low}/0`;
+
+async function student() {
+    const kept = (used) => used.window.kept.get("bearoff memory");
+    const told = (used) => used.document.querySelector(".daily-told").textContent;
+    const day = 20784; // that of the clock of these pages
+    const later = (used, days) => ({ before: (window) => {
+        window.kept = used.window.kept;
+        window.date = new Date(2026, 10, 27 + days, 9);
+    } });
+    // answers the questions of a drill, of which some are missed
+    const play = async (used, isMissed) => {
+        const { questions } = used.session.state;
+        for (const [place, { roll }] of questions.entries()) {
+            await used.clicked(isMissed(place) ? losing(roll) : best(roll));
+            await used.clicked("next question");
+        }
+    };
+
+    part = "the first day";
+    let used = await Used.open();
+    equal("the panel", [used.at("today").hidden, told(used), used.find("today").textContent, used.at("training").querySelector(".student")],
+        [false, "Ten plays, the same for all who begin today. What you miss comes back tomorrow.", "Begin ten new", null]);
+    equal("what stays where", [used.at("today").textContent.includes("What you answer stays on this device; nothing of it is sent."), used.window.kept.size, used.at("today").querySelector(".days")], [true, 0, null]);
+    await used.clicked("today");
+    const { drill, questions } = used.session.state;
+    equal("today's ten", [drill, questions.length, used.focus(), used.at("today").hidden], [{ theme: "all", seed: day, ask: "play", level: "hard", due: [] }, 10, "coach", true]);
+    equal("its link", [readLink(used.window.location.hash).drill, used.document.title], [drill, "Question 1 of 10: Today\u2019s ten \u2013 Bearing off"]);
+    equal("what is said of it", ["Today\u2019s ten", "Question 1 of 10.", "Ten that are new: All positions."].filter((text) => !used.text("coach").includes(text)), []);
+    await used.clicked(losing(questions[0].roll));
+    equal("one is missed", kept(used), `bearoff memory 1\nlearnt 0\nsizes 0 1 0\ntheme all 1 1 56\nday ${day} 1 1 0\ncard ${questions[0].points} ${questions[0].roll.join("")} all 0 ${day + 1} 56`);
+    await used.clicked("next question");
+    for (const { roll } of questions.slice(1)) {
+        await used.clicked(roll === questions[1].roll ? losing(roll) : best(roll));
+        await used.clicked("next question");
+    }
+    const missed = missedOf(used.session.state);
+    equal("ten are kept, and a run", kept(used).split("\n")[4], `day ${day} 10 ${missed.length} 1`);
+    const before = kept(used);
+    for (const { roll } of missed) {
+        await used.clicked(losing(roll));
+        await used.clicked("next question");
+    }
+    equal("once more counts for nothing", kept(used) === before, true);
+    const many = (count) => `${count} question${count === 1 ? " comes" : "s come"} back tomorrow.`;
+    equal("the score", used.text("coach").includes(many(missed.length)), true);
+    await used.clicked("end training");
+    equal("after ten", [told(used), used.find("today").textContent], [`Today\u2019s ten are done. ${many(missed.length)}`, "Ten more ten new"]);
+    equal("facts", [...used.at("today").querySelectorAll("dd")].map((node) => node.textContent), ["1 day", "0 today", `0.0${Math.round(5.6 * missed.length)} rolls`]);
+    equal("the last days", used.at("today").querySelector(".days").getAttribute("aria-label"), `Right on each of the last fourteen days: ${"none, ".repeat(13)}${10 - missed.length} of 10`);
+    await used.clicked("all that is kept");
+    equal("it is open", used.find("all that is kept").getAttribute("aria-expanded"), "true");
+    equal("sizes", used.at("today").textContent.includes(`1 drill was ended. Misses by what they lost, in rolls: 0 less than 0.020, ${missed.length} 0.020 or more, 0 0.080 or more.`), true);
+    await used.clicked("today");
+    equal("ten more are others", [used.session.state.drill.seed === day, used.session.state.questions.length], [false, 10]);
+
+    part = "loaded anew";
+    const anew = await Used.open(used.window.entries[1], { before: (window) => { [window.kept, window.stored] = [used.window.kept, used.window.stored]; } });
+    equal("what was answered is there once", [anew.session.state.guesses.length, kept(anew) === before], [10, true]);
+
+    part = "the day after";
+    const next = await Used.open("", later(used, 1));
+    equal("what comes back", [told(next), next.find("today").textContent], [`${missed.length} that you missed come${missed.length === 1 ? "s" : ""} back, ${10 - missed.length} are new: Low stacks.`, `Begin ${missed.length} again, ${10 - missed.length} new`]);
+    await next.clicked("today");
+    equal("they are first", next.session.state.questions.slice(0, missed.length).map(({ points, roll }) => [points, roll]), missed.map(({ points, roll }) => [points, roll]));
+    equal("what is said of them", next.text("coach").includes(`${missed.length} again, ${10 - missed.length} new: Low stacks.`), true);
+    await play(next, () => false);
+    equal("right, they come after three days", kept(next).split("\n").filter((line) => line.startsWith("card")).map((line) => line.split(" ").slice(3).join(" ")), missed.map(() => `all 1 ${day + 4} 56`));
+    equal("themes of their own", kept(next).split("\n").filter((line) => line.startsWith("theme")), [`theme all ${10 + missed.length} ${missed.length} ${56 * missed.length}`, `theme low ${10 - missed.length} 0 0`]);
+    equal("nothing comes tomorrow", next.text("coach").includes("Nothing comes back tomorrow."), true);
+    await next.clicked("end training");
+    equal("two days in a row", next.at("today").querySelector("dd").textContent, "2 days");
+
+    part = "a day that begins meanwhile";
+    next.window.date = new Date(2026, 10, 31, 9);
+    next.window.listeners.get("focus")({});
+    equal("what comes back", [told(next).startsWith(`${missed.length} that you missed`), next.at("today").querySelector("dd").textContent], [true, "0 days"]);
+
+    part = "a text that is taken along";
+    const text = kept(next);
+    equal("it is closed", [next.find("all that is kept").getAttribute("aria-expanded"), next.find("memory text")], ["false", null]);
+    await next.clicked("all that is kept");
+    next.click("copy memory");
+    await settled();
+    equal("copied", [next.window.copied, next.find("memory text").value, next.at("today").textContent.includes("The text is copied.")], [text, text, true]);
+    next.window.navigator.clipboard.writeText = async () => { throw new Error("denied"); };
+    next.click("copy memory");
+    await settled();
+    equal("not copied", next.at("today").textContent.includes("The browser lets this page copy nothing: copy the text from the field."), true);
+    await next.clicked("forget");
+    equal("all is forgotten", [next.window.kept.size, told(next).startsWith("Ten plays, the same for all"), next.at("today").textContent.includes("All is forgotten."), next.focus()], [0, true, true, "forget"]);
+    next.find("memory text").value = `${text}\nday x`;
+    await next.clicked("take memory");
+    equal("a fault", [next.text("memory-why"), next.at("memory-why").getAttribute("role"), next.find("memory text").getAttribute("aria-invalid"), next.focus(), next.window.kept.size],
+        [`Nothing of the text is taken. Line ${text.split("\n").length + 1} can't be read.`, "alert", "true", "memory text", 0]);
+    next.find("memory text").value = text;
+    await next.clicked("take memory");
+    equal("it is there again", [kept(next) === text, told(next).startsWith(`${missed.length} that you missed`), next.text("memory-why"), next.at("today").textContent.includes("The text is taken.")], [true, true, "", true]);
+
+    part = "two pages of a browser";
+    const other = await Used.open("", later(next, 4));
+    await other.clicked("all that is kept");
+    await other.clicked("forget");
+    next.window.listeners.get("storage")({ key: "other" });
+    equal("another key is none of it", told(next).startsWith(`${missed.length} that`), true);
+    next.window.listeners.get("storage")({ key: "bearoff memory" });
+    equal("one hears of the other", told(next).startsWith("Ten plays, the same for all"), true);
+
+    part = "without a store";
+    used = await Used.open("", { before: (window) => { delete window.localStorage; } });
+    equal("it is said", used.at("today").textContent.includes("This browser keeps nothing for the page: what you answer is there till it closes."), true);
+    await used.clicked("today");
+    await play(used, (place) => place === 0);
+    await used.clicked("end training");
+    equal("it works till then", [told(used).startsWith("Today\u2019s ten are done."), used.session.state.memory.days[0].slice(0, 2)], [true, [day, 10]]);
+    used = await Used.open("", { before: (window) => { window.kept = new Map([["bearoff memory", "bearoff memory 9"]]); } });
+    equal("what is of a newer page", used.at("today").textContent.includes("What is kept here can't be read, and stays as it is. It is of version 9, and this page knows 1."), true);
+
+    part = "what counts";
+    used = await Used.open("#at=1,0,0,1,0,0&guess=1&roll=31");
+    equal("a link goes where it says", [used.at("today").hidden, used.at("today").childNodes.length, used.at("training").querySelector(".student") !== null, used.board], [true, 0, true, [1, 0, 0, 1, 0, 0]]);
+    await used.clicked(losing([3, 1]));
+    equal("no guess on the free board", used.window.kept.size, 0);
+    used.window.type(`#${new URLSearchParams({ text: "lesson: One\nstep: 0,0,0,1,0,1\nroll: 31\nask: Which?" })}`);
+    await used.worker.answerAll(44);
+    await used.clicked(losing([3, 1]));
+    equal("nor of a lesson", [used.session.state.guesses.length, used.window.kept.size], [2, 0]);
+    used.window.type("#drill=ace&seed=3&ask=effective");
+    await used.worker.answerAll(44);
+    used.session.change(giveEstimate, "1");
+    const [[name, asked, far, lost]] = used.session.state.memory.themes;
+    equal("an estimate does", [name, asked, far, lost > 1000, kept(used).includes("card")], ["effective", 1, 1, true, false]);
+    await used.clicked("end training");
+    await used.clicked("all that is kept");
+    equal("in pips", /EPC 1 1 [0-9.]+ pips/.test(textOf(view(used.session.state, {}).trees.training).replace(/\s+/g, " ")), true);
+    used.window.type("#drill=gaps&seed=7&ask=play");
+    await used.worker.answerAll(44);
+    await used.clicked(losing(used.session.state.questions[0].roll));
+    equal("and each drill", used.session.state.memory.themes.map(([theme]) => theme), ["effective", "gaps"]);
+    used.window.type("#drill=gaps&seed=8&ask=play");
+    await used.worker.answerAll(44);
+    used.window.go(-1);
+    await used.worker.answerAll(44);
+    equal("not the way back to it", used.session.state.memory.themes.map(([, count]) => count), [1, 1]);
+    const within = await Used.open("#view=board&at=1,0,0,1,0,0");
+    equal("the embedded view has no panel", [within.at("today").hidden, within.document.querySelector(".student")], [true, null]);
+}
+
 // Those that take seconds stand last. The variable FIRST names one that comes before the others.
 const PARTS = [
     ["paper", paper],
@@ -1867,6 +2018,7 @@ const PARTS = [
     ["why a play loses", reasons],
     ["a guess on the board", guessed],
     ["keeping", keeping],
+    ["a student's days", student],
     ["lessons", lessons],
     ["browsers that can't", older],
     ["a lesson of one's own", editing],

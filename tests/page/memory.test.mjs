@@ -1,0 +1,228 @@
+// What a student did, as it is kept: when a question comes back, what is bounded, which texts are
+// taken, days in a row, and two pages of one browser.
+import assert from "node:assert/strict";
+import { test } from "node:test";
+import {
+    answered, askedOn, BOXES, DAILY, dayOf, dueOn, EMPTY, isKnown, MOST_CARDS, MOST_DAYS, MOST_LETTERS, readMemory, Store, streak, todays, VERSION, weakest, written,
+} from "../../web/memory.js";
+import { drawQuestions, drillOf, mostOf, readDue, TEN, THEMES, writeDue } from "../../web/trainer.js";
+import { readLink, writeLink } from "../../web/link.js";
+import { ROLLS } from "../../web/rolls.js";
+import { drawFrom } from "./stand_in.mjs";
+
+const question = (number = 0, theme = "all") => ({ points: [number % 6, 2, Math.floor(number / 6) % 6, 0, 1, Math.floor(number / 36) % 4], roll: [3, 1], theme });
+const missed = (number, lost = 56, theme = "all") => ({ ...question(number, theme), lost, isMissed: true, isLast: false });
+const right = (number, theme = "all") => ({ ...question(number, theme), lost: 0, isMissed: false, isLast: false });
+const estimate = (lost, isMissed, kind = "effective") => ({ points: [1, 2, 3, 0, 0, 0], roll: null, theme: kind, lost, isMissed, isLast: false });
+const faultOf = (...lines) => readMemory(["bearoff memory 1", ...lines].join("\n")).fault;
+
+test("a miss comes back after 1, 3, 7, 21 and 60 days, and is learnt then", () => {
+    let [memory, day] = [answered(EMPTY, missed(0), 100), 100];
+    assert.deepEqual(BOXES, [1, 3, 7, 21, 60]);
+    for (const wait of BOXES) {
+        assert.equal(memory.cards[0].due, day + wait);
+        assert.equal(dueOn(memory, day + wait - 1).length, 0);
+        day += wait;
+        assert.equal(dueOn(memory, day).length, 1);
+        memory = answered(memory, right(0), day);
+    }
+    assert.deepEqual([memory.cards.length, memory.learnt], [0, 1]);
+});
+
+test("right before it is due changes nothing of it, and a miss takes it to the first box", () => {
+    const boxOf = ({ cards: [{ box, due, lost }] }) => [box, due, lost];
+    let memory = answered(answered(EMPTY, missed(0), 100), right(0), 101);
+    assert.deepEqual(boxOf(memory), [1, 104, 56]);
+    memory = answered(memory, right(0), 102);
+    assert.deepEqual(boxOf(memory), [1, 104, 56]);
+    memory = answered(memory, missed(0, 7), 103);
+    assert.deepEqual([boxOf(memory), memory.cards.length, memory.learnt], [[0, 104, 7], 1, 0]);
+});
+
+test("what comes back counts for the theme of its own, and an estimate for what was estimated", () => {
+    let memory = answered(EMPTY, missed(0, 56, "gaps"), 100);
+    memory = answered(memory, right(0, "low"), 101);
+    memory = answered(answered(memory, right(1, "low"), 101), { ...estimate(2100, true), isLast: true }, 101);
+    assert.deepEqual(memory.themes, [["gaps", 2, 1, 56], ["low", 1, 0, 0], ["effective", 1, 1, 2100]]);
+    assert.deepEqual(memory.days, [[100, 1, 1, 0], [101, 3, 1, 1]]);
+    assert.deepEqual([memory.cards.length, memory.sizes, askedOn(memory, 101), askedOn(memory, 99)], [1, [0, 1, 0], 3, 0]);
+    assert.equal(answered(EMPTY, right(0), 1).cards.length, 0);
+});
+
+test("misses by their size", () => {
+    const memory = [1, 19, 20, 79, 80, 300].reduce((so, lost, place) => answered(so, missed(place, lost), 7), EMPTY);
+    assert.deepEqual(memory.sizes, [2, 2, 2]);
+    assert.deepEqual(answered(memory, right(0), 7).sizes, [2, 2, 2]);
+});
+
+test("bounds: the best known and cheapest are forgotten, and the oldest days", () => {
+    let memory = answered(answered(EMPTY, missed(0, 999), 998), right(0), 999);
+    for (let number = 0; number < 500; number += 1) {
+        const points = [number % 15, 0, 0, 0, 0, 1];
+        memory = answered(memory, { ...missed(0, number + 1), points, roll: ROLLS[Math.floor(number / 15) % 21] }, 1000 + number);
+    }
+    assert.deepEqual([memory.cards.length, memory.days.length, memory.days[0][0]], [MOST_CARDS, MOST_DAYS, 1500 - MOST_DAYS]);
+    assert.ok(memory.cards.every(({ lost, box }) => lost > 150 && box === 0));
+    assert.ok(written(memory).length < 40000);
+    const cards = Array.from({ length: 301 }, (_, place) => `card ${place % 15},1,0,0,0,0 ${ROLLS[Math.floor(place / 15)].join("")} all 0 7 ${1 + place}`);
+    assert.deepEqual([faultOf(...cards), readMemory(["bearoff memory 1", ...cards].join("\n")).memory.cards.length], ["", MOST_CARDS]);
+    const days = Array.from({ length: 401 }, (_, place) => `day ${900 - place} 1 0 0`);
+    assert.deepEqual(readMemory(["bearoff memory 1", ...days].join("\n")).memory.days.map(([day]) => day), Array.from({ length: 400 }, (_, place) => 501 + place));
+});
+
+test("days in a row, up to today or yesterday", () => {
+    const memory = { ...EMPTY, days: [[5, 10, 0, 0], [7, 12, 1, 1], [8, 10, 0, 0], [9, 9, 0, 0]] };
+    assert.deepEqual([9, 8, 10, 5, 6, 7].map((day) => streak(memory, day)), [2, 2, 0, 1, 1, 1]);
+    assert.equal(streak(EMPTY, 1), 0);
+    const month = Array.from({ length: 31 }, (_, place) => [20000 + place, 10, 0, 1]);
+    assert.equal(streak({ ...EMPTY, days: month }, 20030), 31);
+});
+
+test("a day begins at local midnight", () => {
+    assert.equal(dayOf(new Date(2026, 10, 27, 23, 59)) + 1, dayOf(new Date(2026, 10, 28, 0, 1)));
+    assert.equal(dayOf(new Date(2026, 10, 27, 0, 0)), dayOf(new Date(2026, 10, 27, 23, 59)));
+    assert.equal(dayOf({ getTime: () => 86400000 - 1, getTimezoneOffset: () => -60 }), 1);
+});
+
+test("today's ten: at most six that come back, the longest due first, and then the dearest", () => {
+    let memory = EMPTY;
+    for (let number = 0; number < 8; number += 1) memory = answered(memory, missed(number, number + 1), number < 4 ? 10 : 9);
+    const { due, seed, ask, level } = todays(memory, 12);
+    assert.deepEqual([seed, ask, level], [12, "play", "hard"]);
+    assert.deepEqual(due, [7, 6, 5, 4, 3, 2].map((number) => ({ points: question(number).points, roll: [3, 1] })));
+    assert.deepEqual([todays(EMPTY, 12).due, todays(EMPTY, 12).seed], [[], 12]);
+    // what follows on that day has another seed
+    assert.notEqual(todays(answered(EMPTY, right(0), 12), 12).seed, 12);
+    assert.equal(todays(answered(EMPTY, right(0), 11), 12).seed, 12);
+});
+
+test("the theme that loses most for each answer, once each is known", () => {
+    const rows = DAILY.map((name) => [name, 5, 1, 10]);
+    const of = (...more) => ({ ...EMPTY, themes: [...rows.filter(([name]) => !more.some(([other]) => other === name)), ...more] });
+    assert.equal(weakest(of(["gaps", 10, 1, 30], ["low", 5, 1, 16]), 3), "low");
+    assert.equal(weakest(of(["gaps", 10, 1, 40], ["low", 5, 1, 16], ["effective", 5, 5, 99999], ["fewer", 5, 5, 9999]), 3), "gaps");
+    assert.deepEqual([weakest(of(["gaps", 4, 4, 999]), 3), isKnown(of(["gaps", 4, 4, 999])), isKnown(of())], ["gaps", false, true]);
+    assert.deepEqual(DAILY.map((_, day) => weakest(EMPTY, day)), DAILY);
+    // a name that gives the answers away is none of them
+    assert.deepEqual(DAILY, ["all", "low", "gaps", "middle", "high", "few"]);
+});
+
+test("the questions: first those that come back, and then new ones, the same by the day", () => {
+    const due = [3, 8, 9].map((number) => ({ points: question(number).points, roll: [3, 1] }));
+    const drill = drillOf({ theme: "all", seed: 20784, ask: "play", level: "hard", due });
+    const questions = drawFrom(drill);
+    assert.equal(questions.length, TEN);
+    assert.deepEqual(questions.slice(0, 3), due);
+    assert.equal(new Set(questions.map(({ points }) => points.join())).size, TEN);
+    assert.deepEqual(drawFrom({ ...drill, due: [] }), drawFrom({ ...drill, due: [] }));
+    assert.notDeepEqual(drawFrom({ ...drill, due: [] }), drawFrom({ ...drill, seed: 20785, due: [] }));
+    assert.equal(drawFrom({ ...drill, due: undefined }).length, 20);
+    // what is asked with a roll that is new isn't asked twice
+    const [, , , fresh] = questions;
+    assert.equal(drawFrom({ ...drill, due: [fresh] }).filter(({ points }) => points.join() === fresh.points.join()).length, 1);
+    // two rolls of one position are two questions
+    const both = [[3, 1], [6, 6]].map((roll) => ({ points: question(3).points, roll }));
+    assert.deepEqual(drawFrom({ ...drill, due: both }).slice(0, 2), both);
+    // and what has nothing to decide isn't asked
+    assert.equal(drawQuestions({ ...drill, theme: "high", due: due.slice(0, 1) }, ROLLS, () => [{ isBest: true }]).length, 0);
+    assert.deepEqual([mostOf(drill), mostOf({ theme: "all", due: [{ points: [0, 0, 0, 0, 0, 15] }] })], [44, 90]);
+});
+
+test("a link has what comes back, and what can't be taken is said", () => {
+    for (const due of [[], [3, 8].map((number) => ({ points: question(number).points, roll: [3, 1] }))]) {
+        const drill = drillOf({ theme: "gaps", seed: 20784, ask: "play", level: "hard", due });
+        const link = writeLink({ ...readLink(""), drill });
+        assert.deepEqual([readLink(link).drill, readLink(link).faults], [drill, []]);
+        assert.deepEqual(readDue(writeDue(due)), due);
+    }
+    for (const text of ["x", "1,2,3,0,0,0", "1,2,3,0,0,0,13", "0,0,0,0,0,0,31", "9,9,0,0,0,0,31", "1,2,3,0,0,0,71", Array(11).fill("1,2,3,0,0,0,31").join(".")]) {
+        assert.equal(readDue(text), null, text);
+        assert.match(readLink(`#drill=all&seed=1&ten=${text}`).faults[0], /what comes back are six counts and a roll of each/);
+    }
+    assert.deepEqual(readLink("#drill=all&seed=1").drill, { theme: "all", seed: 1, ask: "play" });
+    assert.deepEqual(readLink("#drill=all&seed=1&ask=effective&ten=").drill, { theme: "all", seed: 1, ask: "effective" });
+});
+
+test("the text comes back", () => {
+    let memory = answered(answered(EMPTY, missed(3, 56, "gaps"), 20000), estimate(2100, true), 20001);
+    memory = { ...answered(memory, { ...right(3), isLast: true }, 20001), learnt: 4 };
+    assert.equal(written(memory), [
+        "bearoff memory 1", "learnt 4", "sizes 0 1 0", "theme gaps 2 1 56", "theme effective 1 1 2100", "day 20000 1 1 0", "day 20001 2 1 1", "card 3,2,0,0,1,0 31 gaps 1 20004 56",
+    ].join("\n"));
+    assert.deepEqual(readMemory(written(memory)), { memory, fault: "" });
+    assert.deepEqual(readMemory(`\ufeff${written(memory).replaceAll("\n", "\r\n")}\r\n`).memory, memory);
+    assert.deepEqual(readMemory(written(EMPTY)).memory, EMPTY);
+    for (const { name } of THEMES) assert.equal(faultOf(`theme ${name} 1 1 1`), "");
+});
+
+test("a text with a fault is refused whole, by the number of its line", () => {
+    const good = "card 1,2,3,0,0,0 31 all 0 7 8";
+    assert.equal(faultOf(good), "");
+    for (const line of [
+        "", "day x", "day 1 1 1", "day 1 1 1 1 1", "day 1234567 1 1 1", "card 16,0,0,0,0,0 31 all 0 1 1", "card 0,0,0,0,0,0 31 all 0 1 1", "card 1,0,0,0,0,0 71 all 0 1 1", "card 1,0,0,0,0,0 13 all 0 1 1",
+        "card 1,0,0,0,0,0 31 all 5 1 1", "card 1,0,0,0,0,0 31 none 0 1 1", "card 1,0,0,0,0,0 31 effective 0 1 1", "constructor 1", "toString 1", "theme nowhere 1 1 1", "theme all -1 1 1", "theme all 1.5 1 1",
+        "sizes 1 2", "learnt", "rating 1000 1 1", "Day 1 1 1 1", good,
+    ]) assert.equal(faultOf(good, line, "day 1 1 1 1"), "Line 3 can't be read.", line);
+    assert.equal(faultOf("theme all 1 1 1", "theme all 1 1 1"), "Line 3 can't be read.");
+    assert.equal(faultOf("day 5 1 1 1", "day 5 2 1 1"), "Line 3 can't be read.");
+    for (const text of ["", "x", "bearoff memory", "bearoff memory 0", "bearoff memory x", "Bearoff memory 1", "bearoff memory 1 2"]) {
+        assert.deepEqual(readMemory(text), { memory: null, fault: "Line 1: it doesn't begin with \"bearoff memory\" and a version." }, text);
+    }
+    assert.equal(readMemory(`bearoff memory ${VERSION + 1}\nfuture 1`).fault, `It is of version ${VERSION + 1}, and this page knows ${VERSION}.`);
+    assert.equal(readMemory("x".repeat(MOST_LETTERS + 1)).fault, `It has more than ${MOST_LETTERS} characters.`);
+});
+
+// A browser's store, which pages share; it can be full.
+function storage(text = null) {
+    const kept = new Map(text === null ? [] : [["bearoff memory", text]]);
+    return {
+        kept, isFull: false, getItem: (name) => kept.get(name) ?? null, removeItem: (name) => { kept.delete(name); },
+        setItem(name, value) {
+            if (this.isFull) throw new Error("full");
+            kept.set(name, value);
+        },
+    };
+}
+
+test("two pages of a browser bring theirs together", () => {
+    const localStorage = storage();
+    const [one, other] = [new Store({ localStorage }), new Store({ localStorage })];
+    const first = one.change(EMPTY, (memory) => answered(memory, missed(1), 10));
+    // the other page hasn't seen it
+    const both = other.change(EMPTY, (memory) => answered(memory, missed(2), 10));
+    assert.deepEqual([first.cards.length, both.cards.length, both.days], [1, 2, [[10, 2, 2, 0]]]);
+    assert.deepEqual([one.read(first), [...localStorage.kept.keys()], one.why], [both, ["bearoff memory"], ""]);
+    assert.deepEqual([one.forget(), localStorage.kept.size, other.read(both)], [EMPTY, 0, EMPTY]);
+    assert.deepEqual(["bearoff memory", null, "other"].map(Store.isAbout), [true, true, false]);
+});
+
+test("without a store the page has a memory of its own", () => {
+    for (const window of [{}, { get localStorage() { throw new Error("denied"); } }]) {
+        const store = new Store(window);
+        const memory = store.change(EMPTY, (own) => answered(own, missed(1), 10));
+        assert.equal(store.change(memory, (own) => answered(own, missed(2), 10)).cards.length, 2);
+        assert.match(store.why, /^This browser keeps nothing for the page/);
+        assert.deepEqual([store.forget(), store.why !== ""], [EMPTY, true]);
+    }
+    // a store that becomes full keeps what it had, and the page goes on
+    const localStorage = storage();
+    const store = new Store({ localStorage });
+    let memory = store.change(EMPTY, (own) => answered(own, missed(1), 10));
+    localStorage.isFull = true;
+    for (const number of [2, 3]) memory = store.change(memory, (own) => answered(own, missed(number), 10));
+    assert.deepEqual([memory.cards.length, readMemory(localStorage.kept.get("bearoff memory")).memory.cards.length], [3, 1]);
+});
+
+test("what a newer page has kept stays as it is", () => {
+    for (const text of [`bearoff memory ${VERSION + 1}\nfuture 1`, "bearoff memory 1\nday x"]) {
+        const localStorage = storage(text);
+        const store = new Store({ localStorage });
+        const memory = store.change(EMPTY, (own) => answered(own, missed(1), 10));
+        assert.deepEqual([memory.cards.length, localStorage.kept.get("bearoff memory")], [1, text]);
+        assert.match(store.why, /^What is kept here can't be read, and stays as it is\. (It is of version 2|Line 2 can't)/);
+        // until all is forgotten
+        assert.deepEqual([store.forget(), store.why, localStorage.kept.size], [EMPTY, "", 0]);
+        assert.equal(store.change(EMPTY, (own) => answered(own, missed(1), 10)).cards.length, 1);
+        assert.equal(localStorage.kept.size, 1);
+    }
+});

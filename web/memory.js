@@ -1,0 +1,247 @@
+// What a student did, as it stays on the device from one day to the next: how much was asked and
+// missed on each day and of each theme, how dear the misses were, and the questions that come back,
+// each with its day. All are whole numbers; it is one text of lines, which can be taken along and
+// read in again.
+import { readPoints, sumOf } from "./points.js";
+import { ESTIMATED, TEN, themeOf, THEMES } from "./trainer.js";
+
+export const VERSION = 1;
+export const MOST_CARDS = 300;
+export const MOST_DAYS = 400;
+export const MOST_LETTERS = 100_000; // of a text that is read in
+const MOST_DUE = 6; // of today's ten, so that some are always new
+const KNOWN = 5; // answers after which it is known how much a theme loses
+
+// After how many days a question comes back, by its box. One that is right in the last is learnt.
+export const BOXES = [1, 3, 7, 21, 60];
+
+export const EMPTY = { days: [], cards: [], themes: [], sizes: [0, 0, 0], learnt: 0 };
+
+const DAY = 86400000; // milliseconds
+
+// The number of a local day.
+export const dayOf = (date) =>
+    Math.floor((date.getTime() - date.getTimezoneOffset() * 60000) / DAY);
+
+const cardKey = ({ points, roll }) => `${points.join()} ${roll.join("")}`;
+
+// Those that come back on a day or before: the longest due first, and of these the dearest.
+export const dueOn = ({ cards }, day) => cards.filter(({ due }) => due <= day)
+    .sort((one, other) => one.due - other.due || other.lost - one.lost);
+
+// Rows of counts by their first column, with more in one of them.
+function tallied(rows, key, more) {
+    const found = rows.find(([name]) => name === key);
+    const next = [key, ...more.map((count, place) => count + (found ? found[place + 1] : 0))];
+    return found ? rows.map((row) => (row === found ? next : row)) : [...rows, next];
+}
+
+// Where there are too many, those that are best known and cheapest are forgotten first.
+const boundedCards = (cards) => (cards.length <= MOST_CARDS ? cards
+    : [...cards].sort((one, other) => one.box - other.box || other.lost - one.lost)
+        .slice(0, MOST_CARDS));
+
+const boundedDays = (days) => [...days].sort(([one], [other]) => one - other).slice(-MOST_DAYS);
+
+// From how many thousandths of a roll on a miss is no small one, and from how many on a large one.
+export const SIZES = [20, 80];
+
+const sizeOf = (lost) => SIZES.filter((size) => lost >= size).length;
+
+// The cards after a play: a miss goes to the first box; what was due and is right goes one box on;
+// what is right before it is due stays where it is.
+function carded(cards, { points, roll, theme, lost, isMissed }, day) {
+    const card = cards.find((one) => cardKey(one) === cardKey({ points, roll }));
+    const isDue = card && card.due <= day;
+    if (!isMissed && !isDue) return cards;
+    const rest = cards.filter((one) => one !== card);
+    const box = isMissed ? 0 : card.box + 1;
+    if (box >= BOXES.length) return rest;
+    return [...rest, {
+        points, roll, theme: card?.theme ?? theme, box, due: day + BOXES[box],
+        lost: isMissed ? lost : card.lost,
+    }];
+}
+
+// The memory after an answer on a day: `theme` is that of the drill, or what is estimated, `lost`
+// are thousandths of a roll, or of a pip for an estimate, and `isLast` says whether a drill had no
+// other question.
+export function answered(memory, answer, day) {
+    const { points, roll, lost, isMissed, isLast } = answer;
+    const asked = roll && memory.cards.find((one) => cardKey(one) === cardKey({ points, roll }));
+    const theme = asked ? asked.theme : answer.theme;
+    const cards = roll ? carded(memory.cards, answer, day) : memory.cards;
+    const isLearnt = cards.length < memory.cards.length;
+    return {
+        cards: boundedCards(cards), learnt: memory.learnt + (isLearnt ? 1 : 0),
+        days: boundedDays(tallied(memory.days, day, [1, isMissed ? 1 : 0, isLast ? 1 : 0])),
+        themes: tallied(memory.themes, theme, [1, isMissed ? 1 : 0, lost]),
+        sizes: memory.sizes.map((count, size) =>
+            count + (roll && isMissed && size === sizeOf(lost) ? 1 : 0)),
+    };
+}
+
+// How much was answered on a day.
+export const askedOn = ({ days }, day) => days.find(([one]) => one === day)?.[1] ?? 0;
+
+// How many days in a row had ten answers, up to today or yesterday.
+export function streak({ days }, today) {
+    const full = new Set(days.filter(([, asked]) => asked >= TEN).map(([day]) => day));
+    let [count, day] = [0, full.has(today) ? today : today - 1];
+    for (; full.has(day); day -= 1) count += 1;
+    return count;
+}
+
+// The themes of today's ten: what every database has, and no theme whose questions all tempt, since
+// its name would give the answers away.
+export const DAILY = THEMES.filter(({ isPlayed, isTempting, most }) =>
+    isPlayed && !isTempting && !most).map(({ name }) => name);
+
+// Of the rows of themes, those that are asked often enough to say how much they lose.
+const knownOf = ({ themes }) =>
+    themes.filter(([name, asked]) => DAILY.includes(name) && asked >= KNOWN);
+
+// Whether it is known where most is lost.
+export const isKnown = (memory) => knownOf(memory).length === DAILY.length;
+
+// The theme that new questions come from: the one that loses most for each answer; until each was
+// asked five times, those that weren't, in turn.
+export function weakest(memory, day) {
+    const known = knownOf(memory);
+    if (known.length < DAILY.length) {
+        const others = DAILY.filter((name) => !known.some(([other]) => other === name));
+        return others[day % others.length];
+    }
+    return known.reduce((most, one) => (one[3] * most[1] > most[3] * one[1] ? one : most))[0];
+}
+
+const APART = 100_000; // seeds between two drills of a day
+
+// Today's ten, as a drill: at most six that come back, and the rest new, by the number of the day,
+// so that who begins on one day is asked the same. What follows on that day has another seed.
+export function todays(memory, day) {
+    return {
+        theme: weakest(memory, day), seed: day + APART * Math.min(askedOn(memory, day), 1000),
+        ask: "play", level: "hard",
+        due: dueOn(memory, day).slice(0, MOST_DUE).map(({ points, roll }) => ({ points, roll })),
+    };
+}
+
+// The memory as a text of lines.
+export const written = ({ days, cards, themes, sizes, learnt }) => [
+    `bearoff memory ${VERSION}`, `learnt ${learnt}`, `sizes ${sizes.join(" ")}`,
+    ...themes.map((row) => `theme ${row.join(" ")}`),
+    ...days.map((row) => `day ${row.join(" ")}`),
+    ...cards.map(({ theme, box, due, lost, ...card }) =>
+        `card ${cardKey(card)} ${theme} ${box} ${due} ${lost}`),
+].join("\n");
+
+const isNew = (rows, key) => !rows.some(([name]) => name === key);
+
+// What a line says behind its word, and the memory with it, or null where it can't be taken. No row
+// stands twice.
+const LINES = {
+    learnt: [/^(\d{1,7})$/, (memory, [learnt]) => ({ ...memory, learnt: Number(learnt) })],
+    sizes: [/^(\d{1,7}) (\d{1,7}) (\d{1,7})$/, (memory, sizes) =>
+        ({ ...memory, sizes: sizes.map(Number) })],
+    theme: [/^([a-z]+) (\d{1,7}) (\d{1,7}) (\d{1,9})$/, (memory, [name, ...counts]) =>
+        ((themeOf(name) || ESTIMATED.includes(name)) && isNew(memory.themes, name)
+            ? { ...memory, themes: [...memory.themes, [name, ...counts.map(Number)]] } : null)],
+    day: [/^(\d{1,6}) (\d{1,6}) (\d{1,6}) (\d{1,6})$/, (memory, counts) => {
+        const row = counts.map(Number);
+        return isNew(memory.days, row[0]) ? { ...memory, days: [...memory.days, row] } : null;
+    }],
+    card: [/^([\d,]+) ([1-6])([1-6]) ([a-z]+) ([0-4]) (\d{1,6}) (\d{1,6})$/,
+        (memory, [counts, high, low, theme, ...numbers]) => {
+            const [points, roll] = [readPoints(counts), [Number(high), Number(low)]];
+            const [box, due, lost] = numbers.map(Number);
+            if (!points || sumOf(points) === 0 || high < low || !themeOf(theme)) return null;
+            const card = { points, roll, theme, box, due, lost };
+            return memory.cards.some((one) => cardKey(one) === cardKey(card)) ? null
+                : { ...memory, cards: [...memory.cards, card] };
+        }],
+};
+
+// The memory of such a text, or why it is none: the first line that can't be read. Nothing of a
+// text with a fault is taken.
+export function readMemory(text) {
+    const refuse = (fault) => ({ memory: null, fault });
+    if (text.length > MOST_LETTERS) return refuse(`It has more than ${MOST_LETTERS} characters.`);
+    const [first, ...lines] = text.replace(/^\ufeff/, "").trim().split(/\r?\n/);
+    const [, version] = /^bearoff memory ([1-9]\d{0,2})$/.exec(first.trim()) || [];
+    if (!version) return refuse("Line 1: it doesn't begin with \"bearoff memory\" and a version.");
+    if (Number(version) > VERSION) {
+        return refuse(`It is of version ${version}, and this page knows ${VERSION}.`);
+    }
+    let memory = EMPTY;
+    for (const [place, line] of lines.entries()) {
+        const [, word, rest] = /^(\w+) (.*)$/.exec(line.trim()) || [];
+        const [pattern, take] = Object.hasOwn(LINES, word) ? LINES[word] : [];
+        const found = pattern && pattern.exec(rest);
+        memory = found ? take(memory, found.slice(1)) : null;
+        if (!memory) return refuse(`Line ${place + 2} can't be read.`);
+    }
+    return {
+        memory: {
+            ...memory, cards: boundedCards(memory.cards), days: boundedDays(memory.days),
+        },
+        fault: "",
+    };
+}
+
+const NAME = "bearoff memory";
+const NO_STORE =
+    "This browser keeps nothing for the page: what you answer is there till it closes.";
+
+// The one place of the device where the memory is, which each page of a browser reads before it
+// writes: so what two of them bring is there. Where nothing can be kept, or where what is there
+// can't be read and so stays as it is, the page has a memory of its own.
+export class Store {
+    constructor(window) {
+        this.window = window;
+        this.why = ""; // why nothing can be kept
+    }
+
+    // Whether an event of the store is about the memory; without a name it is about all.
+    static isAbout(key) {
+        return key === NAME || key === null;
+    }
+
+    // The memory that is kept, or else the page's own.
+    read(own) {
+        if (this.why) return own;
+        try {
+            const text = this.window.localStorage.getItem(NAME);
+            if (text === null) return EMPTY;
+            const { memory, fault } = readMemory(text);
+            if (memory) return memory;
+            this.why = `What is kept here can't be read, and stays as it is. ${fault}`;
+        } catch {
+            this.why = NO_STORE;
+        }
+        return own;
+    }
+
+    // What a change makes of the memory that is kept, or else of the page's own.
+    change(own, how) {
+        const memory = how(this.read(own));
+        if (this.why) return memory;
+        try {
+            this.window.localStorage.setItem(NAME, written(memory));
+        } catch {
+            this.why = NO_STORE;
+        }
+        return memory;
+    }
+
+    // Forgets all, also what can't be read.
+    forget() {
+        try {
+            this.window.localStorage.removeItem(NAME);
+            this.why = "";
+        } catch {
+            this.why = NO_STORE;
+        }
+        return EMPTY;
+    }
+}
