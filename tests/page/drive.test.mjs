@@ -808,8 +808,10 @@ async function playDrill(page, hash, way, next) {
     }
     await page.until('document.querySelector(".score") && !document.querySelector(".score").textContent.includes("\u2026")');
     const told = await page.value('document.querySelector(".score").textContent');
-    const exact = told.match(/Exactly: (\d+)\/(\d+) of/).slice(1).map(BigInt);
-    equal(`${hash}: the score, exactly`, exact[0] * sum[1] === sum[0] * exact[1], true);
+    // a fraction that is too long to be read is left out
+    const divisor = (one, other) => (other === 0n ? one : divisor(other, one % other));
+    const lowest = sum.map((part) => part / divisor(...sum)).join("/");
+    equal(`${hash}: the score, exactly`, told.match(/Exactly: (.*) of a roll/)?.[1] ?? null, lowest.length <= 24 ? lowest : null);
     equal(`${hash}: the score`, told.split(" Exactly")[0], `20 of 20 were played. They lost ${nearest(sum)} rolls, or ${nearest([49n * sum[0], 6n * sum[1]])} pips of EPC.`);
     equal(`${hash}: what was missed`, await page.value('document.querySelector(".score + p").textContent'),
         `${missed === 1 ? "One was missed" : `${missed} were missed`}; asked once more, ${right} ${right === 1 ? "was" : "were"} right.`);
