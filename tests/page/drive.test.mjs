@@ -1064,7 +1064,7 @@ async function driveLessons(browser) {
     }
     const guess = await browser.open(`${address}#at=7,4,2,0,0,0&estimate=effective`);
     await guess.until('document.body.dataset.ready && document.querySelector(".estimate input")');
-    equal("no number before the estimate", await guess.value('document.querySelectorAll(".figure").length + document.querySelectorAll(".chances").length'), 0);
+    equal("no number before the estimate", await guess.value('document.querySelectorAll("#numbers .figure").length + document.querySelectorAll(".chances").length'), 0);
     await guess.click(".estimate input");
     for (const key of ["5", "1", "Enter"]) await guess.key(key);
     await guess.until('document.querySelector("#numbers .verdict")');
