@@ -62,4 +62,4 @@ def test_a_program_over_it(cargo, built, room):
         f"{head}\n\nfn main() -> {result} {{\n{told}\n    Ok(())\n}}\n"
     )
     shutil.copyfile(built(44), room / "race.db")
-    expect(cargo("run", cwd=room), 0, "6.083 rolls, 6/4 4/3\n")
+    expect(cargo("run", cwd=room), 0, "6.083 rolls, 4/2 4/3\n")
