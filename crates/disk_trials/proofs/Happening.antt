@@ -1,5 +1,5 @@
 -- What one more event does to a disk.
-use Rattle.std.proofs.Common.{◌≡◌, ◌≢◌, ℕ, ◌==◌, ◌⊎◌, inl, inr, ⊎_elim, List, [], ◌∷◌, Bool, true, false, ◌&&◌, ◌||◌, IsTrue, Option, Some, None, String, Global, refl, sym, ap, subst, ◌∙◌}
+use Rattle.std.proofs.Common.{◌≡◌, ◌≢◌, ℕ, ◌⊎◌, inl, inr, ⊎_elim, List, [], ◌∷◌, Bool, true, false, ◌&&◌, ◌||◌, IsTrue, Option, Some, None, String, Global, refl, sym, ap, subst, ◌∙◌}
 use Rattle.std.specs.Prelude.{if◌then◌else◌}
 use Rattle.std.specs.Bool.{Decides}
 use Rattle.std.specs.Global.{Vec}
@@ -8,7 +8,7 @@ use Rattle.std.proofs.lemmas.Bool.{cond-true, cond-false, or_left}
 use Rattle.std.proofs.lemmas.Bool.Decides.{Decides-eqb}
 use Rattle.std.proofs.lemmas.Slice.Eq.{bytes_eq-Decides}
 use Rattle.whole_file.specs.Disks.{Moment, Steps, Creates, Settles, Renames, Removes, SettlesNames}
-use Rattle.disk_trials.specs.Events.{has_name, is_same, at, left, sure, mentions, moment, earlier, IsNamed}
+use Rattle.disk_trials.specs.Events.{has_name, is_same, at, left, mentions, moment, earlier, IsNamed}
 use Rattle.disk_trials.specs.declared.events.Event.{Event}
 use Rattle.disk_trials.specs.declared.events.Event.TheVariants.{Named, Settled, SettledNames}
 

@@ -3,6 +3,8 @@
 //! are to.
 #![tactic(auto)]
 
+#[cfg(test)]
+mod crashing;
 mod disk;
 mod events;
 
