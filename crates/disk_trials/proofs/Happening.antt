@@ -49,7 +49,8 @@ rest_of [] = []
 rest_of (first ∷ rest) = rest
 
 -- a place is that of a name
-has_place : (place : ℕ × List ℕ) (name : List ℕ) → Decides (has_name place name) (place ≡ (0, name))
+has_place : (place : ℕ × List ℕ) (name : List ℕ)
+    → Decides (has_name place name) (place ≡ (0, name))
 has_place place name =
     (λ yes. let parts = and_parts _ _ yes in
     let folder = (Decides-eqb place.0 0).0 parts.0 in

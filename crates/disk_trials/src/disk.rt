@@ -54,7 +54,8 @@ impl MemoryDisk {
 
     /// Stops after so many calls from now on.
     pub fn stop_after(&mut self, calls: u64)
-        ensures stays { ⟦<MemoryDisk as Disk>⟧.told self.new ≡ ⟦<MemoryDisk as Disk>⟧.told self.old }
+        ensures stays { ⟦<MemoryDisk as Disk>⟧.told self.new
+            ≡ ⟦<MemoryDisk as Disk>⟧.told self.old }
     {
         self.calls_left = calls;
     }
