@@ -51,12 +51,13 @@ rest_of (first ∷ rest) = rest
 -- a place is that of a name
 has_place : (place : ℕ × List ℕ) (name : List ℕ)
     → Decides (has_name place name) (place ≡ (0, name))
-has_place place name =
-    (λ yes. let parts = and_parts _ _ yes in
-    let folder = (Decides-eqb place.0 0).0 parts.0 in
-    let text = (bytes_eq-Decides place.1 name).0 parts.1 in
-    (λ t. (folder t, text t)),
-    λ is. ap (λ p. has_name p name) is ∙ (bytes_eq-Decides name name).1 refl)
+has_place place name = (
+  λ yes. let parts = and_parts _ _ yes in
+      let folder = (Decides-eqb place.0 0).0 parts.0 in
+      let text = (bytes_eq-Decides place.1 name).0 parts.1 in
+      (λ t. (folder t, text t)),
+  λ is. ap (λ p. has_name p name) is ∙ (bytes_eq-Decides name name).1 refl,
+)
 
 same_is : (a b : Option ℕ) → Decides (is_same a b) (a ≡ b)
 unfolding number_in
@@ -229,11 +230,12 @@ unfolding first_or moments_in rest_of
 steps Step event old new is step now past told =
     let same = ap moments_in told in
     let first : moment old ≡ now = ap (first_or now) same in
-    let rest : earlier old ≡ past = ap rest_of same in
-    (moment (event ∷ old),
-    ap (λ es. Some (moment es ∷ earlier es)) is
-    ∙ (λ t. Some (moment (event ∷ old) ∷ (first t ∷ rest t))),
-    subst (λ m. Step m (moment (event ∷ old))) first step)
+    let rest : earlier old ≡ past = ap rest_of same in (
+      moment (event ∷ old),
+      ap (λ es. Some (moment es ∷ earlier es)) is
+          ∙ (λ t. Some (moment (event ∷ old) ∷ (first t ∷ rest t))),
+      subst (λ m. Step m (moment (event ∷ old))) first step,
+    )
 
 -- the moment after a file was made ..
 pub creates : (name : List ℕ) (file : ℕ) (old new : List Event)
