@@ -142,7 +142,10 @@ async function compareRolls(page, position) {
     equal("what the plays of 31 lose", costs, ask(`moves ${position} 31`).split(" ").slice(1).map((word) => word.split(":")[1]));
     equal("arcs on the board", await page.value('document.querySelectorAll("#board .arc").length'), 2);
     await page.click(".plays button:last-child");
-    equal("exactly", await page.value('document.querySelector(".loss").textContent.includes(" loses " + document.querySelector(".plays button:last-child .cost").title)'), true);
+    // a long fraction is told as a decimal
+    const [loss] = (await page.value('document.querySelector(".plays button:last-child .cost").title')).split(" ");
+    const toldLoss = (await page.value('document.querySelector(".loss").textContent')).match(/ loses (\S+) of a roll/)?.[1];
+    equal("exactly", loss.length <= 24 ? toldLoss : /^\d\.\d{3}$/.test(toldLoss) && loss, loss);
     await page.until('!document.querySelector(".loss").textContent.includes("\u2026")');
     const [above, below] = costs.at(-1).split("/").map(BigInt);
     const lost = (Number((2n * 49000n * above + 6n * below) / (12n * below)) / 1000).toFixed(3);
@@ -485,8 +488,9 @@ async function driveGuessed(browser) {
         }
         const told = (await page.value('document.getElementById("said").textContent + document.querySelector("#plays").textContent'));
         if (!isSmall) {
-            const exact = told.match(/Exactly: (\d+)\/(\d+)/).slice(1).map(BigInt);
-            equal(`${way}: what three lost`, exact[0] * sum[1] === sum[0] * exact[1], true);
+            const exact = told.match(/Exactly: (\d+)\/(\d+)/)?.slice(1).map(BigInt);
+            if (exact) equal(`${way}: what three lost`, exact[0] * sum[1] === sum[0] * exact[1], true);
+            else equal(`${way}: what three lost is long`, String(sum[1]).length > 12, true);
         }
         equal(`${way}: nothing went wrong`, page.troubles(), []);
     }
@@ -1060,7 +1064,7 @@ async function driveLessons(browser) {
     }
     const guess = await browser.open(`${address}#at=7,4,2,0,0,0&estimate=effective`);
     await guess.until('document.body.dataset.ready && document.querySelector(".estimate input")');
-    equal("no number before the estimate", await guess.value('document.querySelectorAll(".figure").length + document.querySelectorAll(".chances").length'), 0);
+    equal("no number before the estimate", await guess.value('document.querySelectorAll("#numbers .figure").length + document.querySelectorAll(".chances").length'), 0);
     await guess.click(".estimate input");
     for (const key of ["5", "1", "Enter"]) await guess.key(key);
     await guess.until('document.querySelector("#numbers .verdict")');
