@@ -10,4 +10,5 @@ mod system;
 pub use disk::{Disk, DiskFault, FileFacts, Link, Made};
 pub use draft::{Draft, begin};
 pub use fault::DraftFault;
+pub use paths::name_of;
 pub use system::{SystemDisk, SystemFile};
