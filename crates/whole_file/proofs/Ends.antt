@@ -1,5 +1,6 @@
 -- What a crash may leave while a draft takes its place.
-use Rattle.std.proofs.Common.{◌≡◌, ◌≢◌, ℕ, ◌⊎◌, inl, inr, ⊎_elim, List, [], ◌∷◌, ◌++◌, Bool, true, false, IsTrue, Option, Some, None, Ok, Err, sym, subst, refl, ap, ◌∙◌}
+use Rattle.std.proofs.Common.{◌≡◌, ◌≢◌, ℕ, ◌⊎◌, inl, inr, ⊎_elim, List, [], ◌∷◌, ◌++◌, Bool, true, false}
+use Rattle.std.proofs.Common.{IsTrue, Option, Some, None, Ok, Err, sym, subst, refl, ap, ◌∙◌}
 use Rattle.std.specs.String.{string_bytes}
 use Rattle.whole_file.specs.Disks.{Moment, Holds, MayLeave, Settles, Renames, SettlesNames, Steps, AllOf}
 use Rattle.whole_file.specs.Calls.{AnswersSettled, RemovesOrStays}

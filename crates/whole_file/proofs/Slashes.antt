@@ -1,5 +1,7 @@
 -- Where the last slash of a text is.
-use Rattle.std.proofs.Common.{◌≡◌, ℕ, zero, suc, ◌+◌, ◌-◌, ◌≤◌, ◌<◌, List, length, get_or, take, drop, Option, Some, None, MatchOption, refl, sym, ap, ◌∙◌, ⊎_elim, arith, Bor, eq-eqb, ne_eqb, length-drop, get_or-drop}
+use Rattle.std.proofs.Common.{◌≡◌, ℕ, zero, suc, ◌+◌, ◌-◌, ◌≤◌, ◌<◌, List, length, get_or, take, drop, Option}
+use Rattle.std.proofs.Common.{Some, None, MatchOption, refl, sym, ap, ◌∙◌, ⊎_elim, arith, Bor, eq-eqb, ne_eqb}
+use Rattle.std.proofs.Common.{length-drop, get_or-drop}
 use Rattle.std.specs.Str.Pattern.{RFindsChar}
 use Rattle.std.specs.Option.{option_map}
 use Rattle.std.specs.Path.{rfind_below, rsplit_once}
