@@ -7,9 +7,9 @@ use Rattle.race_model.specs.Positions.{Board}
 use Rattle.race_model.specs.Dice.{Throw}
 use Rattle.race_model.specs.Plays.{Legal}
 use Rattle.race_model.specs.Books.{Book}
-use Rattle.race_model.specs.LocalEquations.{HasShareOver, IsLocalOver, whole, IsLocal}
+use Rattle.race_model.specs.LocalEquations.{HasShareOver, IsLocalOver, whole, IsLocalDatabase}
 use Rattle.race_model.specs.Files.{IsFile, book_of}
-use Rattle.race_model.specs.RightFiles.{IsRight}
+use Rattle.race_model.specs.RightFiles.{IsRightDatabase}
 use Rattle.race_model.proofs.FirstFaults.Decisions.{legal_or_not}
 use Rattle.race_model.proofs.RightFiles.Right.{right_of_local, local_of_right}
 
@@ -47,15 +47,16 @@ equations_known over f x known = record {
   )
 
 -- .. and those of a file
-local_known : (f : List ℕ) → IsFile f → ∥ IsLocal f ∥₁ → IsLocal f
+local_known : (f : List ℕ) → IsFile f → ∥ IsLocalDatabase f ∥₁ → IsLocalDatabase f
 local_known f file known = record {
   file = file;
+  written = λ x at low. tt;
   at_each =
       λ x at low.
       equations_known whole (book_of f) x (∥∥₁_map known (λ local. local.at_each x at low));
 }
 
 -- .. and with them that it is right
-pub right_known : (f : List ℕ) → IsFile f → ∥ IsRight f ∥₁ → IsRight f
+pub right_known : (f : List ℕ) → IsFile f → ∥ IsRightDatabase f ∥₁ → IsRightDatabase f
 right_known f file known =
     right_of_local f (local_known f file (∥∥₁_map known (λ right. local_of_right f right)))

@@ -3,12 +3,10 @@ use Rattle.std.proofs.Common.{◌≡◌, ⊎_elim, ℕ, List}
 use Rattle.std.proofs.Math.Bridge.{le_prop}
 use Rattle.std.proofs.Math.Nat.{ℕ_set}
 use mathlib.Core.Logic.{∥∥₁_elim, ∥∥₁_map}
-use Rattle.race_model.specs.Headers.{long_enough, magic, version, bound, count, record_bytes}
-use Rattle.race_model.specs.Headers.{reserved, exact_length}
 use Rattle.race_model.specs.Books.{whole_in}
 use Rattle.race_model.specs.BoardFiles.{board_book}
-use Rattle.race_model.specs.BoardHeaders.{IsBoardFile}
-use Rattle.race_model.specs.RightBoards.{IsRightBoard}
+use Rattle.race_model.specs.BoardFiles.{IsBoardFile}
+use Rattle.race_model.specs.RightFiles.{IsRightBoard}
 use Rattle.race_model.specs.BoardEquations.{IsLocalBoard}
 use Rattle.race_model.proofs.Books.Boards.{right_board, local_board}
 use Rattle.race_model.proofs.FirstFaults.Decisions.{lists_same_or_not}
@@ -21,32 +19,26 @@ list_known xs ys known =
     (λ apart. absurd (∥∥₁_elim known (λ a b. absurd a) (λ same. apart same)))
     (lists_same_or_not xs ys)
 
--- the answers to questions about the header are known as such
+-- that the bytes are a board file is known as such
 file_known : (f : List ℕ) → ∥ IsBoardFile f ∥₁ → IsBoardFile f
-file_known f known long_enough =
-    let enough = ∥∥₁_elim known le_prop (λ file. (file long_enough).0) in (enough, enough)
-file_known f known magic = list_known _ _ (∥∥₁_map known (λ file. file magic))
-file_known f known version = ∥∥₁_elim known (ℕ_set _ _) (λ file. file version)
-file_known f known bound = ∥∥₁_elim known le_prop (λ file. file bound)
-file_known f known count = ∥∥₁_elim known (ℕ_set _ _) (λ file. file count)
-file_known f known record_bytes = ∥∥₁_elim known (ℕ_set _ _) (λ file. file record_bytes)
-file_known f known reserved = list_known _ _ (∥∥₁_map known (λ file. file reserved))
-file_known f known exact_length = ∥∥₁_elim known (ℕ_set _ _) (λ file. file exact_length)
+file_known f known = record {
+  bounded = ∥∥₁_elim known le_prop (λ file. file.bounded);
+  headed = list_known _ _ (∥∥₁_map known (λ file. file.headed));
+  whole = ∥∥₁_elim known (ℕ_set _ _) (λ file. file.whole);
+}
 
 -- so are its local equations
 local_known : (f : List ℕ) → ∥ IsLocalBoard f ∥₁ → IsLocalBoard f
 local_known f known = record {
   file = file_known f (∥∥₁_map known (λ local. local.file));
-  at_each = λ x at low. record {
-    written = record {
-      mean = ∥∥₁_elim known le_prop (λ local. (local.at_each x at low).written.mean);
-      counts = λ k few over most. ∥∥₁_elim known le_prop
-          (λ local. (local.at_each x at low).written.counts k few over most);
-    };
-    equations =
-        equations_known (whole_in (board_book f)) (board_book f) x
-        (∥∥₁_map known (λ local. (local.at_each x at low).equations));
+  written = λ x at low. record {
+    mean = ∥∥₁_elim known le_prop (λ local. (local.written x at low).mean);
+    counts = λ k few over most. ∥∥₁_elim known le_prop
+        (λ local. (local.written x at low).counts k few over most);
   };
+  at_each = λ x at low.
+      equations_known (whole_in (board_book f)) (board_book f) x
+      (∥∥₁_map known (λ local. local.at_each x at low));
 }
 
 -- .. and with them that it is right

@@ -1,7 +1,7 @@
 //! The opening of a board file, and its closing.
 ghost use Rattle.std.specs.Prelude.{◌≡◌, ◌<◌, ◌≤◌, ◌↔◌, IsTrue, false};
 ghost use Rattle.race_model.specs.Files.{bound_of};
-ghost use Rattle.race_model.specs.RightBoards.{IsRightBoard};
+ghost use Rattle.race_model.specs.RightFiles.{IsRightBoard};
 ghost use Rattle.board_check.specs.declared.fault.BoardFault.{BoardFault as Fault};
 ghost use Rattle.board_check.specs.Faults.{IsFirst, told_as};
 ghost use Rattle.certificate.specs.CheckFaults.{line_of};

@@ -4,7 +4,7 @@ ghost use Rattle.std.specs.Prelude.{if◌then◌else◌, nat_le};
 ghost use Rattle.race_model.specs.BuiltFile.{IsBuilt};
 ghost use Rattle.race_model.specs.Versions.{compact};
 ghost use Rattle.race_model.specs.Files.{version_of};
-ghost use Rattle.race_model.specs.RightFiles.{IsRight};
+ghost use Rattle.race_model.specs.RightFiles.{IsRightDatabase};
 ghost use Rattle.race_model.specs.Upgrades.{IsUpgrade};
 ghost use Rattle.retrograde.specs.UsualVersion.{usual_version};
 ghost use Rattle.certificate.specs.declared.check_fault.CheckFault.{CheckFault as Fault};
@@ -120,8 +120,9 @@ pub extern "C" fn bearoff_upgrade(
     ensures upgraded { result ≡ 0 → IsUpgrade bytes.now (take filled.new room.new) }
     ensures fits { result ≡ 0 → filled.new ≤ length room.old }
     ensures rest { result ≡ 0 → drop filled.new room.new ≡ drop filled.new room.old }
-    ensures right { (result < 10) ↔ IsRight bytes.now }
-    ensures not_old { (result ≡ 9) ↔ (IsRight bytes.now × (version_of bytes.now ≡ compact)) }
+    ensures right { (result < 10) ↔ IsRightDatabase bytes.now }
+    ensures not_old { (result ≡ 9)
+        ↔ (IsRightDatabase bytes.now × (version_of bytes.now ≡ compact)) }
     ensures fault { 9 < result → (fault : Fault) × IsFirst bytes.now fault
         × (result ≡ status_of_fault fault) }
     ensures read { result < 28 }

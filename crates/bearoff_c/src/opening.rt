@@ -3,7 +3,7 @@ ghost use Rattle.std.specs.Prelude.{◌≡◌, ◌<◌, ◌≤◌, ◌↔◌, Is
 ghost use Rattle.race_model.specs.Ranks.{count_to};
 ghost use Rattle.race_model.specs.Versions.{version_number};
 ghost use Rattle.race_model.specs.Files.{version_of, bound_of};
-ghost use Rattle.race_model.specs.RightFiles.{IsRight};
+ghost use Rattle.race_model.specs.RightFiles.{IsRightDatabase};
 ghost use Rattle.certificate.specs.declared.check_fault.CheckFault.{CheckFault as Fault};
 ghost use Rattle.certificate.specs.CheckFaults.{IsFirst, line_of};
 ghost use Rattle.bearoff_c.specs.FileFaults.{fault_status as status_of_fault};
@@ -31,7 +31,7 @@ pub extern "C" fn bearoff_open<'a>(
     line: &mut [u8],
     needed: &mut usize,
 ) -> u32
-    ensures right { (result ≡ 0) ↔ IsRight bytes.now }
+    ensures right { (result ≡ 0) ↔ IsRightDatabase bytes.now }
     ensures opened { IsTrue database.new.is_open ↔ (result ≡ 0) }
     ensures bytes { result ≡ 0 → database.new.bytes.now ≡ bytes.now }
     ensures bound { result ≡ 0 → database.new.bound ≡ bound_of bytes.now }

@@ -7,7 +7,7 @@ use Rattle.std.specs.Prelude.{OnErr, OnOk, true, is_err}
 use Rattle.race_model.specs.Ranks.{count_to}
 use Rattle.race_model.specs.Versions.{Version, full, compact, version_number}
 use Rattle.race_model.specs.Files.{version_of, bound_of}
-use Rattle.race_model.specs.RightFiles.{IsRight}
+use Rattle.race_model.specs.RightFiles.{IsRightDatabase}
 use Rattle.epc_query.specs.AnyFiles.{AnyFile, bound_by, IsRightBy}
 use Rattle.db_reader.specs.Telling.{WhereTold}
 use Rattle.certificate.specs.Upgrades.{WritesUpgrade}
@@ -75,7 +75,7 @@ is_full compact other = absurd (other refl)
 pub upgrade_read : {A E F W : Type 0} (remaining : F → Option (List ℕ))
     (contents : W → Option (List ℕ)) (file : List ℕ)
     (old new : Option (List ℕ)) (r : Result A E) (pips positions : ℕ) → IsReadFrom remaining file
-    → IsRight file → version_of file ≡ full → IsHandedTo contents (WritesUpgrade file)
+    → IsRightDatabase file → version_of file ≡ full → IsHandedTo contents (WritesUpgrade file)
     → pips ≡ bound_of file
     → positions ≡ count_to (bound_of file)
     → OnOk r (Appends old new (count_line Upgraded pips positions))

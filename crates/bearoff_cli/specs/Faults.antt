@@ -2,7 +2,7 @@
 use Rattle.std.specs.Prelude.{◌≡◌, ℕ, ◌<◌, ◌⊎◌, List, Option, Some, None}
 use Rattle.race_model.specs.Versions.{compact}
 use Rattle.race_model.specs.Files.{version_of}
-use Rattle.race_model.specs.RightFiles.{IsRight}
+use Rattle.race_model.specs.RightFiles.{IsRightDatabase}
 use Rattle.certificate.specs.CheckFaults.{IsFirst}
 use Rattle.certificate.specs.declared.check_fault.CheckFault.{CheckFault}
 use Rattle.epc_query.specs.AnyFiles.{AnyFile, database_file, board_file}
@@ -27,7 +27,7 @@ IsFirstBy (board_file f) cause =
 
 -- the file is a right database of version 2
 abbrev pub IsNotOld : AnyFile → Type 0
-IsNotOld (database_file f) = IsRight f × (version_of f ≡ compact)
+IsNotOld (database_file f) = IsRightDatabase f × (version_of f ≡ compact)
 IsNotOld (board_file f) = ⊥
 
 -- what a fault says of a file: a refused one has this first fault, and one that is no old one is

@@ -4,7 +4,7 @@ use Rattle.std.specs.Io.KnownBytes.{Appends}
 use Rattle.race_model.specs.Ranks.{count_to}
 use Rattle.race_model.specs.Versions.{full}
 use Rattle.race_model.specs.Files.{version_of, bound_of}
-use Rattle.race_model.specs.RightFiles.{IsRight}
+use Rattle.race_model.specs.RightFiles.{IsRightDatabase}
 use Rattle.db_reader.specs.Telling.{WhereTold}
 use Rattle.certificate.specs.Upgrades.{WritesUpgrade}
 use Rattle.epc_query.specs.AnyFiles.{AnyFile, bound_by, IsRightBy, IsLevelLineBy}
@@ -63,7 +63,7 @@ pub record SaysUpgraded {F W : Type 0} (remaining : F → Option (List ℕ))
     (contents : W → Option (List ℕ)) (old new : Option (List ℕ)) : Type 0 where
   pub file : List ℕ
   pub read : IsReadFrom remaining file
-  pub right : IsRight file
+  pub right : IsRightDatabase file
   pub version_is : version_of file ≡ full
   pub handed : IsHandedTo contents (WritesUpgrade file)
   pub written : Appends old new (count_line Upgraded (bound_of file) (count_to (bound_of file)))

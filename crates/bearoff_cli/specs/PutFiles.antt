@@ -2,7 +2,7 @@
 -- profile.
 use Rattle.std.specs.Prelude.{◌≡◌, ℕ, List, Option}
 use Rattle.race_model.specs.Files.{version_of}
-use Rattle.race_model.specs.RightFiles.{IsRight}
+use Rattle.race_model.specs.RightFiles.{IsRightDatabase}
 use Rattle.race_model.specs.Upgrades.{IsUpgrade}
 use Rattle.race_model.specs.Versions.{full}
 use Rattle.race_model.specs.BuiltFile.{IsBuilt}
@@ -19,7 +19,7 @@ use Rattle.whole_file.specs.Puts.{Puts}
 
 -- the upgrade of a right database of version 1 was put where a path leads
 abbrev pub PutsUpgrade : Paths → List ℕ → Option (List Moment) → Option (List Moment) → Type 0
-PutsUpgrade paths path old new = (file : List ℕ) × IsRight file × (version_of file ≡ full)
+PutsUpgrade paths path old new = (file : List ℕ) × IsRightDatabase file × (version_of file ≡ full)
     × Puts paths path (IsUpgrade file) old new
 
 -- what a request that was fulfilled has put where its path leads, where it writes a file

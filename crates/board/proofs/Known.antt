@@ -4,12 +4,12 @@ use Rattle.race_model.specs.Positions.{Board, IsPosition, pips}
 use Rattle.race_model.specs.Dice.{Throw}
 use Rattle.race_model.specs.Ranks.{rank, count_to}
 use Rattle.race_model.specs.Files.{bound_of}
-use Rattle.race_model.specs.Headers.{exact_length}
 use Rattle.race_model.specs.Strategies.{IsLeastIn}
 use Rattle.race_model.specs.Books.{mean_in, play_in, recorded_in, follow_in, IsPlayedIn, IsRightIn}
 use Rattle.race_model.specs.Endings.{endings}
 use Rattle.race_model.specs.BoardFiles.{board_place, board_book, count_at}
-use Rattle.race_model.specs.RightBoards.{IsRightBoard, IsWritten}
+use Rattle.race_model.specs.RightFiles.{IsRightBoard}
+use Rattle.race_model.specs.WrittenNumbers.{IsWritten}
 use Rattle.race_model.proofs.Books.Boards.{board_counts}
 use Rattle.race_model.proofs.Plays.Results.{legal_position, legal_pips}
 use Rattle.race_model.proofs.Ranks.RankOrder.{rank_bound}
@@ -17,7 +17,7 @@ use Rattle.board.proofs.Sizes.{least_in-most, endings-most}
 
 -- the file ends with its last record
 pub known_length : (f : List ℕ) → IsRightBoard f → length f ≡ board_place (count_to (bound_of f))
-known_length f right = right.file exact_length
+known_length f right = right.file.whole
 
 module _ (f : List ℕ) (right : IsRightBoard f) (x : Board) (position : IsPosition x)
     (within : pips x ≤ bound_of f) where

@@ -9,7 +9,7 @@ ghost use Rattle.race_model.specs.Strategies.{IsLeastIn};
 ghost use Rattle.race_model.specs.Books.{mean_in, follow_in};
 ghost use Rattle.race_model.specs.Endings.{endings};
 ghost use Rattle.race_model.specs.BoardFiles.{board_book, board_record, count_parts, told_count, count_at};
-ghost use Rattle.race_model.specs.RightBoards.{IsRightBoard};
+ghost use Rattle.race_model.specs.RightFiles.{IsRightBoard};
 ghost use Rattle.ranking.specs.Tables.{IsRankTable};
 ghost use Rattle.fixed_fraction.specs.Board.{board_whole, part};
 ghost use Rattle.board.specs.Accepted.{IsAccepted};

@@ -6,7 +6,7 @@ use Rattle.race_model.specs.Books.{IsPlayedIn}
 use Rattle.race_model.specs.LocalEquations.{IsBestIn, HasMeanIn}
 use Rattle.race_model.specs.Endings.{HasCountIn}
 use Rattle.race_model.specs.BoardFiles.{board_book, count_at, mean_parts, count_parts, value_of_parts}
-use Rattle.race_model.specs.RightBoards.{IsMeanWritten, IsCountWritten}
+use Rattle.race_model.specs.WrittenNumbers.{IsMeanWritten, IsCountWritten}
 use Rattle.board_records.specs.Lower.{board_mean}
 
 -- what is recorded for a roll is a result, and the least

@@ -13,7 +13,7 @@ use Rattle.race_model.specs.BestPlays.{IsBestPlay}
 use Rattle.race_model.specs.BoardFiles.{value_of_parts, board_length, board_place, board_record}
 use Rattle.race_model.specs.BoardFiles.{mean_parts, board_play_of, count_parts, told_count, count_at}
 use Rattle.race_model.specs.BoardFiles.{board_book}
-use Rattle.race_model.specs.RightBoards.{IsWritten}
+use Rattle.race_model.specs.WrittenNumbers.{IsWritten}
 use Rattle.race_model.specs.BoardEquations.{IsLocalOnBoard}
 use Rattle.race_model.proofs.Books.Boards.{counts_of_local, local_of_counts}
 use Rattle.race_model.proofs.Numbers.Sums.{sum_by-equal}

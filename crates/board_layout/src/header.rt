@@ -3,8 +3,8 @@ ghost use Rattle.std.specs.Prelude.{◌≡◌, ℕ, ◌+◌, ◌<◌, ◌≤◌,
 ghost use Rattle.race_model.specs.Positions.{pips};
 ghost use Rattle.race_model.specs.Ranks.{at_rank, count_to};
 ghost use Rattle.race_model.specs.Files.{bound_of};
-ghost use Rattle.race_model.specs.BoardFiles.{board_length, board_place};
-ghost use Rattle.race_model.specs.BoardHeaders.{IsBoardFile, IsFirstBoardHeaderFault};
+ghost use Rattle.race_model.specs.BoardFiles.{board_length, board_place, IsBoardFile};
+ghost use Rattle.race_model.specs.Headers.{IsBoardHeader, IsFirstBoardHeaderFault};
 ghost use Rattle.db_layout.specs.HeaderFaults.{test_of};
 
 use crate::places::{board_length, board_offset};
@@ -91,9 +91,21 @@ impl BoardHeader {
 /// The header of a board file of these bytes, or the first fault in the order of `HeaderFault`:
 /// the version is that of a board file, its bound at most 90, and the field for the bytes of a
 /// record 0.
-#[tactic(auto, unfolding(race_model::specs::Files::bound_of))]
 pub fn parse_board_header(file: &[u8]) -> Result<BoardHeader, HeaderFault>
     ensures header { IfOk result (λ header. IsBoardFile file.now
+        × (header.bound ≡ bound_of file.now)) }
+    ensures fault { IfErr result (λ fault. IsFirstBoardHeaderFault file.now (test_of fault)) }
+{
+    match ask_header(file) {
+        Ok(header) => Ok(header),
+        Err(fault) => Err(fault),
+    }
+}
+
+/// Asks each question about the header, in their order.
+#[tactic(auto, unfolding(race_model::specs::Files::bound_of))]
+fn ask_header(file: &[u8]) -> Result<BoardHeader, HeaderFault>
+    ensures header { IfOk result (λ header. IsBoardHeader file.now
         × (header.bound ≡ bound_of file.now)) }
     ensures fault { IfErr result (λ fault. IsFirstBoardHeaderFault file.now (test_of fault)) }
 {

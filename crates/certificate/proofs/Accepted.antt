@@ -7,7 +7,7 @@ use Rattle.race_model.specs.Dice.{Throw, roll_index}
 use Rattle.race_model.specs.Ranks.{rank, count_to}
 use Rattle.race_model.specs.Files.{bound_of, record_at, mean_of, play_of, share_of, mean, mean_at}
 use Rattle.race_model.specs.Files.{play, play_at, spread, spread_at}
-use Rattle.race_model.specs.LocalEquations.{whole, recorded, IsPlayed, IsLocal, IsLocalAt}
+use Rattle.race_model.specs.LocalEquations.{whole, recorded, IsPlayed, IsLocalDatabase, IsLocalAt}
 use Rattle.race_model.specs.RightFiles.{IsRightAt}
 use Rattle.race_model.proofs.RightFiles.RightFacts.{shares_add_up}
 use Rattle.race_model.proofs.Strategies.Horizons.{ends_in_22}
@@ -36,7 +36,7 @@ module _ (f bytes : List ℕ) (x : Board) (r : ℕ) (lent : bytes ≡ record_at 
   pub total-of_lent : sum (shares_of bytes) ≡ sum (shares_of (record_at f (rank x)))
   total-of_lent = ap (λ b. sum (shares_of b)) (lent ∙ ap (record_at f) ranked)
 
-module _ (f : List ℕ) (local : IsLocal f) (x : Board) (at : IsPosition x)
+module _ (f : List ℕ) (local : IsLocalDatabase f) (x : Board) (at : IsPosition x)
     (low : pips x ≤ bound_of f) where
   -- what is recorded of it is right
   pub accepted-right : IsRightAt f x

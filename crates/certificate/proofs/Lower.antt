@@ -9,7 +9,7 @@ use Rattle.race_model.specs.Dice.{Die, number, Throw, all_rolls, weight}
 use Rattle.race_model.specs.Plays.{Step, Run, Legal, in_order, in_reverse, double}
 use Rattle.race_model.proofs.Plays.Steps.{Change, moved, borne_off, changed}
 use Rattle.race_model.specs.Ranks.{rank}
-use Rattle.race_model.specs.Files.{record_at, share_of, play, spread, spread_at}
+use Rattle.race_model.specs.Files.{record_at, share_of, play, spread, spread_at, book_of}
 use Rattle.race_model.specs.LocalEquations.{recorded, whole, IsPlayed, IsLocalAt}
 use Rattle.race_model.specs.Strategies.{EndsIn}
 use Rattle.race_model.proofs.Dice.Throws.{played_by_rolls}
@@ -44,7 +44,7 @@ Meets f x = (z : Board) → IsPosition z → rank z ≤ rank x → IsLocalAt f z
 module _ (f : List ℕ) (x : Board) (at : IsPosition x) (meets : Meets f x)
     (unfinished : ¬ IsFinished x) where
   played : (v : Throw) → IsPlayed f x v
-  played = played_by_rolls f x (meets x at (omega arith)).means.played
+  played = played_by_rolls (book_of f) x (meets x at (omega arith)).means.played
 
   after_is : (v : Throw) → IsPosition (recorded f x v)
   after_is v = legal_position x v (recorded f x v) at (played v).legal

@@ -10,7 +10,7 @@ use Rattle.race_model.specs.Ranks.{rank, at_rank, count_to}
 use Rattle.race_model.specs.Horizon.{most_rolls}
 use Rattle.race_model.specs.Versions.{Version, full, compact}
 use Rattle.race_model.specs.Files.{record_at, mean_of, play_of, mean_at, play_at, spread_at, bound_of}
-use Rattle.race_model.specs.LocalEquations.{whole, IsLocal}
+use Rattle.race_model.specs.LocalEquations.{whole, IsLocalDatabase}
 use Rattle.race_model.specs.ToldShares.{told_share}
 use Rattle.race_model.specs.SameNumbers.{HasSameNumbers}
 use Rattle.race_model.specs.Upgrades.{IsUpgrade}
@@ -51,7 +51,7 @@ told_share-same compact p s t (suc k) e = ap (λ n. cond (leb (suc k) (most_roll
 abbrev pub upgraded_to : List ℕ → ℕ → List ℕ
 upgraded_to f n = file_of compact (bound_of f) (compact_record f) n
 
-module _ (f : List ℕ) (local : IsLocal f) where
+module _ (f : List ℕ) (local : IsLocalDatabase f) where
   -- a rank of the file
   module _ (r : ℕ) (under : r < count_to (bound_of f)) where
     abbrev x : Board

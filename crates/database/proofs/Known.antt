@@ -5,9 +5,9 @@ use Rattle.race_model.specs.Dice.{Throw}
 use Rattle.race_model.specs.Plays.{Legal}
 use Rattle.race_model.specs.Versions.{Version, full, compact, version_by, version_number}
 use Rattle.race_model.specs.Files.{bound_of, mean, mean_at, play}
-use Rattle.race_model.specs.LocalEquations.{whole, recorded, IsPlayed, IsLocal}
+use Rattle.race_model.specs.LocalEquations.{whole, recorded, IsPlayed, IsLocalDatabase}
 use Rattle.race_model.specs.Losses.{loss, IsLoss}
-use Rattle.race_model.specs.RightFiles.{IsRight, IsRightAt}
+use Rattle.race_model.specs.RightFiles.{IsRightDatabase, IsRightAt}
 use Rattle.race_model.specs.Strategies.{IsLeast}
 use Rattle.race_model.proofs.RightFiles.Right.{local_of_right}
 use Rattle.race_model.proofs.RightFiles.RightFacts.{recorded_least, loss_is_loss}
@@ -24,10 +24,10 @@ pub version_by-number : (version : Version) → version_by (version_number versi
 version_by-number full = refl
 version_by-number compact = refl
 
-module _ (f : List ℕ) (right : IsRight f) (x : Board) (position : IsPosition x)
+module _ (f : List ℕ) (right : IsRightDatabase f) (x : Board) (position : IsPosition x)
     (within : pips x ≤ bound_of f) where
   -- the file meets the local equations
-  pub known_local : IsLocal f
+  pub known_local : IsLocalDatabase f
   known_local = local_of_right f right
 
   -- what is recorded of the position is right

@@ -4,11 +4,11 @@ use Rattle.race_model.specs.Positions.{pips}
 use Rattle.race_model.specs.Ranks.{at_rank, count_to}
 use Rattle.race_model.specs.Versions.{Version, record_length}
 use Rattle.race_model.specs.Files.{version_of, bound_of, bytes_at, record_place, told_record, record_at}
-use Rattle.race_model.specs.RightFiles.{IsRight}
+use Rattle.race_model.specs.RightFiles.{IsRightDatabase}
 use Rattle.race_model.proofs.RightFiles.Places.{record_place-rises}
 
 -- of the position of a rank under the count of the bound
-module _ (f bytes : List ℕ) (right : IsRight f) (bytes_are : bytes ≡ f) (version : Version)
+module _ (f bytes : List ℕ) (right : IsRightDatabase f) (bytes_are : bytes ≡ f) (version : Version)
     (version_is : version ≡ version_of f) (p r offset : ℕ) (pips_are : p ≡ pips (at_rank r))
     (offset_is : offset ≡ record_place version r) where
   -- what stands at the place of the rank is its record

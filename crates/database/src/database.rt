@@ -4,7 +4,7 @@ ghost use Rattle.race_model.specs.Positions.{IsPosition, pips as pips_of};
 ghost use Rattle.race_model.specs.Ranks.{rank as rank_of, count_to};
 ghost use Rattle.race_model.specs.Versions.{version_by, version_number};
 ghost use Rattle.race_model.specs.Files.{version_of, bound_of, record_at, mean as mean_of, spread as spread_of};
-ghost use Rattle.race_model.specs.RightFiles.{IsRight, follow};
+ghost use Rattle.race_model.specs.RightFiles.{IsRightDatabase, follow};
 ghost use Rattle.race_model.specs.Strategies.{IsLeast, count_of};
 ghost use Rattle.ranking.specs.Tables.{IsRankTable};
 ghost use Rattle.certificate.specs.CheckFaults.{IsFirst};
@@ -63,7 +63,7 @@ pub struct Accepted {
 // so that the room of the check is not part of its caller's
 #[inline(never)]
 pub fn accept(bytes: &[u8]) -> Result<Accepted, CheckFault>
-    ensures right { IsOk result ↔ IsRight bytes.now }
+    ensures right { IsOk result ↔ IsRightDatabase bytes.now }
     ensures version { IfOk result (λ accepted.
         accepted.version ≡ version_number (version_of bytes.now)) }
     ensures bound { IfOk result (λ accepted. accepted.bound ≡ bound_of bytes.now) }
@@ -83,7 +83,7 @@ impl<'a> Database<'a> {
     /// Checks bytes and opens a database over them, by a table of ranks. Refused as `accept` is.
     pub fn open(bytes: &'a [u8], ranks: &'a RankTable) -> Result<Database<'a>, CheckFault>
         requires { IsRankTable ranks.now }
-        ensures right { IsOk result ↔ IsRight bytes.now }
+        ensures right { IsOk result ↔ IsRightDatabase bytes.now }
         ensures bytes { IfOk result (λ database. database ≡ bytes.now) }
         ensures fault { IfErr result (IsFirst bytes.now) }
         ensures read { ¬ (result ≡ Err CheckFault.Read) }
@@ -108,7 +108,7 @@ impl<'a> Database<'a> {
     /// The pip bound, 0 to 58.
     pub fn bound(&self) -> u8
         ensures bound { result ≡ bound_of self.now }
-        ensures right { IsRight self.now }
+        ensures right { IsRightDatabase self.now }
         ensures range { result ≤ 58 }
     {
         self.bound

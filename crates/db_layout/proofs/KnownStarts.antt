@@ -7,7 +7,8 @@ use Rattle.race_model.specs.Ranks.{first_of}
 use Rattle.race_model.specs.Versions.{compact, record_length}
 use Rattle.race_model.specs.Files.{record_place}
 use Rattle.race_model.proofs.Ranks.RankOrder.{first_of-zero}
-use Rattle.race_model.proofs.RightFiles.Places.{place_by, place_by-first, record_place-by}
+use Rattle.race_model.specs.Files.{place_by}
+use Rattle.race_model.proofs.RightFiles.Places.{place_by-first, record_place-by}
 use Rattle.ranking.specs.declared.firsts.TheConstants.{FIRSTS}
 use Rattle.ranking.proofs.KnownCounts.{at_first}
 use Rattle.db_layout.specs.declared.places.TheConstants.{STARTS}

@@ -5,7 +5,8 @@ use Rattle.race_model.specs.Positions.{pips}
 use Rattle.race_model.specs.Ranks.{rank, at_rank, first_of, count_to}
 use Rattle.race_model.proofs.Ranks.RankOrder.{at_rank_position, first_of-suc, first_of-rises}
 use Rattle.race_model.proofs.Ranks.PositionTotals.{rank-at_rank, count_to-most}
-use Rattle.race_model.proofs.RightFiles.Places.{place_by, place_by-level}
+use Rattle.race_model.specs.Files.{place_by}
+use Rattle.race_model.proofs.RightFiles.Places.{place_by-level}
 use Rattle.ranking.proofs.Counting.{pips-are}
 
 -- one position more than those of fewer pips begins the next pip count

@@ -4,21 +4,21 @@ use Rattle.race_model.specs.Positions.{Board, IsPosition, pips}
 use Rattle.race_model.specs.Dice.{Throw}
 use Rattle.race_model.specs.Files.{bound_of, mean, mean_at, play}
 use Rattle.race_model.specs.LocalEquations.{recorded}
-use Rattle.race_model.specs.RightFiles.{IsRight}
+use Rattle.race_model.specs.RightFiles.{IsRightDatabase}
 use Rattle.race_model.specs.Losses.{loss}
 use Rattle.certificate.specs.declared.query_fault.QueryFault.{QueryFault}
 use Rattle.certificate.specs.declared.query_fault.QueryFault.TheVariants.{OverBound, Finished, NotLegal, Memory, Read}
 use Rattle.certificate.specs.QueryFaults.{RefusesNumbers}
 
 -- the mean after the recorded play is that of the position that it leads to
-pub mean_after : (f : List ℕ) (x : Board) (v : Throw) → IsRight f → IsPosition x
+pub mean_after : (f : List ℕ) (x : Board) (v : Throw) → IsRightDatabase f → IsPosition x
     → pips x ≤ bound_of f
     → mean f (recorded f x v) ≡ mean_at f (play f x v)
 mean_after f x v right is within = ap (mean_at f) ((right.book x is within).played v).ranked
 
 -- the loss, as a difference of recorded means
 pub loss_is : (f : List ℕ) (x : Board) (v : Throw) (y best : Board) (after least lost : ℕ)
-    → IsRight f → IsPosition x
+    → IsRightDatabase f → IsPosition x
     → pips x ≤ bound_of f → best ≡ recorded f x v → least ≡ mean f best → after ≡ mean f y
     → lost + least ≡ after
     → lost ≡ loss f x v y

@@ -1,11 +1,11 @@
 -- A file that lines are answered from, of either kind. Source: this project's profile.
 use Rattle.std.specs.Prelude.{ℕ, List}
 use Rattle.race_model.specs.Files.{bound_of}
-use Rattle.race_model.specs.RightFiles.{IsRight}
+use Rattle.race_model.specs.RightFiles.{IsRightDatabase}
 use Rattle.race_model.specs.Replies.{IsReply}
 use Rattle.race_model.specs.Levels.{IsLevelLine}
 use Rattle.race_model.specs.BoardFiles.{board_book}
-use Rattle.race_model.specs.RightBoards.{IsRightBoard}
+use Rattle.race_model.specs.RightFiles.{IsRightBoard}
 use Rattle.race_model.specs.Replies.{IsReplyIn}
 use Rattle.race_model.specs.Levels.{IsLevelLineIn}
 
@@ -16,7 +16,7 @@ pub data AnyFile : Type 0 where
 
 -- it is right
 abbrev pub IsRightBy : AnyFile → Type 0
-IsRightBy (database_file f) = IsRight f
+IsRightBy (database_file f) = IsRightDatabase f
 IsRightBy (board_file f) = IsRightBoard f
 
 -- its pip bound

@@ -7,3 +7,4 @@ pub mod Endings
 pub mod Boards
 pub mod Bounded
 pub mod Kinds
+pub mod Widths

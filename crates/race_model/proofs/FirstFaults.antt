@@ -2,3 +2,4 @@
 pub mod Questions
 pub mod HeaderFacts
 pub mod Decisions
+pub mod InRecord

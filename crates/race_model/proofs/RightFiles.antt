@@ -9,3 +9,4 @@ pub mod ToldRecords
 pub mod SameBytes
 pub mod ToldShares
 pub mod SameNumbers
+pub mod Kinds

@@ -1,16 +1,15 @@
 -- The checker's view of a board file: the equations are those of its book, and each number is
 -- written in the one way that is allowed. Source: this project's profile.
-use Rattle.std.specs.Prelude.{ℕ, ◌≤◌, List}
-use Rattle.race_model.specs.Positions.{Board, IsPosition, pips}
+use Rattle.std.specs.Prelude.{ℕ, List}
+use Rattle.race_model.specs.Positions.{Board}
 use Rattle.race_model.specs.Dice.{roll_at}
 use Rattle.race_model.specs.Ranks.{at_rank}
-use Rattle.race_model.specs.Files.{bound_of}
-use Rattle.race_model.specs.Books.{IsPlayedIn}
-use Rattle.race_model.specs.LocalEquations.{IsBestIn, HasMeanIn, HasShareIn, IsLocalIn}
+use Rattle.race_model.specs.Books.{IsPlayedIn, whole_in}
+use Rattle.race_model.specs.LocalEquations.{IsBestIn, HasMeanIn, HasShareIn, IsLocalIn, IsLocalBy}
 use Rattle.race_model.specs.FirstFault.{Test, play_test, least_test, mean_test, spread_test, AsksIn, IsFirstFailing}
 use Rattle.race_model.specs.BoardFiles.{board_book}
-use Rattle.race_model.specs.BoardHeaders.{IsBoardFile}
-use Rattle.race_model.specs.RightBoards.{IsMeanWritten, IsCountWritten, IsWritten}
+use Rattle.race_model.specs.WrittenNumbers.{IsMeanWritten, IsCountWritten, IsWritten}
+use Rattle.race_model.specs.RightFiles.{board}
 
 -- a question about the record of a rank is answered yes
 abbrev pub HoldsOnBoard : List ℕ → Test → Type 0
@@ -35,6 +34,5 @@ pub record IsLocalOnBoard (f : List ℕ) (x : Board) : Type 0 where
   pub equations : IsLocalIn (board_book f) x
 
 -- a locally right board file
-pub record IsLocalBoard (f : List ℕ) : Type 0 where
-  pub file : IsBoardFile f
-  pub at_each : (x : Board) → IsPosition x → pips x ≤ bound_of f → IsLocalOnBoard f x
+abbrev pub IsLocalBoard : List ℕ → Type 0
+IsLocalBoard f = IsLocalBy (whole_in (board_book f)) board f

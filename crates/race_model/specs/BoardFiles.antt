@@ -1,22 +1,14 @@
 -- The board file: every position of the home board, to 90 pips, whose games take at most 33 rolls.
--- It is a header, of which `BoardHeaders` says what is asked, and then a record for each rank. A
--- mean is a numerator over 36 ^ 33, and a share is stored as a count of sequences. Source: this
+-- A mean is a numerator over 36 ^ 33, and a share is stored as a count of sequences. Source: this
 -- project's profile.
 use Rattle.std.specs.Prelude.{ℕ, zero, suc, ◌+◌, ◌-◌, ◌*◌, ◌^◌, ◌==◌, nat_le, if◌then◌else◌}
-use Rattle.std.specs.Prelude.{List, ◌++◌, replicate, sum_by, codes}
-use Rattle.std.specs.Int.{w16, w32, w64, w128, from_be_bytes, to_be_bytes}
+use Rattle.std.specs.Prelude.{List}
+use Rattle.std.specs.Int.{w16, w64, w128, from_be_bytes}
 use Rattle.race_model.specs.Positions.{pips}
-use Rattle.race_model.specs.Ranks.{at_rank, count_to, numbers_from}
-use Rattle.race_model.specs.Horizon.{most_rolls}
-use Rattle.race_model.specs.Files.{bytes_at, bound_of}
+use Rattle.race_model.specs.Ranks.{at_rank}
+use Rattle.race_model.specs.Horizon.{most_rolls, told_by}
+use Rattle.race_model.specs.Files.{Layout, IsFileBy, header_by, place_by, bytes_at, bound_of}
 use Rattle.race_model.specs.Books.{Book}
-
--- the header of the board file of a bound: magic, version, bound,
--- count of records, nothing for the bytes of a record, reserved
-abbrev pub board_header : ℕ → List ℕ
-board_header bound =
-    codes "EPCTABLE" ++ to_be_bytes w16 3 ++ to_be_bytes w16 bound
-    ++ to_be_bytes w32 (count_to bound) ++ to_be_bytes w32 0 ++ replicate 12 0
 
 -- a number in two parts, of which the lower one is less than 36 ^ 11
 pub record Parts : Type 0 where
@@ -27,9 +19,12 @@ pub record Parts : Type 0 where
 abbrev pub value_of_parts : Parts → ℕ
 value_of_parts parts = parts.upper * 36 ^ 11 + parts.lower
 
--- where in a record the count of sequences of k throws begins, for k from 1 on: after the mean,
--- the plays, and the counts of fewer throws, each of which has 8 bytes, from 12 throws on 16, and
--- from 23 on 24
+-- the bytes of the count of sequences of k throws: 8, from 12 throws on 16, and from 23 on 24
+abbrev pub count_width : ℕ → ℕ
+count_width k = if nat_le k 11 then 8 else if nat_le k 22 then 16 else 24
+
+-- where in a record it begins, for k from 1 on: after the mean, the plays, and the counts of fewer
+-- throws, so that it is 66 and the sum of their widths (`law_widths`)
 abbrev pub count_place : ℕ → ℕ
 count_place k = 66 + 8 * (k - 1) + 8 * (k - 12) + 8 * (k - 23)
 
@@ -37,9 +32,21 @@ count_place k = 66 + 8 * (k - 1) + 8 * (k - 12) + 8 * (k - 23)
 abbrev pub board_length : ℕ → ℕ
 board_length p = count_place (most_rolls p + 1)
 
--- where the record of a rank begins: after the header and the records of all lower ranks
+-- where the record of a rank begins
 unfoldable pub board_place : ℕ → ℕ
-board_place r = 32 + sum_by (λ k. board_length (pips (at_rank k))) (numbers_from 0 r)
+board_place = place_by board_length
+
+-- version 3, to 90 pips, and nothing for the bytes of a record
+abbrev pub board_layout : Layout
+board_layout = record { number = 3; greatest = 90; stated = 0; place = board_place }
+
+-- its header
+abbrev pub board_header : ℕ → List ℕ
+board_header = header_by board_layout
+
+-- a board file
+abbrev pub IsBoardFile : List ℕ → Type 0
+IsBoardFile = IsFileBy board_layout
 
 -- the bytes of the record of a rank
 abbrev pub board_record : List ℕ → ℕ → List ℕ
@@ -72,12 +79,9 @@ count_parts record_bytes k =
     word : ℕ → ℕ
     word place = from_be_bytes w64 (bytes_at record_bytes place 8)
 
--- the count of k throws that the record of a position of p pips tells: the finished position
--- takes none, and no position takes more than the most rolls of its pip count
+-- the count of k throws that the record of a position of p pips tells
 abbrev pub told_count : ℕ → List ℕ → ℕ → ℕ
-told_count p record_bytes zero = if p == 0 then 1 else 0
-told_count p record_bytes (suc k) =
-    if nat_le (suc k) (most_rolls p) then value_of_parts (count_parts record_bytes (suc k)) else 0
+told_count p record_bytes = told_by 1 p (λ k. value_of_parts (count_parts record_bytes k))
 
 -- the count of k throws that is told for a rank
 unfoldable pub count_at : List ℕ → ℕ → ℕ → ℕ

@@ -8,7 +8,7 @@ use Rattle.race_model.specs.Plays.{Legal}
 use Rattle.race_model.specs.Ranks.{rank}
 use Rattle.race_model.specs.Versions.{Version}
 use Rattle.race_model.specs.Files.{IsBytes, version_of, bound_of, mean, mean_at, play}
-use Rattle.race_model.specs.LocalEquations.{IsLocal}
+use Rattle.race_model.specs.LocalEquations.{IsLocalDatabase}
 
 -- no result of the throw with the recorded mean has a lower rank than the recorded one
 abbrev pub IsLowest : List ℕ → Board → Throw → Type 0
@@ -21,6 +21,6 @@ pub record IsBuilt (version : Version) (bound : ℕ) (f : List ℕ) : Type 0 whe
   pub bytes : IsBytes f
   pub version_is : version_of f ≡ version
   pub bound_is : bound_of f ≡ bound
-  pub local : IsLocal f
+  pub local : IsLocalDatabase f
   pub lowest : (x : Board) → IsPosition x → pips x ≤ bound → (v : Throw) → IsRoll v →
       IsLowest f x v

@@ -1,4 +1,5 @@
--- The database file: a header, then a record for each rank. Source: this project's profile.
+-- The file: a header, then a record for each rank; and what the records of a database hold. Source:
+-- this project's profile.
 use Rattle.std.specs.Prelude.{◌≡◌, ℕ, ◌+◌, ◌-◌, ◌*◌, ◌^◌, ◌<◌, ◌≤◌, ◌==◌, if◌then◌else◌, List, ◌++◌}
 use Rattle.std.specs.Prelude.{length, take, drop, replicate, slice_index, sum_by, codes}
 use Rattle.std.specs.Int.{w16, w32, w128, from_be_bytes, to_be_bytes}
@@ -10,13 +11,24 @@ use Rattle.race_model.specs.Books.{Book}
 use Rattle.race_model.specs.Versions.{Version, full, compact, version_number, version_by}
 use Rattle.race_model.specs.Versions.{greatest_bound, stated_length, record_length}
 
--- the header of the file of a version and a bound: magic, version,
--- bound, count of records, bytes of a record, reserved
-abbrev pub header : Version → ℕ → List ℕ
-header version bound =
-    codes "EPCTABLE" ++ to_be_bytes w16 (version_number version) ++ to_be_bytes w16 bound
-    ++ to_be_bytes w32 (count_to bound) ++ to_be_bytes w32 (stated_length version)
-    ++ replicate 12 0
+-- what a version of the file states in its header: its number, its greatest pip bound, and the
+-- bytes of a record, or 0 where they go by the pip count; and where the record of a rank begins
+pub record Layout : Type 0 where
+  pub number : ℕ
+  pub greatest : ℕ
+  pub stated : ℕ
+  pub place : ℕ → ℕ
+
+-- the header of a bound: magic, version, bound, count of records, bytes of a record, reserved
+abbrev pub header_by : Layout → ℕ → List ℕ
+header_by layout bound =
+    codes "EPCTABLE" ++ to_be_bytes w16 layout.number ++ to_be_bytes w16 bound
+    ++ to_be_bytes w32 (count_to bound) ++ to_be_bytes w32 layout.stated ++ replicate 12 0
+
+-- where the record of a rank begins, where that of a position of p pips has so many bytes: after
+-- the header and the records of all lower ranks
+unfoldable pub place_by : (ℕ → ℕ) → ℕ → ℕ
+place_by size r = 32 + sum_by (λ k. size (pips (at_rank k))) (numbers_from 0 r)
 
 -- a list of bytes: each of its numbers is under 256, as is what one reads beyond its end
 abbrev pub IsBytes : List ℕ → Type 0
@@ -34,17 +46,33 @@ version_of f = version_by (from_be_bytes w16 (bytes_at f 8 2))
 unfoldable pub bound_of : List ℕ → ℕ
 bound_of f = from_be_bytes w16 (bytes_at f 10 2)
 
--- where the record of a rank begins: after the header and the records of all lower ranks
-unfoldable pub record_place : Version → ℕ → ℕ
-record_place version r =
-    32 + sum_by (λ k. record_length version (pips (at_rank k))) (numbers_from 0 r)
+-- a file of a layout: its header, a record for each position of at most its bound, which the layout
+-- allows, and nothing after them
+pub record IsFileBy (layout : Layout) (f : List ℕ) : Type 0 where
+  pub bounded : bound_of f ≤ layout.greatest
+  pub headed : take 32 f ≡ header_by layout (bound_of f)
+  pub whole : length f ≡ layout.place (count_to (bound_of f))
 
--- a file: its header, a record for each position of at most its
--- bound, which its version allows, and nothing after them
-pub record IsFile (f : List ℕ) : Type 0 where
-  pub bounded : bound_of f ≤ greatest_bound (version_of f)
-  pub headed : take 32 f ≡ header (version_of f) (bound_of f)
-  pub whole : length f ≡ record_place (version_of f) (count_to (bound_of f))
+-- where the record of a rank of a database begins
+unfoldable pub record_place : Version → ℕ → ℕ
+record_place version = place_by (record_length version)
+
+-- the layout of a database
+abbrev pub layout_of : Version → Layout
+layout_of version = record {
+  number = version_number version;
+  greatest = greatest_bound version;
+  stated = stated_length version;
+  place = record_place version;
+}
+
+-- its header
+abbrev pub header : Version → ℕ → List ℕ
+header version = header_by (layout_of version)
+
+-- a database file, of the version that its header states
+abbrev pub IsFile : List ℕ → Type 0
+IsFile f = IsFileBy (layout_of (version_of f)) f
 
 -- the share of 0 rolls, as a full record stores it: the whole
 -- for the finished position, none for any other

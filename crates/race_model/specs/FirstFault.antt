@@ -53,6 +53,13 @@ pub record IsFirstFailing (asked holds : Test → Type 0) (t : Test) : Type 0 wh
   pub fails : ¬ holds t
   pub earlier : (u : Test) → asked u → IsEarlier u t → holds u
 
+-- .. and of those about the record of a rank
+pub record IsFirstInRecord (asked holds : Test → Type 0) (rank : ℕ) (t : Test) : Type 0 where
+  pub of_rank : rank_of t ≡ rank
+  pub is_asked : asked t
+  pub fails : ¬ holds t
+  pub earlier : (u : Test) → rank_of u ≡ rank → place_of u < place_of t → asked u → holds u
+
 -- the answer to a question about a file is yes
 abbrev pub Holds : List ℕ → Test → Type 0
 Holds f = HoldsOver whole (book_of f)

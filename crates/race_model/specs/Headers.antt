@@ -2,8 +2,8 @@
 use Rattle.std.specs.Prelude.{◌≡◌, ℕ, ◌<◌, ◌≤◌, List, length, replicate, codes}
 use Rattle.std.specs.Int.{w16, w32, from_be_bytes}
 use Rattle.race_model.specs.Ranks.{count_to}
-use Rattle.race_model.specs.Versions.{Version, version_number, greatest_bound, stated_length}
-use Rattle.race_model.specs.Files.{bytes_at, version_of, bound_of, record_place}
+use Rattle.race_model.specs.Files.{Layout, layout_of, bytes_at, version_of, bound_of}
+use Rattle.race_model.specs.BoardFiles.{board_layout}
 
 -- a question about a header
 pub data HeaderTest : Type 0 where
@@ -27,13 +27,6 @@ header_place record_bytes = 5
 header_place reserved = 6
 header_place exact_length = 7
 
--- what a kind of file states in its header, and where the record of a rank begins
-pub record Layout : Type 0 where
-  pub number : ℕ
-  pub greatest : ℕ
-  pub stated : ℕ
-  pub place : ℕ → ℕ
-
 -- the answer is yes, for the first bytes of a file and the file's length
 abbrev pub HeaderHoldsBy : Layout → List ℕ → ℕ → HeaderTest → Type 0
 HeaderHoldsBy layout front size long_enough = (32 ≤ length front) × (32 ≤ size)
@@ -54,15 +47,6 @@ pub record IsFirstHeaderFaultBy (layout : Layout) (front : List ℕ) (size : ℕ
   pub earlier : (u : HeaderTest) → header_place u < header_place t →
       HeaderHoldsBy layout front size u
 
--- the layout of a version
-abbrev pub layout_of : Version → Layout
-layout_of kind = record {
-  number = version_number kind;
-  greatest = greatest_bound kind;
-  stated = stated_length kind;
-  place = record_place kind;
-}
-
 -- of a database, by the version that its header states
 abbrev pub HeaderHolds : List ℕ → ℕ → HeaderTest → Type 0
 HeaderHolds front = HeaderHoldsBy (layout_of (version_of front)) front
@@ -71,6 +55,14 @@ HeaderHolds front = HeaderHoldsBy (layout_of (version_of front)) front
 abbrev pub IsHeader : List ℕ → ℕ → Type 0
 IsHeader front size = (t : HeaderTest) → HeaderHolds front size t
 
--- .. and this is the first question whose answer is no
+-- .. and of a board file
+abbrev pub IsBoardHeader : List ℕ → Type 0
+IsBoardHeader f = (t : HeaderTest) → HeaderHoldsBy board_layout f (length f) t
+
+-- of a database this is the first question whose answer is no
 abbrev pub IsFirstHeaderFault : List ℕ → ℕ → HeaderTest → Type 0
 IsFirstHeaderFault front = IsFirstHeaderFaultBy (layout_of (version_of front)) front
+
+-- .. and of a board file
+abbrev pub IsFirstBoardHeaderFault : List ℕ → HeaderTest → Type 0
+IsFirstBoardHeaderFault f = IsFirstHeaderFaultBy board_layout f (length f)

@@ -14,8 +14,7 @@ pub mod RightFiles
 pub mod Books
 pub mod Endings
 pub mod BoardFiles
-pub mod BoardHeaders
-pub mod RightBoards
+pub mod WrittenNumbers
 pub mod BoardEquations
 pub mod BestPlays
 pub mod BuiltFile

@@ -6,7 +6,8 @@ use Rattle.race_model.specs.Positions.{Board, IsPosition, IsFinished, pips}
 use Rattle.race_model.specs.Dice.{Throw, IsRoll, weighted}
 use Rattle.race_model.specs.Plays.{Legal}
 use Rattle.race_model.specs.Books.{Book, mean_in, play_in, recorded_in, share_in, whole_in, IsPlayedIn}
-use Rattle.race_model.specs.Files.{IsFile, bound_of, book_of}
+use Rattle.race_model.specs.Files.{IsFileBy, version_of, bound_of, book_of}
+use Rattle.race_model.specs.RightFiles.{Kind, database}
 
 -- the least equation, beside the play equation, `IsPlayedIn`: no result of the throw has a smaller
 -- mean
@@ -94,7 +95,13 @@ HasLeastMean f = HasLeastMeanOver whole (book_of f)
 abbrev pub IsLocalAt : List ℕ → Board → Type 0
 IsLocalAt f = IsLocalOver whole (book_of f)
 
--- a locally right file: the four equations hold for every position of at most its bound
-pub record IsLocal (f : List ℕ) : Type 0 where
-  pub file : IsFile f
-  pub at_each : (x : Board) → IsPosition x → pips x ≤ bound_of f → IsLocalAt f x
+-- a locally right file of a kind, by the equations over so many sequences: they hold for every
+-- position of at most its bound
+pub record IsLocalBy (over : ℕ) (kind : Kind) (f : List ℕ) : Type 0 where
+  pub file : IsFileBy kind.layout f
+  pub written : (x : Board) → IsPosition x → pips x ≤ bound_of f → kind.written f x
+  pub at_each : (x : Board) → IsPosition x → pips x ≤ bound_of f → IsLocalOver over (kind.book f) x
+
+-- a locally right database
+abbrev pub IsLocalDatabase : List ℕ → Type 0
+IsLocalDatabase f = IsLocalBy whole (database (version_of f)) f

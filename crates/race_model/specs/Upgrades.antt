@@ -3,7 +3,7 @@
 use Rattle.std.specs.Prelude.{◌≡◌, ℕ, List}
 use Rattle.race_model.specs.Versions.{compact}
 use Rattle.race_model.specs.Files.{IsBytes, version_of}
-use Rattle.race_model.specs.RightFiles.{IsRight}
+use Rattle.race_model.specs.RightFiles.{IsRightDatabase}
 use Rattle.race_model.specs.SameNumbers.{HasSameNumbers}
 
 -- the upgrade of a file: a right file of version 2 with the same bound, means, plays and shares.
@@ -12,5 +12,5 @@ use Rattle.race_model.specs.SameNumbers.{HasSameNumbers}
 pub record IsUpgrade (f g : List ℕ) : Type 0 where
   pub bytes : IsBytes g
   pub version_is : version_of g ≡ compact
-  pub right : IsRight g
+  pub right : IsRightDatabase g
   pub same : HasSameNumbers f g

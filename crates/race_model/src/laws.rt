@@ -1,7 +1,7 @@
 //! Facts about the definitions, each on a function with an empty body: a call
 //! brings the fact into the caller's proof, and costs nothing when it runs.
 
-pub use boards::law_boards;
+pub use boards::{law_boards, law_widths};
 pub use books::{law_books, law_endings};
 pub use bounds::law_bounds;
 pub use dice::law_rolls;
@@ -12,7 +12,7 @@ pub use losses::{law_book_loss, law_loss};
 pub use plays::{law_enumerated, law_most_dice, law_playable, law_results, law_reversed};
 pub use ranks::{law_at_rank, law_counts, law_rank};
 pub use replies::{law_lines, law_replies};
-pub use right_files::{law_agree, law_recorded, law_right, law_spread};
+pub use right_files::{law_agree, law_recorded, law_right, law_spread, law_versions};
 pub use strategies::{law_horizon, law_least, law_sample, law_scale, law_turn};
 pub use upgrades::law_upgrade;
 

@@ -213,6 +213,7 @@ module _ (version : Version) (full : AllRecords) (bound : ℕ)
       file =
           whole-is_file version bound low (bytes_of_rank version full) (mean_of_rank full)
           (plays_of_rank full) (shares_of_rank full) told;
+      written = λ x at under. tt;
       at_each = λ x at under. is-local_at x at (omega (arith, built-bound));
     };
     lowest = λ x at under v is. is-lowest x at under v is;

@@ -8,7 +8,8 @@ use Rattle.race_model.specs.Books.{follow_in}
 use Rattle.race_model.specs.LocalEquations.{HasShareIn, HasLeastMeanIn}
 use Rattle.race_model.specs.Endings.{endings, IsCounted, HasCountIn}
 use Rattle.race_model.specs.BoardFiles.{board_book, count_at}
-use Rattle.race_model.specs.RightBoards.{IsWritten, IsRightBoard}
+use Rattle.race_model.specs.WrittenNumbers.{IsWritten}
+use Rattle.race_model.specs.RightFiles.{IsRightBoard}
 use Rattle.race_model.specs.BoardEquations.{IsLocalOnBoard, IsLocalBoard}
 use Rattle.race_model.proofs.Books.FromLocal.{right_of_local, whole_board}
 use Rattle.race_model.proofs.Books.FromRight.{local_of_right}
@@ -47,21 +48,16 @@ local_of_counts f x written means counts = record {
 pub right_board : (f : List ℕ) → IsLocalBoard f → IsRightBoard f
 right_board f local = record {
   file = local.file;
-  written = λ x at low. (local.at_each x at low).written;
-  book =
-      right_of_local (board_book f) (whole_board (board_book f) refl)
-      (λ x at low. (local.at_each x at low).equations);
+  written = local.written;
+  book = right_of_local (board_book f) (whole_board (board_book f) refl) local.at_each;
 }
 
 -- .. and one that is right meets them
 pub local_board : (f : List ℕ) → IsRightBoard f → IsLocalBoard f
 local_board f right = record {
   file = right.file;
-  at_each = λ x at low. record {
-    written = right.written x at low;
-    equations =
-        local_of_right (board_book f) (whole_board (board_book f) refl) right.book x at low;
-  };
+  written = right.written;
+  at_each = local_of_right (board_book f) (whole_board (board_book f) refl) right.book;
 }
 
 -- its counts are those of the strategy that plays what is recorded

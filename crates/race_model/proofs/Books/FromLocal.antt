@@ -10,7 +10,7 @@ use Rattle.race_model.specs.Strategies.{Strategy, stop, turn, Fits, IsWithin, En
 use Rattle.race_model.specs.Strategies.{total_over, count_over}
 use Rattle.race_model.specs.Books.{Book, mean_in, play_in, recorded_in, share_in, IsPlayedIn, follow_in, IsRightBook}
 use Rattle.race_model.specs.LocalEquations.{IsBestIn, IsLocalIn, IsLocalBook}
-use Rattle.race_model.proofs.Dice.Throws.{legal_reversed, by_rolls}
+use Rattle.race_model.proofs.Dice.Throws.{played_by_rolls, best_by_rolls}
 use Rattle.race_model.proofs.Numbers.Sums.{sum_by-equal, sum_by-at_most}
 use Rattle.race_model.proofs.Dice.RollSums.{sum_by-throws}
 use Rattle.race_model.proofs.Plays.Results.{legal_position, legal_pips, finished_or_not}
@@ -39,21 +39,11 @@ follow_in-unfinished f n x unfinished =
 module _ (f : Book) (x : Board) (here : IsLocalIn f x) where
   -- what is said for the 21 rolls is so for the 36 throws
   pub played_in : (v : Throw) → IsPlayedIn f x v
-  played_in v = record {
-    ranked =
-        by_rolls (λ i u. rank (at_rank (f.plays (rank x) i)) ≡ f.plays (rank x) i) (λ i u e. e)
-        (λ u r. (here.means.played u r).ranked) v;
-    legal =
-        by_rolls (λ i u. Legal x u (at_rank (f.plays (rank x) i)))
-        (λ i u. legal_reversed x (reversed u) (at_rank (f.plays (rank x) i)))
-        (λ u r. (here.means.played u r).legal) v;
-  }
+  played_in = played_by_rolls f x here.means.played
 
   -- .. and least
   best_in : (v : Throw) → IsBestIn f x v
-  best_in =
-      by_rolls (λ i u. (z : Board) → Legal x u z → f.means (f.plays (rank x) i) ≤ mean_in f z)
-      (λ i u b z legal. b z (legal_reversed x u z legal)) here.means.best
+  best_in = best_by_rolls f x here.means.best
 
 -- a strategy from x that has the mean and the shares that a book says
 pub record Reaches (f : Book) (s : Strategy) (x : Board) : Type 0 where

@@ -5,9 +5,10 @@ use Rattle.race_model.specs.Positions.{Board}
 use Rattle.race_model.specs.Dice.{Die, one, two, three, four, five, six, number, Throw, reversed}
 use Rattle.race_model.specs.Dice.{IsRoll, all_rolls, roll_at, roll_index}
 use Rattle.race_model.specs.Plays.{Legal, in_order, in_reverse, double, Run}
-use Rattle.race_model.specs.Files.{play_at, mean, mean_at}
+use Rattle.race_model.specs.Books.{Book, mean_in, IsPlayedIn}
+use Rattle.race_model.specs.Files.{book_of}
 use Rattle.race_model.specs.Ranks.{rank, at_rank}
-use Rattle.race_model.specs.LocalEquations.{IsPlayed, IsBest}
+use Rattle.race_model.specs.LocalEquations.{IsBestIn, IsPlayed, IsBest}
 
 -- a throw leads where its reverse leads
 pub legal_reversed : (x : Board) (v : Throw) (y : Board) → Legal x v y → Legal x (reversed v) y
@@ -111,25 +112,25 @@ by_rolls P turned h v = ⊎_elim (λ r. h v r)
     (turned (roll_index (reversed v)) v (h (reversed v) r)))
     (roll_or_reversed v)
 
--- plays recorded for the 21 rolls are recorded for the 36 throws
-pub played_by_rolls : (f : List ℕ) (x : Board) → ((v : Throw) → IsRoll v → IsPlayed f x v) →
-    (v : Throw) → IsPlayed f x v
-played_by_rolls f x h v = record {
+-- what a book says for the 21 rolls is so for the 36 throws
+pub played_by_rolls : (b : Book) (x : Board) → ((v : Throw) → IsRoll v → IsPlayedIn b x v) →
+    (v : Throw) → IsPlayedIn b x v
+played_by_rolls b x h v = record {
   ranked =
-      by_rolls (λ i u. rank (at_rank (play_at f (rank x) i)) ≡ play_at f (rank x) i)
-      (λ i u e. e) (λ u r. (h u r).ranked) v;
+      by_rolls (λ i u. rank (at_rank (b.plays (rank x) i)) ≡ b.plays (rank x) i) (λ i u e. e)
+      (λ u r. (h u r).ranked) v;
   legal =
-      by_rolls (λ i u. Legal x u (at_rank (play_at f (rank x) i)))
-      (λ i u. legal_reversed x (reversed u) (at_rank (play_at f (rank x) i)))
+      by_rolls (λ i u. Legal x u (at_rank (b.plays (rank x) i)))
+      (λ i u. legal_reversed x (reversed u) (at_rank (b.plays (rank x) i)))
       (λ u r. (h u r).legal) v;
 }
 
--- plays that are least for the 21 rolls are least for the 36 throws
-pub best_by_rolls : (f : List ℕ) (x : Board) → ((v : Throw) → IsRoll v → IsBest f x v) →
-    (v : Throw) → IsBest f x v
-best_by_rolls f x =
-    by_rolls (λ i u. (z : Board) → Legal x u z → mean_at f (play_at f (rank x) i) ≤ mean f z)
-    (λ i u b z legal. b z (legal_reversed x u z legal))
+-- .. and plays that are least for the 21 rolls are least for the 36 throws
+pub best_by_rolls : (b : Book) (x : Board) → ((v : Throw) → IsRoll v → IsBestIn b x v) →
+    (v : Throw) → IsBestIn b x v
+best_by_rolls b x =
+    by_rolls (λ i u. (z : Board) → Legal x u z → b.means (b.plays (rank x) i) ≤ mean_in b z)
+    (λ i u best z legal. best z (legal_reversed x u z legal))
 
 -- what holds for the roll of each index holds for each roll
 pub by_index : (P : Throw → Type 0) → ((i : ℕ) → i < 21 → P (roll_at i)) → (v : Throw) → IsRoll v →
@@ -139,9 +140,9 @@ by_index P h v r = let place = index_of_roll v r in subst P place.1 (h (roll_ind
 -- plays recorded for the 21 indices are recorded for the 36 throws
 pub played_by_index : (f : List ℕ) (x : Board) → ((i : ℕ) → i < 21 → IsPlayed f x (roll_at i)) →
     (v : Throw) → IsPlayed f x v
-played_by_index f x h = played_by_rolls f x (by_index (IsPlayed f x) h)
+played_by_index f x h = played_by_rolls (book_of f) x (by_index (IsPlayed f x) h)
 
 -- plays that are least for the 21 indices are least for the 36 throws
 pub best_by_index : (f : List ℕ) (x : Board) → ((i : ℕ) → i < 21 → IsBest f x (roll_at i)) →
     (v : Throw) → IsBest f x v
-best_by_index f x h = best_by_rolls f x (by_index (IsBest f x) h)
+best_by_index f x h = best_by_rolls (book_of f) x (by_index (IsBest f x) h)

@@ -7,11 +7,11 @@ use Rattle.race_model.specs.Plays.{Legal}
 use Rattle.race_model.specs.Ranks.{rank, at_rank, count_to}
 use Rattle.race_model.specs.Horizon.{most_rolls}
 use Rattle.race_model.specs.Books.{Book, mean_in, play_in, recorded_in, share_in, IsPlayedIn, whole_in}
-use Rattle.race_model.specs.LocalEquations.{IsBestIn, HasMeanOver, HasShareOver, whole, IsLocal}
+use Rattle.race_model.specs.LocalEquations.{IsBestIn, HasMeanOver, HasShareOver, whole, IsLocalDatabase}
 use Rattle.race_model.specs.Files.{IsFile, book_of}
 use Rattle.race_model.specs.BoardFiles.{board_book, board_record, mean_parts, count_parts}
-use Rattle.race_model.specs.BoardHeaders.{IsBoardFile}
-use Rattle.race_model.specs.RightBoards.{IsMeanWritten, IsCountWritten}
+use Rattle.race_model.specs.BoardFiles.{IsBoardFile}
+use Rattle.race_model.specs.WrittenNumbers.{IsMeanWritten, IsCountWritten}
 use Rattle.race_model.specs.BoardEquations.{HoldsOnBoard, IsFirstBoardFault, IsLocalBoard}
 use Rattle.race_model.specs.FirstFault.{Test, play_test, least_test, mean_test, spread_test}
 use Rattle.race_model.specs.FirstFault.{rank_of, place_of, HoldsOver, AsksIn, IsFirstFailing}
@@ -19,6 +19,7 @@ use Rattle.race_model.specs.FirstFault.{Asks, IsFirstFault}
 use Rattle.race_model.specs.Enumerations.{all_results}
 use Rattle.race_model.proofs.Plays.Results.{finished_or_not}
 use Rattle.race_model.proofs.Plays.Enumerated.{IsIn, results_listed, listed_results}
+use Rattle.race_model.proofs.FirstFaults.InRecord.{asked_rank}
 use Rattle.race_model.proofs.FirstFaults.Questions.{local_of_answers, board_of_answers, same_question}
 
 -- numbers are equal or not
@@ -294,19 +295,13 @@ module _ (b : Book) (holds : Test → Type 0) (decide : (t : Test) → holds t �
       ⊎ ((t : Test) × IsFirstFailing (AsksIn b) holds t)
   unfolding HoldTo Fault
   all_or_fault = ⊎_elim
-      (λ all. inl (λ t asked. all t asked (inl (inside t asked))))
+      (λ all. inl (λ t asked. all t asked (inl (asked_rank b t asked))))
       (λ fault. inr fault)
       (search_to (count_to b.bound) (omega arith))
-    where
-      inside : (t : Test) → AsksIn b t → rank_of t < count_to b.bound
-      inside (play_test r i) asked = asked.0
-      inside (least_test r i) asked = asked.0
-      inside (mean_test r) asked = asked
-      inside (spread_test r k) asked = asked.0
 
 -- a file is locally right, or has a first fault
 pub local_or_fault : (f : List ℕ) → IsFile f →
-    IsLocal f ⊎ ((t : Test) × IsFirstFault (Asks f) f t)
+    IsLocalDatabase f ⊎ ((t : Test) × IsFirstFault (Asks f) f t)
 local_or_fault f file = ⊎_elim (λ all. inl (local_of_answers f file all)) (λ fault. inr fault)
     (all_or_fault (book_of f) (HoldsOver whole (book_of f)) (yes_or_no whole (book_of f)))
 

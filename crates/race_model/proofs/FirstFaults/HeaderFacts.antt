@@ -5,15 +5,18 @@ use Rattle.std.proofs.Common.{length-take, take-take}
 use Rattle.std.specs.Int.{w16, w32, from_be_bytes, to_be_bytes}
 use Rattle.std.proofs.Math.Seq.{take-add}
 use Rattle.std.proofs.lemmas.List.{drop-take, get_or-take, get_or-drop, get_or_past}
-use Rattle.std.proofs.lemmas.Nat.{be_bytes_2, be_bytes_4, from_be_bytes-to_be_bytes_4}
+use Rattle.std.proofs.lemmas.Nat.{be_bytes_2, be_bytes_4, from_be_bytes-to_be_bytes_2, from_be_bytes-to_be_bytes_4}
 use Rattle.race_model.specs.Ranks.{count_to}
-use Rattle.race_model.specs.Versions.{Version, full, compact, version_number, version_by, greatest_bound, stated_length}
-use Rattle.race_model.specs.Files.{header, bytes_at, version_of, bound_of, record_place, IsFile}
+use Rattle.race_model.specs.Versions.{Version, full, compact, version_number, version_by, stated_length}
+use Rattle.race_model.specs.Files.{Layout, IsFileBy, header_by, layout_of}
+use Rattle.race_model.specs.Files.{bytes_at, version_of, bound_of, IsFile}
+use Rattle.race_model.specs.BoardFiles.{board_place, board_length, board_layout, IsBoardFile}
 use Rattle.race_model.specs.Headers.{HeaderTest, long_enough, magic, version, bound, count}
-use Rattle.race_model.specs.Headers.{record_bytes, reserved, exact_length, IsHeader}
-use Rattle.race_model.specs.Headers.{IsFirstHeaderFault}
+use Rattle.race_model.specs.Headers.{record_bytes, reserved, exact_length, HeaderHoldsBy}
+use Rattle.race_model.specs.Headers.{IsHeader, IsFirstHeaderFault, IsBoardHeader}
 use Rattle.race_model.proofs.Ranks.PositionTotals.{count_to-most}
 use Rattle.race_model.proofs.RightFiles.Places.{header_before, length-bytes_at}
+use Rattle.race_model.proofs.RightFiles.Places.{board_place-by, place_by-most}
 
 -- bytes of the first 32 are bytes of the file
 bytes_at-front : (f : List ℕ) (place n rest : ℕ) → place + (n + rest) ≡ 32 →
@@ -50,55 +53,80 @@ fields f =
     ∙ ap (λ l. l ++ bytes_at f 12 4) (take-add 10 2 f
     ∙ ap (λ l. l ++ bytes_at f 10 2) (take-add 8 2 f))))
 
--- the numbers that a header states are read back from it
-version_of_header : (v : Version) (b : ℕ) →
-    from_be_bytes w16 (bytes_at (header v b) 8 2) ≡ version_number v
-version_of_header full b = refl
-version_of_header compact b = refl
+-- of a file of a layout all questions about its first bytes are answered yes, if the numbers of the
+-- layout have room in the header, and no record begins in it
+module _ (layout : Layout) (number_fits : layout.number < 2 ^ 16)
+    (stated_fits : layout.stated < 2 ^ 32) (behind : (r : ℕ) → 32 ≤ layout.place r) (f : List ℕ) (file : IsFileBy layout f) where
+  pub front_of_file : (t : HeaderTest) → HeaderHoldsBy layout (take 32 f) (length f) t
+  front_of_file long_enough =
+      let long = behind (count_to (bound_of f)) in
+      (omega (arith, length-take 32 f, file.whole, long), omega (arith, file.whole, long))
+  front_of_file magic = ap (λ l. bytes_at l 0 8) file.headed
+  front_of_file version =
+      ap (λ l. from_be_bytes w16 (bytes_at l 8 2)) file.headed
+      ∙ from_be_bytes-to_be_bytes_2 layout.number number_fits
+  front_of_file bound = omega (arith, bound_of-front f, file.bounded)
+  front_of_file count =
+      ap (λ l. from_be_bytes w32 (bytes_at l 12 4)) file.headed
+      ∙ from_be_bytes-to_be_bytes_4 (count_to (bound_of f))
+      (few (count_to (bound_of f)) (count_to-most (bound_of f)))
+      ∙ ap count_to (sym (bound_of-front f))
+    where
+      few : (n : ℕ) → n ≤ 54264 → n < 2 ^ 32
+      few n le = omega arith
+  front_of_file record_bytes =
+      ap (λ l. from_be_bytes w32 (bytes_at l 16 4)) file.headed
+      ∙ from_be_bytes-to_be_bytes_4 layout.stated stated_fits
+  front_of_file reserved = ap (λ l. bytes_at l 20 12) file.headed
+  front_of_file exact_length =
+      file.whole ∙ ap (λ b. layout.place (count_to b)) (sym (bound_of-front f))
 
--- .. the bytes of a record
-length_of_header : (v : Version) (b : ℕ) →
-    from_be_bytes w32 (bytes_at (header v b) 16 4) ≡ stated_length v
-length_of_header full b = refl
-length_of_header compact b = refl
+-- .. of the file, whose first bytes are the same
+of_front : (layout : Layout) (f : List ℕ) (t : HeaderTest) →
+    HeaderHoldsBy layout (take 32 f) (length f) t → HeaderHoldsBy layout f (length f) t
+of_front layout f long_enough h = (h.1, h.1)
+of_front layout f magic h = sym (bytes_at-front f 0 8 24 refl) ∙ h
+of_front layout f version h = ap (from_be_bytes w16) (sym (bytes_at-front f 8 2 22 refl)) ∙ h
+of_front layout f bound h = omega (arith, bound_of-front f, h)
+of_front layout f count h =
+    ap (from_be_bytes w32) (sym (bytes_at-front f 12 4 16 refl)) ∙ h
+    ∙ ap count_to (bound_of-front f)
+of_front layout f record_bytes h =
+    ap (from_be_bytes w32) (sym (bytes_at-front f 16 4 12 refl)) ∙ h
+of_front layout f reserved h = sym (bytes_at-front f 20 12 0 refl) ∙ h
+of_front layout f exact_length h = h ∙ ap (λ b. layout.place (count_to b)) (bound_of-front f)
 
--- .. the magic and the reserved bytes
-magic_of_header : (v : Version) (b : ℕ) → bytes_at (header v b) 0 8 ≡ codes "EPCTABLE"
-magic_of_header v b = refl
+-- so it states the number of its version
+pub stated_number : (layout : Layout) → layout.number < 2 ^ 16 → (f : List ℕ) → IsFileBy layout f →
+    from_be_bytes w16 (bytes_at f 8 2) ≡ layout.number
+stated_number layout fits f file =
+    ap (from_be_bytes w16) (sym (bytes_at-front f 8 2 22 refl))
+    ∙ ap (λ l. from_be_bytes w16 (bytes_at l 8 2)) file.headed
+    ∙ from_be_bytes-to_be_bytes_2 layout.number fits
 
-reserved_of_header : (v : Version) (b : ℕ) → bytes_at (header v b) 20 12 ≡ replicate 12 0
-reserved_of_header v b = refl
-
--- of a file all questions about its header are answered yes
+-- of a database
 pub header_of_file : (f : List ℕ) → IsFile f → IsHeader (take 32 f) (length f)
-header_of_file f file long_enough =
-    let long = header_before (version_of f) (count_to (bound_of f)) in
-    (omega (arith, length-take 32 f, file.whole, long), omega (arith, file.whole, long))
-header_of_file f file magic =
-    ap (λ l. bytes_at l 0 8) file.headed ∙ magic_of_header (version_of f) (bound_of f)
-header_of_file f file version =
-    ap (λ l. from_be_bytes w16 (bytes_at l 8 2)) file.headed
-    ∙ version_of_header (version_of f) (bound_of f)
-    ∙ ap version_number (sym (version_of-front f))
-header_of_file f file bound =
-    omega (arith, bound_of-front f, file.bounded, ap greatest_bound (version_of-front f))
-header_of_file f file count =
-    ap (λ l. from_be_bytes w32 (bytes_at l 12 4)) file.headed
-    ∙ from_be_bytes-to_be_bytes_4 (count_to (bound_of f))
-    (few (count_to (bound_of f)) (count_to-most (bound_of f)))
-    ∙ ap count_to (sym (bound_of-front f))
+header_of_file f file t =
+    subst (λ v. HeaderHoldsBy (layout_of v) (take 32 f) (length f) t) (sym (version_of-front f))
+    (front_of_file (layout_of (version_of f)) (number (version_of f)) (stated (version_of f))
+    (header_before (version_of f)) f file t)
   where
-    few : (n : ℕ) → n ≤ 54264 → n < 2 ^ 32
-    few n le = omega arith
-header_of_file f file record_bytes =
-    ap (λ l. from_be_bytes w32 (bytes_at l 16 4)) file.headed
-    ∙ length_of_header (version_of f) (bound_of f)
-    ∙ ap stated_length (sym (version_of-front f))
-header_of_file f file reserved =
-    ap (λ l. bytes_at l 20 12) file.headed ∙ reserved_of_header (version_of f) (bound_of f)
-header_of_file f file exact_length =
-    file.whole
-    ∙ ap₂ (λ v b. record_place v (count_to b)) (sym (version_of-front f)) (sym (bound_of-front f))
+    number : (v : Version) → version_number v < 2 ^ 16
+    number full = omega arith
+    number compact = omega arith
+
+    stated : (v : Version) → stated_length v < 2 ^ 32
+    stated full = omega arith
+    stated compact = omega arith
+
+-- .. and of a board file
+pub header_of_board : (f : List ℕ) → IsBoardFile f → IsBoardHeader f
+header_of_board f file t =
+    of_front board_layout f t
+    (front_of_file board_layout (omega arith) (omega arith) behind f file t)
+  where
+    behind : (r : ℕ) → 32 ≤ board_place r
+    behind r = omega (arith, board_place-by r, place_by-most board_length r)
 
 -- a file that has a header fault is no file
 pub header_fault_refuses : (f : List ℕ) (t : HeaderTest) →
@@ -122,53 +150,67 @@ small_bytes f place n small i = ⊎_elim
     split : (i n : ℕ) → (i < n) ⊎ (n ≤ i)
     split i n = grind arith
 
--- a file of which all questions about its header are answered yes, and whose bytes are under 256
-pub file_of_header : (f : List ℕ) → ((i : ℕ) → get_or f i 0 < 256) →
+-- a file of which all questions about its header are answered yes, and whose first 32 bytes are
+-- under 256; what follows them is not looked at
+module _ (layout : Layout) (f : List ℕ) (small : (i : ℕ) → get_or (take 32 f) i 0 < 256)
+    (yes_all : (t : HeaderTest) → HeaderHoldsBy layout f (length f) t) where
+  long : 32 ≤ length f
+  long = (yes_all long_enough).1
+
+  small_here : (place n rest : ℕ) → place + (n + rest) ≡ 32 → (i : ℕ) →
+      get_or (bytes_at f place n) i 0 < 256
+  small_here place n rest e i =
+      subst (λ l. get_or l i 0 < 256) (bytes_at-front f place n rest e)
+      (small_bytes (take 32 f) place n small i)
+
+  -- two bytes of a number, and four
+  short : (place n rest : ℕ) → place + (2 + rest) ≡ 32 →
+      from_be_bytes w16 (bytes_at f place 2) ≡ n → bytes_at f place 2 ≡ to_be_bytes w16 n
+  short place n rest e is =
+      sym (be_bytes_2 (bytes_at f place 2) n (length-bytes_at f place 2 (omega (arith, long)))
+      (small_here place 2 rest e) (sym is))
+
+  word : (place n rest : ℕ) → place + (4 + rest) ≡ 32 →
+      from_be_bytes w32 (bytes_at f place 4) ≡ n → bytes_at f place 4 ≡ to_be_bytes w32 n
+  word place n rest e is =
+      sym (be_bytes_4 (bytes_at f place 4) n (length-bytes_at f place 4 (omega (arith, long)))
+      (small_here place 4 rest e) (sym is))
+
+  pub file_of_answers : IsFileBy layout f
+  file_of_answers = record {
+    bounded = yes_all bound;
+    headed = headed;
+    whole = yes_all exact_length;
+  }
+    where
+      v : bytes_at f 8 2 ≡ to_be_bytes w16 layout.number
+      v = short 8 layout.number 22 refl (yes_all version)
+
+      b : bytes_at f 10 2 ≡ to_be_bytes w16 (bound_of f)
+      b = short 10 (bound_of f) 20 refl (sym (bound_of-bytes f))
+
+      n : bytes_at f 12 4 ≡ to_be_bytes w32 (count_to (bound_of f))
+      n = word 12 (count_to (bound_of f)) 16 refl (yes_all count)
+
+      r : bytes_at f 16 4 ≡ to_be_bytes w32 layout.stated
+      r = word 16 layout.stated 12 refl (yes_all record_bytes)
+
+      headed : take 32 f ≡ header_by layout (bound_of f)
+      headed =
+          fields f
+          ∙ (λ i. (yes_all magic) i ++ v i ++ b i ++ n i ++ r i ++ (yes_all reserved) i)
+
+-- .. is a database, by the questions about its first bytes
+pub file_of_header : (f : List ℕ) → ((i : ℕ) → get_or (take 32 f) i 0 < 256) →
     IsHeader (take 32 f) (length f) → IsFile f
-file_of_header f small yes_all = record {
-  bounded =
-      omega (arith, bound_of-front f, yes_all bound, ap greatest_bound (version_of-front f));
-  headed = headed;
-  whole =
-      yes_all exact_length
-      ∙ ap₂ (λ v b. record_place v (count_to b)) (version_of-front f) (bound_of-front f);
-}
-  where
-    long : 32 ≤ length f
-    long = (yes_all long_enough).1
+file_of_header f small yes_all =
+    file_of_answers (layout_of (version_of f)) f small
+    (λ t.
+    of_front (layout_of (version_of f)) f t
+    (subst (λ v. HeaderHoldsBy (layout_of v) (take 32 f) (length f) t) (version_of-front f)
+    (yes_all t)))
 
-    m : bytes_at f 0 8 ≡ codes "EPCTABLE"
-    m = sym (bytes_at-front f 0 8 24 refl) ∙ yes_all magic
-
-    v : bytes_at f 8 2 ≡ to_be_bytes w16 (version_number (version_of f))
-    v =
-        sym (be_bytes_2 (bytes_at f 8 2) (version_number (version_of f))
-        (length-bytes_at f 8 2 (omega (arith, long))) (small_bytes f 8 2 small)
-        (ap version_number (sym (version_of-front f)) ∙ sym (yes_all version)
-        ∙ ap (from_be_bytes w16) (bytes_at-front f 8 2 22 refl)))
-
-    b : bytes_at f 10 2 ≡ to_be_bytes w16 (bound_of f)
-    b =
-        sym (be_bytes_2 (bytes_at f 10 2) (bound_of f)
-        (length-bytes_at f 10 2 (omega (arith, long))) (small_bytes f 10 2 small)
-        (bound_of-bytes f))
-
-    n : bytes_at f 12 4 ≡ to_be_bytes w32 (count_to (bound_of f))
-    n =
-        sym (be_bytes_4 (bytes_at f 12 4) (count_to (bound_of f))
-        (length-bytes_at f 12 4 (omega (arith, long))) (small_bytes f 12 4 small)
-        (ap count_to (sym (bound_of-front f)) ∙ sym (yes_all count)
-        ∙ ap (from_be_bytes w32) (bytes_at-front f 12 4 16 refl)))
-
-    r : bytes_at f 16 4 ≡ to_be_bytes w32 (stated_length (version_of f))
-    r =
-        sym (be_bytes_4 (bytes_at f 16 4) (stated_length (version_of f))
-        (length-bytes_at f 16 4 (omega (arith, long))) (small_bytes f 16 4 small)
-        (ap stated_length (sym (version_of-front f)) ∙ sym (yes_all record_bytes)
-        ∙ ap (from_be_bytes w32) (bytes_at-front f 16 4 12 refl)))
-
-    z : bytes_at f 20 12 ≡ replicate 12 0
-    z = sym (bytes_at-front f 20 12 0 refl) ∙ yes_all reserved
-
-    headed : take 32 f ≡ header (version_of f) (bound_of f)
-    headed = fields f ∙ (λ i. m i ++ v i ++ b i ++ n i ++ r i ++ z i)
+-- .. or a board file
+pub board_of_header : (f : List ℕ) → ((i : ℕ) → get_or f i 0 < 256) → IsBoardHeader f →
+    IsBoardFile f
+board_of_header f small = file_of_answers board_layout f (small_bytes f 0 32 small)

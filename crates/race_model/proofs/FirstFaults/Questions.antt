@@ -4,11 +4,11 @@ use Rattle.race_model.specs.Positions.{Board, IsPosition, pips}
 use Rattle.race_model.specs.Dice.{roll_at}
 use Rattle.race_model.specs.Ranks.{rank, at_rank, count_to}
 use Rattle.race_model.specs.Books.{Book, IsPlayedIn, whole_in}
-use Rattle.race_model.specs.LocalEquations.{IsBestIn, IsLocalOver, whole, IsLocal}
+use Rattle.race_model.specs.LocalEquations.{IsBestIn, IsLocalOver, whole, IsLocalDatabase}
 use Rattle.race_model.specs.Files.{IsFile, bound_of, book_of}
 use Rattle.race_model.specs.BoardFiles.{board_book}
-use Rattle.race_model.specs.BoardHeaders.{IsBoardFile}
-use Rattle.race_model.specs.RightBoards.{IsWritten}
+use Rattle.race_model.specs.BoardFiles.{IsBoardFile}
+use Rattle.race_model.specs.WrittenNumbers.{IsWritten}
 use Rattle.race_model.specs.BoardEquations.{HoldsOnBoard, AsksOnBoard, IsFirstBoardFault, IsLocalBoard}
 use Rattle.race_model.specs.FirstFault.{Test, play_test, least_test, mean_test, spread_test}
 use Rattle.race_model.specs.FirstFault.{rank_of, place_of, HoldsOver, AsksIn, IsFirstFailing, Holds, Asks, IsFirstFault}
@@ -99,12 +99,17 @@ one_fault b holds t u first second = ⊎_elim
     compare r q a b = grind arith
 
 -- a locally right file is one whose questions are all answered yes
-pub local_of_answers : (f : List ℕ) → IsFile f → ((t : Test) → Asks f t → Holds f t) → IsLocal f
+pub local_of_answers : (f : List ℕ) → IsFile f → ((t : Test) → Asks f t → Holds f t) →
+    IsLocalDatabase f
 local_of_answers f file yes_all =
-    record { file = file; at_each = local_of_answers_in whole (book_of f) yes_all }
+    record {
+      file = file;
+      written = λ x at low. tt;
+      at_each = local_of_answers_in whole (book_of f) yes_all;
+    }
 
 -- a file that has a first fault is not locally right
-pub fault_refuses : (f : List ℕ) (t : Test) → IsFirstFault (Asks f) f t → ¬ IsLocal f
+pub fault_refuses : (f : List ℕ) (t : Test) → IsFirstFault (Asks f) f t → ¬ IsLocalDatabase f
 fault_refuses f t fault local =
     fault.fails (answers_in whole (book_of f) local.at_each t fault.is_asked)
 
@@ -114,18 +119,17 @@ board_answers f local t asked = by t asked
   where
     holds : (t : Test) → AsksOnBoard f t → HoldsOver (whole_in (board_book f)) (board_book f) t
     holds =
-        answers_in (whole_in (board_book f)) (board_book f)
-        (λ x at low. (local.at_each x at low).equations)
+        answers_in (whole_in (board_book f)) (board_book f) local.at_each
 
     by : (t : Test) → AsksOnBoard f t → HoldsOnBoard f t
     by (play_test r i) asked = holds (play_test r i) asked
     by (least_test r i) asked = holds (least_test r i) asked
     by (mean_test r) asked =
         let place = within_bound (bound_of f) r asked in
-        ((local.at_each (at_rank r) place.0 place.1).written.mean, holds (mean_test r) asked)
+        ((local.written (at_rank r) place.0 place.1).mean, holds (mean_test r) asked)
     by (spread_test r k) asked =
         let place = within_bound (bound_of f) r asked.0 in (
-          (local.at_each (at_rank r) place.0 place.1).written.counts k asked.1,
+          (local.written (at_rank r) place.0 place.1).counts k asked.1,
           holds (spread_test r k) asked,
         )
 
@@ -134,12 +138,11 @@ pub board_of_answers : (f : List ℕ) → IsBoardFile f →
     ((t : Test) → AsksOnBoard f t → HoldsOnBoard f t) → IsLocalBoard f
 board_of_answers f file yes_all = record {
   file = file;
-  at_each = λ x at low. record {
-    written = subst (IsWritten f) (at_rank-rank x at)
-        (written (rank x) ((rank_bound x (bound_of f) at).1 low));
-    equations =
-        local_of_answers_in (whole_in (board_book f)) (board_book f) holds x at low;
-  };
+  written =
+      λ x at low.
+      subst (IsWritten f) (at_rank-rank x at)
+      (written (rank x) ((rank_bound x (bound_of f) at).1 low));
+  at_each = local_of_answers_in (whole_in (board_book f)) (board_book f) holds;
 } where
   holds : (t : Test) → AsksOnBoard f t → HoldsOver (whole_in (board_book f)) (board_book f) t
   holds (play_test r i) asked = yes_all (play_test r i) asked

@@ -1,14 +1,15 @@
 -- Two right files that record the same plays give the same reply to each line.
 use Rattle.std.proofs.Common.{ℕ, List, refl}
 use Rattle.race_model.specs.LocalEquations.{whole}
-use Rattle.race_model.specs.RightFiles.{IsRight}
+use Rattle.race_model.specs.RightFiles.{IsRightDatabase}
 use Rattle.race_model.specs.Files.{book_of}
 use Rattle.race_model.specs.SameNumbers.{HasSameNumbers}
 use Rattle.race_model.specs.Replies.{IsReply}
 use Rattle.race_model.proofs.RightFiles.Right.{short}
 use Rattle.race_model.proofs.Replies.Kinds.{reply_up}
 
-pub same_reply_of_files : (f g : List ℕ) → IsRight f → IsRight g → HasSameNumbers f g →
+pub same_reply_of_files : (f g : List ℕ) → IsRightDatabase f → IsRightDatabase g →
+    HasSameNumbers f g →
     (line text : List ℕ) → IsReply f line text → IsReply g line text
 unfolding whole
 same_reply_of_files f g right_f right_g same =

@@ -10,7 +10,7 @@ use Rattle.race_model.specs.Versions.{Version}
 use Rattle.race_model.specs.Files.{bound_of, mean, mean_at, play, play_at, spread, book_of}
 use Rattle.race_model.specs.LocalEquations.{recorded, IsPlayed}
 use Rattle.race_model.specs.Strategies.{count_of}
-use Rattle.race_model.specs.RightFiles.{IsRight, IsRightAt}
+use Rattle.race_model.specs.RightFiles.{IsRightDatabase, IsRightAt}
 use Rattle.race_model.specs.BuiltFile.{IsBuilt}
 use Rattle.race_model.specs.SameNumbers.{HasSameNumbers}
 use Rattle.race_model.proofs.Dice.Throws.{roll_or_reversed, roll_index-reversed, played_by_rolls}
@@ -30,11 +30,12 @@ built_played : (version : Version) (bound : ℕ) (f : List ℕ) → IsBuilt vers
     (x : Board) (v : Throw) →
     IsPosition x → pips x ≤ bound → IsPlayed f x v
 built_played version bound f built x v at low =
-    played_by_rolls f x
+    played_by_rolls (book_of f) x
     (built.local.at_each x at (built_low version bound f built x low)).means.played v
 
 -- a built file is right
-built_right : (version : Version) (bound : ℕ) (f : List ℕ) → IsBuilt version bound f → IsRight f
+built_right : (version : Version) (bound : ℕ) (f : List ℕ) → IsBuilt version bound f →
+    IsRightDatabase f
 built_right version bound f built = right_of_local f built.local
 
 -- two built files agree on the means

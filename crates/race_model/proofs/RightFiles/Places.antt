@@ -6,7 +6,7 @@ use Rattle.std.proofs.lemmas.List.Sums.{sum_by-cons}
 use Rattle.race_model.specs.Positions.{pips}
 use Rattle.race_model.specs.Ranks.{at_rank, count_to, numbers_from}
 use Rattle.race_model.specs.Versions.{Version, full, compact, record_length}
-use Rattle.race_model.specs.Files.{bytes_at, version_of, bound_of, record_place, IsFile, stored_at}
+use Rattle.race_model.specs.Files.{bytes_at, version_of, bound_of, place_by, record_place, IsFile, stored_at}
 use Rattle.race_model.specs.BoardFiles.{board_place, board_length}
 use Rattle.race_model.proofs.Strategies.Horizons.{most_rolls-most}
 use Rattle.race_model.proofs.FirstFaults.Questions.{within_bound}
@@ -21,7 +21,7 @@ abbrev pub length_at : Version → ℕ → ℕ
 length_at version r = record_length version (pips (at_rank r))
 
 -- a sum over one number more has the last one besides
-sum_by-numbers_next : (g : ℕ → ℕ) (a n : ℕ) →
+pub sum_by-numbers_next : (g : ℕ → ℕ) (a n : ℕ) →
     sum_by g (numbers_from a (suc n)) ≡ sum_by g (numbers_from a n) + g (a + n)
 unfolding numbers_from
 sum_by-numbers_next g a zero = omega (arith, ap g (none a))
@@ -36,10 +36,6 @@ sum_by-numbers_next g a (suc n) =
   where
     later : (a n : ℕ) → suc a + n ≡ a + suc n
     later a n = omega arith
-
--- where the record of a rank begins, where that of a position of p pips has size p bytes
-unfoldable pub place_by : (ℕ → ℕ) → ℕ → ℕ
-place_by size r = 32 + sum_by (λ k. size (pips (at_rank k))) (numbers_from 0 r)
 
 -- the bytes of the record of a rank, by those of each pip count
 module _ (size : ℕ → ℕ) where
@@ -122,12 +118,12 @@ module _ (size : ℕ → ℕ) where
 -- the records of a version
 pub record_place-by : (version : Version) (r : ℕ) →
     record_place version r ≡ place_by (record_length version) r
-unfolding record_place place_by
+unfolding record_place
 record_place-by version r = refl
 
 -- .. and those of a board file
 pub board_place-by : (r : ℕ) → board_place r ≡ place_by board_length r
-unfolding board_place place_by
+unfolding board_place
 board_place-by r = refl
 
 -- no record begins in the header

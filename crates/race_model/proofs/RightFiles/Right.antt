@@ -3,9 +3,9 @@ use Rattle.std.proofs.Common.{ℕ, ◌≤◌, List, le_trans, arith}
 use Rattle.race_model.specs.Positions.{Board, IsPosition, pips}
 use Rattle.race_model.specs.Versions.{Version, full, compact, greatest_bound}
 use Rattle.race_model.specs.Files.{IsFile, version_of, bound_of}
-use Rattle.race_model.specs.LocalEquations.{IsLocal}
+use Rattle.race_model.specs.LocalEquations.{IsLocalDatabase}
 use Rattle.race_model.specs.Strategies.{EndsIn}
-use Rattle.race_model.specs.RightFiles.{IsRight}
+use Rattle.race_model.specs.RightFiles.{IsRightDatabase}
 use Rattle.race_model.specs.Files.{book_of}
 use Rattle.race_model.proofs.Strategies.Horizons.{ends_in_22}
 use Rattle.race_model.proofs.Books.FromLocal as from_local
@@ -27,18 +27,20 @@ pub short : (f : List ℕ) → IsFile f → (x : Board) → IsPosition x → pip
 short f file x at low = ends_in_22 x at (le_trans low (bound_of-most f file))
 
 -- a file that meets the local equations is right
-pub right_of_local : (f : List ℕ) → IsLocal f → IsRight f
+pub right_of_local : (f : List ℕ) → IsLocalDatabase f → IsRightDatabase f
 right_of_local f local = record {
   file = local.file;
+  written = local.written;
   book =
       from_local.right_of_local (book_of f) (short f local.file)
       (λ x at low. local_book f x (local.at_each x at low));
 }
 
 -- a right file meets the local equations
-pub local_of_right : (f : List ℕ) → IsRight f → IsLocal f
+pub local_of_right : (f : List ℕ) → IsRightDatabase f → IsLocalDatabase f
 local_of_right f right = record {
   file = right.file;
+  written = right.written;
   at_each =
       λ x at low.
       local_file f x (from_right.local_of_right (book_of f)

@@ -7,25 +7,25 @@ use Rattle.race_model.specs.Dice.{Throw}
 use Rattle.race_model.specs.Plays.{Legal}
 use Rattle.race_model.specs.Files.{bound_of, mean, mean_at, play, spread, book_of}
 use Rattle.race_model.specs.LocalEquations.{whole}
-use Rattle.race_model.specs.RightFiles.{IsRight}
+use Rattle.race_model.specs.RightFiles.{IsRightDatabase}
 use Rattle.race_model.specs.Losses.{IsLoss, loss}
 use Rattle.race_model.proofs.Strategies.LeastExists.{least_in_agree}
 use Rattle.race_model.proofs.Books.Losses as books
 use Rattle.race_model.proofs.RightFiles.Right.{bound_of-most, short}
 
 -- two right files agree on the mean of each position of both
-pub means_agree : (f g : List ℕ) → IsRight f → IsRight g → (x : Board) →
+pub means_agree : (f g : List ℕ) → IsRightDatabase f → IsRightDatabase g → (x : Board) →
     IsPosition x → pips x ≤ bound_of f → pips x ≤ bound_of g → mean f x ≡ mean g x
 means_agree f g right_f right_g x at low_f low_g =
     least_in_agree 22 x (mean f x) (mean g x) (right_f.book x at low_f).least
     (right_g.book x at low_g).least
 
 -- a position of at most the bound of a right file has at most 58 pips
-pub within_58 : (f : List ℕ) → IsRight f → (x : Board) → pips x ≤ bound_of f → pips x ≤ 58
+pub within_58 : (f : List ℕ) → IsRightDatabase f → (x : Board) → pips x ≤ bound_of f → pips x ≤ 58
 within_58 f right x low = le_trans low (bound_of-most f right.file)
 
 -- a position of at most the bound
-module _ (f : List ℕ) (right : IsRight f) (x : Board)
+module _ (f : List ℕ) (right : IsRightDatabase f) (x : Board)
     (at : IsPosition x) (low : pips x ≤ bound_of f) where
   -- the recorded shares add up to the whole
   pub shares_add_up : sum_by (spread f x) (range_with_len 0 23) ≡ whole

@@ -5,16 +5,18 @@ use Rattle.race_model.specs.Plays.{Legal}
 use Rattle.race_model.specs.Ranks.{rank, at_rank}
 use Rattle.race_model.specs.Files.{IsFile, bound_of, book_of}
 use Rattle.race_model.specs.Strategies.{Fits, total, count_of, IsLeast}
-use Rattle.race_model.specs.RightFiles.{follow, IsRight, IsRightAt}
+use Rattle.race_model.specs.RightFiles.{follow, IsRightDatabase, IsRightAt}
 use Rattle.race_model.specs.SameNumbers.{HasSameNumbers}
 use Rattle.race_model.specs.Upgrades.{IsUpgrade}
 use Rattle.race_model.proofs.Books.Kinds.{same_follow}
 use Rattle.race_model.proofs.RightFiles.SameBytes.{one_file}
 
 -- a file that holds the numbers of a right one is right
-pub right_of_same : (f g : List ℕ) → IsRight f → IsFile g → HasSameNumbers f g → IsRight g
+pub right_of_same : (f g : List ℕ) → IsRightDatabase f → IsFile g → HasSameNumbers f g →
+    IsRightDatabase g
 right_of_same f g right file same = record {
   file = file;
+  written = λ x at low. tt;
   book = λ x at low. right_here x at (subst (λ b. pips x ≤ b) (sym same.bound) low);
 } where
   right_here : (x : Board) → IsPosition x → pips x ≤ bound_of f → IsRightAt g x

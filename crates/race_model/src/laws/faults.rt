@@ -1,9 +1,9 @@
 //! Laws of faults: what a first fault means, and what the questions about a header mean.
 ghost use Rattle.std.specs.Prelude.{◌≡◌, ℕ, ◌⊎◌, List, length, take};
 ghost use Rattle.race_model.specs.Files.{IsBytes, IsFile};
-ghost use Rattle.race_model.specs.Headers.{HeaderTest, IsHeader, IsFirstHeaderFault};
-ghost use Rattle.race_model.specs.LocalEquations.{IsLocal};
-ghost use Rattle.race_model.specs.BoardHeaders.{IsBoardFile};
+ghost use Rattle.race_model.specs.Headers.{HeaderTest, IsHeader, IsFirstHeaderFault, IsBoardHeader};
+ghost use Rattle.race_model.specs.LocalEquations.{IsLocalDatabase};
+ghost use Rattle.race_model.specs.BoardFiles.{IsBoardFile};
 ghost use Rattle.race_model.specs.BoardEquations.{HoldsOnBoard, AsksOnBoard, IsFirstBoardFault, IsLocalBoard};
 ghost use Rattle.race_model.specs.FirstFault.{Test, Holds, Asks, IsFirstFault};
 
@@ -12,14 +12,14 @@ ghost use Rattle.race_model.specs.FirstFault.{Test, Holds, Asks, IsFirstFault};
 /// answered yes is locally right. So a file that has a first fault is not locally right; it has no
 /// other first fault; and a file is locally right or has one.
 pub fn law_first_fault()
-    ensures answers { (f : List ℕ) → IsLocal f → (t : Test) → Asks f t →
+    ensures answers { (f : List ℕ) → IsLocalDatabase f → (t : Test) → Asks f t →
         Holds f t }
     ensures local { (f : List ℕ) → IsFile f →
-        ((t : Test) → Asks f t → Holds f t) → IsLocal f }
+        ((t : Test) → Asks f t → Holds f t) → IsLocalDatabase f }
     ensures refused { (f : List ℕ) (t : Test) → IsFirstFault (Asks f) f t →
-        ¬ IsLocal f }
+        ¬ IsLocalDatabase f }
     ensures either { (f : List ℕ) → IsFile f →
-        IsLocal f ⊎ ((t : Test) × IsFirstFault (Asks f) f t) }
+        IsLocalDatabase f ⊎ ((t : Test) × IsFirstFault (Asks f) f t) }
     ensures one { (f : List ℕ) (t u : Test) → IsFirstFault (Asks f) f t →
         IsFirstFault (Asks f) f u → t ≡ u }
 {}
@@ -40,7 +40,7 @@ pub fn law_first_board_fault()
 
 /// What the questions about a header mean, which the checker asks of the first 32 bytes and the
 /// length: a list of bytes is a file of at most that bound exactly where each is answered yes. So
-/// one that has a header fault is none.
+/// one that has a header fault is none. Of a board file they are asked of the file.
 pub fn law_header()
     ensures file { (f : List ℕ) → IsBytes f → IsHeader (take 32 f) (length f) →
         IsFile f }
@@ -48,4 +48,6 @@ pub fn law_header()
         IsHeader (take 32 f) (length f) }
     ensures refused { (f : List ℕ) (t : HeaderTest) →
         IsFirstHeaderFault (take 32 f) (length f) t → ¬ IsFile f }
+    ensures board { (f : List ℕ) → IsBytes f → IsBoardHeader f → IsBoardFile f }
+    ensures board_header { (f : List ℕ) → IsBoardFile f → IsBoardHeader f }
 {}

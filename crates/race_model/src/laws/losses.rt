@@ -5,7 +5,7 @@ ghost use Rattle.race_model.specs.Dice.{Throw};
 ghost use Rattle.race_model.specs.Plays.{Legal};
 ghost use Rattle.race_model.specs.Files.{bound_of, mean, mean_at, play};
 ghost use Rattle.race_model.specs.Strategies.{Strategy, Fits, total, total_over, IsLeast, IsLeastIn};
-ghost use Rattle.race_model.specs.RightFiles.{IsRight};
+ghost use Rattle.race_model.specs.RightFiles.{IsRightDatabase};
 ghost use Rattle.race_model.specs.Losses.{IsLoss, loss, BeginsWith};
 ghost use Rattle.race_model.specs.Books.{Book, mean_in, play_in, IsRightBook};
 ghost use Rattle.race_model.specs.Losses.{loss_in, IsLossIn};
@@ -15,13 +15,13 @@ ghost use Rattle.race_model.specs.Losses.{loss_in, IsLossIn};
 /// mean among all results of the throw. It is 0 exactly where some strategy of least mean begins
 /// with that play.
 pub fn law_loss()
-    ensures least { (f : List ℕ) → IsRight f → (x : Board) →
+    ensures least { (f : List ℕ) → IsRightDatabase f → (x : Board) →
         IsPosition x → pips x ≤ bound_of f → (v : Throw) (y : Board) → Legal x v y →
         mean_at f (play f x v) ≤ mean f y }
-    ensures loss { (f : List ℕ) → IsRight f → (x : Board) →
+    ensures loss { (f : List ℕ) → IsRightDatabase f → (x : Board) →
         IsPosition x → pips x ≤ bound_of f → (v : Throw) (y : Board) → Legal x v y →
         IsLoss x v y (loss f x v y) }
-    ensures none { (f : List ℕ) → IsRight f → (x : Board) →
+    ensures none { (f : List ℕ) → IsRightDatabase f → (x : Board) →
         IsPosition x → pips x ≤ bound_of f → ¬ IsFinished x → (v : Throw) (y : Board) →
         Legal x v y →
         (loss f x v y ≡ 0) ↔ ((s : Strategy) × Fits s x × IsLeast x (total s) × BeginsWith s v y) }

@@ -1,6 +1,6 @@
 //! Laws of replies: each line has one, whatever right file answers it.
 ghost use Rattle.std.specs.Prelude.{◌≡◌, ℕ, ◌≤◌, ◌↔◌, List, length};
-ghost use Rattle.race_model.specs.RightFiles.{IsRight};
+ghost use Rattle.race_model.specs.RightFiles.{IsRightDatabase};
 ghost use Rattle.race_model.specs.SameNumbers.{HasSamePlays, HasSameNumbers};
 ghost use Rattle.race_model.specs.Queries.{Query, IsQuery, HasWords};
 ghost use Rattle.race_model.specs.Replies.{IsReply};
@@ -8,7 +8,7 @@ ghost use Rattle.race_model.specs.Files.{book_of};
 ghost use Rattle.race_model.specs.Replies.{IsReplyIn};
 ghost use Rattle.race_model.specs.Books.{Book};
 ghost use Rattle.race_model.specs.BoardFiles.{board_book};
-ghost use Rattle.race_model.specs.RightBoards.{IsRightBoard};
+ghost use Rattle.race_model.specs.RightFiles.{IsRightBoard};
 
 /// A line has one reply, by a file and by any book: the definition leaves no choice. Two right
 /// files that hold the same bound, means, plays and shares give the same reply to each line,
@@ -20,9 +20,9 @@ pub fn law_replies()
         text ≡ other }
     ensures one_in { (b : Book) (line text other : List ℕ) → IsReplyIn b line text →
         IsReplyIn b line other → text ≡ other }
-    ensures same { (f g : List ℕ) → IsRight f → IsRight g →
+    ensures same { (f g : List ℕ) → IsRightDatabase f → IsRightDatabase g →
         HasSameNumbers f g → (line text : List ℕ) → IsReply f line text → IsReply g line text }
-    ensures kinds { (f g : List ℕ) → IsRight f → IsRightBoard g →
+    ensures kinds { (f g : List ℕ) → IsRightDatabase f → IsRightBoard g →
         HasSamePlays (book_of f) (board_book g) → (line text : List ℕ) →
         IsReply f line text ↔ IsReplyIn (board_book g) line text }
     ensures book { (f line text : List ℕ) → IsReplyIn (book_of f) line text ↔ IsReply f line text }

@@ -1,14 +1,14 @@
 //! Laws of files, the headline's among them: locally right is right, and nothing else is.
-ghost use Rattle.std.specs.Prelude.{◌≡◌, ℕ, suc, ◌+◌, ◌*◌, ◌<◌, ◌≤◌, List, sum_by};
+ghost use Rattle.std.specs.Prelude.{◌≡◌, ℕ, suc, ◌+◌, ◌*◌, ◌<◌, ◌≤◌, ◌⊎◌, List, sum_by};
 ghost use Rattle.std.specs.List.{range_with_len};
 ghost use Rattle.race_model.specs.Positions.{Board, IsPosition, IsFinished, pips};
 ghost use Rattle.race_model.specs.Dice.{Throw};
 ghost use Rattle.race_model.specs.Ranks.{rank, count_to};
 ghost use Rattle.race_model.specs.Versions.{Version};
 ghost use Rattle.race_model.specs.Files.{IsBytes, IsFile, version_of, bound_of, mean, play, spread};
-ghost use Rattle.race_model.specs.LocalEquations.{whole, recorded, IsPlayed, IsLocal, IsLocalAt};
+ghost use Rattle.race_model.specs.LocalEquations.{whole, recorded, IsPlayed, IsLocalDatabase, IsLocalAt};
 ghost use Rattle.race_model.specs.Strategies.{Strategy, Fits, total, count_of};
-ghost use Rattle.race_model.specs.RightFiles.{IsRight, IsRightAt};
+ghost use Rattle.race_model.specs.RightFiles.{IsRight, IsRightDatabase, IsRightBoard, IsRightAt};
 ghost use Rattle.race_model.specs.BuiltFile.{IsBuilt};
 ghost use Rattle.race_model.specs.SameNumbers.{HasSameNumbers};
 ghost use Rattle.race_model.specs.ToldShares.{told_share};
@@ -19,8 +19,15 @@ ghost use Rattle.race_model.specs.Books.{Book, mean_in, share_in, whole_in, IsRi
 /// of bytes exactly where it is a right file: its means are the least over all strategies, also
 /// those that look at the history, its plays reach them, and its shares are those of its plays.
 pub fn law_right()
-    ensures right { (f : List ℕ) → IsLocal f → IsRight f }
-    ensures local { (f : List ℕ) → IsRight f → IsLocal f }
+    ensures right { (f : List ℕ) → IsLocalDatabase f → IsRightDatabase f }
+    ensures local { (f : List ℕ) → IsRightDatabase f → IsLocalDatabase f }
+{}
+
+/// A right file, of whichever version its header states, is a right database or a right board file.
+pub fn law_versions()
+    ensures either { (f : List ℕ) → IsRight f → IsRightDatabase f ⊎ IsRightBoard f }
+    ensures database { (f : List ℕ) → IsRightDatabase f → IsRight f }
+    ensures board { (f : List ℕ) → IsRightBoard f → IsRight f }
 {}
 
 /// What a recorded play leads to, where the recorded number is the rank of a position to which the
@@ -43,7 +50,7 @@ pub fn law_recorded()
 /// to the least mean the one to the lowest rank; and files of bytes and of one version that hold
 /// the same numbers are byte for byte one, so there is one built file of a version and a bound.
 pub fn law_agree()
-    ensures right { (f g : List ℕ) → IsRight f → IsRight g → (x : Board) →
+    ensures right { (f g : List ℕ) → IsRightDatabase f → IsRightDatabase g → (x : Board) →
         IsPosition x → pips x ≤ bound_of f → pips x ≤ bound_of g → mean f x ≡ mean g x }
     ensures built { (one other : Version) (bound : ℕ) (f g : List ℕ) → IsBuilt one bound f →
         IsBuilt other bound g → HasSameNumbers f g }
@@ -62,11 +69,11 @@ pub fn law_spread()
         sum_by (count_of s) (range_with_len 0 23) ≡ whole }
     ensures mean { (x : Board) (s : Strategy) → IsPosition x → pips x ≤ 58 → Fits s x →
         sum_by (λ k. count_of s k * k) (range_with_len 0 23) ≡ total s }
-    ensures recorded { (f : List ℕ) → IsRight f → (x : Board) →
+    ensures recorded { (f : List ℕ) → IsRightDatabase f → (x : Board) →
         IsPosition x → pips x ≤ bound_of f → sum_by (spread f x) (range_with_len 0 23) ≡ whole }
-    ensures weighed { (f : List ℕ) → IsRight f → (x : Board) → IsPosition x → pips x ≤ bound_of f →
-        sum_by (λ k. spread f x k * k) (range_with_len 0 23) ≡ mean f x }
-    ensures beyond { (f : List ℕ) → IsRight f → (x : Board) (k : ℕ) →
+    ensures weighed { (f : List ℕ) → IsRightDatabase f → (x : Board) →
+        IsPosition x → pips x ≤ bound_of f → sum_by (λ k. spread f x k * k) (range_with_len 0 23) ≡ mean f x }
+    ensures beyond { (f : List ℕ) → IsRightDatabase f → (x : Board) (k : ℕ) →
         IsPosition x → pips x ≤ bound_of f → most_rolls (pips x) < k → k ≤ 22 → spread f x k ≡ 0 }
     ensures board { (b : Book) → b.further ≡ 32 → IsRightBook b → (x : Board) →
         IsPosition x → pips x ≤ b.bound →

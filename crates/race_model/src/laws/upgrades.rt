@@ -1,7 +1,7 @@
 //! Laws of upgrades: files of both versions that hold the same numbers.
 ghost use Rattle.std.specs.Prelude.{◌≡◌, ℕ, ◌↔◌, List};
 ghost use Rattle.race_model.specs.Files.{IsFile};
-ghost use Rattle.race_model.specs.RightFiles.{IsRight};
+ghost use Rattle.race_model.specs.RightFiles.{IsRightDatabase};
 ghost use Rattle.race_model.specs.SameNumbers.{HasSameNumbers};
 ghost use Rattle.race_model.specs.Replies.{IsReply};
 ghost use Rattle.race_model.specs.Upgrades.{IsUpgrade};
@@ -10,8 +10,9 @@ ghost use Rattle.race_model.specs.Upgrades.{IsUpgrade};
 /// version; a file has one upgrade; and a right file and its upgrade give the same reply to each
 /// line.
 pub fn law_upgrade()
-    ensures right { (f g : List ℕ) → IsRight f → IsFile g → HasSameNumbers f g → IsRight g }
+    ensures right { (f g : List ℕ) → IsRightDatabase f → IsFile g → HasSameNumbers f g →
+        IsRightDatabase g }
     ensures one { (f g h : List ℕ) → IsUpgrade f g → IsUpgrade f h → g ≡ h }
-    ensures replies { (f g : List ℕ) → IsRight f → IsUpgrade f g →
+    ensures replies { (f g : List ℕ) → IsRightDatabase f → IsUpgrade f g →
         (line text : List ℕ) → IsReply f line text ↔ IsReply g line text }
 {}

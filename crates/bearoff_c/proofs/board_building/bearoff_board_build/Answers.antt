@@ -1,20 +1,19 @@
 use Rattle.std.proofs.Common.{◌≡◌, ℕ, ◌≤◌, List, length, take, sym, ap, ◌∙◌, arith}
 use Rattle.std.proofs.lemmas.List.{length-take-le}
 use Rattle.race_model.specs.Ranks.{count_to}
-use Rattle.race_model.specs.Headers.{bound, exact_length}
 use Rattle.race_model.specs.BoardFiles.{board_place}
 use Rattle.board_build.specs.BuiltBoards.{IsBuiltBoard}
 use Rattle.bearoff_c.proofs.board_building.bearoff_board_build.Goals as goal
 
 -- a built board file has a bound of at most 90
 low_bound : (most : ℕ) (f : List ℕ) → IsBuiltBoard most f → most ≤ 90
-low_bound most f built = omega (arith, built.bound_is, built.right.file bound)
+low_bound most f built = omega (arith, built.bound_is, built.right.file.bounded)
 
 -- .. and as many bytes as its bound wants
 whole_length : (most n : ℕ) (room : List ℕ) → IsBuiltBoard most (take n room) → n ≤ length room →
     board_place (count_to most) ≡ n
 whole_length most n room built within =
-    sym (built.right.file exact_length ∙ ap (λ b. board_place (count_to b)) built.bound_is)
+    sym (built.right.file.whole ∙ ap (λ b. board_place (count_to b)) built.bound_is)
     ∙ length-take-le n room within
 
 pub returns-in-Ok-clause-over : goal.returns-in-Ok-clause-over

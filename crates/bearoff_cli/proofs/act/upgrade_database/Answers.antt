@@ -5,7 +5,7 @@ use Rattle.std.specs.Io.Buffered.{writer_contents}
 use Rattle.std.proofs.lemmas.Result.{IfOk-weaker}
 use Rattle.race_model.specs.Ranks.{count_to}
 use Rattle.race_model.specs.Files.{version_of}
-use Rattle.race_model.specs.RightFiles.{IsRight}
+use Rattle.race_model.specs.RightFiles.{IsRightDatabase}
 use Rattle.epc_query.specs.AnyFiles.{database_file}
 use Rattle.bearoff_cli.specs.FileAnswers.{IsReadFrom}
 use Rattle.bearoff_cli.specs.StoppedRuns.{SaysUpgradedPart}
@@ -23,7 +23,7 @@ returns-clause-upgraded g c =
     let told = subst (λ r. IfOk r (λ checked. checked.told ≡ Some file)) accepted
     (IfOk-weaker c.check-told.result _ _ (λ checked is. is ∙ c.new.ensures.tells)
     c.check-told.ensures.told) in
-    let right = subst (λ r. OnOk r (IsRight file)) accepted
+    let right = subst (λ r. OnOk r (IsRightDatabase file)) accepted
     (c.check-told.ensures.right file c.new.ensures.tells) in
     let version = c.version.ensures.version file told in
     let old =
@@ -42,7 +42,7 @@ returns-clause-put g c =
     let told = subst (λ r. IfOk r (λ checked. checked.told ≡ Some file)) accepted
     (IfOk-weaker c.check-told.result _ _ (λ checked is. is ∙ c.new.ensures.tells)
     c.check-told.ensures.told) in
-    let right = subst (λ r. OnOk r (IsRight file)) accepted
+    let right = subst (λ r. OnOk r (IsRightDatabase file)) accepted
     (c.check-told.ensures.right file c.new.ensures.tells) in
     let version = c.version.ensures.version file told in
     let old =
@@ -64,7 +64,7 @@ returns-clause-left g c =
     let told = subst (λ r. IfOk r (λ checked. checked.told ≡ Some file)) accepted
     (IfOk-weaker c.check-told.result _ _ (λ checked is. is ∙ c.new.ensures.tells)
     c.check-told.ensures.told) in
-    let right = subst (λ r. OnOk r (IsRight file)) accepted
+    let right = subst (λ r. OnOk r (IsRightDatabase file)) accepted
     (c.check-told.ensures.right file c.new.ensures.tells) in
     let version = c.version.ensures.version file told in
     let full =

@@ -6,7 +6,6 @@ use Rattle.std.proofs.Math.Facts.{Fits-of_lt}
 use Rattle.race_model.specs.Positions.{pips}
 use Rattle.race_model.specs.Ranks.{at_rank, count_to}
 use Rattle.race_model.specs.Files.{bound_of}
-use Rattle.race_model.specs.Headers.{exact_length}
 use Rattle.race_model.specs.BoardFiles.{board_place, board_length}
 use Rattle.race_model.specs.BoardEquations.{IsLocalOnBoard}
 use Rattle.race_model.proofs.Numbers.Members.{set_next}
@@ -56,7 +55,7 @@ module _ (c : After-from) where
   count-is = c.args.header.counted ∙ ap count_to c.requires.bound
 
   end : length c.args.bytes.now ≡ board_place c.args.header.count
-  end = c.requires.file exact_length ∙ ap board_place (sym count-is)
+  end = c.requires.file.whole ∙ ap board_place (sym count-is)
 
   inside : board_place c.loop-rank.rank + board_length (pips (at_rank c.loop-rank.rank))
       ≤ length c.args.bytes.now

@@ -2,9 +2,8 @@ use Rattle.std.specs.Prelude.{slice_index}
 use Rattle.std.proofs.Common.{◌<◌, ℕ, length, take, ap, subst, ◌∙◌, arith}
 use Rattle.race_model.specs.Headers.{IsHeader, IsFirstHeaderFault}
 use Rattle.race_model.specs.Files.{version_of, bound_of}
-use Rattle.race_model.proofs.FirstFaults.HeaderFacts.{bound_of-front, version_of-front}
+use Rattle.race_model.proofs.FirstFaults.HeaderFacts.{file_of_header, bound_of-front, version_of-front}
 use Rattle.db_layout.specs.HeaderFaults.{test_of}
-use Rattle.db_reader.proofs.Fronts.{front-is_file}
 use Rattle.db_reader.proofs.front.header_of.Goals as goal
 
 pub returns-in-Ok-clause-told : goal.returns-in-Ok-clause-told
@@ -15,7 +14,7 @@ returns-in-Ok-clause-told c = λ file front long.
     (subst (λ f. IsHeader f c.args.size) front is.0) in
     record {
       file =
-          front-is_file file
+          file_of_header file
           (subst (λ f. (i : ℕ) → slice_index f i < 256) front
           (λ i. let fits = c.type_inv.front i in omega arith)) h;
       bound_is = is.1 ∙ (ap bound_of front ∙ bound_of-front file);

@@ -4,7 +4,6 @@ use Rattle.std.proofs.Math.Nat.{ℕ_set}
 use mathlib.Core.Logic.{∥∥₁_elim, ∥∥₁_map}
 use Rattle.std.proofs.lemmas.Bool.{false≢true}
 use Rattle.race_model.specs.Files.{bound_of}
-use Rattle.race_model.specs.Headers.{bound}
 use Rattle.bearoff_c.proofs.OpenedBoards.{right_board_known}
 use Rattle.bearoff_c.proofs.kept_board.Board.opened.Goals as goal
 use Rattle.bearoff_c.proofs.kept_board.Board.opened.Goals.{After-new}
@@ -19,7 +18,7 @@ kept_low : (c : After-new) → c.args.self.now.bound ≤ 90
 kept_low c =
     ∥∥₁_elim c.args.self.now.opened le_prop
     (λ known. subst (λ b. b ≤ 90) (sym (kept_bound c))
-    ((known c.if-not-self.false).right.file bound))
+    (known c.if-not-self.false).right.file.bounded)
 
 pub accepted-requires-clause-right : goal.accepted-requires-clause-right
 accepted-requires-clause-right c =

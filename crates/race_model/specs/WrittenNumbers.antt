@@ -1,14 +1,10 @@
--- What it means that a board file is right: its book is, and each number is written in the one way
--- that is allowed. Source: the GNU Backgammon manual for what a one-sided database is; the rest is
--- this project's profile.
+-- In which way the numbers of a board file have to be written, of two parts each: there is one way
+-- for each number. Source: this project's profile.
 use Rattle.std.specs.Prelude.{ℕ, ◌^◌, ◌<◌, ◌≤◌, List}
-use Rattle.race_model.specs.Positions.{Board, IsPosition, pips}
+use Rattle.race_model.specs.Positions.{Board, pips}
 use Rattle.race_model.specs.Ranks.{rank}
 use Rattle.race_model.specs.Horizon.{most_rolls}
-use Rattle.race_model.specs.Files.{bound_of}
-use Rattle.race_model.specs.Books.{IsRightBook}
-use Rattle.race_model.specs.BoardFiles.{board_book, board_record, mean_parts, count_parts}
-use Rattle.race_model.specs.BoardHeaders.{IsBoardFile}
+use Rattle.race_model.specs.BoardFiles.{board_record, mean_parts, count_parts}
 
 -- the lower part of a mean is less than one of the upper part
 abbrev pub IsMeanWritten : List ℕ → Board → Type 0
@@ -24,9 +20,3 @@ IsCountWritten f x k =
 pub record IsWritten (f : List ℕ) (x : Board) : Type 0 where
   pub mean : IsMeanWritten f x
   pub counts : (k : ℕ) → k ≤ 33 → IsCountWritten f x k
-
--- a right board file: all that its book says of each position of at most its bound is so
-pub record IsRightBoard (f : List ℕ) : Type 0 where
-  pub file : IsBoardFile f
-  pub written : (x : Board) → IsPosition x → pips x ≤ bound_of f → IsWritten f x
-  pub book : IsRightBook (board_book f)
