@@ -1,18 +1,20 @@
 -- What the tests of a record tell, where each record of lower rank was accepted.
-use Rattle.std.proofs.Common.{◌≡◌, ⊎_elim, ℕ, ◌+◌, ◌*◌, ◌<◌, ◌≤◌, List, refl, sym, ap, subst, ◌∙◌, arith}
+use Rattle.std.proofs.Common.{◌≡◌, ◌↔◌, ⊎_elim, ℕ, ◌+◌, ◌<◌, ◌≤◌, List, refl, sym, ap, subst, ◌∙◌, arith}
 use Rattle.std.proofs.lemmas.Bool.{cases_lt}
-use Rattle.race_model.specs.Positions.{Board}
-use Rattle.race_model.specs.Dice.{roll_at, roll_index}
+use Rattle.race_model.specs.Positions.{Board, IsPosition, pips}
+use Rattle.race_model.specs.Dice.{roll_at}
 use Rattle.race_model.specs.Ranks.{rank, at_rank, count_to}
 use Rattle.race_model.specs.Files.{bound_of}
-use Rattle.race_model.specs.FirstFault.{Test, play_test, least_test, mean_test, spread_test, rank_of, place_of}
+use Rattle.race_model.specs.FirstFault.{Test, play_test, least_test, mean_test, spread_test, rank_of}
 use Rattle.race_model.specs.Books.{IsPlayedIn}
 use Rattle.race_model.specs.LocalEquations.{IsBestIn}
 use Rattle.race_model.specs.BoardFiles.{board_book}
-use Rattle.race_model.specs.BoardHeaders.{IsBoardFile}
+use Rattle.race_model.specs.BoardFiles.{IsBoardFile}
 use Rattle.race_model.specs.BoardEquations.{IsLocalOnBoard, IsLocalBoard}
 use Rattle.race_model.specs.BoardEquations.{HoldsOnBoard, AsksOnBoard, IsFirstBoardFault}
 use Rattle.race_model.proofs.Dice.Throws.{roll_of_index, by_index}
+use Rattle.race_model.proofs.FirstFaults.HeaderFacts.{header_of_board}
+use Rattle.race_model.proofs.FirstFaults.InRecord.{asked_rank, first_of_file, before_play, before_share}
 use Rattle.race_model.proofs.FirstFaults.Questions.{board_fault_refuses}
 use Rattle.race_model.proofs.Books.Boards.{board_share_is_count, local_of_counts}
 use Rattle.race_model.proofs.Ranks.RankOrder.{rank_bound, at_rank-rank, at_rank_position}
@@ -20,9 +22,10 @@ use Rattle.race_model.proofs.Ranks.PositionTotals.{rank-at_rank, count_to-most}
 use Rattle.board_records.specs.Lower.{AreLocalTo}
 use Rattle.db_layout.specs.HeaderFaults.{test_of}
 use Rattle.board_check.specs.Tested.{Holds, MeanHolds, CountHolds}
-use Rattle.board_check.specs.Faults.{IsFirst, IsFirstInRecord, IsFirstFaultAt, IsNumberFault}
+use Rattle.board_check.specs.Faults.{IsFirst, IsFirstAt, IsFirstFaultAt, IsNumberFault}
 use Rattle.board_check.specs.Faults.{of_record_at, of_refused}
-use Rattle.least_plays.specs.Recorded.{IsRefusedIn, IsFirstRefusedIn}
+use Rattle.least_plays.specs.Recorded.{IsFirstRefusedIn}
+use Rattle.least_plays.proofs.FirstRefused.{refused_test, first_refused}
 use Rattle.least_plays.specs.declared.recorded.RefusedPlay.{RefusedPlay}
 use Rattle.least_plays.specs.declared.recorded.PlayFault.{PlayFault}
 use Rattle.least_plays.specs.declared.recorded.PlayFault.TheVariants.{NotLegal, NotLeast as NotLeastPlay}
@@ -32,93 +35,45 @@ use Rattle.board_check.specs.declared.fault.BoardFault.TheVariants.{Mean as Mean
 use Rattle.board_check.specs.declared.fault.RecordFault.{RecordFault}
 use Rattle.board_check.specs.declared.fault.RecordFault.TheVariants.{Play, NotLeast, Mean, Spread}
 
+-- what is tested of a count is asked of it: the equation of shares is that of counts
+count-asked : (f : List ℕ) (r k : ℕ) → k ≤ 33 →
+    CountHolds f (at_rank r) k ↔ HoldsOnBoard f (spread_test r k)
+count-asked f r k few =
+    let same = board_share_is_count f (at_rank r) k few in
+    (λ counted. (counted.0, same.1 counted.1), λ holds. (holds.0, same.0 holds.1))
+
 module _ (f : List ℕ) (r : ℕ) (lt : r < count_to (bound_of f)) where
   -- a refused play is the first fault of the record
   pub first-refused : (refused : RefusedPlay) → IsFirstRefusedIn (board_book f) (at_rank r) refused
       → IsFirstFaultAt f r (of_refused refused.roll refused.fault)
-  first-refused refused first = by refused.fault first.applies
+  first-refused refused first = by refused.fault
+      (first_refused (board_book f) (HoldsOnBoard f) r lt (λ i. (λ h. h, λ h. h))
+      (λ i. (λ h. h, λ h. h)) refused first)
     where
-      to_least : (u : Test) → rank_of u ≡ r → place_of u < 2 * refused.roll → AsksOnBoard f u →
-          HoldsOnBoard f u
-      to_least (play_test q i) same less asks =
-          subst (λ q. IsPlayedIn (board_book f) (at_rank q) (roll_at i)) (sym same)
-          (first.earlier i (omega arith)).0
-      to_least (least_test q i) same less asks =
-          subst (λ q. IsBestIn (board_book f) (at_rank q) (roll_at i)) (sym same)
-          (first.earlier i (omega arith)).1
-      to_least (mean_test q) same less asks = absurd (omega (arith, first.is_roll))
-      to_least (spread_test q k) same less asks = absurd (omega (arith, first.is_roll))
-
-      and_played : IsPlayedIn (board_book f) (at_rank r) (roll_at refused.roll) → (u : Test) →
-          rank_of u ≡ r → place_of u < 2 * refused.roll + 1 → AsksOnBoard f u → HoldsOnBoard f u
-      and_played here (play_test q i) same less asks =
-          subst (λ q. IsPlayedIn (board_book f) (at_rank q) (roll_at i)) (sym same)
-          (⊎_elim
-          (λ under. (first.earlier i under).0)
-          (λ more.
-          let is : i ≡ refused.roll = omega arith in
-          subst (λ i. IsPlayedIn (board_book f) (at_rank r) (roll_at i)) (sym is) here)
-          (cases_lt i refused.roll))
-      and_played here (least_test q i) same less asks =
-          to_least (least_test q i) same (omega arith) asks
-      and_played here (mean_test q) same less asks = absurd (omega (arith, first.is_roll))
-      and_played here (spread_test q k) same less asks = absurd (omega (arith, first.is_roll))
-
-      by : (fault : PlayFault) →
-          IsRefusedIn (board_book f) (at_rank r) (roll_at refused.roll) fault →
+      by : (fault : PlayFault) → IsFirstAt f r (refused_test r refused.roll fault) →
           IsFirstFaultAt f r (of_refused refused.roll fault)
-      by NotLegal none = record {
-        of_rank = refl;
-        is_asked = (lt, first.is_roll);
-        fails = none;
-        earlier = to_least;
-      }
-      by NotLeastPlay some = record {
-        of_rank = refl;
-        is_asked = (lt, first.is_roll);
-        fails = some.1;
-        earlier = and_played some.0;
-      }
+      by NotLegal is = is
+      by NotLeastPlay is = is
 
-  -- where all plays hold ..
-  module _ (held : (i : ℕ) → i < 21 → Holds f (at_rank r) i) where
-    -- the first wrong number is the first fault
-    pub first-number : (fault : RecordFault) → IsNumberFault f (at_rank r) fault →
-        IsFirstFaultAt f r fault
-    first-number (Play roll) never = absurd never
-    first-number (NotLeast roll) never = absurd never
-    first-number Mean fails =
-        record { of_rank = refl; is_asked = lt; fails = fails; earlier = earlier }
-      where
-        earlier : (u : Test) → rank_of u ≡ r → place_of u < 42 → AsksOnBoard f u → HoldsOnBoard f u
-        earlier (play_test q i) same before asks =
-            subst (λ q. IsPlayedIn (board_book f) (at_rank q) (roll_at i)) (sym same)
-            (held i asks.1).0
-        earlier (least_test q i) same before asks =
-            subst (λ q. IsBestIn (board_book f) (at_rank q) (roll_at i)) (sym same)
-            (held i asks.1).1
-        earlier (mean_test q) same before asks = absurd (omega arith)
-        earlier (spread_test q k) same before asks = absurd (omega arith)
-    first-number (Spread k) first =
-        record { of_rank = refl; is_asked = (lt, first.0); fails = fails; earlier = earlier }
-      where
-        fails : ¬ HoldsOnBoard f (spread_test r k)
-        fails held = first.1 (held.0, (board_share_is_count f (at_rank r) k first.0).0 held.1)
-
-        earlier : (u : Test) → rank_of u ≡ r → place_of u < 43 + k → AsksOnBoard f u →
-            HoldsOnBoard f u
-        earlier (play_test q i) same before asks =
-            subst (λ q. IsPlayedIn (board_book f) (at_rank q) (roll_at i)) (sym same)
-            (held i asks.1).0
-        earlier (least_test q i) same before asks =
-            subst (λ q. IsBestIn (board_book f) (at_rank q) (roll_at i)) (sym same)
-            (held i asks.1).1
-        earlier (mean_test q) same before asks =
-            subst (λ q. MeanHolds f (at_rank q)) (sym same) first.2
-        earlier (spread_test q j) same before asks =
-            let counted = first.3 j (omega arith) in
-            subst (λ q. HoldsOnBoard f (spread_test q j)) (sym same)
-            (counted.0, (board_share_is_count f (at_rank r) j asks.1).1 counted.1)
+  -- where all plays hold the first wrong number is the first fault
+  pub first-number : ((i : ℕ) → i < 21 → Holds f (at_rank r) i) → (fault : RecordFault) →
+      IsNumberFault f (at_rank r) fault → IsFirstFaultAt f r fault
+  first-number held (Play roll) never = absurd never
+  first-number held (NotLeast roll) never = absurd never
+  first-number held Mean fails = record {
+    of_rank = refl;
+    is_asked = lt;
+    fails = fails;
+    earlier = before_play (board_book f) (HoldsOnBoard f) r 21 (omega arith) held;
+  }
+  first-number held (Spread k) first = record {
+    of_rank = refl;
+    is_asked = (lt, first.0);
+    fails = λ holds. first.1 ((count-asked f r k first.0).1 holds);
+    earlier =
+        before_share (board_book f) (HoldsOnBoard f) r k held first.2
+        (λ j less. (count-asked f r j (omega (arith, first.0))).0 (first.3 j less));
+  }
 
 -- where the plays and the numbers of a position hold, all equations do
 pub local-at : (f : List ℕ) (x : Board) → ((i : ℕ) → i < 21 → Holds f x i) → MeanHolds f x →
@@ -143,39 +98,26 @@ local-answers f (mean_test r) local asks = (local.written.mean, local.equations.
 local-answers f (spread_test r k) local asks =
     (local.written.counts k asks.1, local.equations.shares k asks.1)
 
--- what is asked is asked of a rank that has a record
-asked-rank : (f : List ℕ) (u : Test) → AsksOnBoard f u → rank_of u < count_to (bound_of f)
-asked-rank f (play_test r roll) asks = asks.0
-asked-rank f (least_test r roll) asks = asks.0
-asked-rank f (mean_test r) asks = asks
-asked-rank f (spread_test r k) asks = asks.0
-
 -- the first fault of a record is the first of the file where the records of lower rank are accepted
-first-of_file : (f : List ℕ) (r : ℕ) (t : Test) → AreLocalTo f r → IsFirstInRecord f r t →
+first-here : (f : List ℕ) (r : ℕ) (t : Test) → AreLocalTo f r → IsFirstAt f r t →
     IsFirstBoardFault f t
-first-of_file f r t accepted first = record {
-  is_asked = first.is_asked;
-  fails = first.fails;
-  earlier = λ u asks before. ⊎_elim
-      (λ lower.
-      let there = rank-at_rank (rank_of u)
-      (omega (arith, asked-rank f u asks, count_to-most (bound_of f))) in
-      let low : rank (at_rank (rank_of u)) < r = omega (arith, first.of_rank) in
-      local-answers f u (accepted (at_rank (rank_of u)) (at_rank_position (rank_of u)) low) asks)
-      (λ here. first.earlier u (here.0 ∙ first.of_rank) here.1 asks)
-      before;
-}
+first-here f r t accepted = first_of_file (board_book f) (HoldsOnBoard f) r t
+    (λ u low asks.
+    let there = rank-at_rank (rank_of u)
+    (omega (arith, asked_rank (board_book f) u asks, count_to-most (bound_of f))) in
+    local-answers f u
+    (accepted (at_rank (rank_of u)) (at_rank_position (rank_of u)) (omega arith)) asks)
 
 -- the same in the checker's words
 pub fault-of_file : (f : List ℕ) (r : ℕ) (fault : RecordFault) → IsBoardFile f → AreLocalTo f r →
     IsFirstFaultAt f r fault → IsFirst f (of_record_at r fault)
 fault-of_file f r (Play roll) file accepted first =
-    (file, first-of_file f r (play_test r roll) accepted first)
+    (file, first-here f r (play_test r roll) accepted first)
 fault-of_file f r (NotLeast roll) file accepted first =
-    (file, first-of_file f r (least_test r roll) accepted first)
-fault-of_file f r Mean file accepted first = (file, first-of_file f r (mean_test r) accepted first)
+    (file, first-here f r (least_test r roll) accepted first)
+fault-of_file f r Mean file accepted first = (file, first-here f r (mean_test r) accepted first)
 fault-of_file f r (Spread k) file accepted first =
-    (file, first-of_file f r (spread_test r k) accepted first)
+    (file, first-here f r (spread_test r k) accepted first)
 
 -- one record more is accepted
 pub accepted-more : (f : List ℕ) (r : ℕ) → AreLocalTo f r → IsLocalOnBoard f (at_rank r) →
@@ -193,13 +135,17 @@ pub accepted-all : (f : List ℕ) (r : ℕ) → IsBoardFile f → count_to (boun
     → IsLocalBoard f
 accepted-all f r file all accepted = record {
   file = file;
-  at_each = λ x at low. let lt = (rank_bound x (bound_of f) at).1 low in accepted x at
-      (omega arith);
+  written = λ x at low. (here x at low).written;
+  at_each = λ x at low. (here x at low).equations;
 }
+  where
+    here : (x : Board) → IsPosition x → pips x ≤ bound_of f → IsLocalOnBoard f x
+    here x at low = let lt = (rank_bound x (bound_of f) at).1 low in accepted x at (omega arith)
 
 -- a fault of the file refutes its equations
 pub none-of_local : (f : List ℕ) (fault : BoardFault) → IsFirst f fault → ¬ IsLocalBoard f
-none-of_local f (Header fault) first local = first.fails (local.file (test_of fault))
+none-of_local f (Header fault) first local =
+    first.fails (header_of_board f local.file (test_of fault))
 none-of_local f (PlayAt rank roll) first local =
     board_fault_refuses f (play_test rank roll) first.1 local
 none-of_local f (NotLeastAt rank roll) first local =

@@ -1,8 +1,9 @@
 -- What a refusal means: the first fault, in the order of the check. Source: this project's profile.
-use Rattle.std.specs.Prelude.{◌≡◌, ℕ, ◌<◌, ◌≤◌, List}
+use Rattle.std.specs.Prelude.{ℕ, ◌<◌, ◌≤◌, List}
 use Rattle.race_model.specs.Positions.{Board}
-use Rattle.race_model.specs.FirstFault.{Test, play_test, least_test, mean_test, spread_test, rank_of, place_of}
-use Rattle.race_model.specs.BoardHeaders.{IsBoardFile, IsFirstBoardHeaderFault}
+use Rattle.race_model.specs.FirstFault.{Test, play_test, least_test, mean_test, spread_test, IsFirstInRecord}
+use Rattle.race_model.specs.BoardFiles.{IsBoardFile}
+use Rattle.race_model.specs.Headers.{IsFirstBoardHeaderFault}
 use Rattle.race_model.specs.BoardEquations.{HoldsOnBoard, AsksOnBoard, IsFirstBoardFault}
 use Rattle.db_layout.specs.HeaderFaults.{test_of}
 use Rattle.certificate.specs.declared.check_fault.CheckFault.{CheckFault}
@@ -42,19 +43,15 @@ of_record_at rank MeanOf = Mean rank
 of_record_at rank (SpreadOf k) = Spread rank k
 
 -- of the questions about the record of a rank, this is the first whose answer is no
-pub record IsFirstInRecord (f : List ℕ) (rank : ℕ) (t : Test) : Type 0 where
-  pub of_rank : rank_of t ≡ rank
-  pub is_asked : AsksOnBoard f t
-  pub fails : ¬ HoldsOnBoard f t
-  pub earlier : (u : Test) → rank_of u ≡ rank → place_of u < place_of t → AsksOnBoard f u →
-      HoldsOnBoard f u
+abbrev pub IsFirstAt : List ℕ → ℕ → Test → Type 0
+IsFirstAt f = IsFirstInRecord (AsksOnBoard f) (HoldsOnBoard f)
 
 -- the fault is the first of the record of a rank
 abbrev pub IsFirstFaultAt : List ℕ → ℕ → RecordFault → Type 0
-IsFirstFaultAt f rank (PlayOf roll) = IsFirstInRecord f rank (play_test rank roll)
-IsFirstFaultAt f rank (NotLeastOf roll) = IsFirstInRecord f rank (least_test rank roll)
-IsFirstFaultAt f rank MeanOf = IsFirstInRecord f rank (mean_test rank)
-IsFirstFaultAt f rank (SpreadOf k) = IsFirstInRecord f rank (spread_test rank k)
+IsFirstFaultAt f rank (PlayOf roll) = IsFirstAt f rank (play_test rank roll)
+IsFirstFaultAt f rank (NotLeastOf roll) = IsFirstAt f rank (least_test rank roll)
+IsFirstFaultAt f rank MeanOf = IsFirstAt f rank (mean_test rank)
+IsFirstFaultAt f rank (SpreadOf k) = IsFirstAt f rank (spread_test rank k)
 
 -- a refused play of a roll, as a fault of the record
 abbrev pub of_refused : ℕ → PlayFault → RecordFault

@@ -3,20 +3,21 @@ use Rattle.std.proofs.Common.{◌≡◌, ◌↔◌, ⊎_elim, ℕ, ◌+◌, ◌<
 use Rattle.std.proofs.lemmas.Bool.{cases_lt}
 use Rattle.race_model.specs.Positions.{Board, IsPosition}
 use Rattle.race_model.specs.Ranks.{rank, at_rank, count_to}
-use Rattle.race_model.specs.Files.{IsFile, bound_of}
-use Rattle.race_model.specs.LocalEquations.{IsLocalAt, IsLocal}
+use Rattle.race_model.specs.Files.{IsFile, bound_of, book_of}
+use Rattle.race_model.specs.LocalEquations.{IsLocalAt, IsLocalDatabase}
 use Rattle.race_model.specs.FirstFault.{Test, play_test, least_test, mean_test, spread_test}
 use Rattle.race_model.specs.FirstFault.{rank_of, Holds, Asks, IsFirstFault}
-use Rattle.race_model.specs.RightFiles.{IsRight}
+use Rattle.race_model.specs.RightFiles.{IsRightDatabase}
 use Rattle.race_model.proofs.Dice.Throws.{roll_of_index}
 use Rattle.race_model.proofs.Ranks.RankOrder.{rank_bound, at_rank-rank, at_rank_position}
 use Rattle.race_model.proofs.Ranks.PositionTotals.{rank-at_rank, count_to-most}
 use Rattle.race_model.proofs.FirstFaults.HeaderFacts.{header_fault_refuses}
 use Rattle.race_model.proofs.FirstFaults.Questions.{fault_refuses}
+use Rattle.race_model.proofs.FirstFaults.InRecord.{asked_rank, first_of_file}
 use Rattle.race_model.proofs.RightFiles.Right.{local_of_right}
 use Rattle.db_layout.specs.HeaderFaults.{test_of}
 use Rattle.db_reader.specs.Telling.{RoseWhere}
-use Rattle.certificate.specs.RecordFaults.{IsFirstInRecord, IsFirstFaultAt}
+use Rattle.certificate.specs.RecordFaults.{IsFirstAt, IsFirstFaultAt}
 use Rattle.certificate.specs.CheckFaults.{IsFirst, of_record_at}
 use Rattle.certificate.specs.declared.check_fault.CheckFault.{CheckFault}
 use Rattle.certificate.specs.declared.check_fault.CheckFault.TheVariants.{Header, Play as PlayAt}
@@ -32,42 +33,29 @@ local-answers f (least_test r roll) local asks = local.means.best _ (roll_of_ind
 local-answers f (mean_test r) local asks = local.means.mean_is
 local-answers f (spread_test r k) local asks = local.shares k asks.1
 
--- what is asked is asked of a rank that has a record
-asked-rank : (f : List ℕ) (u : Test) → Asks f u → rank_of u < count_to (bound_of f)
-asked-rank f (play_test r roll) asks = asks.0
-asked-rank f (least_test r roll) asks = asks.0
-asked-rank f (mean_test r) asks = asks
-asked-rank f (spread_test r k) asks = asks.0
-
 -- the first fault of a record is the first of the file where the records of lower rank are
 -- accepted
-first-of_file : (f : List ℕ) (r : ℕ) (t : Test)
-    → ((z : Board) → IsPosition z → rank z < r → IsLocalAt f z) → IsFirstInRecord f r t
+first-here : (f : List ℕ) (r : ℕ) (t : Test)
+    → ((z : Board) → IsPosition z → rank z < r → IsLocalAt f z) → IsFirstAt f r t
     → IsFirstFault (Asks f) f t
-first-of_file f r t accepted first = record {
-  is_asked = first.is_asked;
-  fails = first.fails;
-  earlier = λ u asks before. ⊎_elim
-      (λ lower.
-      let there = rank-at_rank (rank_of u)
-      (omega (arith, asked-rank f u asks, count_to-most (bound_of f))) in
-      let low : rank (at_rank (rank_of u)) < r = omega (arith, first.of_rank) in
-      local-answers f u (accepted (at_rank (rank_of u)) (at_rank_position (rank_of u)) low) asks)
-      (λ here. first.earlier u (here.0 ∙ first.of_rank) here.1 asks)
-      before;
-}
+first-here f r t accepted = first_of_file (book_of f) (Holds f) r t
+    (λ u low asks.
+    let there = rank-at_rank (rank_of u)
+    (omega (arith, asked_rank (book_of f) u asks, count_to-most (bound_of f))) in
+    local-answers f u
+    (accepted (at_rank (rank_of u)) (at_rank_position (rank_of u)) (omega arith)) asks)
 
 -- the same in the checker's words
 pub fault-of_file : (f : List ℕ) (r : ℕ) (fault : RecordFault) → IsFile f
     → ((z : Board) → IsPosition z → rank z < r → IsLocalAt f z) → IsFirstFaultAt f r fault
     → IsFirst f (of_record_at r fault)
 fault-of_file f r (Play roll) file accepted first =
-    (file, first-of_file f r (play_test r roll) accepted first)
+    (file, first-here f r (play_test r roll) accepted first)
 fault-of_file f r (NotLeast roll) file accepted first =
-    (file, first-of_file f r (least_test r roll) accepted first)
-fault-of_file f r Mean file accepted first = (file, first-of_file f r (mean_test r) accepted first)
+    (file, first-here f r (least_test r roll) accepted first)
+fault-of_file f r Mean file accepted first = (file, first-here f r (mean_test r) accepted first)
 fault-of_file f r (Spread k) file accepted first =
-    (file, first-of_file f r (spread_test r k) accepted first)
+    (file, first-here f r (spread_test r k) accepted first)
 fault-of_file f r Read file accepted first = tt
 
 -- a fault of a record is a failed read exactly where it is one as a fault of the file
@@ -92,9 +80,10 @@ accepted-more f r accepted here z at low = ⊎_elim
 
 -- where all are accepted the file is locally right
 pub accepted-all : (f : List ℕ) (r : ℕ) → IsFile f → count_to (bound_of f) ≤ r
-    → ((z : Board) → IsPosition z → rank z < r → IsLocalAt f z) → IsLocal f
+    → ((z : Board) → IsPosition z → rank z < r → IsLocalAt f z) → IsLocalDatabase f
 accepted-all f r file all accepted = record {
   file = file;
+  written = λ x at low. tt;
   at_each = λ x at low. let lt = (rank_bound x (bound_of f) at).1 low in accepted x at
       (omega arith);
 }
@@ -102,7 +91,7 @@ accepted-all f r file all accepted = record {
 -- a right file is refused by no fault but one of reading, and by that only where the count of
 -- failures rose
 pub none-of_right : (f : List ℕ) (before now : ℕ) (fault : CheckFault) → IsFirst f fault
-    → RoseWhere (fault ≡ ReadAt) before now → now ≡ before → ¬ IsRight f
+    → RoseWhere (fault ≡ ReadAt) before now → now ≡ before → ¬ IsRightDatabase f
 none-of_right f before now (Header fault) first cause same = λ right.
     header_fault_refuses f (test_of fault) first right.file
 none-of_right f before now (PlayAt rank roll) first cause same = λ right.

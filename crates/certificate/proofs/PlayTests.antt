@@ -6,20 +6,10 @@ use Rattle.race_model.specs.Plays.{Legal}
 use Rattle.race_model.specs.Ranks.{rank}
 use Rattle.race_model.specs.Files.{mean_at, play}
 use Rattle.race_model.specs.LocalEquations.{IsPlayed, IsBest}
-use Rattle.race_model.specs.Books.{IsPlayedIn}
 use Rattle.race_model.specs.Files.{book_of}
 use Rattle.least_plays.specs.Recorded.{IsLeastPlay, IsFirstRefused, IsFirstRefusedIn}
 use Rattle.least_plays.specs.declared.recorded.RefusedPlay.{RefusedPlay}
 use Rattle.least_plays.proofs.RecordedPlays.{held, first-in_book}
-
--- the play equation of a file is that of its book
-pub played-in_file : (f : List ℕ) (x : Board) (v : Throw) → IsPlayedIn (book_of f) x v →
-    IsPlayed f x v
-played-in_file f x v played = record { ranked = played.ranked; legal = played.legal }
-
-pub played-in_book : (f : List ℕ) (x : Board) (v : Throw) → IsPlayed f x v →
-    IsPlayedIn (book_of f) x v
-played-in_book f x v played = record { ranked = played.ranked; legal = played.legal }
 
 module _ (f : List ℕ) (x : Board) (at : IsPosition x) (mean plays : ℕ → ℕ)
     (agree : ¬ IsFinished x → (v : Throw) (z : Board) → Legal x v z →
@@ -29,9 +19,8 @@ module _ (f : List ℕ) (x : Board) (at : IsPosition x) (mean plays : ℕ → �
   pub held-in_file : ((i : ℕ) → i < 21 → IsLeastPlay mean x (roll_at i) (plays i)) → (i : ℕ) →
       i < 21 → IsPlayed f x (roll_at i) × IsBest f x (roll_at i)
   held-in_file least i lt =
-      let here = held x at (roll_at i) (book_of f) mean (λ unfinished. agree unfinished (roll_at i))
-      (plays i) (read i lt) (least i lt) in
-      (played-in_file f x (roll_at i) here.0, here.1)
+      held x at (roll_at i) (book_of f) mean (λ unfinished. agree unfinished (roll_at i)) (plays i)
+      (read i lt) (least i lt)
 
   -- .. and the first that isn't
   pub first-in_file : (refused : RefusedPlay) → IsFirstRefused mean plays x refused →

@@ -6,24 +6,24 @@ use Rattle.race_model.specs.Dice.{roll_at, roll_index}
 use Rattle.race_model.specs.Ranks.{rank, at_rank, count_to}
 use Rattle.race_model.specs.Files.{bound_of, record_at, mean_of, share_of, mean}
 use Rattle.race_model.specs.LocalEquations.{whole, IsPlayed, IsBest, HasMean, HasShare, HasLeastMean, IsLocalAt}
-use Rattle.race_model.specs.FirstFault.{Test, play_test, least_test, mean_test, spread_test}
-use Rattle.race_model.specs.FirstFault.{rank_of, place_of, Holds, Asks}
+use Rattle.race_model.specs.FirstFault.{mean_test, spread_test, Holds}
 use Rattle.race_model.proofs.Dice.Throws.{index_of_roll}
 use Rattle.race_model.proofs.Ranks.RankOrder.{rank_bound, rank_apart, at_rank_position}
 use Rattle.race_model.proofs.Ranks.PositionTotals.{rank-at_rank, count_to-most}
 use Rattle.race_model.proofs.Strategies.Horizons.{ends_in_22}
 use Rattle.race_model.proofs.RightFiles.Bounded.{mean_at_most}
+use Rattle.race_model.proofs.FirstFaults.InRecord.{before_play, before_share}
 use Rattle.fixed_fraction.specs.Totals.{Totals}
 use Rattle.certificate.specs.RecordNumbers.{IsMeanOf, IsShareOf, AreSumsOf, HasNumbers}
 use Rattle.certificate.proofs.Accepted.{mean-of_lent, share-of_lent}
 use Rattle.certificate.proofs.NumberTests.{mean-holds, mean-tested, share-holds, share-tested}
 use Rattle.race_model.specs.Files.{book_of}
-use Rattle.least_plays.specs.Recorded.{IsRefusedIn, IsFirstRefusedIn}
+use Rattle.least_plays.specs.Recorded.{IsFirstRefusedIn}
+use Rattle.least_plays.proofs.FirstRefused.{refused_test, first_refused}
 use Rattle.least_plays.specs.declared.recorded.RefusedPlay.{RefusedPlay}
 use Rattle.least_plays.specs.declared.recorded.PlayFault.{PlayFault}
 use Rattle.least_plays.specs.declared.recorded.PlayFault.TheVariants.{NotLegal, NotLeast as NotLeastPlay}
-use Rattle.certificate.proofs.PlayTests.{played-in_file, played-in_book}
-use Rattle.certificate.specs.RecordFaults.{IsFirstInRecord, IsFirstFaultAt, IsNumberFault, of_record}
+use Rattle.certificate.specs.RecordFaults.{IsFirstAt, IsFirstFaultAt, IsNumberFault, of_record}
 use Rattle.certificate.specs.declared.record_check.RecordFault.{RecordFault}
 use Rattle.certificate.specs.declared.record_check.RecordFault.TheVariants.{Play, NotLeast, Mean, Spread, Read}
 
@@ -47,80 +47,37 @@ module _ (f : List ℕ) (r : ℕ) (lt : r < count_to (bound_of f)) where
   -- a refused play is the first fault of the record
   pub first-refused : (refused : RefusedPlay) → IsFirstRefusedIn (book_of f) (at_rank r) refused
       → IsFirstFaultAt f r (of_record refused.roll refused.fault)
-  first-refused refused first = by refused.fault first.applies
+  first-refused refused first = by refused.fault
+      (first_refused (book_of f) (Holds f) r lt (λ i. (λ h. h, λ h. h)) (λ i. (λ h. h, λ h. h))
+      refused first)
     where
-      before : (i : ℕ) → i < refused.roll → IsPlayed f (at_rank r) (roll_at i)
-      before i less = played-in_file f (at_rank r) (roll_at i) (first.earlier i less).0
-
-      to_least : (u : Test) → rank_of u ≡ r → place_of u < 2 * refused.roll → Asks f u → Holds f u
-      to_least (play_test q i) same less asks =
-          subst (λ q. IsPlayed f (at_rank q) (roll_at i)) (sym same) (before i (omega arith))
-      to_least (least_test q i) same less asks =
-          subst (λ q. IsBest f (at_rank q) (roll_at i)) (sym same)
-          (first.earlier i (omega arith)).1
-      to_least (mean_test q) same less asks = absurd (omega (arith, first.is_roll))
-      to_least (spread_test q k) same less asks = absurd (omega (arith, first.is_roll))
-
-      and_played : IsPlayed f (at_rank r) (roll_at refused.roll) → (u : Test) → rank_of u ≡ r →
-          place_of u < 2 * refused.roll + 1 → Asks f u → Holds f u
-      and_played here (play_test q i) same less asks =
-          subst (λ q. IsPlayed f (at_rank q) (roll_at i)) (sym same)
-          (⊎_elim
-          (λ under. before i under)
-          (λ more.
-          let is : i ≡ refused.roll = omega arith in
-          subst (λ i. IsPlayed f (at_rank r) (roll_at i)) (sym is) here)
-          (cases_lt i refused.roll))
-      and_played here (least_test q i) same less asks =
-          to_least (least_test q i) same (omega arith) asks
-      and_played here (mean_test q) same less asks = absurd (omega (arith, first.is_roll))
-      and_played here (spread_test q k) same less asks = absurd (omega (arith, first.is_roll))
-
-      by : (fault : PlayFault) → IsRefusedIn (book_of f) (at_rank r) (roll_at refused.roll) fault →
+      by : (fault : PlayFault) → IsFirstAt f r (refused_test r refused.roll fault) →
           IsFirstFaultAt f r (of_record refused.roll fault)
-      by NotLegal none = record {
-        of_rank = refl;
-        is_asked = (lt, first.is_roll);
-        fails = λ played. none (played-in_book f (at_rank r) (roll_at refused.roll) played);
-        earlier = to_least;
-      }
-      by NotLeastPlay some = record {
-        of_rank = refl;
-        is_asked = (lt, first.is_roll);
-        fails = some.1;
-        earlier = and_played (played-in_file f (at_rank r) (roll_at refused.roll) some.0);
-      }
+      by NotLegal is = is
+      by NotLeastPlay is = is
 
   -- where all plays hold ..
   module _ (held : (i : ℕ) → i < 21
       → IsPlayed f (at_rank r) (roll_at i) × IsBest f (at_rank r) (roll_at i)) where
     -- a fault of the mean is the first
-    pub first-mean : ¬ HasMean f (at_rank r) → IsFirstInRecord f r (mean_test r)
-    first-mean fails = record { of_rank = refl; is_asked = lt; fails = fails; earlier = earlier }
-      where
-        earlier : (u : Test) → rank_of u ≡ r → place_of u < 42 → Asks f u → Holds f u
-        earlier (play_test q i) same before asks =
-            subst (λ q. IsPlayed f (at_rank q) (roll_at i)) (sym same) (held i asks.1).0
-        earlier (least_test q i) same before asks =
-            subst (λ q. IsBest f (at_rank q) (roll_at i)) (sym same) (held i asks.1).1
-        earlier (mean_test q) same before asks = absurd (omega arith)
-        earlier (spread_test q k) same before asks = absurd (omega arith)
+    pub first-mean : ¬ HasMean f (at_rank r) → IsFirstAt f r (mean_test r)
+    first-mean fails = record {
+      of_rank = refl;
+      is_asked = lt;
+      fails = fails;
+      earlier = before_play (book_of f) (Holds f) r 21 (omega arith) held;
+    }
 
     -- and where the mean and the shares before hold, one of a share is
     pub first-share : (k : ℕ) → k ≤ 22 → HasMean f (at_rank r)
         → ((j : ℕ) → j < k → HasShare f (at_rank r) j) → ¬ HasShare f (at_rank r) k
-        → IsFirstInRecord f r (spread_test r k)
-    first-share k few mean shares fails =
-        record { of_rank = refl; is_asked = (lt, few); fails = fails; earlier = earlier }
-      where
-        earlier : (u : Test) → rank_of u ≡ r → place_of u < 43 + k → Asks f u → Holds f u
-        earlier (play_test q i) same before asks =
-            subst (λ q. IsPlayed f (at_rank q) (roll_at i)) (sym same) (held i asks.1).0
-        earlier (least_test q i) same before asks =
-            subst (λ q. IsBest f (at_rank q) (roll_at i)) (sym same) (held i asks.1).1
-        earlier (mean_test q) same before asks = subst (λ q. HasMean f (at_rank q)) (sym same) mean
-        earlier (spread_test q j) same before asks =
-            subst (λ q. HasShare f (at_rank q) j) (sym same) (shares j (omega arith))
+        → IsFirstAt f r (spread_test r k)
+    first-share k few mean shares fails = record {
+      of_rank = refl;
+      is_asked = (lt, few);
+      fails = fails;
+      earlier = before_share (book_of f) (Holds f) r k held mean shares;
+    }
 
     -- the first three equations, for the 21 rolls
     pub least-mean : HasMean f (at_rank r) → HasLeastMean f (at_rank r)
@@ -173,7 +130,7 @@ module _ (f bytes : List ℕ) (r : ℕ) (sums : Totals) (lt : r < count_to (boun
       (mean-of_lent f bytes (at_rank r) r lent ranked)
 
   -- a mean that isn't that of the sums is the first fault
-  wrong-mean : ¬ IsMeanOf (at_rank r) (mean_of bytes) sums → IsFirstInRecord f r (mean_test r)
+  wrong-mean : ¬ IsMeanOf (at_rank r) (mean_of bytes) sums → IsFirstAt f r (mean_test r)
   wrong-mean fails = first-mean f r lt known.held (λ has. fails
       (mean-tested f bytes (at_rank r) sums known.are
       (mean-of_lent f bytes (at_rank r) r lent ranked)
@@ -182,7 +139,7 @@ module _ (f bytes : List ℕ) (r : ℕ) (sums : Totals) (lt : r < count_to (boun
   -- and so is a share
   wrong-share : (k : ℕ) → k ≤ 22 → IsMeanOf (at_rank r) (mean_of bytes) sums
       → ((j : ℕ) → j < k → IsShareOf (at_rank r) (share_of bytes) sums j)
-      → ¬ IsShareOf (at_rank r) (share_of bytes) sums k → IsFirstInRecord f r (spread_test r k)
+      → ¬ IsShareOf (at_rank r) (share_of bytes) sums k → IsFirstAt f r (spread_test r k)
   wrong-share k few mean earlier fails =
       let read = share-of_lent f bytes (at_rank r) r lent ranked in
       first-share f r lt known.held k few (holds-mean mean)

@@ -2,7 +2,7 @@
 use Rattle.std.specs.Prelude.{◌≡◌, ℕ, List, Option, Some, None}
 use Rattle.race_model.specs.Versions.{Version, full, version_by}
 use Rattle.race_model.specs.Files.{version_of, bound_of}
-use Rattle.race_model.specs.LocalEquations.{IsLocal}
+use Rattle.race_model.specs.LocalEquations.{IsLocalDatabase}
 use Rattle.db_layout.specs.declared.header.Header.{Header}
 use Rattle.db_reader.specs.Telling.{WhereTold}
 
@@ -21,6 +21,6 @@ version_in (Some header) = version_by header.version
 pub record HasAccepted (told : Option (List ℕ)) (accepted : Option Header) (header : Header) :
     Type 0 where
   pub header_is : accepted ≡ Some header
-  pub local : WhereTold told (IsLocal)
+  pub local : WhereTold told (IsLocalDatabase)
   pub bound_is : WhereTold told (λ file. header.bound ≡ bound_of file)
   pub version_is : WhereTold told (λ file. version_by header.version ≡ version_of file)

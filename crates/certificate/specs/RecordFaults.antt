@@ -1,9 +1,9 @@
 -- What a fault of a record means.
-use Rattle.std.specs.Prelude.{◌≡◌, ℕ, ◌<◌, List}
+use Rattle.std.specs.Prelude.{ℕ, List}
 use Rattle.race_model.specs.Positions.{Board}
 use Rattle.race_model.specs.Files.{mean_of}
 use Rattle.race_model.specs.FirstFault.{Test, play_test, least_test, mean_test, spread_test}
-use Rattle.race_model.specs.FirstFault.{rank_of, place_of, Holds, Asks}
+use Rattle.race_model.specs.FirstFault.{Holds, Asks, IsFirstInRecord}
 use Rattle.fixed_fraction.specs.Totals.{Totals}
 use Rattle.certificate.specs.RecordNumbers.{IsMeanOf, IsFirstWrong}
 use Rattle.least_plays.specs.declared.recorded.PlayFault.{PlayFault}
@@ -12,18 +12,15 @@ use Rattle.certificate.specs.declared.record_check.RecordFault.{RecordFault}
 use Rattle.certificate.specs.declared.record_check.RecordFault.TheVariants.{Play, NotLeast, Mean, Spread, Read}
 
 -- of the questions about the record of a rank, this is the first whose answer is no
-pub record IsFirstInRecord (f : List ℕ) (rank : ℕ) (t : Test) : Type 0 where
-  pub of_rank : rank_of t ≡ rank
-  pub is_asked : Asks f t
-  pub fails : ¬ Holds f t
-  pub earlier : (u : Test) → rank_of u ≡ rank → place_of u < place_of t → Asks f u → Holds f u
+abbrev pub IsFirstAt : List ℕ → ℕ → Test → Type 0
+IsFirstAt f = IsFirstInRecord (Asks f) (Holds f)
 
 -- the fault is the first of the record of a rank; nothing is said where a read failed
 abbrev pub IsFirstFaultAt : List ℕ → ℕ → RecordFault → Type 0
-IsFirstFaultAt f rank (Play roll) = IsFirstInRecord f rank (play_test rank roll)
-IsFirstFaultAt f rank (NotLeast roll) = IsFirstInRecord f rank (least_test rank roll)
-IsFirstFaultAt f rank Mean = IsFirstInRecord f rank (mean_test rank)
-IsFirstFaultAt f rank (Spread k) = IsFirstInRecord f rank (spread_test rank k)
+IsFirstFaultAt f rank (Play roll) = IsFirstAt f rank (play_test rank roll)
+IsFirstFaultAt f rank (NotLeast roll) = IsFirstAt f rank (least_test rank roll)
+IsFirstFaultAt f rank Mean = IsFirstAt f rank (mean_test rank)
+IsFirstFaultAt f rank (Spread k) = IsFirstAt f rank (spread_test rank k)
 IsFirstFaultAt f rank Read = Unit {0}
 
 -- a refused play of a roll, as a fault of the record

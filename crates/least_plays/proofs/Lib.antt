@@ -3,3 +3,4 @@ pub mod StepRanks
 pub mod Rolls
 pub mod Knowing
 pub mod RecordedPlays
+pub mod FirstRefused
