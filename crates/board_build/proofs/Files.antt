@@ -1,19 +1,17 @@
 -- The built file: bytes that begin with its header, and hold all its records.
-use Rattle.std.proofs.Common.{◌≡◌, ℕ, ◌+◌, ◌-◌, ◌^◌, ◌<◌, ◌≤◌, List, length, take, drop}
+use Rattle.std.proofs.Common.{◌≡◌, ℕ, ◌+◌, ◌-◌, ◌<◌, ◌≤◌, List, length, take, drop}
 use Rattle.std.proofs.Common.{ap, sym, subst, ◌∙◌, arith}
 use Rattle.std.proofs.lemmas.List.{drop-drop, length-take-le, take-take}
-use Rattle.std.specs.Int.{w16, w32, from_be_bytes}
-use Rattle.std.proofs.lemmas.Nat.{from_be_bytes-to_be_bytes_2, from_be_bytes-to_be_bytes_4}
+use Rattle.std.specs.Int.{w16, from_be_bytes}
+use Rattle.std.proofs.lemmas.Nat.{from_be_bytes-to_be_bytes_2}
 use Rattle.race_model.specs.Positions.{Board, IsPosition, pips}
 use Rattle.race_model.specs.Ranks.{rank, count_to}
-use Rattle.race_model.specs.Files.{bytes_at, bound_of}
-use Rattle.race_model.specs.Headers.{long_enough, magic, version, bound, count, record_bytes}
-use Rattle.race_model.specs.Headers.{reserved, exact_length}
-use Rattle.race_model.specs.BoardFiles.{board_header, board_length, board_place}
-use Rattle.race_model.specs.BoardHeaders.{IsBoardFile}
+use Rattle.race_model.specs.Files.{IsBytes, bytes_at, bound_of}
+use Rattle.race_model.specs.BoardFiles.{board_header, board_length, board_place, IsBoardFile}
 use Rattle.race_model.proofs.Ranks.RankOrder.{rank_bound}
 use Rattle.race_model.proofs.Ranks.PositionTotals.{count_to-most}
 use Rattle.race_model.proofs.RightFiles.Places.{board_place-by, place_by-most}
+use Rattle.race_model.proofs.FirstFaults.HeaderFacts.{small_bytes}
 use Rattle.race_model.proofs.Books.Boards.{right_board}
 use Rattle.board_layout.proofs.Prefixes.{bytes_at-front}
 use Rattle.board_layout.proofs.SameRecords.{records-agree}
@@ -52,30 +50,23 @@ module _ (f : List ℕ) (b : ℕ) (low : b ≤ 90) (headed : take 32 f ≡ board
       ∙ from_be_bytes-to_be_bytes_2 b (omega arith)
 
   pub board_file : IsBoardFile f
-  board_file long_enough =
-      let enough : 32 ≤ length f = omega (arith, long, header_before (count_to b)) in
-      (enough, enough)
-  board_file magic = field 0 8 (omega arith)
-  board_file version = ap (from_be_bytes w16) (field 8 2 (omega arith))
-  board_file bound = omega (arith, bound_is)
-  board_file count =
-      ap (from_be_bytes w32) (field 12 4 (omega arith))
-      ∙ from_be_bytes-to_be_bytes_4 (count_to b) (few (count_to b) (count_to-most b))
-      ∙ ap count_to (sym bound_is)
-    where
-      few : (n : ℕ) → n ≤ 54264 → n < 2 ^ 32
-      few n le = omega arith
-  board_file record_bytes = ap (from_be_bytes w32) (field 16 4 (omega arith))
-  board_file reserved = field 20 12 (omega arith)
-  board_file exact_length = long ∙ ap (λ n. board_place (count_to n)) (sym bound_is)
+  board_file = record {
+    bounded = omega (arith, bound_is);
+    headed = headed ∙ ap board_header (sym bound_is);
+    whole = long ∙ ap (λ n. board_place (count_to n)) (sym bound_is);
+  }
 
   -- if all its records are those of the built file, it is that
-  pub built_board : IsBuiltTo f (count_to b) → IsBuiltBoard b f
-  built_board built = record {
+  pub built_board : IsBytes f → IsBuiltTo f (count_to b) → IsBuiltBoard b f
+  built_board small built = record {
+    bytes = small;
     bound_is = bound_is;
     right = right_board f (record {
       file = board_file;
-      at_each = λ x at few. built.local x at (under x at (omega (arith, few, bound_is)));
+      written =
+          λ x at few. (built.local x at (under x at (omega (arith, few, bound_is)))).written;
+      at_each =
+          λ x at few. (built.local x at (under x at (omega (arith, few, bound_is)))).equations;
     });
     plays = λ x at few. built.plays x at (under x at few);
   }
@@ -84,14 +75,15 @@ module _ (f : List ℕ) (b : ℕ) (low : b ≤ 90) (headed : take 32 f ≡ board
       under x at few = (rank_bound x b at).1 few
 
 -- so it is what the first bytes of a room are that hold the header and all records
-pub built_in_room : (room : List ℕ) (b total : ℕ) → b ≤ 90 → total ≡ count_to b →
+pub built_in_room : (room : List ℕ) (b total : ℕ) → IsBytes room → b ≤ 90 → total ≡ count_to b →
     take 32 room ≡ board_header b → board_place total ≤ length room → IsBuiltTo room total →
     IsBuiltBoard b (take (board_place total) room)
-built_in_room room b total low counted headed long built =
+built_in_room room b total small low counted headed long built =
     let f = take (board_place total) room in
     built_board f b low
     (take-take 32 (board_place total) room (header_before total) ∙ headed)
     (length-take-le (board_place total) room long ∙ ap board_place counted)
+    (small_bytes room 0 (board_place total) small)
     (subst (IsBuiltTo f) counted
     (built-agree room f total
     (records-agree room f (board_place total) total

@@ -15,7 +15,7 @@ use Rattle.race_model.specs.LocalEquations.{HasMeanIn}
 use Rattle.race_model.specs.Endings.{HasCountIn}
 use Rattle.race_model.specs.BoardFiles.{board_book, board_record, value_of_parts}
 use Rattle.race_model.specs.BoardFiles.{board_play_of, count_parts, told_count, count_at}
-use Rattle.race_model.specs.RightBoards.{IsWritten}
+use Rattle.race_model.specs.WrittenNumbers.{IsWritten}
 use Rattle.race_model.specs.BoardEquations.{IsLocalOnBoard}
 use Rattle.race_model.proofs.Books.Boards.{local_of_counts}
 use Rattle.race_model.proofs.Positions.Points.{no_pips}

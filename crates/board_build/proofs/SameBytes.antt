@@ -1,9 +1,9 @@
 -- Bytes under 256 that state the same numbers are the same bytes.
 use Rattle.std.proofs.Common.{◌≡◌, ⊎_elim, ◌⊎◌, ℕ, zero, suc, ◌+◌, ◌*◌, ◌^◌, ◌<◌, ◌≤◌, List, ◌++◌, length}
 use Rattle.std.proofs.Common.{take, drop, get_or, refl, ap, ap₂, sym, subst, ◌∙◌, arith}
-use Rattle.std.specs.Int.{w16, w32, w64, w128, from_be_bytes}
+use Rattle.std.specs.Int.{w16, w64, w128, from_be_bytes}
 use Rattle.std.proofs.Math.Seq.{take-add}
-use Rattle.std.proofs.lemmas.Nat.{be_bytes_2, be_bytes_4, be_bytes_8}
+use Rattle.std.proofs.lemmas.Nat.{be_bytes_2, be_bytes_8}
 use Rattle.std.proofs.lemmas.List.{get_or-take, get_or-drop, drop-drop, take_all}
 use Rattle.race_model.specs.Files.{IsBytes, bytes_at}
 use Rattle.race_model.specs.BoardFiles.{Parts, count_place, mean_parts, board_play_of, count_parts}
@@ -23,13 +23,6 @@ word_same : (xs ys : List ℕ) → length xs ≡ 8 → length ys ≡ 8 → IsByt
 word_same xs ys long also small_x small_y e =
     sym (be_bytes_8 xs (from_be_bytes w64 xs) long small_x refl)
     ∙ be_bytes_8 ys (from_be_bytes w64 xs) also small_y e
-
--- .. and four
-middle_same : (xs ys : List ℕ) → length xs ≡ 4 → length ys ≡ 4 → IsBytes xs → IsBytes ys →
-    from_be_bytes w32 xs ≡ from_be_bytes w32 ys → xs ≡ ys
-middle_same xs ys long also small_x small_y e =
-    sym (be_bytes_4 xs (from_be_bytes w32 xs) long small_x refl)
-    ∙ be_bytes_4 ys (from_be_bytes w32 xs) also small_y e
 
 -- a number of 128 bits by its halves
 halves : (f : List ℕ) (p : ℕ) →
@@ -127,32 +120,6 @@ module _ (f g : List ℕ) (size : ℕ) (long_f : length f ≡ size) (long_g : le
       word (p + 8) (omega arith) (omega (arith, whole, low_f, low_g)) first in
       let e : p + 8 + 8 ≡ p + 16 = omega arith in
       subst Same e both
-
-  middle : (p : ℕ) → p + 4 ≤ size →
-      from_be_bytes w32 (bytes_at f p 4) ≡ from_be_bytes w32 (bytes_at g p 4) → Same p →
-      Same (p + 4)
-  middle p within e same =
-      further p 4 same
-      (middle_same (bytes_at f p 4) (bytes_at g p 4)
-      (length-bytes_at f p 4 (omega (arith, long_f)))
-      (length-bytes_at g p 4 (omega (arith, long_g)))
-      (small_bytes f p 4 small_f) (small_bytes g p 4 small_g) e)
-
-  -- of headers with the same fields
-  pub headers_same : 32 ≤ size → bytes_at f 0 8 ≡ bytes_at g 0 8 →
-      from_be_bytes w16 (bytes_at f 8 2) ≡ from_be_bytes w16 (bytes_at g 8 2) →
-      from_be_bytes w16 (bytes_at f 10 2) ≡ from_be_bytes w16 (bytes_at g 10 2) →
-      from_be_bytes w32 (bytes_at f 12 4) ≡ from_be_bytes w32 (bytes_at g 12 4) →
-      from_be_bytes w32 (bytes_at f 16 4) ≡ from_be_bytes w32 (bytes_at g 16 4) →
-      bytes_at f 20 12 ≡ bytes_at g 20 12 → take 32 f ≡ take 32 g
-  headers_same within magic version bound count bytes reserved =
-      further 20 12
-      (middle 16 (omega arith) bytes
-      (middle 12 (omega arith) count
-      (short 10 (omega arith) bound
-      (short 8 (omega arith) version
-      (further 0 8 refl magic)))))
-      reserved
 
   -- of records with the same mean, plays and counts
   mean_to : 24 ≤ size → mean_parts f ≡ mean_parts g → Same 24

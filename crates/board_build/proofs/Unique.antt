@@ -9,10 +9,9 @@ use Rattle.race_model.specs.Dice.{Throw, roll_at}
 use Rattle.race_model.specs.Ranks.{rank, at_rank, count_to}
 use Rattle.race_model.specs.Horizon.{most_rolls}
 use Rattle.race_model.specs.BestPlays.{IsBestPlay}
-use Rattle.race_model.specs.Files.{IsBytes, bound_of}
-use Rattle.race_model.specs.Headers.{magic, version, count, record_bytes, reserved, exact_length}
+use Rattle.race_model.specs.Files.{IsBytes}
 use Rattle.race_model.specs.Books.{play_in, recorded_in}
-use Rattle.race_model.specs.BoardFiles.{Parts, value_of_parts, board_length, board_place, board_record}
+use Rattle.race_model.specs.BoardFiles.{Parts, value_of_parts, board_header, board_length, board_place, board_record}
 use Rattle.race_model.specs.BoardFiles.{mean_parts, board_play_of, count_parts, told_count}
 use Rattle.race_model.specs.BoardFiles.{count_at, board_book}
 use Rattle.race_model.specs.BoardEquations.{IsLocalOnBoard}
@@ -33,8 +32,7 @@ use Rattle.board_layout.proofs.SameRecords.{records-agree, mean_of-agree, count_
 use Rattle.board_records.specs.Lower.{board_mean}
 use Rattle.board_records.proofs.Weighted.{weighted-by_index}
 use Rattle.board_build.specs.BuiltBoards.{PlaysBest, IsBuiltTo, IsBuiltBoard}
-use Rattle.board_build.proofs.SameBytes.{headers_same, records_same}
-use Rattle.board_build.proofs.Files.{header_before}
+use Rattle.board_build.proofs.SameBytes.{records_same}
 
 -- a throw has one best play
 best-one : (mean : ℕ → ℕ) (x : Board) (v : Throw) (r q : ℕ) → IsBestPlay mean x v r →
@@ -223,29 +221,23 @@ module _ (f g : List ℕ) (total : ℕ) (most : total ≤ 54264) (long_f : lengt
 records_of : (b : ℕ) (f : List ℕ) → IsBuiltBoard b f → IsBuiltTo f (count_to b)
 records_of b f built = record {
   local = λ x at under.
-      (local_board f built.right).at_each x at
-      (subst (λ n. pips x ≤ n) (sym built.bound_is) ((rank_bound x b at).0 under));
+      let low = subst (λ n. pips x ≤ n) (sym built.bound_is) ((rank_bound x b at).0 under) in
+      record {
+        written = built.right.written x at low;
+        equations = (local_board f built.right).at_each x at low;
+      };
   plays = λ x at under. built.plays x at ((rank_bound x b at).0 under);
 }
 
 -- the built file is one list of bytes
-pub one_built : (b : ℕ) (f g : List ℕ) → IsBytes f → IsBytes g → IsBuiltBoard b f →
-    IsBuiltBoard b g → f ≡ g
-unfolding bound_of
-one_built b f g small_f small_g built_f built_g =
+pub one_built : (b : ℕ) (f g : List ℕ) → IsBuiltBoard b f → IsBuiltBoard b g → f ≡ g
+one_built b f g built_f built_g =
     let one = built_f.right.file in
     let other = built_g.right.file in
     let long_f : length f ≡ board_place (count_to b) =
-    one exact_length ∙ ap (λ n. board_place (count_to n)) built_f.bound_is in
+    one.whole ∙ ap (λ n. board_place (count_to n)) built_f.bound_is in
     let long_g : length g ≡ board_place (count_to b) =
-    other exact_length ∙ ap (λ n. board_place (count_to n)) built_g.bound_is in
-    lists_same f g (count_to b) (count_to-most b) long_f long_g small_f small_g
+    other.whole ∙ ap (λ n. board_place (count_to n)) built_g.bound_is in
+    lists_same f g (count_to b) (count_to-most b) long_f long_g built_f.bytes built_g.bytes
     (records_of b f built_f) (records_of b g built_g)
-    (headers_same f g (board_place (count_to b)) long_f long_g small_f small_g
-    (header_before (count_to b))
-    (one magic ∙ sym (other magic))
-    (one version ∙ sym (other version))
-    (built_f.bound_is ∙ sym built_g.bound_is)
-    (one count ∙ ap count_to (built_f.bound_is ∙ sym built_g.bound_is) ∙ sym (other count))
-    (one record_bytes ∙ sym (other record_bytes))
-    (one reserved ∙ sym (other reserved)))
+    (one.headed ∙ ap board_header (built_f.bound_is ∙ sym built_g.bound_is) ∙ sym other.headed)

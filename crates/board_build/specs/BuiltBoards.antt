@@ -4,10 +4,10 @@ use Rattle.race_model.specs.Positions.{Board, IsPosition, pips}
 use Rattle.race_model.specs.Dice.{Throw, IsRoll}
 use Rattle.race_model.specs.Ranks.{rank, count_to}
 use Rattle.race_model.specs.BestPlays.{IsBestPlay}
-use Rattle.race_model.specs.Files.{bound_of}
+use Rattle.race_model.specs.Files.{IsBytes, bound_of}
 use Rattle.race_model.specs.Books.{play_in}
 use Rattle.race_model.specs.BoardFiles.{board_book, board_place}
-use Rattle.race_model.specs.RightBoards.{IsRightBoard}
+use Rattle.race_model.specs.RightFiles.{IsRightBoard}
 use Rattle.board_records.specs.Lower.{AreLocalTo}
 use Rattle.board_build.specs.declared.build_fault.BoardBuildFault.{BoardBuildFault}
 use Rattle.board_build.specs.declared.build_fault.BoardBuildFault.TheVariants.{OverBound, Room}
@@ -22,8 +22,9 @@ pub record IsBuiltTo (f : List ℕ) (n : ℕ) : Type 0 where
   pub local : AreLocalTo f n
   pub plays : (x : Board) → IsPosition x → rank x < n → PlaysBest f x
 
--- a file has that bound and is right, and its plays are the best ones
+-- a file of bytes has that bound and is right, and its plays are the best ones
 pub record IsBuiltBoard (bound : ℕ) (f : List ℕ) : Type 0 where
+  pub bytes : IsBytes f
   pub bound_is : bound_of f ≡ bound
   pub right : IsRightBoard f
   pub plays : (x : Board) → IsPosition x → pips x ≤ bound → PlaysBest f x

@@ -2,6 +2,7 @@
 ghost use Rattle.std.specs.Prelude.{◌≡◌, ℕ, ◌+◌, ◌<◌, ◌≤◌, ◌⊎◌, length, take, drop, slice_index, IfOk, IfErr};
 ghost use Rattle.race_model.specs.Positions.{pips};
 ghost use Rattle.race_model.specs.Ranks.{at_rank};
+ghost use Rattle.race_model.specs.Files.{IsBytes};
 ghost use Rattle.race_model.specs.BoardFiles.{board_length, board_place};
 ghost use Rattle.least_plays.specs.Known.{HasRows, Knows};
 ghost use Rattle.board_records.specs.Lower.{AreRecords, board_mean};
@@ -61,7 +62,8 @@ fn build_with_rows<const ROWS: usize, const COUNT: usize>(header: &BoardHeader, 
     requires positions { COUNT ≤ 54264 }
     requires room { board_place header.now.count ≤ length room.old }
     ensures len { length room.new ≡ length room.old }
-    ensures built { IsBuiltBoard header.now.bound (take (board_place header.now.count) room.new) }
+    ensures built { IsBytes room.new →
+        IsBuiltBoard header.now.bound (take (board_place header.now.count) room.new) }
     ensures rest { drop (board_place header.now.count) room.new
         ≡ drop (board_place header.now.count) room.old }
 {

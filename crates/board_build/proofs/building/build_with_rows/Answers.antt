@@ -195,8 +195,8 @@ loop-rank-preserved g c =
     }
 
 pub returns-clause-built : goal.returns-clause-built
-returns-clause-built g c =
-    built_in_room c.loop-rank.room c.args.header.now.bound c.args.header.now.count
+returns-clause-built g c = λ small.
+    built_in_room c.loop-rank.room c.args.header.now.bound c.args.header.now.count small
     c.args.header.now.bounded c.args.header.now.counted c.loop-rank.invariant.headed
     (omega (arith, c.loop-rank.invariant.len, c.requires.room))
     (let all : c.loop-rank.rank ≡ c.args.header.now.count =
