@@ -1,11 +1,11 @@
 //! The check of all records of a board file, by rising rank.
-ghost use Rattle.std.specs.Prelude.{◌≡◌, ℕ, ◌+◌, ◌<◌, ◌≤◌, ◌↔◌, IsOk, IfOk, IfErr, OnOk, length, slice_index};
+ghost use Rattle.std.specs.Prelude.{◌≡◌, ℕ, ◌+◌, ◌<◌, ◌≤◌, ◌↔◌, IsOk, IfOk, IfErr, IsTrue, OnOk, length, slice_index};
 ghost use Rattle.race_model.specs.Positions.{pips};
 ghost use Rattle.race_model.specs.Ranks.{at_rank, count_to};
 ghost use Rattle.race_model.specs.Files.{bound_of, bytes_at};
 ghost use Rattle.race_model.specs.BoardFiles.{board_length, board_record};
-ghost use Rattle.race_model.specs.BoardHeaders.{IsBoardFile};
-ghost use Rattle.race_model.specs.RightBoards.{IsRightBoard};
+ghost use Rattle.race_model.specs.BoardFiles.{IsBoardFile};
+ghost use Rattle.race_model.specs.RightFiles.{IsRight, IsRightBoard};
 ghost use Rattle.race_model.specs.BoardEquations.{IsLocalOnBoard, IsLocalBoard};
 ghost use Rattle.least_plays.specs.Known.{Knows};
 ghost use Rattle.board_records.specs.Lower.{board_mean};
@@ -15,6 +15,8 @@ use crate::fault::{BoardFault, RecordFault, of_refused};
 use crate::numbers::{check_numbers, plays_in};
 use board_layout::{BoardHeader, BoardPlace, BoardRecord, parse_board_header};
 use board_records::LowerRecords;
+use certificate::check;
+use db_reader::Whole;
 use least_plays::{LeastPlays, ROWS_TO_90, check_plays};
 use race_model::laws;
 use ranking::Ranks;
@@ -34,6 +36,7 @@ pub fn check_board(bytes: &[u8]) -> Result<BoardHeader, BoardFault>
     ensures fault { IfErr result (IsFirst bytes.now) }
 {
     laws::law_boards();
+    laws::law_header();
     let header = match parse_board_header(bytes) {
         Ok(header) => header,
         Err(fault) => return Err(BoardFault::Header(fault)),
@@ -42,6 +45,18 @@ pub fn check_board(bytes: &[u8]) -> Result<BoardHeader, BoardFault>
         Ok(()) => Ok(header),
         Err(fault) => Err(fault),
     }
+}
+
+/// Whether some bytes are a right file, of whichever version their header states: whether they have
+/// its form, every mean in them is the least over all strategies, also those that look at the
+/// history, the recorded plays reach it, and the recorded shares are those of these plays. (What is
+/// checked is a one-sided database of the GNU Backgammon manual; the file is this project's
+/// profile.)
+pub fn is_right(bytes: &[u8]) -> bool
+    ensures { IsTrue result ↔ IsRight bytes.now }
+{
+    laws::law_versions();
+    check(Whole::new(bytes)).is_ok() || check_board(bytes).is_ok()
 }
 
 /// Tests the records of a file with this header.

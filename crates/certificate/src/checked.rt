@@ -1,12 +1,12 @@
 //! The checker's verdict, and an accepted table with its answers.
-ghost use Rattle.std.specs.Prelude.{◌≡◌, ℕ, ◌<◌, ◌≤◌, ◌↔◌, Err, slice_index, IsTrue, IsOk, IfOk, IfErr, OnOk};
+ghost use Rattle.std.specs.Prelude.{◌≡◌, ℕ, ◌<◌, ◌≤◌, ◌↔◌, Err, slice_index, IsOk, IfOk, IfErr, OnOk};
 ghost use Rattle.race_model.specs.Positions.{IsPosition, IsFinished, pips};
 ghost use Rattle.race_model.specs.Plays.{Legal};
 ghost use Rattle.race_model.specs.Ranks.{rank as rank_of, count_to};
 ghost use Rattle.race_model.specs.Versions.{compact, version_number};
 ghost use Rattle.race_model.specs.Files.{version_of, bound_of, mean as mean_of, spread as share_of};
-ghost use Rattle.race_model.specs.LocalEquations.{recorded, IsLocal};
-ghost use Rattle.race_model.specs.RightFiles.{IsRight, follow};
+ghost use Rattle.race_model.specs.LocalEquations.{recorded, IsLocalDatabase};
+ghost use Rattle.race_model.specs.RightFiles.{IsRightDatabase, follow};
 ghost use Rattle.race_model.specs.Fractions.{IsMean, IsEffectivePips};
 ghost use Rattle.race_model.specs.Strategies.{IsLeast, count_of};
 ghost use Rattle.race_model.specs.FirstPlays.{IsFirstPlay};
@@ -28,7 +28,7 @@ use crate::query_fault::QueryFault;
 use crate::upgrade_fault::UpgradeFault;
 use crate::upgrading::write_upgrade;
 use db_layout::{COMPACT_VERSION, Header};
-use db_reader::{Record, Table, Whole};
+use db_reader::{Record, Table};
 use fixed_fraction::{Fraction, Scaled, Spread, epc, mean};
 use home_board::Position;
 use legal_plays::{Play, Roll, play_to};
@@ -82,10 +82,10 @@ impl<T: Table> Model for Checked<T> {
 pub fn check<T: Table>(mut table: T) -> Result<Checked<T>, (T, CheckFault)>
     ensures told { IfOk result (λ checked. checked.told ≡ T.tells table) }
     ensures back { IfErr result (λ refused. T.tells refused.0 ≡ T.tells table) }
-    ensures right { WhereTold (T.tells table) (λ file. OnOk result (IsRight file)) }
+    ensures right { WhereTold (T.tells table) (λ file. OnOk result (IsRightDatabase file)) }
     ensures exactly { WhereTold (T.tells table) (λ file.
         IfErr result (λ refused. T.failures refused.0 ≡ T.failures table) →
-        IsOk result ↔ IsRight file) }
+        IsOk result ↔ IsRightDatabase file) }
     ensures first { WhereTold (T.tells table)
         (λ file. IfErr result (λ refused. IsFirst file refused.1)) }
     ensures ok_cause { WhereTold (T.tells table)
@@ -107,21 +107,13 @@ pub fn check<T: Table>(mut table: T) -> Result<Checked<T>, (T, CheckFault)>
     })
 }
 
-/// Whether some bytes are a right database: whether every mean in them is the least over all
-/// strategies, the recorded plays reach it, and the recorded shares are those of these plays.
-pub fn is_right(bytes: &[u8]) -> bool
-    ensures { IsTrue result ↔ IsRight bytes.now }
-{
-    check(Whole::new(bytes)).is_ok()
-}
-
 impl<T: Table> Checked<T> {
     /// The pip bound of the accepted header, 0 to 58. Where the table tells its bytes, they are a
     /// right database and it is their bound.
     pub fn bound(&self) -> u8
         ensures bound { result ≡ self.now.bound }
         ensures right { WhereTold self.now.told
-            (λ file. IsRight file × (self.now.bound ≡ bound_of file)) }
+            (λ file. IsRightDatabase file × (self.now.bound ≡ bound_of file)) }
         ensures range { result ≤ 58 }
     {
         laws::law_right();
@@ -322,7 +314,7 @@ fn load<T: Table>(
     ensures rank { IfOk result (λ rank. rank ≡ rank_of position.now) }
     ensures ready { IfOk result (λ rank. T.ready table.new room.new rank) }
     ensures local { WhereTold (T.tells table.old) (λ file. OnOk result
-        (IsLocal file × (pips position.now ≤ bound_of file))) }
+        (IsLocalDatabase file × (pips position.now ≤ bound_of file))) }
     ensures fault { IfErr result RefusesNumbers }
     ensures stays { TableStays ⟦<T as Table>⟧ table.old table.new (result ≡ Err QueryFault.Read) }
 {

@@ -2,7 +2,7 @@
 ghost use Rattle.std.specs.Prelude.{◌≡◌, ℕ, ◌+◌, ◌<◌, ◌≤◌, List, Some, Err, IfOk, IfErr, OnOk};
 ghost use Rattle.race_model.specs.Versions.{version_by};
 ghost use Rattle.race_model.specs.Files.{version_of, bound_of};
-ghost use Rattle.race_model.specs.LocalEquations.{IsLocal};
+ghost use Rattle.race_model.specs.LocalEquations.{IsLocalDatabase};
 ghost use Rattle.least_plays.specs.Known.{HasRows};
 ghost use Rattle.db_reader.specs.Telling.{WhereTold, RoseWhere};
 ghost use Rattle.db_reader.specs.TableStays.{TableStays};
@@ -35,7 +35,7 @@ const ROOM_TO_58: usize = 35798;
 pub fn check_records<T: Table>(table: &mut T, ranks: &Ranks) -> Result<Header, CheckFault>
     ensures stays { T.tells table.new ≡ T.tells table.old }
     ensures accepted { IfOk result (λ header. T.accepted table.new ≡ Some header) }
-    ensures local { WhereTold (T.tells table.old) (λ file. OnOk result (IsLocal file)) }
+    ensures local { WhereTold (T.tells table.old) (λ file. OnOk result (IsLocalDatabase file)) }
     ensures bound { WhereTold (T.tells table.old)
         (λ file. IfOk result (λ header. header.bound ≡ bound_of file)) }
     ensures version { WhereTold (T.tells table.old)
@@ -78,7 +78,7 @@ fn check_with_room<T: Table, const ROOM: usize, const ROWS: usize>(
     requires file { WhereTold (T.tells table.old)
         (λ file. HasHeader file header) }
     ensures header { IfOk result (λ same. same ≡ header) }
-    ensures local { WhereTold (T.tells table.old) (λ file. OnOk result (IsLocal file)) }
+    ensures local { WhereTold (T.tells table.old) (λ file. OnOk result (IsLocalDatabase file)) }
     ensures first { WhereTold (T.tells table.old) (λ file. IfErr result (IsFirst file)) }
     ensures stays { TableStays ⟦<T as Table>⟧ table.old table.new (result ≡ Err CheckFault.Read) }
 {

@@ -22,7 +22,7 @@ mod upgrade_fault;
 mod upgrading;
 
 pub use check_fault::CheckFault;
-pub use checked::{Checked, check, is_right};
+pub use checked::{Checked, check};
 pub use lines::fault_line;
 pub use numbers::spread_in;
 pub use query_fault::QueryFault;

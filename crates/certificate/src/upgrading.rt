@@ -5,7 +5,7 @@ ghost use Rattle.race_model.specs.Positions.{pips};
 ghost use Rattle.race_model.specs.Ranks.{at_rank, count_to};
 ghost use Rattle.race_model.specs.Versions.{version_by, compact};
 ghost use Rattle.race_model.specs.Files.{bound_of, mean_of};
-ghost use Rattle.race_model.specs.LocalEquations.{whole, IsLocal};
+ghost use Rattle.race_model.specs.LocalEquations.{whole, IsLocalDatabase};
 ghost use Rattle.db_layout.specs.Writes.{AppendsPart};
 ghost use Rattle.db_reader.specs.Telling.{WhereTold};
 ghost use Rattle.db_reader.specs.TableStays.{TableStays};
@@ -59,7 +59,7 @@ fn write_compact<T: Table, W: Write>(
     requires rank { rank < header.now.count }
     requires has { HasRecord (T.accepted table.old) rank }
     requires local { WhereTold (T.tells table.old)
-        (λ file. IsLocal file × (header.now.bound ≡ bound_of file)) }
+        (λ file. IsLocalDatabase file × (header.now.bound ≡ bound_of file)) }
     ensures all { WhereTold (T.tells table.old) (λ file. OnOk result
         (Appends (W.contents writer.old) (W.contents writer.new) (compact_record file rank))) }
     ensures part { WhereTold (T.tells table.old) (λ file. OnErr result
@@ -99,7 +99,7 @@ pub fn write_upgrade<T: Table, W: Write>(
 ) -> Result<(), UpgradeFault>
     requires header { T.accepted table.old ≡ Some old.now }
     requires local { WhereTold (T.tells table.old)
-        (λ file. IsLocal file × (old.now.bound ≡ bound_of file)) }
+        (λ file. IsLocalDatabase file × (old.now.bound ≡ bound_of file)) }
     ensures upgraded { WhereTold (T.tells table.old) (λ file. OnOk result
         (WritesUpgrade file (W.contents writer.old) (W.contents writer.new))) }
     ensures refused { WhereTold (T.tells table.old) (λ file. IfErr result

@@ -2,7 +2,9 @@
 ghost use Rattle.std.specs.Prelude.{◌≡◌, length};
 
 use crate::given::{WHOLE_BYTES, accepted};
-use certificate::{CheckFault, QueryFault, check, fault_line, is_right};
+use board_build::build_board;
+use board_check::is_right;
+use certificate::{CheckFault, QueryFault, check, fault_line};
 use db_layout::HeaderFault;
 use db_reader::trial::FailOnce;
 use db_reader::{Table, Whole};
@@ -245,6 +247,25 @@ fn a_record_of_ones(rt: HostRuntime) {
     let fault = CheckFault::Play { rank: 1, roll: 0 };
     assert_eq!(rt; fault_of(&file), Some(fault));
     assert_eq!(rt; (is_right(&file), is_right(&bound_one())), (false, true));
+}
+
+/// The board file of three pips, its bytes, and one with another version in its header: what is
+/// right goes by the version that is stated.
+#[test]
+fn files_of_each_version(rt: HostRuntime) -> Result<(), Fail> {
+    let mut room = [0; 2048];
+    let count = build_board(3, &mut room).map_err(|_| "no board file")?;
+    assert_eq!(rt; is_right(&room[..count]), true);
+    assert_eq!(rt; is_right(&room[..count - 1]), false);
+    room[9] = 2;
+    assert_eq!(rt; is_right(&room[..count]), false);
+    room[9] = 3;
+    room[count - 1] ^= 1;
+    assert_eq!(rt; is_right(&room[..count]), false);
+    let mut file = bound_one();
+    file[9] = 3;
+    assert_eq!(rt; is_right(&file), false);
+    Ok(())
 }
 
 #[test]
