@@ -512,7 +512,9 @@ def compare_headline(page):
     ]
     stated = re.search(r"(\w+) files, (\d+) lines", part.group(1))
     counted = (
-        ["no", *"one two three four five six seven eight nine ten eleven twelve".split()][len(found)],
+        ["no", *"one two three four five six seven eight nine ten eleven twelve".split()][
+            len(found)
+        ],
         str(len(lines)),
     )
     if not stated or stated.groups() != counted:

@@ -26,11 +26,12 @@ database version =
 abbrev pub board : Kind
 board = record { layout = board_layout; written = IsWritten; book = board_book }
 
--- the kind that a header states: a board file where its version is 3, else a database
+-- the kind by whether it is that of board files, and else by the version of a database
 abbrev pub kind_by : Bool → Version → Kind
 kind_by true version = board
 kind_by false version = database version
 
+-- the kind that a header states: that of board files where its version is 3
 unfoldable pub kind_of : List ℕ → Kind
 kind_of f = kind_by (from_be_bytes w16 (bytes_at f 8 2) == 3) (version_of f)
 
