@@ -18,8 +18,7 @@ use Rattle.clap.specs.Takes.{bundle_passes, default_passes, entered_passes, flag
 use Rattle.clap.specs.Takes.{step_passes, turn_passes, walk_passes, word_passes}
 use Rattle.clap.specs.declared.parser.matches.ArgMatches.{ArgMatches}
 use Rattle.clap.proofs.WalkLemmas.{first_value-rows, one_text-rows}
-use Rattle.command_line.specs.Asked.{IsPlain, begins_with_name}
-use Rattle.std.proofs.lemmas.Slice.Eq.{bytes_eq-Decides}
+use Rattle.command_line.specs.Asked.{IsPlain}
 use Rattle.command_line.specs.Commands.{build_app, file_app, query_app, upgrade_app}
 use Rattle.command_line.proofs.WalkValues.{Each, first_is_word}
 
@@ -285,19 +284,3 @@ pub one_from : (a b : App) (words given : List Text) (m : ArgMatches) (id : Text
     → one_of id (matches_of b given) ≡ one → one_text (found_of m) id ≡ one
 one_from a b words given m id one same simple has are is =
     one_read a b words m id same simple has ∙ ap (λ ws. one_of id (matches_of b ws)) are ∙ is
-
--- ---- no command
-
-differ : (a b : Text) → (a ≡ b → ⊥) → bytes_eq a b ≡ false
-differ a b h = go (bytes_eq a b) refl
-  where
-    go : (t : Bool) → bytes_eq a b ≡ t → bytes_eq a b ≡ false
-    go true e = absurd (h ((bytes_eq-Decides a b).0 e))
-    go false e = e
-
-pub no_name : (words : List Text) (first : Text) (rest : List Text) → words ≡ first ∷ rest
-    → (first ≡ codes "build" → ⊥) → (first ≡ codes "check" → ⊥)
-    → (first ≡ codes "query" → ⊥) → (first ≡ codes "audit" → ⊥) → (first ≡ codes "upgrade" → ⊥)
-    → begins_with_name words ≡ false
-no_name words first rest is b c q a u =
-    rw (is, differ _ _ b, differ _ _ c, differ _ _ q, differ _ _ a, differ _ _ u) refl

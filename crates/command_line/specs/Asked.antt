@@ -1,8 +1,8 @@
 -- What words ask for.
-use Rattle.std.specs.Prelude.{◌≡◌, ◌==◌, ◌&&◌, ◌||◌, ℕ, Bool, true, false, not, List, [], ◌∷◌}
+use Rattle.std.specs.Prelude.{◌≡◌, ◌⊎◌, ◌==◌, ◌&&◌, ◌||◌, ℕ, Bool, true, false, not, List, [], ◌∷◌}
 use Rattle.std.specs.Str.Parse.{IsNumeral, digits_value}
 use Rattle.std.specs.Prelude.{Option, Result, IfOk, IfErr, codes}
-use Rattle.std.specs.List.{Contains, list_any}
+use Rattle.std.specs.List.{Contains}
 use Rattle.std.specs.Str.{bytes_eq}
 use Rattle.clap.specs.Words.{Text, kind_of}
 use Rattle.clap.specs.declared.error.Error.{Error}
@@ -82,19 +82,14 @@ abbrev pub FollowsBoard : Text → List Text → Text → Type 0
 FollowsBoard name words text = (rest : List Text) × (words ≡ name ∷ rest)
     × (names_board rest ≡ true) × Contains rest text
 
--- the names of the commands
-abbrev pub names : List Text
-names = codes "build" ∷ codes "check" ∷ codes "query" ∷ codes "audit" ∷ codes "upgrade" ∷ []
-
--- whether the first word is one of them
-abbrev pub begins_with_name : List Text → Bool
-begins_with_name [] = false
-begins_with_name (word ∷ rest) = list_any (bytes_eq word) names
+-- no word stands there, or the one that ends the options, alone
+abbrev pub HasNoCommand : List Text → Type 0
+HasNoCommand words = (words ≡ []) ⊎ (words ≡ codes "--" ∷ [])
 
 -- the command is the first word, each path is one of the others, and so is `--board` where the
 -- request is of a board file
 abbrev pub IsAskedBy : List Text → Request → Type 0
-IsAskedBy words request.Default = begins_with_name words ≡ false
+IsAskedBy words request.Default = HasNoCommand words
 IsAskedBy words (request.Build pips path) = Follows (codes "build") words path.now
 IsAskedBy words (request.Check path) = Follows (codes "check") words path.now
 IsAskedBy words (request.Query path cache) = Follows (codes "query") words path.now

@@ -130,8 +130,9 @@ const QUERY: &str = "Checks FILE, then answers each line of standard input";
 
 const AUDIT: &str = "Checks FILE, then tells the least and the greatest mean of each pip count";
 
-/// What the words after the program's own name ask for, where there is none `Default`. An error of
-/// `clap`'s is a mistake in the words, a help text that they ask for, or want of memory.
+/// What the words after the program's own name ask for, where there is none, or `--` alone,
+/// `Default`. An error of `clap`'s is a mistake in the words, a help text that they ask for, or want
+/// of memory.
 // so that its room is not on the stack while the request is fulfilled
 #[inline(never)]
 pub fn read_words<'a, S: AsStr>(alloc: Global, words: &'a [S]) -> Result<Request<'a>, Error>
@@ -180,9 +181,10 @@ pub fn read_words<'a, S: AsStr>(alloc: Global, words: &'a [S]) -> Result<Request
         "audit" if has_board(rest) => read_audit_board(alloc, rest),
         "audit" => read_audit(alloc, rest),
         "upgrade" => read_upgrade(alloc, rest),
+        "--" if rest.is_empty() => Ok(Request::Default),
         _ => {
             command(alloc)?.try_get_matches_from(words)?;
-            Ok(Request::Default)
+            missing(alloc, "a command is missing")
         }
     }
 }

@@ -1,16 +1,7 @@
 use Rattle.std.proofs.Common.{rules, ap, sym, ◌≡◌, ◌∙◌, ◌∷◌, map, drop}
 use Rattle.command_line.specs.Asked.{names_board}
 use Rattle.command_line.proofs.BoardWords.{number_names_none}
-use Rattle.command_line.proofs.PlainWords.{no_name}
 use Rattle.command_line.proofs.words.read_words.Goals as goal
-
-pub returns-in_ok-try_get_matches_from-in_default-as_str-clause-asked :
-    goal.returns-in_ok-try_get_matches_from-in_default-as_str-clause-asked
-returns-in_ok-try_get_matches_from-in_default-as_str-clause-asked g c =
-    let o = c.in_default-as_str in
-    no_name (map g.S.AsStr.text c.args.words.now) c.as_str.result.now
-    (map g.S.AsStr.text c.in-Some.rest.now) (search rules)
-    o.not-build o.not-check o.not-query o.not-audit o.not-upgrade
 
 pub returns-in-build-clause-build : goal.returns-in-build-clause-build
 returns-in-build-clause-build g c n digits path w lt plain words_are =
