@@ -1,9 +1,10 @@
 //! What answers lines: the one place where a database in bytes and a table of pages meet.
-ghost use Rattle.std.specs.Prelude.{◌≡◌, ℕ, List, [], ◌∷◌, Err, MatchResult};
+ghost use Rattle.std.specs.Prelude.{◌≡◌, ℕ, List, [], ◌∷◌, Err, MatchResult, IfErr};
 ghost use Rattle.db_reader.specs.Telling.{WhereTold};
 ghost use Rattle.certificate.specs.Databases.{Database, Stays};
 ghost use Rattle.epc_query.specs.AnyFiles.{AnyFile};
 ghost use Rattle.epc_query.specs.Runs.{HasReplies, IsStoppedAt};
+ghost use Rattle.epc_query.specs.UsedReads.{IsLineFault};
 
 use crate::run_fault::RunFault;
 use crate::text::Text;
@@ -33,5 +34,6 @@ pub trait Answers {
             (W.contents writer.old) (W.contents writer.new))
             (IsStoppedAt (kind file) (line.now ∷ [])
             (W.contents writer.old) (W.contents writer.new))) }
+        ensures cause { IfErr result IsLineFault }
         ensures stays { Stays (seen self.old) (seen self.new) (result ≡ Err RunFault.Table) };
 }

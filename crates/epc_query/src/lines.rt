@@ -1,11 +1,12 @@
 //! The lines of an input, answered as soon as they are whole.
 ghost use Rattle.std.specs.Prelude.{◌≡◌, ℕ, ◌+◌, ◌^◌, ◌<◌, ◌≤◌, List, [], ◌∷◌, ◌++◌, length};
-ghost use Rattle.std.specs.Prelude.{Option, Some, Err, MatchOption, MatchResult, IfOk, OnErr};
+ghost use Rattle.std.specs.Prelude.{Option, Some, Err, MatchOption, MatchResult, IfOk, IfErr, OnErr};
 ghost use Rattle.std.specs.Io.KnownBytes.{Keeps};
 ghost use Rattle.race_model.specs.InputLines.{HasNoFeed, whole_lines, lines_of};
 ghost use Rattle.db_reader.specs.Telling.{WhereTold};
 ghost use Rattle.certificate.specs.Databases.{Stays};
 ghost use Rattle.epc_query.specs.Runs.{HasReplies, IsStoppedAt, IsFirstFeed, IsAnswered};
+ghost use Rattle.epc_query.specs.UsedReads.{IsLineFault};
 
 use crate::answers::Answers;
 use crate::line_buffer::{LineBuffer, whole_line};
@@ -45,6 +46,7 @@ fn answer_piece<A: Answers, W: Write>(
         ≡ length (whole_lines done) + 1))
         (IsStoppedAt (A.kind file) (whole_lines ((done ++ piece.now) ++ 10 ∷ [])) start
         (W.contents writer.new))) }
+    ensures cause { IfErr result IsLineFault }
     ensures stays { Stays (A.seen answers.old) (A.seen answers.new) (result ≡ Err RunFault.Table) }
 {
     laws::law_lines();
@@ -78,6 +80,7 @@ pub(crate) fn answer_chunk<A: Answers, W: Write>(
         (IsStoppedAt (A.kind file) (whole_lines (done ++ chunk.now)) start
         (W.contents writer.new))) }
     ensures few { IfOk result (λ n. n ≤ length chunk.now) }
+    ensures cause { IfErr result IsLineFault }
     ensures stays { Stays (A.seen answers.old) (A.seen answers.new) (result ≡ Err RunFault.Table) }
 {
     laws::law_input_lines();
@@ -110,6 +113,7 @@ pub(crate) fn answer_last<A: Answers, W: Write>(
         × (length (lines_of done) ≡ length (whole_lines done) + n))
         (IsStoppedAt (A.kind file) (lines_of done) start (W.contents writer.new))) }
     ensures few { IfOk result (λ n. n ≤ 1) }
+    ensures cause { IfErr result IsLineFault }
     ensures stays { Stays (A.seen answers.old) (A.seen answers.new) (result ≡ Err RunFault.Table) }
 {
     laws::law_lines();

@@ -7,7 +7,7 @@ ghost use Rattle.db_reader.specs.Telling.{WhereTold};
 ghost use Rattle.certificate.specs.Databases.{Stays};
 ghost use Rattle.epc_query.specs.AnyFiles.{database_file};
 ghost use Rattle.epc_query.specs.Runs.{HasReplies, IsStoppedAt, IsAnswered, IsRunStopped};
-ghost use Rattle.epc_query.specs.UsedReads.{HasUsed};
+ghost use Rattle.epc_query.specs.UsedReads.{HasUsed, IsLineFault, IsSpent};
 
 use crate::answers::Answers;
 use crate::line_buffer::LineBuffer;
@@ -53,8 +53,8 @@ pub fn run<T: Table, R: Read, W: Write>(
         (λ input. IfErr result
         (IsRunStopped (database_file file) input (R.remaining reader.new) (W.contents writer.old)
         (W.contents writer.new)))) }
-    ensures used { WhereTold checked.old.told (λ _. WhereTold (R.remaining reader.old)
-        (λ input. IfErr result (HasUsed turns input (R.remaining reader.new)))) }
+    ensures used { WhereTold (R.remaining reader.old)
+        (λ input. IfErr result (HasUsed turns input (R.remaining reader.new))) }
     ensures stays { Stays checked.old checked.new (result ≡ Err RunFault.Table) }
 {
     run_lines(alloc, checked, reader, writer, turns)
@@ -78,8 +78,8 @@ pub fn run_lines<A: Answers, R: Read, W: Write>(
         WhereTold (R.remaining reader.old) (λ input. IfErr result
         (IsRunStopped (A.kind file) input (R.remaining reader.new) (W.contents writer.old)
         (W.contents writer.new)))) }
-    ensures used { WhereTold (A.seen answers.old).told (λ _. WhereTold (R.remaining reader.old)
-        (λ input. IfErr result (HasUsed turns input (R.remaining reader.new)))) }
+    ensures used { WhereTold (R.remaining reader.old)
+        (λ input. IfErr result (HasUsed turns input (R.remaining reader.new))) }
     ensures stays { Stays (A.seen answers.old) (A.seen answers.new) (result ≡ Err RunFault.Table) }
 {
     let turns = turns.min(MOST_TURNS);
@@ -109,9 +109,9 @@ fn answer_reads<A: Answers, R: Read, W: Write>(
         WhereTold (R.remaining reads.old.reader.now) (λ input. IfErr result
         (IsRunStopped (A.kind file) input (R.remaining reads.new.reader.now)
         (W.contents writer.old) (W.contents writer.new)))) }
-    ensures used { WhereTold (A.seen answers.old).told (λ _.
-        WhereTold (R.remaining reads.old.reader.now) (λ input. IfErr result
-        (HasUsed turns input (R.remaining reads.new.reader.now)))) }
+    ensures used { WhereTold (R.remaining reads.old.reader.now)
+        (λ input. IfErr result (HasUsed turns input (R.remaining reads.new.reader.now))) }
+    ensures spent { IfErr result (IsSpent reads.new.left) }
     ensures stays { Stays (A.seen answers.old) (A.seen answers.new) (result ≡ Err RunFault.Table) }
 {
     laws::law_input_lines();
@@ -154,6 +154,7 @@ fn answer_end<A: Answers, W: Write>(
         × (length (lines_of done) ≡ length (whole_lines done) + n))
         (IsStoppedAt (A.kind file) (lines_of done) start (W.contents writer.new))) }
     ensures few { IfOk result (λ n. n ≤ 1) }
+    ensures cause { IfErr result IsLineFault }
     ensures stays { Stays (A.seen answers.old) (A.seen answers.new) (result ≡ Err RunFault.Table) }
 {
     let count = answer_last(alloc, answers, held, text, writer)?;

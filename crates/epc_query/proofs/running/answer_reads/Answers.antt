@@ -3,7 +3,7 @@ use Rattle.std.proofs.lemmas.List.{length-take}
 use Rattle.race_model.specs.InputLines.{lines_of}
 use Rattle.certificate.proofs.Databases.{stays_more}
 use Rattle.epc_query.proofs.Runs.{read_none, read_more, read_all, read_front, stopped_in, run_stopped}
-use Rattle.epc_query.proofs.UsedReads.{used_in, longer}
+use Rattle.epc_query.proofs.UsedReads.{used_at, spent_at, longer}
 use Rattle.epc_query.proofs.running.answer_reads.Goals as goal
 
 pub returns-in_default-clause-stopped : goal.returns-in_default-clause-stopped
@@ -69,8 +69,13 @@ loop-turn-preserved g c =
             read_more input _ _ so_far.0 _ so_far.1 read.bytes.0,
             has.0,
             omega (arith, has.1, so_far.3),
+          );
+      read = λ input u.
+          let so_far = c.loop-turn.invariant.read input u in (
+            so_far.0 ++ take c.in-Ok.taken c.next.new.buf,
+            read_more input _ _ so_far.0 _ so_far.1 read.bytes.0,
             longer so_far.0 c.next.new.buf c.in-Ok.taken _ (omega (arith, c.if-taken-eq0.false))
-                (omega (arith, c.next.auto.buf, read.bound)) so_far.4,
+                (omega (arith, c.next.auto.buf, read.bound)) so_far.2,
           );
       few = omega (
         arith,
@@ -93,24 +98,31 @@ returns-clause-stopped g c = λ file t input u.
     (so_far.0, so_far.1, so_far.2.replies)
 
 pub returns-clause-used : goal.returns-clause-used
-returns-clause-used g c = λ file t input u.
-    let so_far = c.loop-turn.invariant.taken file t input u in
-    (so_far.0, so_far.1, omega (arith, so_far.4))
+returns-clause-used g c = λ input u.
+    let so_far = c.loop-turn.invariant.read input u in
+    (so_far.0, so_far.1, omega (arith, so_far.2))
+
+pub returns-clause-spent : goal.returns-clause-spent
+returns-clause-spent g c = omega (arith, c.loop-turn.invariant.left)
 
 pub returns-in_err-count-clause-used : goal.returns-in_err-count-clause-used
-returns-in_err-count-clause-used g c = λ file t input u.
-    let so_far = c.loop-turn.invariant.taken file t input u in
-    let fault = c.in_err-count.field-0.0 in
-    let same : c.from_residual.result ≡ Err fault = search rules in
-    let stopped = (c.in_err-count.ensures {u = tt}).answered file
-    (c.loop-turn.invariant.stays.told ∙ t) so_far.0 _ so_far.2 in
-    rw same (used_in (g.A.Answers.kind file) _ _ _ c.args.turns input _ fault stopped)
+returns-in_err-count-clause-used g c = λ input u.
+    let same : c.from_residual.result ≡ Err c.in_err-count.field-0.0 = search rules in
+    rw same (used_at c.args.turns input _ _ (c.in_err-count.ensures {u = tt}).cause)
 
 pub returns-in_err-count-2-clause-used : goal.returns-in_err-count-2-clause-used
-returns-in_err-count-2-clause-used g c = λ file t input u.
-    let so_far = c.loop-turn.invariant.taken file t input u in
-    let fault = c.in_err-count-2.field-0.0 in
-    let same : c.from_residual-in_err-count-2.result ≡ Err fault = search rules in
-    let stopped = (c.in_err-count-2.ensures {u = tt}).answered file
-    (c.loop-turn.invariant.stays.told ∙ t) so_far.0 _ so_far.2 in
-    rw same (used_in (g.A.Answers.kind file) _ _ _ c.args.turns input _ fault stopped)
+returns-in_err-count-2-clause-used g c = λ input u.
+    let same : c.from_residual-in_err-count-2.result ≡ Err c.in_err-count-2.field-0.0 =
+    search rules in
+    rw same (used_at c.args.turns input _ _ (c.in_err-count-2.ensures {u = tt}).cause)
+
+pub returns-in_err-count-clause-spent : goal.returns-in_err-count-clause-spent
+returns-in_err-count-clause-spent g c =
+    let same : c.from_residual.result ≡ Err c.in_err-count.field-0.0 = search rules in
+    rw same (spent_at _ _ (c.in_err-count.ensures {u = tt}).cause)
+
+pub returns-in_err-count-2-clause-spent : goal.returns-in_err-count-2-clause-spent
+returns-in_err-count-2-clause-spent g c =
+    let same : c.from_residual-in_err-count-2.result ≡ Err c.in_err-count-2.field-0.0 =
+    search rules in
+    rw same (spent_at _ _ (c.in_err-count-2.ensures {u = tt}).cause)

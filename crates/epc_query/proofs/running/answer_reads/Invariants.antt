@@ -14,7 +14,10 @@ invariant-loop-turn g l = record {
       × Consumes (Some input) (g.R.Read.remaining l.reads.reader.now) done
       × IsAnswered (g.A.Answers.kind file) done (g.W.Write.contents l.initial.writer)
       (g.W.Write.contents l.writer) l.held
-      × (length (whole_lines done) ≡ l.count) × (l._turn ≤ length done)));
+      × (length (whole_lines done) ≡ l.count)));
+  read : WhereTold (g.R.Read.remaining l.initial.reads.reader.now) (λ input. (done : List ℕ)
+      × Consumes (Some input) (g.R.Read.remaining l.reads.reader.now) done
+      × (l._turn ≤ length done));
   few : l.count ≤ 4096 * l._turn;
   long : length l.chunk ≡ 4096;
   left : l.reads.left + l._turn ≡ l.turns;
