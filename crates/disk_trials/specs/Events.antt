@@ -70,7 +70,8 @@ earlier (event ∷ before) = moment before ∷ earlier before
 
 -- one folder, no links, and the names can be made sure of
 abbrev pub one_folder : Paths
-one_folder = record { folder = λ _. 0; link = λ _. None; fleeting = λ _. false }
+one_folder =
+    record { folder = λ _. 0; link = λ _. None; fleeting = λ _. false; fixed = λ _. false }
 
 -- a name was taken away, and another one, or the same, given to a file, or to none
 pub record IsNamed (from to : List ℕ) (file : Option ℕ) (old new : List Event) : Type 0 where

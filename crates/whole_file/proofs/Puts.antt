@@ -96,7 +96,9 @@ puts paths path names begun handed old mid new Whole written (Err fault) is_begu
 puts paths path names begun handed old mid new Whole (Err fault) (Ok done) is_begun whole failed
     is_put = absurd (cc)
 puts paths path None begun handed old mid new Whole (Ok x) (Ok done) is_begun whole failed is_put =
-    λ first past is to leads. inl (is_put (is_begun first past is))
+    λ first past is to leads.
+    let begun = is_begun first past is in
+    inl (is_put begun.0, begun.1)
 puts paths path (Some names) begun handed old mid new Whole (Ok x) (Ok done) is_begun whole failed
     is_put = λ first past is to leads.
     inr (put_beside {T = Unit {0}} paths path to names begun handed old mid new Whole whole.0 tt first

@@ -12,7 +12,7 @@ use Rattle.whole_file.specs.declared.disk.Made.TheVariants.{File, Taken, Refused
 abbrev pub AnswersLink : Option (List ℕ) → Link → Type 0
 AnswersLink target (To path) = target ≡ Some (string_bytes path)
 AnswersLink target Not = target ≡ None
-AnswersLink target Broken = Unit {0}
+AnswersLink target Broken = ⊥
 
 -- a file was made that has no bytes yet, or nothing changed
 abbrev pub AnswersMade : {F : Type 0} → (F → Option (List ℕ)) → ℕ × List ℕ
@@ -21,6 +21,12 @@ AnswersMade contents place old new (File file) = Steps (Creates place) old new
     × ((moments : List Moment) → old ≡ Some moments → contents file ≡ Some [])
 AnswersMade contents place old new Taken = new ≡ old
 AnswersMade contents place old new Refused = new ≡ old
+
+-- a file was made, or its name is another one's
+abbrev pub IsAllowed : {F : Type 0} → Made F → Type 0
+IsAllowed (File file) = Unit {0}
+IsAllowed Taken = Unit {0}
+IsAllowed Refused = ⊥
 
 -- the names of a folder were made sure of, or they can't be
 abbrev pub AnswersSettled : Paths → ℕ → Option (List Moment) → Option (List Moment) → Bool

@@ -2,7 +2,7 @@
 use Rattle.std.specs.Prelude.{◌≡◌, ◌≢◌, ℕ, ◌⊎◌, List, [], ◌∷◌, IsTrue, Option, Some, None, Result, Ok, Err}
 use Rattle.std.specs.String.{string_bytes}
 use Rattle.whole_file.specs.Disks.{Moment, Holds, IsSameAt, MayLeave, Goes, Lastly}
-use Rattle.whole_file.specs.Paths.{Paths, LeadsTo, PathStays, folder_of, place_of}
+use Rattle.whole_file.specs.Paths.{Paths, IsFixed, LeadsTo, PathStays, folder_of, place_of}
 use Rattle.whole_file.specs.declared.draft.Names.{Names}
 use Rattle.whole_file.specs.declared.fault.DraftFault.{DraftFault}
 
@@ -51,12 +51,13 @@ pub record Finishes {T : Type 0} (paths : Paths) (path : List ℕ) (bytes : List
   pub goes : Goes (IsOldOrWhole (place_of paths path) (λ b. b ≡ bytes) first) (first ∷ past) told
   pub ends : Lastly (Ends paths path bytes first result) told
 
--- a file was begun: beside the place to which a path leads, which stays as it was, or straight, and
--- then the disk tells nothing more
+-- a file was begun: beside the place to which a path leads, which stays as it was, or straight, as
+-- no file can take that place, and then the disk tells nothing more
 abbrev pub IsBegun : Paths → List ℕ → Option Names → Option (List ℕ) → Option (List Moment)
     → Option (List Moment) → Type 0
 IsBegun paths path None contents old new =
-    (first : Moment) (past : List Moment) → old ≡ Some (first ∷ past) → new ≡ None
+    (first : Moment) (past : List Moment) → old ≡ Some (first ∷ past)
+    → (new ≡ None) × IsFixed paths path
 IsBegun paths path (Some names) contents old new = PathStays paths path old new
     × IsReady paths names contents old new
     × ((first : Moment) (past : List Moment) → old ≡ Some (first ∷ past)

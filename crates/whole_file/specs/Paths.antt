@@ -1,17 +1,20 @@
 -- The text of a path: the folder before its last slash and the name behind it, and where a link
 -- leads. Source: this project's profile.
-use Rattle.std.specs.Prelude.{◌≡◌, ℕ, zero, suc, Bool, List, ◌++◌, Option, Some, None, codes, if◌then◌else◌}
+use Rattle.std.specs.Prelude.{◌≡◌, ℕ, zero, suc, ◌<◌, ◌⊎◌, Bool, true, IsTrue, ◌||◌, List, ◌∷◌, ◌++◌}
+use Rattle.std.specs.Prelude.{Option, Some, None, codes, if◌then◌else◌}
 use Rattle.std.specs.List.{starts_with}
 use Rattle.std.specs.Prelude.{nat_eq}
 use Rattle.std.specs.Path.{rsplit_once}
 use Rattle.whole_file.specs.Disks.{Moment, IsSameAt, Runs}
 
 -- how the paths of a disk are read: the number of the folder that a text names, where a path leads
--- that names a link, and of which folders the names can't be made sure of
+-- that names a link, of which folders the names can't be made sure of, and in which of them no file
+-- can take the place of another
 pub record Paths : Type 0 where
   pub folder : List ℕ → ℕ
   pub link : List ℕ → Option (List ℕ)
   pub fleeting : ℕ → Bool
+  pub fixed : ℕ → Bool
 
 -- the folder in the two parts of a path, with a slash at its end
 abbrev pub folder_in : Option (List ℕ × List ℕ) → List ℕ
@@ -60,3 +63,22 @@ IsSameBehind paths path old new =
 -- .. so it stays
 abbrev pub PathStays : Paths → List ℕ → Option (List Moment) → Option (List Moment) → Type 0
 PathStays paths path old new = Runs (IsSameBehind paths path) old new
+
+-- whether a path is the name of an open file
+abbrev pub is_open_name : List ℕ → Bool
+is_open_name path = starts_with nat_eq path (codes "/dev/std")
+    || starts_with nat_eq path (codes "/dev/fd/") || starts_with nat_eq path (codes "/proc/")
+
+-- no file can take the place to which a path leads: over its links it leads to the name of an open
+-- file, or over more than 40 of them, or into a folder in which no file can do so
+pub record IsFixed (paths : Paths) (path : List ℕ) : Type 0 where
+  pub links : ℕ
+  pub to : List ℕ
+  pub leads : LeadsBy links paths path to
+  pub why : (is_open_name to ≡ true) ⊎ (40 < links)
+      ⊎ ((paths.link to ≡ None) × IsTrue (paths.fixed (paths.folder (folder_of to))))
+
+-- .. on a disk that tells its moments
+abbrev pub IsFixedOn : Paths → List ℕ → Option (List Moment) → Type 0
+IsFixedOn paths path told =
+    (first : Moment) (past : List Moment) → told ≡ Some (first ∷ past) → IsFixed paths path

@@ -1,9 +1,10 @@
 //! A disk, as far as it is needed to write a file.
-ghost use Rattle.std.specs.Prelude.{◌≡◌, ℕ, true, false, List, [], Option, Some, None, IfOk, OnOk, OnErr};
+ghost use Rattle.std.specs.Prelude.{◌≡◌, ℕ, true, false, IsTrue, List, [], Option, Some, None};
+ghost use Rattle.std.specs.Prelude.{IfOk, OnOk, OnErr};
 ghost use Rattle.std.specs.String.{string_bytes};
 ghost use Rattle.whole_file.specs.Disks.{Moment, Steps, Settles, Renames, Removes, SettlesNames};
-ghost use Rattle.whole_file.specs.Paths.{Paths, place_of};
-ghost use Rattle.whole_file.specs.Calls.{AnswersLink, AnswersMade, AnswersSettled};
+ghost use Rattle.whole_file.specs.Paths.{Paths, folder_of, place_of};
+ghost use Rattle.whole_file.specs.Calls.{AnswersLink, AnswersMade, AnswersSettled, IsAllowed};
 
 use std::alloc::{AllocError, Global};
 use std::io::{Read, Seek, Write};
@@ -56,9 +57,9 @@ pub enum Made<F> {
 
 /// A disk, as far as it is needed to write a file (this project's profile).
 ///
-/// A disk that tells its moments has files and links alone, and nobody else changes it: it says at
-/// each moment which file stands where, and what a crash may leave. Of a disk that tells nothing,
-/// as that of the system, no answer is promised.
+/// A disk that tells its moments has files and links alone, of one owner and on one device, and
+/// nobody else changes it: it says at each moment which file stands where, and what a crash may
+/// leave. Of a disk that tells nothing, as that of the system, no answer is promised.
 pub trait Disk {
     /// A file that is being written.
     type File: Write + Drop;
@@ -110,20 +111,27 @@ pub trait Disk {
     /// written, nor in one to which names can be added alone.
     fn can_be_replaced(&mut self, path: &str) -> bool
         ensures paths { paths self.new ≡ paths self.old }
-        ensures stays { told self.new ≡ told self.old };
+        ensures stays { told self.new ≡ told self.old }
+        ensures fixed { (moments : List Moment) → told self.old ≡ Some moments → result ≡ false
+            → IsTrue ((paths self.old).fixed ((paths self.old).folder (folder_of path.now))) };
 
-    /// Makes a file where none is, with these permissions at most.
+    /// Makes a file where none is, with these permissions at most. A disk that tells its moments
+    /// refuses none for its folder.
     fn create(&mut self, path: &str, mode: u32) -> Result<Made<Self::File>, DiskFault>
         ensures paths { paths self.new ≡ paths self.old }
         ensures made { IfOk result (AnswersMade Self.File.contents
             (place_of (paths self.old) path.now) (told self.old) (told self.new)) }
+        ensures allowed { (moments : List Moment) → told self.old ≡ Some moments
+            → IfOk result IsAllowed }
         ensures failed { OnErr result (told self.new ≡ told self.old) };
 
     /// Gives a new file the owner, the group and the permissions of another one; whether it has
     /// them, and lies on the same device.
     fn make_like(&mut self, file: &Self::File, other: &FileFacts) -> Result<bool, DiskFault>
         ensures paths { paths self.new ≡ paths self.old }
-        ensures stays { told self.new ≡ told self.old };
+        ensures stays { told self.new ≡ told self.old }
+        ensures like { (moments : List Moment) → told self.old ≡ Some moments
+            → IfOk result (λ like. like ≡ true) };
 
     /// Takes all bytes out of an old file that is open, to be written straight; whether it was
     /// done. Not where another run writes into it. From then on the disk tells nothing.

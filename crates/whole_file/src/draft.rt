@@ -1,14 +1,14 @@
 //! A file that is written as a whole: into a new file beside it, which takes its place once it is
 //! complete. A run that fails or is killed leaves the old file as it was.
 ghost use Rattle.std.specs.Prelude.{◌≡◌, ◌⊎◌, ℕ, List, [], ◌∷◌, Option, Some, None, Ok, Err};
-ghost use Rattle.std.specs.Prelude.{IfOk, IfErr, IfSome, IsSomeAnd, OnOk, OnErr, MatchOption};
+ghost use Rattle.std.specs.Prelude.{IfOk, IfErr, IfSome, IsSome, IsSomeAnd, OnOk, OnErr, MatchOption};
 ghost use Rattle.std.specs.Io.KnownBytes.{Keeps};
 ghost use Rattle.std.specs.String.{string_bytes};
 ghost use Rattle.std.specs.Io.Buffered.{writer_contents};
 ghost use Rattle.whole_file.specs.Disks.{Moment, Goes, IsSameAt, Steps, Settles, Renames, StaysAt};
-ghost use Rattle.whole_file.specs.Calls.{AnswersBeside, AnswersSettled, RemovesOrStays};
+ghost use Rattle.whole_file.specs.Calls.{AnswersBeside, AnswersSettled, IsAllowed, RemovesOrStays};
 ghost use Rattle.whole_file.specs.Drafts.{IsDraft, IsReady, IsBegun, IsDropped, IsPut, Finishes};
-ghost use Rattle.whole_file.specs.Paths.{LeadsTo, PathStays, place_of};
+ghost use Rattle.whole_file.specs.Paths.{IsFixedOn, LeadsTo, PathStays, is_open_name, place_of};
 ghost use Rattle.whole_file.specs.declared.fault.DraftFault.TheVariants.{Write};
 
 use crate::disk::{Disk, DiskFault, FileFacts, Link, Made};
@@ -151,6 +151,8 @@ fn begin_in_place<D: Disk>(
     ensures begun { IfOk result (λ begun. IfSome begun (λ draft. IfSome draft
         (λ draft. IsBegun (D.paths disk.old) path.now draft.names
         (writer_contents D.File.contents draft.writer) (D.told disk.old) (D.told disk.new)))) }
+    ensures fixed { IfOk result (λ begun. MatchOption begun
+        (IsFixedOn (D.paths disk.old) path.now (D.told disk.old)) (λ _. Unit {0})) }
     ensures stays { PathStays (D.paths disk.old) path.now (D.told disk.old) (D.told disk.new) }
 {
     let Some(place) = find_place(disk, alloc, path)? else {
@@ -245,6 +247,8 @@ fn begin_beside<D: Disk>(
         (string_bytes names.place ≡ string_bytes place) × IsReady (D.paths disk.old) names
         (writer_contents D.File.contents draft.writer)
         (D.told disk.old) (D.told disk.new)))) }
+    ensures some { (first : Moment) (past : List Moment) → D.told disk.old ≡ Some (first ∷ past)
+        → IfOk result (λ draft. IsSome draft) }
     ensures stays { StaysAt (place_of (D.paths disk.old) (string_bytes place))
         (D.told disk.old) (D.told disk.new) }
 {
@@ -280,9 +284,11 @@ fn find_place<D: Disk>(
     ensures leads { IfOk result (λ found. IfSome found (λ place. (moments : List Moment)
         → D.told disk.old ≡ Some moments
         → LeadsTo (D.paths disk.old) path.now (string_bytes place))) }
+    ensures fixed { IfOk result (λ found. MatchOption found
+        (IsFixedOn (D.paths disk.old) path.now (D.told disk.old)) (λ _. Unit {0})) }
 {
     let mut place = String::from_str(alloc, path)?;
-    'links: for _ in 0..=LINKS {
+    'links: for _followed in 0..LINKS + 1 {
         if is_open_file(place.as_str()) {
             return Ok(None);
         }
@@ -297,7 +303,9 @@ fn find_place<D: Disk>(
 }
 
 /// Whether a name is that of an open file.
-fn is_open_file(path: &str) -> bool {
+fn is_open_file(path: &str) -> bool
+    ensures { result ≡ is_open_name path.now }
+{
     path.starts_with("/dev/std") || path.starts_with("/dev/fd/") || path.starts_with("/proc/")
 }
 
@@ -317,6 +325,8 @@ fn create_beside<D: Disk>(
         (string_bytes made.1.place ≡ string_bytes place)
         × IsReady (D.paths disk.old) made.1 (D.File.contents made.0)
         (D.told disk.old) (D.told disk.new))) }
+    ensures some { (moments : List Moment) → D.told disk.old ≡ Some moments
+        → IfOk result (λ made. IsSome made) }
 {
     let folder = folder_of(alloc, place.as_str())?;
     let run = disk.run_text(alloc)?;
@@ -342,6 +352,8 @@ fn create_at<D: Disk>(
     ensures made { IfOk result (AnswersBeside D.File.contents
         (place_of (D.paths disk.old) place.now) (place_of (D.paths disk.old) new.now)
         (D.told disk.old) (D.told disk.new)) }
+    ensures allowed { (moments : List Moment) → D.told disk.old ≡ Some moments
+        → IfOk result IsAllowed }
     ensures failed { OnErr result (D.told disk.new ≡ D.told disk.old) }
 {
     if name_of(new) == name_of(place) {

@@ -57,7 +57,12 @@ where
 
     ghost told = { λ _. None };
 
-    ghost paths = { λ _. record { folder = λ _. 0; link = λ _. None; fleeting = λ _. true } };
+    ghost paths = { λ _. record {
+      folder = λ _. 0;
+      link = λ _. None;
+      fleeting = λ _. true;
+      fixed = λ _. true;
+    } };
 
     fn open(&mut self, path: &str) -> Result<Option<R::File>, DiskFault> {
         match OpenOptions::new().write(true).open(self.files, path) {

@@ -1,10 +1,10 @@
 -- A new file that is given back leaves its place as it was.
-use Rattle.std.proofs.Common.{◌≡◌, ◌∙◌, subst, sym}
+use Rattle.std.proofs.Common.{◌≡◌, ◌∙◌, ◌∷◌, subst, sym}
 use Rattle.std.specs.Prelude.{IsSomeAnd}
 use Rattle.std.specs.Io.Buffered.{writer_contents}
 use Rattle.std.specs.String.{string_bytes}
 use Rattle.whole_file.specs.Drafts.{IsReady}
-use Rattle.whole_file.proofs.Stays.{stays_dropped, ready_kept}
+use Rattle.whole_file.proofs.Stays.{stays_dropped, ready_kept, told_on}
 use Rattle.whole_file.proofs.draft.begin_beside.Goals as goal
 
 pub returns-in-Ok-clause-ready : goal.returns-in-Ok-clause-ready
@@ -40,3 +40,13 @@ returns-in-Err-clause-stays g c =
     stays_dropped _ c.in-Some.names _ _ _ _ _ made.0 c.create_beside.ensures.stays made.1
     (rw (c.make_like.ensures.paths ∙ c.create_beside.ensures.paths, c.make_like.ensures.stays) at
     c.discard-in-Err.ensures.gone)
+
+-- a disk that tells its moments makes each file like another
+pub returns-in-Ok-false-clause-some : goal.returns-in-Ok-false-clause-some
+returns-in-Ok-false-clause-some g c first past told =
+    let goes = c.create_beside.ensures.stays first past told in
+    let mid = g.D.Disk.told c.create_beside.new.disk in
+    let last = told_on first past goes.since mid goes.told_is in
+    let like = c.in-Ok-false.ensures.like (last.0 ∷ last.1) last.2 in
+    let test = c.in-Ok-false.field-0-test in
+    cc

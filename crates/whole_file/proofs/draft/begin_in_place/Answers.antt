@@ -1,5 +1,5 @@
 -- The place is the one to which the path leads.
-use Rattle.std.proofs.Common.{◌∙◌}
+use Rattle.std.proofs.Common.{◌∙◌, sym, true≢false}
 use Rattle.std.specs.String.{string_bytes}
 use Rattle.whole_file.proofs.Stays.{path_stays, begun_beside}
 use Rattle.whole_file.proofs.draft.begin_in_place.Goals as goal
@@ -36,3 +36,12 @@ returns-in-None-clause-stays g c =
     let told = c.can_be_replaced.ensures.stays ∙ c.facts_at.ensures.stays ∙ c.find_place.ensures.stays in
     path_stays _ _ (string_bytes c.in-Some.place) _ _ leads
     (rw (paths, told) at c.begin_beside.ensures.stays)
+
+-- a file beside one whose name can be given away can be made
+pub returns-in-None-clause-fixed : goal.returns-in-None-clause-fixed
+returns-in-None-clause-fixed g c first past told =
+    let same =
+    c.can_be_replaced.ensures.stays ∙ c.facts_at.ensures.stays ∙ c.find_place.ensures.stays ∙ told
+    in
+    let some = rw c.in-None.is at (c.in_ok-draft.ensures.some first past same) in
+    absurd (true≢false (sym some))

@@ -1,5 +1,5 @@
 -- So many links lead to the path that is looked at.
-use Rattle.std.proofs.Common.{◌≡◌, ℕ, List, Some}
+use Rattle.std.proofs.Common.{◌≡◌, List, Some}
 use Rattle.std.specs.String.{string_bytes}
 use Rattle.whole_file.specs.Disks.{Moment}
 use Rattle.whole_file.specs.Paths.{LeadsBy}
@@ -10,4 +10,4 @@ invariant-links g l =
     (g.D.Disk.paths l.disk ≡ g.D.Disk.paths l.initial.disk)
     × (g.D.Disk.told l.disk ≡ g.D.Disk.told l.initial.disk)
     × ((moments : List Moment) → g.D.Disk.told l.initial.disk ≡ Some moments
-    → (n : ℕ) × LeadsBy n (g.D.Disk.paths l.initial.disk) l.path (string_bytes l.place))
+    → LeadsBy l._followed (g.D.Disk.paths l.initial.disk) l.path (string_bytes l.place))
