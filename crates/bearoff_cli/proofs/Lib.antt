@@ -1,3 +1,4 @@
+mod CommandFaults
 mod Levels
 mod OpenedFiles
 mod PutFiles

@@ -32,8 +32,9 @@ use Rattle.command_line.specs.declared.words.Request.TheVariants.{Upgrade, Board
 use Rattle.command_line.specs.declared.words.BoardCommand.{BoardCommand}
 use Rattle.command_line.specs.declared.words.BoardCommand.TheVariants.{Build as BuildBoard, Check as CheckBoard}
 use Rattle.command_line.specs.declared.words.BoardCommand.TheVariants.{Query as QueryBoard, Audit as AuditBoard}
-use Rattle.bearoff_cli.specs.Faults.{IsFaultIn, IsFirstBy, IsOwnFault, IsFaultOf, IsRefused}
-use Rattle.bearoff_cli.specs.StoppedRuns.{IsRefusalOf, Leaves}
+use Rattle.bearoff_cli.specs.Faults.{CanEnd, IsFaultIn, IsFirstBy, IsOwnFault, IsFaultOf, IsRefused}
+use Rattle.bearoff_cli.specs.StoppedRuns.{IsEndOf, IsRefusalOf, Leaves}
+use Rattle.bearoff_cli.specs.Turns.{UsesTurns}
 use Rattle.bearoff_cli.specs.Tellings.{IsToldBy}
 use Rattle.bearoff_cli.specs.declared.act.ProgramFault.{ProgramFault}
 use Rattle.bearoff_cli.specs.declared.act.ProgramFault.TheVariants.{Words, Failed}
@@ -153,28 +154,46 @@ nothing_of remaining (Board CheckBoard path) input left old fault = inl refl
 nothing_of remaining (Board QueryBoard path) input left old fault = λ given told. inl refl
 nothing_of remaining (Board AuditBoard path) input left old fault = inl refl
 
--- the fault of the request that was read, and what was written for it, are those of this one
-pub same_fault : {F : Type 0} (remaining : F → Option (List ℕ)) (request given : Request)
+-- .. so it may be the end of each
+pub memory_end : {F : Type 0} (remaining : F → Option (List ℕ)) (request : Request)
+    (input left old : Option (List ℕ)) → IsEndOf remaining request input left old old Memory
+memory_end remaining request input left old = (
+  can_want request,
+  memory_of remaining request,
+  λ given told. tt,
+  nothing_of remaining request input left old Memory,
+)
+  where
+    can_want : (request : Request) → CanEnd request Memory
+    can_want Default = tt
+    can_want (Build pips path) = (inl tt, λ over. inr refl)
+    can_want (Check path) = tt
+    can_want (Query path records) = tt
+    can_want (Audit path) = tt
+    can_want (Upgrade before after) = tt
+    can_want (Board BuildBoard path) = tt
+    can_want (Board CheckBoard path) = tt
+    can_want (Board QueryBoard path) = tt
+    can_want (Board AuditBoard path) = tt
+
+-- the end of the request that was read is that of this one
+pub same_end : {F : Type 0} (remaining : F → Option (List ℕ)) (request given : Request)
     (input left old new : Option (List ℕ)) (fault : Fault) → IsSame request given
-    → IsFaultOf remaining given fault × Leaves remaining given input left old new fault
-    → IsFaultOf remaining request fault × Leaves remaining request input left old new fault
-same_fault remaining request given input left old new fault =
-    of_same (λ r. IsFaultOf remaining r fault × Leaves remaining r input left old new fault)
+    → IsEndOf remaining given input left old new fault
+    → IsEndOf remaining request input left old new fault
+same_end remaining request given input left old new fault =
+    of_same (λ r. IsEndOf remaining r input left old new fault)
     (λ n p q h. h) (λ p q h. h) of_query (λ p q h. h) (λ p q r s h. h) of_command request given
   where
     of_query : (p q : _) (r : Option ℕ)
-        → IsFaultOf remaining (Query p r) fault
-        × Leaves remaining (Query p r) input left old new fault
-        → IsFaultOf remaining (Query q r) fault
-        × Leaves remaining (Query q r) input left old new fault
+        → IsEndOf remaining (Query p r) input left old new fault
+        → IsEndOf remaining (Query q r) input left old new fault
     of_query p q None h = h
     of_query p q (Some n) h = h
 
     of_command : (command : BoardCommand) (p q : _)
-        → IsFaultOf remaining (Board command p) fault
-        × Leaves remaining (Board command p) input left old new fault
-        → IsFaultOf remaining (Board command q) fault
-        × Leaves remaining (Board command q) input left old new fault
+        → IsEndOf remaining (Board command p) input left old new fault
+        → IsEndOf remaining (Board command q) input left old new fault
     of_command BuildBoard p q h = h
     of_command CheckBoard p q h = h
     of_command QueryBoard p q h = h
@@ -183,14 +202,19 @@ same_fault remaining request given input left old new fault =
 -- .. where that fault is the refusal
 pub same_refusal : {A F : Type 0} (remaining : F → Option (List ℕ)) (request given : Request)
     (input left old new : Option (List ℕ)) (ended : Result A Fault) (r : Result A ProgramFault)
-    → IsSame request given → IfErr ended (λ fault. IsFaultOf remaining given fault)
+    → IsSame request given → IfErr ended (λ fault. CanEnd given fault)
+    → IfErr ended (λ fault. IsFaultOf remaining given fault)
+    → IfErr ended (λ fault. UsesTurns input left fault)
     → IfErr ended (λ fault. Leaves remaining given input left old new fault)
     → IfOk ended (λ done. r ≡ Ok done) → IfErr ended (λ fault. r ≡ Err (Failed fault))
     → IfErr r (λ refusal. IsRefusalOf remaining request input left old new refusal)
-same_refusal remaining request given input left old new (Ok x) r same fault leaves done failed =
+same_refusal remaining request given input left old new (Ok x) r same can fault turns leaves done
+    failed =
     rw done tt
-same_refusal remaining request given input left old new (Err e) r same fault leaves done failed =
-    rw failed (same_fault remaining request given input left old new e same (fault, leaves))
+same_refusal remaining request given input left old new (Err e) r same can fault turns leaves done
+    failed =
+    rw failed
+    (same_end remaining request given input left old new e same (can, fault, turns, leaves))
 
 -- what was done where no refusal came is done
 pub done_if : {A P Q : Type 0} (ended : Result A Fault) (r : Result A ProgramFault) → OnOk ended P
@@ -207,7 +231,7 @@ pub told_end : {A F : Type 0} (remaining : F → Option (List ℕ)) (request : R
     → IfErr r (λ refusal. IsRefusalOf remaining request input left old new refusal)
     → 0 < status
     → (fault : Fault) × ((status ≡ status_of fault) × Line (error_line fault)
-    × IsFaultOf remaining request fault × Leaves remaining request input left old new fault)
+    × IsEndOf remaining request input left old new fault)
 told_end remaining request input left old new (Ok x) status Line Same silent told refusal some =
     absurd (omega (arith, silent.0, some))
 told_end remaining request input left old new (Err (Words e)) status Line Same silent told refusal
@@ -215,4 +239,4 @@ told_end remaining request input left old new (Err (Words e)) status Line Same s
     absurd refusal
 told_end remaining request input left old new (Err (Failed e)) status Line Same silent told refusal
     some =
-    (e, (told.0, told.1, refusal.0, refusal.1))
+    (e, (told.0, told.1, refusal))

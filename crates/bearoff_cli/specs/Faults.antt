@@ -75,3 +75,64 @@ IsFaultOf remaining (Board BuildBoard path) fault = status_of fault ≡ 1
 IsFaultOf remaining (Board CheckBoard path) fault = IsOwnFault board_file remaining fault
 IsFaultOf remaining (Board QueryBoard path) fault = IsOwnFault board_file remaining fault
 IsFaultOf remaining (Board AuditBoard path) fault = IsOwnFault board_file remaining fault
+
+-- what a command that writes a file, and reads none, can fail by
+abbrev pub IsBuildFault : Fault → Type 0
+IsBuildFault Open = Unit {0}
+IsBuildFault Write = Unit {0}
+IsBuildFault Memory = Unit {0}
+IsBuildFault _ = ⊥
+
+-- .. one that reads a file whole, before it tells anything of it
+abbrev pub IsReadFault : Fault → Type 0
+IsReadFault Open = Unit {0}
+IsReadFault File = Unit {0}
+IsReadFault Memory = Unit {0}
+IsReadFault _ = ⊥
+
+-- .. one that checks a file, or audits it
+abbrev pub IsCheckFault : Fault → Type 0
+IsCheckFault Open = Unit {0}
+IsCheckFault File = Unit {0}
+IsCheckFault Write = Unit {0}
+IsCheckFault Memory = Unit {0}
+IsCheckFault (Refused cause) = Unit {0}
+IsCheckFault _ = ⊥
+
+-- .. one that upgrades it
+abbrev pub IsUpgradeFault : Fault → Type 0
+IsUpgradeFault NotOld = Unit {0}
+IsUpgradeFault fault = IsCheckFault fault
+
+-- what the answers to an input can fail by, over a file that was accepted
+abbrev pub IsAnswerFault : Fault → Type 0
+IsAnswerFault File = Unit {0}
+IsAnswerFault Read = Unit {0}
+IsAnswerFault Write = Unit {0}
+IsAnswerFault Memory = Unit {0}
+IsAnswerFault Turns = Unit {0}
+IsAnswerFault _ = ⊥
+
+-- .. and over one that was opened
+abbrev pub IsQueryFault : Fault → Type 0
+IsQueryFault Open = Unit {0}
+IsQueryFault (Refused cause) = Unit {0}
+IsQueryFault fault = IsAnswerFault fault
+
+-- a bound over the greatest is told as that, if not as want of memory, and no other one is
+abbrev pub IsBoundFault : ℕ → Fault → Type 0
+IsBoundFault pips fault = (IsBuildFault fault ⊎ (fault ≡ OverBound))
+    × (58 < pips → (fault ≡ OverBound) ⊎ (fault ≡ Memory))
+
+-- the faults that a request can end with
+abbrev pub CanEnd : Request → Fault → Type 0
+CanEnd Default = IsAnswerFault
+CanEnd (Build pips path) = IsBoundFault pips
+CanEnd (Check path) = IsCheckFault
+CanEnd (Query path records) = IsQueryFault
+CanEnd (Audit path) = IsCheckFault
+CanEnd (Upgrade before after) = IsUpgradeFault
+CanEnd (Board BuildBoard path) = IsBuildFault
+CanEnd (Board CheckBoard path) = IsCheckFault
+CanEnd (Board QueryBoard path) = IsQueryFault
+CanEnd (Board AuditBoard path) = IsCheckFault

@@ -6,3 +6,4 @@ pub mod RefusedFiles
 pub mod Requests
 pub mod StoppedRuns
 pub mod Tellings
+pub mod Turns

@@ -19,8 +19,9 @@ use Rattle.command_line.specs.declared.words.BoardCommand.TheVariants.{Build as 
 use Rattle.command_line.specs.declared.words.BoardCommand.TheVariants.{Query as QueryBoard, Audit as AuditBoard}
 use Rattle.exit_status.specs.Causes.{of_run}
 use Rattle.exit_status.specs.declared.fault.Fault.{Fault}
-use Rattle.bearoff_cli.specs.Faults.{IsFaultOf}
+use Rattle.bearoff_cli.specs.Faults.{CanEnd, IsFaultOf}
 use Rattle.bearoff_cli.specs.FileAnswers.{AreLevelLines, IsReadFrom, count_line}
+use Rattle.bearoff_cli.specs.Turns.{UsesTurns}
 use Rattle.bearoff_cli.specs.declared.act.Done.TheVariants.{Built, Checked, Upgraded}
 use Rattle.bearoff_cli.specs.declared.act.ProgramFault.{ProgramFault}
 use Rattle.bearoff_cli.specs.declared.act.ProgramFault.TheVariants.{Words, Failed}
@@ -109,9 +110,17 @@ Leaves remaining (Board QueryBoard path) input left old new fault =
 Leaves remaining (Board AuditBoard path) input left old new fault =
     LeavesLevels board_file remaining old new
 
--- a request was refused so, and its words are not wrong
+-- a request ended so: with a fault that it can end with, which comes where it is said to, and with
+-- what was read and written by then
+abbrev pub IsEndOf : {F : Type 0} → (F → Option (List ℕ)) → Request → Option (List ℕ)
+    → Option (List ℕ) → Option (List ℕ) → Option (List ℕ) → Fault → Type 0
+IsEndOf remaining request input left old new fault = CanEnd request fault
+    × IsFaultOf remaining request fault × UsesTurns input left fault
+    × Leaves remaining request input left old new fault
+
+-- .. as a refusal: its words are not wrong
 abbrev pub IsRefusalOf : {F : Type 0} → (F → Option (List ℕ)) → Request → Option (List ℕ)
     → Option (List ℕ) → Option (List ℕ) → Option (List ℕ) → ProgramFault → Type 0
 IsRefusalOf remaining request input left old new (Words error) = ⊥
 IsRefusalOf remaining request input left old new (Failed fault) =
-    IsFaultOf remaining request fault × Leaves remaining request input left old new fault
+    IsEndOf remaining request input left old new fault

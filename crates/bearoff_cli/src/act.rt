@@ -10,12 +10,14 @@ ghost use Rattle.exit_status.specs.Causes.{of_check};
 ghost use Rattle.exit_status.specs.Lines.{error_line};
 ghost use Rattle.exit_status.specs.Statuses.{status_of};
 ghost use Rattle.exit_status.specs.declared.fault.Fault.{Fault};
-ghost use Rattle.exit_status.specs.declared.fault.Fault.TheVariants.{OverBound};
+ghost use Rattle.exit_status.specs.declared.fault.Fault.TheVariants.{OverBound, Write};
 ghost use Rattle.command_line.specs.declared.words.Request.{Request};
 ghost use Rattle.certificate.specs.CheckFaults.{IsFirst};
 ghost use Rattle.certificate.specs.declared.check_fault.CheckFault.{CheckFault};
-ghost use Rattle.bearoff_cli.specs.Tellings.{IsToldBy};
-ghost use Rattle.bearoff_cli.specs.Faults.{IsFaultIn, IsFaultOf, IsOwnFault, IsRefused};
+ghost use Rattle.bearoff_cli.specs.Tellings.{IsToldBy, IsWritten};
+ghost use Rattle.bearoff_cli.specs.Turns.{UsesTurns};
+ghost use Rattle.bearoff_cli.specs.Faults.{CanEnd, IsAnswerFault, IsBoundFault, IsBuildFault, IsCheckFault};
+ghost use Rattle.bearoff_cli.specs.Faults.{IsFaultIn, IsFaultOf, IsOwnFault, IsQueryFault, IsRefused, IsUpgradeFault};
 ghost use Rattle.bearoff_cli.specs.InputAnswers.{AreAnswered, AreAnsweredOver};
 ghost use Rattle.bearoff_cli.specs.FileAnswers.{AreAnsweredFrom, IsHandedTo, SaysRight, SaysUpgraded, SaysLevels};
 ghost use Rattle.retrograde.specs.BuiltBytes.{WritesBuilt};
@@ -26,7 +28,7 @@ ghost use Rattle.retrograde.specs.UsualVersion.{usual_version};
 ghost use Rattle.bearoff_cli.specs.FileAnswers.{WritesBuiltBoard, count_line};
 ghost use Rattle.bearoff_cli.specs.RefusedFiles.{KeepsIfRefused, KeepsIfTold};
 ghost use Rattle.bearoff_cli.specs.Requests.{Asks, IsDone};
-ghost use Rattle.bearoff_cli.specs.StoppedRuns.{AreStopped, IsNothingOr, IsRefusalOf, Leaves, LeavesLevels};
+ghost use Rattle.bearoff_cli.specs.StoppedRuns.{AreStopped, IsEndOf, IsNothingOr, IsRefusalOf, Leaves, LeavesLevels};
 ghost use Rattle.bearoff_cli.specs.StoppedRuns.{LeavesLine, LeavesReplies, SaysUpgradedPart};
 ghost use Rattle.bearoff_cli.specs.declared.act.Done.TheVariants.{Built};
 ghost use Rattle.bearoff_cli.specs.declared.act.ProgramFault.TheVariants.{Failed};
@@ -58,13 +60,14 @@ use whole_file::{Disk, SystemDisk, SystemFile};
 /// The pip bound of the database that is built where no word is given.
 const DEFAULT_BOUND: u8 = 8;
 
-/// The whole program: does what the words (those after the program's own name) ask for, and gives
-/// the exit status. With no words it answers each line of the input over the database of 8 pips,
-/// which it builds. 0: done; 1: a file, the input, an output or memory failed; 2: the words are
-/// wrong, or the bound is over the greatest one; 3: the database was refused, or is to be upgraded
-/// and is no old one. At 1 and 3, and for a bound over the greatest one, one line is written to
-/// `errors`; for words that are wrong it is the text of `clap`. At 2 and 3 nothing was written to
-/// `output`. (The words, the statuses and the lines are this project's profile.)
+/// The whole program: does what the words (those after the program's own name) ask for, and tells
+/// how it ended. With no words, or `--` alone, it answers each line of the input over the database
+/// of 8 pips, which it builds. The exit status is 0: done; 1: a file, the input, an output or memory
+/// failed; 2: the words are wrong, or the bound is over the greatest one; 3: the database was
+/// refused, or is to be upgraded and is no old one. At 1 and 3, and for a bound over the greatest
+/// one, one line is written to `errors`; for words that are wrong it is the text of `clap`. At 2
+/// and 3 nothing was written to `output`. (The words, the statuses and the lines are this project's
+/// profile.)
 pub fn act<R: Files, S: AsStr, I: Read, O: Write, E: Write>(
     rt: &R,
     alloc: Global,
@@ -72,20 +75,22 @@ pub fn act<R: Files, S: AsStr, I: Read, O: Write, E: Write>(
     input: &mut I,
     output: &mut O,
     errors: &mut E,
-) -> u8
+) -> Told
 where
     R::File: SystemFile,
-    ensures silent { result ≡ 0 → E.contents errors.new ≡ E.contents errors.old }
-    ensures told { 0 < result → ¬ (result ≡ 2) → (fault : Fault) × ((result ≡ status_of fault)
-        × AppendsPart (E.contents errors.old) (E.contents errors.new) (error_line fault)) }
-    ensures refused { 1 < result → O.contents output.new ≡ O.contents output.old }
-    ensures fault { (request : Request) → Asks (map S.text words.entry.now) request → 0 < result
-        → (fault : Fault) × ((result ≡ status_of fault)
-        × AppendsPart (E.contents errors.old) (E.contents errors.new) (error_line fault)
-        × IsFaultOf R.File.remaining request fault
-        × Leaves R.File.remaining request (I.remaining input.old) (I.remaining input.new)
+    ensures silent { result.status ≡ 0 → E.contents errors.new ≡ E.contents errors.old }
+    ensures told { 0 < result.status → ¬ (result.status ≡ 2) → (fault : Fault)
+        × ((result.status ≡ status_of fault) × IsWritten result.line
+        (E.contents errors.old) (E.contents errors.new) (error_line fault)) }
+    ensures refused { 1 < result.status → O.contents output.new ≡ O.contents output.old }
+    ensures fault { (request : Request) → Asks (map S.text words.entry.now) request
+        → 0 < result.status → (fault : Fault)
+        × ((result.status ≡ status_of fault) × IsWritten result.line
+        (E.contents errors.old) (E.contents errors.new) (error_line fault)
+        × IsEndOf R.File.remaining request (I.remaining input.old) (I.remaining input.new)
         (O.contents output.old) (O.contents output.new) fault) }
-    ensures done { (request : Request) → Asks (map S.text words.entry.now) request → result ≡ 0
+    ensures done { (request : Request) → Asks (map S.text words.entry.now) request
+        → result.status ≡ 0
         → IsDone R.File.remaining ⟦<BufWriter<R::File> as Write>⟧.contents request
         (I.remaining input.old) (I.remaining input.new)
         (O.contents output.old) (O.contents output.new) }
@@ -109,35 +114,37 @@ pub fn act_on<D: Disk, S: AsStr, I: Read, O: Write, E: Write>(
     input: &mut I,
     output: &mut O,
     errors: &mut E,
-) -> u8
-    ensures silent { result ≡ 0 → E.contents errors.new ≡ E.contents errors.old }
-    ensures told { 0 < result → ¬ (result ≡ 2) → (fault : Fault) × ((result ≡ status_of fault)
-        × AppendsPart (E.contents errors.old) (E.contents errors.new) (error_line fault)) }
-    ensures refused { 1 < result → O.contents output.new ≡ O.contents output.old }
-    ensures fault { (request : Request) → Asks (map S.text words.entry.now) request → 0 < result
-        → (fault : Fault) × ((result ≡ status_of fault)
-        × AppendsPart (E.contents errors.old) (E.contents errors.new) (error_line fault)
-        × IsFaultOf D.Reader.remaining request fault
-        × Leaves D.Reader.remaining request (I.remaining input.old) (I.remaining input.new)
+) -> Told
+    ensures silent { result.status ≡ 0 → E.contents errors.new ≡ E.contents errors.old }
+    ensures told { 0 < result.status → ¬ (result.status ≡ 2) → (fault : Fault)
+        × ((result.status ≡ status_of fault) × IsWritten result.line
+        (E.contents errors.old) (E.contents errors.new) (error_line fault)) }
+    ensures refused { 1 < result.status → O.contents output.new ≡ O.contents output.old }
+    ensures fault { (request : Request) → Asks (map S.text words.entry.now) request
+        → 0 < result.status → (fault : Fault)
+        × ((result.status ≡ status_of fault) × IsWritten result.line
+        (E.contents errors.old) (E.contents errors.new) (error_line fault)
+        × IsEndOf D.Reader.remaining request (I.remaining input.old) (I.remaining input.new)
         (O.contents output.old) (O.contents output.new) fault) }
-    ensures done { (request : Request) → Asks (map S.text words.entry.now) request → result ≡ 0
+    ensures done { (request : Request) → Asks (map S.text words.entry.now) request
+        → result.status ≡ 0
         → IsDone D.Reader.remaining ⟦<BufWriter<D::File> as Write>⟧.contents request
         (I.remaining input.old) (I.remaining input.new)
         (O.contents output.old) (O.contents output.new) }
-    ensures put { (request : Request) → Asks (map S.text words.entry.now) request → result ≡ 0
-        → PutsFor (D.paths disk.old) request (D.told disk.old) (D.told disk.new) }
+    ensures put { (request : Request) → Asks (map S.text words.entry.now) request
+        → result.status ≡ 0 → PutsFor (D.paths disk.old) request (D.told disk.old) (D.told disk.new) }
 {
-    tell(perform(disk, alloc, words, input, output), errors).status
+    tell(perform(disk, alloc, words, input, output), errors)
 }
 
 /// What the program told of its end.
 #[derive(Drop)]
-struct Told {
+pub struct Told {
     /// The exit status.
-    status: u8,
+    pub status: u8,
 
     /// Whether the line on the errors, where there is one, was written.
-    line: Result<(), WriteFault>,
+    pub line: Result<(), WriteFault>,
 }
 
 /// Tells the end of the program: nothing where it did what was asked for, and else why it didn't,
@@ -146,9 +153,7 @@ fn tell<E: Write>(ended: Result<(), ProgramFault>, errors: &mut E) -> Told
     ensures silent { OnOk ended
         ((result.status ≡ 0) × (E.contents errors.new ≡ E.contents errors.old)) }
     ensures told { IfErr ended (λ refusal. IsToldBy refusal result.status
-        (λ line. AppendsPart (E.contents errors.old) (E.contents errors.new) line)) }
-    ensures whole { OnOk result.line (IfErr ended (λ refusal. IsToldBy refusal result.status
-        (λ line. Appends (E.contents errors.old) (E.contents errors.new) line))) }
+        (IsWritten result.line (E.contents errors.old) (E.contents errors.new))) }
 {
     match ended {
         Ok(()) => Told {
@@ -239,8 +244,10 @@ fn fulfil<D: Disk, I: Read, O: Write>(
     output: &mut O,
 ) -> Result<(), Fault>
     ensures refused { KeepsIfRefused result (O.contents output.old) (O.contents output.new) }
+    ensures cause { IfErr result (CanEnd request.entry) }
     ensures fault { IfErr result
         (λ fault. IsFaultOf D.Reader.remaining request.entry fault) }
+    ensures turns { IfErr result (UsesTurns (I.remaining input.old) (I.remaining input.new)) }
     ensures left { IfErr result (Leaves D.Reader.remaining request.entry (I.remaining input.old)
         (I.remaining input.new) (O.contents output.old) (O.contents output.new)) }
     ensures done { OnOk result (IsDone D.Reader.remaining
@@ -280,6 +287,8 @@ fn answer_default<I: Read, O: Write>(
     input: &mut I,
     output: &mut O,
 ) -> Result<(), Fault>
+    ensures cause { IfErr result IsAnswerFault }
+    ensures turns { IfErr result (UsesTurns (I.remaining input.old) (I.remaining input.new)) }
     ensures status { IfErr result (λ fault. status_of fault ≡ 1) }
     ensures left { WhereTold (I.remaining input.old) (λ given. IfErr result
         (λ fault. (O.contents output.new ≡ O.contents output.old)
@@ -306,6 +315,8 @@ fn answer_file<K: Kind, D: Disk, I: Read, O: Write>(
     output: &mut O,
 ) -> Result<(), Fault>
     ensures refused { KeepsIfRefused result (O.contents output.old) (O.contents output.new) }
+    ensures cause { IfErr result IsQueryFault }
+    ensures turns { IfErr result (UsesTurns (I.remaining input.old) (I.remaining input.new)) }
     ensures fault { IfErr result (λ fault. IsOwnFault K.kind D.Reader.remaining fault) }
     ensures left { IfErr result (LeavesReplies K.kind D.Reader.remaining (I.remaining input.old)
         (I.remaining input.new) (O.contents output.old) (O.contents output.new)) }
@@ -328,6 +339,8 @@ fn answer_pages<D: Disk, I: Read, O: Write>(
     output: &mut O,
 ) -> Result<(), Fault>
     ensures refused { KeepsIfRefused result (O.contents output.old) (O.contents output.new) }
+    ensures cause { IfErr result IsQueryFault }
+    ensures turns { IfErr result (UsesTurns (I.remaining input.old) (I.remaining input.new)) }
     ensures fault { IfErr result (λ fault. (status_of fault ≡ 1) ⊎ IsRefused fault) }
 {
     let room = stack_room(alloc)?;
@@ -351,7 +364,9 @@ fn answer_bytes<K: Kind, I: Read, O: Write>(
     output: &mut O,
 ) -> Result<(), Fault>
     ensures refused { KeepsIfRefused result (O.contents output.old) (O.contents output.new) }
-    ensures right { IsRightBy (K.kind bytes.now) → IfErr result (λ fault. status_of fault ≡ 1) }
+    ensures cause { IfErr result IsQueryFault }
+    ensures turns { IfErr result (UsesTurns (I.remaining input.old) (I.remaining input.new)) }
+    ensures right { IsRightBy (K.kind bytes.now) → IfErr result IsAnswerFault }
     ensures fault { IfErr result (λ fault. IsFaultIn (K.kind bytes.now) fault) }
     ensures left { WhereTold (I.remaining input.old) (λ given. IfErr result
         (λ fault. (O.contents output.new ≡ O.contents output.old)
@@ -375,6 +390,8 @@ fn answer_table<T: Table + Drop, I: Read, O: Write>(
     output: &mut O,
 ) -> Result<(), Fault>
     ensures refused { KeepsIfRefused result (O.contents output.old) (O.contents output.new) }
+    ensures cause { IfErr result IsQueryFault }
+    ensures turns { IfErr result (UsesTurns (I.remaining input.old) (I.remaining input.new)) }
     ensures fault { IfErr result (λ fault. (status_of fault ≡ 1) ⊎ IsRefused fault) }
 {
     reply(alloc, check(table), input, output)
@@ -392,6 +409,8 @@ fn reply<T: Table + Drop, I: Read, O: Write>(
     ensures refused { KeepsIfRefused result (O.contents output.old) (O.contents output.new) }
     ensures refusal { IfErr told (λ refused. result ≡ Err (of_check refused.1)) }
     ensures status { OnOk told (IfErr result (λ fault. status_of fault ≡ 1)) }
+    ensures cause { OnOk told (IfErr result IsAnswerFault) }
+    ensures turns { IfErr result (UsesTurns (I.remaining input.old) (I.remaining input.new)) }
 {
     match &mut told {
         Ok(checked) => match run(alloc, checked, input, output, TURNS) {
@@ -408,6 +427,7 @@ fn accepted<T: Table>(
 ) -> Result<&mut Checked<T>, Fault>
     ensures checked { IfOk result (λ checked. told.old ≡ Ok checked.now) }
     ensures refused { IfErr told.old (λ refused. result ≡ Err (of_check refused.1)) }
+    ensures cause { IfErr result IsCheckFault }
     ensures fault { (file : List ℕ) → IfErr told.old (λ refused. IsFirst file refused.1)
         → IfErr result (λ fault. IsFaultIn (database_file file) fault) }
 {
@@ -428,6 +448,7 @@ fn write_database<D: Disk, O: Write>(
 ) -> Result<(), Fault>
     ensures refused { KeepsIfRefused result (O.contents output.old) (O.contents output.new) }
     ensures over { 58 < pips → result ≡ Err Fault.OverBound }
+    ensures cause { IfErr result (IsBoundFault pips) }
     ensures fault { IfErr result
         (λ fault. (status_of fault ≡ 1) ⊎ ((fault ≡ OverBound) × (58 < pips))) }
     ensures left { OnErr result (AppendsPart (O.contents output.old) (O.contents output.new)
@@ -455,6 +476,7 @@ fn check_file<K: Kind, D: Disk, O: Write>(
     output: &mut O,
 ) -> Result<(), Fault>
     ensures refused { KeepsIfRefused result (O.contents output.old) (O.contents output.new) }
+    ensures cause { IfErr result IsCheckFault }
     ensures fault { IfErr result (λ fault. IsOwnFault K.kind D.Reader.remaining fault) }
     ensures left { OnErr result (LeavesLine K.kind D.Reader.remaining
         (O.contents output.old) (O.contents output.new)) }
@@ -475,6 +497,7 @@ fn audit_file<K: Kind, D: Disk, O: Write>(
     output: &mut O,
 ) -> Result<(), Fault>
     ensures refused { KeepsIfRefused result (O.contents output.old) (O.contents output.new) }
+    ensures cause { IfErr result IsCheckFault }
     ensures fault { IfErr result (λ fault. IsOwnFault K.kind D.Reader.remaining fault) }
     ensures left { OnErr result (LeavesLevels K.kind D.Reader.remaining
         (O.contents output.old) (O.contents output.new)) }
@@ -494,6 +517,7 @@ fn write_board<D: Disk, O: Write>(
     path: &str,
     output: &mut O,
 ) -> Result<(), Fault>
+    ensures cause { IfErr result IsBuildFault }
     ensures status { IfErr result (λ fault. status_of fault ≡ 1) }
     ensures left { OnErr result (AppendsPart (O.contents output.old) (O.contents output.new)
         (count_line Built 90 (count_to 90))) }
@@ -519,6 +543,7 @@ fn upgrade_database<D: Disk, O: Write>(
     output: &mut O,
 ) -> Result<(), Fault>
     ensures refused { KeepsIfRefused result (O.contents output.old) (O.contents output.new) }
+    ensures cause { IfErr result IsUpgradeFault }
     ensures fault { IfErr result (λ fault. IsOwnFault database_file D.Reader.remaining fault) }
     ensures left { OnErr result (IsNothingOr database_file D.Reader.remaining
         (λ file. SaysUpgradedPart file (O.contents output.old) (O.contents output.new))
@@ -551,6 +576,7 @@ enum Done {
 #[inline(never)]
 fn write_count<O: Write>(done: Done, pips: u8, output: &mut O) -> Result<(), Fault>
     ensures status { IfErr result (λ fault. status_of fault ≡ 1) }
+    ensures cause { IfErr result (λ fault. fault ≡ Write) }
     ensures part { OnErr result (AppendsPart (O.contents output.old) (O.contents output.new)
         (count_line done pips (count_to pips))) }
     ensures all { OnOk result (Appends (O.contents output.old) (O.contents output.new)

@@ -2,8 +2,9 @@
 ghost use Rattle.std.specs.Prelude.{◌≡◌, ◌≤◌, length, take, Ok, Err, IfOk, IfErr, OnOk};
 ghost use Rattle.std.specs.Io.KnownBytes.{Consumes, IsAtEnd, Keeps};
 ghost use Rattle.exit_status.specs.Statuses.{status_of};
-ghost use Rattle.exit_status.specs.declared.fault.Fault.TheVariants.{File};
+ghost use Rattle.exit_status.specs.declared.fault.Fault.TheVariants.{File, Write, Memory};
 ghost use Rattle.board_build.specs.BuiltBoards.{IsBuiltBoard};
+ghost use Rattle.bearoff_cli.specs.Faults.{IsBuildFault, IsReadFault, IsUpgradeFault};
 ghost use Rattle.bearoff_cli.specs.FileAnswers.{IsHandedTo, IsReadFrom, WritesBuiltBoard};
 ghost use Rattle.race_model.specs.Versions.{full};
 ghost use Rattle.db_reader.specs.Telling.{WhereTold};
@@ -51,6 +52,7 @@ const MOST_BYTES: usize = 20_000_001;
 /// `Memory` where there is no room for the bytes.
 pub fn read_file<D: Disk>(disk: &mut D, alloc: Global, path: &str) -> Result<Vec<u8>, Fault>
     ensures status { IfErr result (λ fault. status_of fault ≡ 1) }
+    ensures cause { IfErr result IsReadFault }
     ensures read { IfOk result (λ bytes. IsReadFrom D.Reader.remaining bytes.items) }
     ensures paths { D.paths disk.new ≡ D.paths disk.old }
     ensures stays { D.told disk.new ≡ D.told disk.old }
@@ -65,6 +67,7 @@ pub fn read_file<D: Disk>(disk: &mut D, alloc: Global, path: &str) -> Result<Vec
 /// The bytes that a reader has left, at most 20,000,001 of them.
 fn read_bytes<F: Read>(alloc: Global, file: &mut F) -> Result<Vec<u8>, Fault>
     ensures status { IfErr result (λ fault. status_of fault ≡ 1) }
+    ensures cause { IfErr result IsReadFault }
     ensures read { WhereTold (F.remaining file.old)
         (λ left. IfOk result (λ bytes. bytes.items ≡ take 20000001 left)) }
 {
@@ -88,14 +91,14 @@ fn read_bytes<F: Read>(alloc: Global, file: &mut F) -> Result<Vec<u8>, Fault>
 /// can grow then. Where it could not, the system would end the program with no word. A run takes it
 /// once: what is taken a second time the C library doesn't give back to the system.
 pub fn stack_room(alloc: Global) -> Result<Vec<u8>, Fault>
-    ensures { IfErr result (λ fault. status_of fault ≡ 1) }
+    ensures { IfErr result (λ fault. fault ≡ Memory) }
 {
     Ok(Vec::with_capacity(alloc, STACK)?)
 }
 
 /// Whether the stack can grow as far as a check or a build needs: `Memory` where it can't.
 pub fn probe_stack(alloc: Global) -> Result<(), Fault>
-    ensures { IfErr result (λ fault. status_of fault ≡ 1) }
+    ensures { IfErr result (λ fault. fault ≡ Memory) }
 {
     drop(stack_room(alloc)?);
     Ok(())
@@ -137,6 +140,7 @@ fn read_block<'a, F: Read>(file: &mut F, block: &'a mut [u8; BLOCK]) -> Result<&
 
 /// Begins to write a file (`whole_file`).
 fn begin_file<D: Disk>(disk: &mut D, alloc: Global, path: &str) -> Result<Draft<D>, Fault>
+    ensures cause { IfErr result IsBuildFault }
     ensures status { IfErr result (λ fault. status_of fault ≡ 1) }
     ensures paths { D.paths disk.new ≡ D.paths disk.old }
     ensures begun { IfOk result (λ draft. IsBegun (D.paths disk.old) path.now draft.names
@@ -156,6 +160,7 @@ fn finish_file<D: Disk>(
 ) -> Result<(), Fault>
     ensures fault { IfErr written (λ fault. result ≡ Err fault) }
     ensures closing { IfOk written (λ _. IfErr result (λ fault. status_of fault ≡ 1)) }
+    ensures cause { IfOk written (λ _. IfErr result IsBuildFault) }
     ensures paths { D.paths disk.new ≡ D.paths disk.old }
     ensures put { OnOk result (IsPut (D.paths disk.old) draft.names
         (writer_contents D.File.contents draft.writer) (D.told disk.old) (D.told disk.new)
@@ -175,7 +180,8 @@ fn finish_file<D: Disk>(
 
 /// Why a file was not written, as a fault of the program.
 fn of_draft(fault: DraftFault) -> Fault
-    ensures { status_of result ≡ 1 }
+    ensures status { status_of result ≡ 1 }
+    ensures cause { IsBuildFault result }
 {
     match fault {
         DraftFault::Open => Fault::Open,
@@ -190,6 +196,7 @@ fn of_draft(fault: DraftFault) -> Fault
 /// straight into it, it may hold a prefix of the database.
 pub fn build_file<D: Disk>(disk: &mut D, alloc: Global, pips: u8, path: &str) -> Result<(), Fault>
     ensures fault { pips ≤ 58 → IfErr result (λ fault. status_of fault ≡ 1) }
+    ensures cause { pips ≤ 58 → IfErr result IsBuildFault }
     ensures built { OnOk result (IsHandedTo ⟦<BufWriter<D::File> as Write>⟧.contents
         (WritesBuilt (usual_version pips) pips)) }
     ensures paths { D.paths disk.new ≡ D.paths disk.old }
@@ -207,6 +214,7 @@ pub fn build_file<D: Disk>(disk: &mut D, alloc: Global, pips: u8, path: &str) ->
 /// Writes the database of a build that has its memory, to its last byte.
 fn build_into<O: Write>(ready: ReadyBuild, output: &mut O) -> Result<(), Fault>
     ensures fault { ready ≤ 58 → IfErr result (λ fault. status_of fault ≡ 1) }
+    ensures cause { ready ≤ 58 → IfErr result IsBuildFault }
     ensures built { OnOk result (WritesBuilt (usual_version ready) ready (O.contents output.old)
         (O.contents output.new)) }
 {
@@ -218,6 +226,7 @@ fn build_into<O: Write>(ready: ReadyBuild, output: &mut O) -> Result<(), Fault>
 /// memory, of which it needs as much as it is long, and which is taken before the file is begun.
 pub fn build_board_file<D: Disk>(disk: &mut D, alloc: Global, path: &str) -> Result<(), Fault>
     ensures fault { IfErr result (λ fault. status_of fault ≡ 1) }
+    ensures cause { IfErr result IsBuildFault }
     ensures built { OnOk result (IsHandedTo ⟦<BufWriter<D::File> as Write>⟧.contents
         (WritesBuiltBoard 90)) }
     ensures paths { D.paths disk.new ≡ D.paths disk.old }
@@ -234,7 +243,7 @@ pub fn build_board_file<D: Disk>(disk: &mut D, alloc: Global, path: &str) -> Res
 
 /// As many bytes as the board file of 90 pips has.
 fn board_room(alloc: Global) -> Result<Vec<u8>, Fault>
-    ensures { IfErr result (λ fault. status_of fault ≡ 1) }
+    ensures { IfErr result (λ fault. fault ≡ Memory) }
 {
     let size = match BoardHeader::new(WHOLE_BOARD) {
         Some(header) => header.end(),
@@ -246,6 +255,7 @@ fn board_room(alloc: Global) -> Result<Vec<u8>, Fault>
 /// Writes the board file of 90 pips, to its last byte. It is made in a room that has as many bytes.
 fn build_board_into<O: Write>(room: &mut Vec<u8>, output: &mut O) -> Result<(), Fault>
     ensures fault { IfErr result (λ fault. status_of fault ≡ 1) }
+    ensures cause { IfErr result IsBuildFault }
     ensures built { OnOk result (WritesBuiltBoard 90 (O.contents output.old)
         (O.contents output.new)) }
 {
@@ -261,6 +271,7 @@ fn build_board_into<O: Write>(room: &mut Vec<u8>, output: &mut O) -> Result<(), 
 #[inline(never)]
 fn whole_board(room: &mut Vec<u8>) -> Result<&[u8], Fault>
     ensures fault { IfErr result (λ fault. status_of fault ≡ 1) }
+    ensures cause { IfErr result IsBuildFault }
     ensures built { IfOk result (λ file. IsBuiltBoard 90 file.now) }
 {
     match build_board(WHOLE_BOARD, room.as_mut_slice()) {
@@ -286,6 +297,7 @@ pub fn upgrade_file<D: Disk, T: Table>(
     ensures paths { D.paths disk.new ≡ D.paths disk.old }
     ensures put { WhereTold checked.old.told (λ file. OnOk result (Puts (D.paths disk.old) path.now
         (IsUpgrade file) (D.told disk.old) (D.told disk.new))) }
+    ensures cause { IfErr result IsUpgradeFault }
     ensures fault { checked.old.version ≡ full → IfErr result (λ fault. status_of fault ≡ 1) }
     ensures stays { (checked.new.told ≡ checked.old.told)
         × (checked.new.bound ≡ checked.old.bound) }
@@ -299,6 +311,7 @@ pub fn upgrade_file<D: Disk, T: Table>(
 fn upgrade_into<T: Table, O: Write>(checked: &mut Checked<T>, output: &mut O) -> Result<(), Fault>
     ensures upgraded { WhereTold checked.old.told (λ file. OnOk result
         (WritesUpgrade file (O.contents output.old) (O.contents output.new))) }
+    ensures cause { IfErr result IsUpgradeFault }
     ensures fault { checked.old.version ≡ full → IfErr result (λ fault. status_of fault ≡ 1) }
     ensures stays { (checked.new.told ≡ checked.old.told)
         × (checked.new.bound ≡ checked.old.bound) }
@@ -310,6 +323,7 @@ fn upgrade_into<T: Table, O: Write>(checked: &mut Checked<T>, output: &mut O) ->
 /// Hands on what a writer may still hold.
 pub fn flush<O: Write>(output: &mut O) -> Result<(), Fault>
     ensures status { IfErr result (λ fault. status_of fault ≡ 1) }
+    ensures cause { IfErr result (λ fault. fault ≡ Write) }
     ensures kept { Keeps (O.contents output.old) (O.contents output.new) }
 {
     match output.flush() {

@@ -9,12 +9,15 @@ ghost use Rattle.db_reader.specs.Telling.{WhereTold};
 ghost use Rattle.certificate.specs.declared.check_fault.CheckFault.{CheckFault};
 ghost use Rattle.epc_query.specs.AnyFiles.{AnyFile, database_file, board_file, bound_by, IsRightBy};
 ghost use Rattle.epc_query.specs.Runs.{IsRunStopped};
+ghost use Rattle.epc_query.specs.UsedReads.{HasUsed};
 ghost use Rattle.exit_status.specs.Causes.{of_check};
 ghost use Rattle.exit_status.specs.Statuses.{status_of};
-ghost use Rattle.bearoff_cli.specs.Faults.{IsFirstBy};
+ghost use Rattle.exit_status.specs.declared.fault.Fault.TheVariants.{Write};
+ghost use Rattle.bearoff_cli.specs.Faults.{IsAnswerFault, IsFirstBy};
 ghost use Rattle.bearoff_cli.specs.FileAnswers.{WritesLevel, WritesLevels};
 ghost use Rattle.bearoff_cli.specs.InputAnswers.{AreAnswered};
 ghost use Rattle.bearoff_cli.specs.StoppedRuns.{AreStopped, WritesLevelPart, WritesLevelsPart};
+ghost use Rattle.bearoff_cli.specs.Turns.{UsesTurns};
 
 use crate::files::flush;
 use board::Board;
@@ -62,6 +65,9 @@ pub trait Kind: Copy {
     ) -> Result<(), Fault>
         requires right { IsRightBy (kind bytes.now) }
         requires kept { keeps self bytes.now }
+        ensures cause { IfErr result IsAnswerFault }
+        ensures turns { IfErr result
+            (UsesTurns (I.remaining input.old) (I.remaining input.new)) }
         ensures status { IfErr result (λ fault. status_of fault ≡ 1) }
         ensures left { WhereTold (I.remaining input.old) (λ given. IfErr result
             (AreStopped (kind bytes.now) given (I.remaining input.new) (O.contents output.old)
@@ -83,6 +89,7 @@ pub trait Kind: Copy {
         requires table { IsRankTable ranks.now }
         requires within { pips ≤ bound_by (kind bytes.now) }
         ensures status { IfErr result (λ fault. status_of fault ≡ 1) }
+        ensures cause { IfErr result (λ fault. fault ≡ Write) }
         ensures part { OnErr result (WritesLevelPart (kind bytes.now) pips
             (O.contents output.old) (O.contents output.new)) }
         ensures level { OnOk result (WritesLevel (kind bytes.now) pips
@@ -96,6 +103,7 @@ pub fn write_levels<K: Kind, O: Write>(kept: K, bytes: &[u8], output: &mut O) ->
     requires right { IsRightBy (K.kind bytes.now) }
     requires kept { K.keeps kept bytes.now }
     ensures status { IfErr result (λ fault. status_of fault ≡ 1) }
+    ensures cause { IfErr result (λ fault. fault ≡ Write) }
     ensures part { OnErr result (WritesLevelsPart (K.kind bytes.now)
         (O.contents output.old) (O.contents output.new)) }
     ensures levels { OnOk result (WritesLevels (K.kind bytes.now)
@@ -112,9 +120,11 @@ pub fn write_levels<K: Kind, O: Write>(kept: K, bytes: &[u8], output: &mut O) ->
 /// on, as they are where nothing stopped: the output, where it fails at that. After a failed write
 /// nothing more is written.
 pub fn handed_on<O: Write>(cause: RunFault, output: &mut O) -> RunFault
-    ensures { (file : AnyFile) (given : List ℕ) (left old : Option (List ℕ)) →
+    ensures stopped { (file : AnyFile) (given : List ℕ) (left old : Option (List ℕ)) →
         IsRunStopped file given left old (O.contents output.old) cause →
         IsRunStopped file given left old (O.contents output.new) result }
+    ensures used { (turns : ℕ) (given : List ℕ) (left : Option (List ℕ)) →
+        HasUsed turns given left cause → HasUsed turns given left result }
 {
     match cause {
         RunFault::Write => RunFault::Write,

@@ -8,7 +8,7 @@ use Rattle.command_line.specs.declared.words.Request.{Request}
 use Rattle.bearoff_cli.specs.Requests.{Asks}
 use Rattle.bearoff_cli.proofs.PutFiles.{same_put}
 use Rattle.bearoff_cli.proofs.Requests.{IsSame, IsNot, read_as, board_as, same_done, no_help}
-use Rattle.bearoff_cli.proofs.ToldFaults.{done_if, same_refusal}
+use Rattle.bearoff_cli.proofs.ToldFaults.{done_if, memory_end, same_refusal}
 use Rattle.bearoff_cli.proofs.act.perform.Given.{Over}
 use Rattle.bearoff_cli.proofs.act.perform.Goals.{After-read_words}
 use Rattle.bearoff_cli.proofs.act.perform.Goals as goal
@@ -23,6 +23,11 @@ read g c =
     words.query words.query_by words.check words.audit words.upgrade
     (board_as g.S.AsStr.text c.args.words.now c.read_words.result words.build_board
     words.check_board words.query_board words.audit_board)
+
+pub returns-in-Err-clause-fault : goal.returns-in-Err-clause-fault
+returns-in-Err-clause-fault g c request asks =
+    memory_end g.D.Reader.Read.remaining request (g.I.Read.remaining c.args.input.now)
+    (g.I.Read.remaining c.args.input.now) (g.O.Write.contents c.args.output.now)
 
 pub returns-in-Ok-clause-done : goal.returns-in-Ok-clause-done
 returns-in-Ok-clause-done g c request asks =
@@ -40,7 +45,8 @@ returns-in-Ok-clause-fault g c request asks =
     same_refusal g.D.Reader.Read.remaining request c.in-Ok.request
     (g.I.Read.remaining c.args.input.now) (g.I.Read.remaining c.fulfil.new.input)
     (g.O.Write.contents c.args.output.now) (g.O.Write.contents c.fulfil.new.output)
-    c.fulfil.result c.refused.result same c.fulfil.ensures.fault c.fulfil.ensures.left
+    c.fulfil.result c.refused.result same c.fulfil.ensures.cause c.fulfil.ensures.fault
+    c.fulfil.ensures.turns c.fulfil.ensures.left
     c.refused.ensures.done c.refused.ensures.fault
 
 -- words that ask for a request are not wrong

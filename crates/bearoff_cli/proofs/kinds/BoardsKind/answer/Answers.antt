@@ -1,6 +1,7 @@
 -- The replies over a board file that was accepted.
 use Rattle.std.proofs.Common.{Some, ap, ◌∙◌}
 use Rattle.epc_query.specs.AnyFiles.{board_file}
+use Rattle.bearoff_cli.proofs.CommandFaults.{run_answer, run_turns}
 use Rattle.bearoff_cli.proofs.kinds.BoardsKind.answer.Goals as goal
 
 pub returns-in-Err-clause-left : goal.returns-in-Err-clause-left
@@ -8,7 +9,7 @@ returns-in-Err-clause-left g c given read = record {
   right = c.requires.right;
   cause = c.handed_on.result;
   fault_is = c.from.ensures;
-  stopped = c.handed_on.ensures (board_file c.args.bytes.now) given _ _
+  stopped = c.handed_on.ensures.stopped (board_file c.args.bytes.now) given _ _
       (c.in-Err.ensures.stopped c.args.bytes.now
       (ap Some (c.new-lines.ensures ∙ c.accepted.ensures)) given read);
 }
@@ -18,3 +19,11 @@ returns-in-Ok-clause-answers g c given read =
     let done = c.in-Ok.ensures.done c.args.bytes.now
     (ap Some (c.new-lines.ensures ∙ c.accepted.ensures)) given read in
     record { right = c.requires.right; end = done.0; replies = done.2 }
+
+pub returns-in-Err-clause-cause : goal.returns-in-Err-clause-cause
+returns-in-Err-clause-cause g c = rw c.from.ensures (run_answer c.handed_on.result)
+
+pub returns-in-Err-clause-turns : goal.returns-in-Err-clause-turns
+returns-in-Err-clause-turns g c given told =
+    rw c.from.ensures (run_turns given _ c.handed_on.result
+    (c.handed_on.ensures.used 1099511627776 given _ (c.in-Err.ensures.used given told)))
