@@ -60,14 +60,13 @@ use whole_file::{Disk, SystemDisk, SystemFile};
 /// The pip bound of the database that is built where no word is given.
 const DEFAULT_BOUND: u8 = 8;
 
-/// The whole program: does what the words (those after the program's own name) ask for, and tells
-/// how it ended. With no words, or `--` alone, it answers each line of the input over the database
-/// of 8 pips, which it builds. The exit status is 0: done; 1: a file, the input, an output or memory
-/// failed; 2: the words are wrong, or the bound is over the greatest one; 3: the database was
-/// refused, or is to be upgraded and is no old one. At 1 and 3, and for a bound over the greatest
-/// one, one line is written to `errors`; for words that are wrong it is the text of `clap`. At 2
-/// and 3 nothing was written to `output`. (The words, the statuses and the lines are this project's
-/// profile.)
+/// The whole program: does what the words (those after the program's own name) ask for, and gives
+/// the exit status. With no words, or `--` alone, it answers each line of the input over the
+/// database of 8 pips, which it builds. 0: done; 1: a file, the input, an output or memory failed;
+/// 2: the words are wrong, or the bound is over the greatest one; 3: the database was refused, or
+/// is to be upgraded and is no old one. At 1 and 3, and for a bound over the greatest one, one line
+/// is written to `errors`; for words that are wrong it is the text of `clap`. At 2 and 3 nothing
+/// was written to `output`. (The words, the statuses and the lines are this project's profile.)
 pub fn act<R: Files, S: AsStr, I: Read, O: Write, E: Write>(
     rt: &R,
     alloc: Global,
@@ -75,38 +74,37 @@ pub fn act<R: Files, S: AsStr, I: Read, O: Write, E: Write>(
     input: &mut I,
     output: &mut O,
     errors: &mut E,
-) -> Told
+) -> u8
 where
     R::File: SystemFile,
-    ensures silent { result.status ≡ 0 → E.contents errors.new ≡ E.contents errors.old }
-    ensures told { 0 < result.status → ¬ (result.status ≡ 2) → (fault : Fault)
-        × ((result.status ≡ status_of fault) × IsWritten result.line
-        (E.contents errors.old) (E.contents errors.new) (error_line fault)) }
-    ensures refused { 1 < result.status → O.contents output.new ≡ O.contents output.old }
-    ensures fault { (request : Request) → Asks (map S.text words.entry.now) request
-        → 0 < result.status → (fault : Fault)
-        × ((result.status ≡ status_of fault) × IsWritten result.line
-        (E.contents errors.old) (E.contents errors.new) (error_line fault)
+    ensures silent { result ≡ 0 → E.contents errors.new ≡ E.contents errors.old }
+    ensures told { 0 < result → ¬ (result ≡ 2) → (fault : Fault) × ((result ≡ status_of fault)
+        × AppendsPart (E.contents errors.old) (E.contents errors.new) (error_line fault)) }
+    ensures refused { 1 < result → O.contents output.new ≡ O.contents output.old }
+    ensures fault { (request : Request) → Asks (map S.text words.entry.now) request → 0 < result
+        → (fault : Fault) × ((result ≡ status_of fault)
+        × AppendsPart (E.contents errors.old) (E.contents errors.new) (error_line fault)
         × IsEndOf R.File.remaining request (I.remaining input.old) (I.remaining input.new)
         (O.contents output.old) (O.contents output.new) fault) }
-    ensures done { (request : Request) → Asks (map S.text words.entry.now) request
-        → result.status ≡ 0
+    ensures done { (request : Request) → Asks (map S.text words.entry.now) request → result ≡ 0
         → IsDone R.File.remaining ⟦<BufWriter<R::File> as Write>⟧.contents request
         (I.remaining input.old) (I.remaining input.new)
         (O.contents output.old) (O.contents output.new) }
 {
-    act_on(
+    let told = act_on(
         &mut SystemDisk::new(rt),
         alloc,
         words,
         input,
         output,
         errors,
-    )
+    );
+    told.status
 }
 
 /// The same over any disk: [`act`] is that over the system's, which tells nothing of what it has.
-/// Where a disk tells its moments, at 0 a file that was to be written stands there as a whole.
+/// Where a disk tells its moments, at 0 a file that was to be written stands there as a whole. It
+/// tells, too, whether the line was written: where no write failed, all of it was.
 pub fn act_on<D: Disk, S: AsStr, I: Read, O: Write, E: Write>(
     disk: &mut D,
     alloc: Global,
@@ -132,7 +130,8 @@ pub fn act_on<D: Disk, S: AsStr, I: Read, O: Write, E: Write>(
         (I.remaining input.old) (I.remaining input.new)
         (O.contents output.old) (O.contents output.new) }
     ensures put { (request : Request) → Asks (map S.text words.entry.now) request
-        → result.status ≡ 0 → PutsFor (D.paths disk.old) request (D.told disk.old) (D.told disk.new) }
+        → result.status ≡ 0
+        → PutsFor (D.paths disk.old) request (D.told disk.old) (D.told disk.new) }
 {
     tell(perform(disk, alloc, words, input, output), errors)
 }

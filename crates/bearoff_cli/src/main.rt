@@ -36,7 +36,7 @@ fn run(rt: &HostRuntime) -> Result<u8, Fault> {
     let Ok(mut output) = BufWriter::new(rt.alloc(), rt.stdout()) else {
         return Err(Fault::Memory);
     };
-    let told = act(
+    let status = act(
         rt,
         rt.alloc(),
         words.as_slice(),
@@ -46,7 +46,7 @@ fn run(rt: &HostRuntime) -> Result<u8, Fault> {
     );
     // what a failed write left is not tried again
     let _ = output.into_parts();
-    Ok(told.status)
+    Ok(status)
 }
 
 /// The root folder, once in the place of each standard stream that is closed, so that no file that

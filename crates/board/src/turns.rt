@@ -77,7 +77,7 @@ impl<'a> Board<'a> {
             lost ≡ loss_in (board_book self.now) position.now roll to.now) }
         ensures lost { IfSome result (IsLossIn 33 position.now roll to.now) }
     {
-        laws::law_book_loss();
+        laws::law_loss();
         let _bound = self.bound();
         let _pips = position.pips();
         let after = self.mean_after(position, roll, to)?;

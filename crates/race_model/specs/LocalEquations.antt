@@ -5,6 +5,7 @@ use Rattle.std.specs.Prelude.{◌≡◌, ℕ, zero, suc, ◌+◌, ◌*◌, ◌^�
 use Rattle.race_model.specs.Positions.{Board, IsPosition, IsFinished, pips}
 use Rattle.race_model.specs.Dice.{Throw, IsRoll, weighted}
 use Rattle.race_model.specs.Plays.{Legal}
+use Rattle.race_model.specs.Strategies.{EndsIn}
 use Rattle.race_model.specs.Books.{Book, mean_in, play_in, recorded_in, share_in, whole_in, IsPlayedIn}
 use Rattle.race_model.specs.Files.{IsFileBy, version_of, bound_of, book_of}
 use Rattle.race_model.specs.RightFiles.{Kind, database}
@@ -62,6 +63,10 @@ IsLocalIn f = IsLocalOver (whole_in f) f
 -- a locally right book: the four equations hold for every position of at most its bound
 abbrev pub IsLocalBook : Book → Type 0
 IsLocalBook f = (x : Board) → IsPosition x → pips x ≤ f.bound → IsLocalIn f x
+
+-- no game from a position of at most the bound of a book is longer than its sequences
+abbrev pub IsLong : Book → Type 0
+IsLong f = (x : Board) → IsPosition x → pips x ≤ f.bound → EndsIn (suc f.further) x
 
 -- the denominator of every number in a file
 unfoldable pub whole : ℕ

@@ -8,7 +8,7 @@ pub use dice::law_rolls;
 pub use faults::{law_first_board_fault, law_first_fault, law_header};
 pub use fractions::law_fractions;
 pub use input_lines::law_input_lines;
-pub use losses::{law_book_loss, law_loss};
+pub use losses::law_loss;
 pub use plays::{law_enumerated, law_most_dice, law_playable, law_results, law_reversed};
 pub use ranks::{law_at_rank, law_counts, law_rank};
 pub use replies::{law_lines, law_replies};

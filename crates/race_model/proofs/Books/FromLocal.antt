@@ -9,7 +9,7 @@ use Rattle.race_model.specs.Ranks.{rank, at_rank}
 use Rattle.race_model.specs.Strategies.{Strategy, stop, turn, Fits, IsWithin, EndsIn}
 use Rattle.race_model.specs.Strategies.{total_over, count_over}
 use Rattle.race_model.specs.Books.{Book, mean_in, play_in, recorded_in, share_in, IsPlayedIn, follow_in, IsRightBook}
-use Rattle.race_model.specs.LocalEquations.{IsBestIn, IsLocalIn, IsLocalBook}
+use Rattle.race_model.specs.LocalEquations.{IsBestIn, IsLocalIn, IsLocalBook, IsLong}
 use Rattle.race_model.proofs.Dice.Throws.{played_by_rolls, best_by_rolls}
 use Rattle.race_model.proofs.Numbers.Sums.{sum_by-equal, sum_by-at_most}
 use Rattle.race_model.proofs.Dice.RollSums.{sum_by-throws}
@@ -125,11 +125,7 @@ reached_before f x unfinished here next within reached = record {
       let theirs = (here.shares (suc k) le).1 unfinished in
       omega (arith, ours, theirs, share_sum f x (played_in f x here) k)
 
--- no game from a position of at most its bound is longer than its sequences
-abbrev pub IsLong : Book → Type 0
-IsLong f = (x : Board) → IsPosition x → pips x ≤ f.bound → EndsIn (suc f.further) x
-
--- over 33 throws no game is
+-- over 33 throws no game is too long for a book
 pub whole_board : (f : Book) → f.further ≡ 32 → IsLong f
 whole_board f e x at low = subst (λ n. EndsIn n x) (sym (ap suc e)) (ends_in_33 x at)
 

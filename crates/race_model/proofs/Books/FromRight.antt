@@ -9,12 +9,12 @@ use Rattle.race_model.specs.Dice.{Die, one, two, three, four, five, six, number,
 use Rattle.race_model.specs.Plays.{Legal}
 use Rattle.race_model.specs.Strategies.{Strategy, stop, turn, Fits, IsWithin, total_over, count_over}
 use Rattle.race_model.specs.Books.{Book, mean_in, recorded_in, share_in, follow_in, IsRightIn, IsRightBook}
-use Rattle.race_model.specs.LocalEquations.{IsBestIn, HasShareIn, IsLocalBook}
+use Rattle.race_model.specs.LocalEquations.{IsBestIn, HasShareIn, IsLocalBook, IsLong}
 use Rattle.race_model.proofs.Plays.Results.{legal_position, legal_pips, legal_finished, finished_or_not}
 use Rattle.race_model.proofs.Strategies.Histories.{fits_within, count_over-turn_none}
 use Rattle.race_model.proofs.Dice.Faces.{is_throw, same_throw}
 use Rattle.race_model.proofs.Strategies.Totals.{total_over-stop, count_over-stop, count_over-stop_more}
-use Rattle.race_model.proofs.Books.FromLocal.{follow_in-finished, follow_in-unfinished, Reaches, IsLong}
+use Rattle.race_model.proofs.Books.FromLocal.{follow_in-finished, follow_in-unfinished, Reaches}
 use Rattle.race_model.proofs.Books.FromLocal.{turn_total, turn_count, mean_sum, share_sum}
 
 -- the plays of a strategy, but for one throw

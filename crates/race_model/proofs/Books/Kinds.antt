@@ -9,12 +9,12 @@ use Rattle.race_model.specs.Dice.{Throw}
 use Rattle.race_model.specs.Ranks.{at_rank}
 use Rattle.race_model.specs.Strategies.{Strategy, stop, turn, Fits, IsWithin, total_over, count_over}
 use Rattle.race_model.specs.Books.{Book, mean_in, play_in, recorded_in, share_in, IsPlayedIn}
+use Rattle.race_model.specs.LocalEquations.{IsLong}
 use Rattle.race_model.specs.Books.{follow_in, IsRightIn, IsRightBook}
 use Rattle.race_model.specs.SameNumbers.{HasSamePlays}
 use Rattle.race_model.proofs.Plays.Results.{legal_position, legal_pips}
 use Rattle.race_model.proofs.Strategies.Histories.{fits_within, within_up, count_over-beyond}
 use Rattle.race_model.proofs.Strategies.Histories.{total_over-more, count_over-more}
-use Rattle.race_model.proofs.Books.FromLocal.{IsLong}
 use Rattle.race_model.proofs.Books.FromRight.{follow_in-more}
 
 -- over d throws more a strategy of at most n turns has a multiple of its rolls

@@ -10,6 +10,7 @@ use Rattle.race_model.specs.Plays.{Legal}
 use Rattle.race_model.specs.Horizon.{most_rolls}
 use Rattle.race_model.specs.Strategies.{Strategy, stop, turn, Fits, IsLeastIn, IsWithin, EndsIn, total_over, count_over}
 use Rattle.race_model.specs.Books.{Book, mean_in, play_in, recorded_in, share_in, IsPlayedIn}
+use Rattle.race_model.specs.LocalEquations.{IsLong}
 use Rattle.race_model.specs.Books.{follow_in, IsRightIn, IsRightBook}
 use Rattle.race_model.specs.Losses.{loss_in, IsLossIn, BeginsWith}
 use Rattle.race_model.proofs.Numbers.Sums.{sum_by-at_most, sum_by-equal_within}
@@ -20,7 +21,6 @@ use Rattle.race_model.proofs.Strategies.LeastExists.{least_in_agree}
 use Rattle.race_model.proofs.Strategies.Spreads.{counts_add_up_over, counts_weigh_over}
 use Rattle.race_model.proofs.Strategies.Totals.{total_over-turn_times_36}
 use Rattle.race_model.proofs.Dice.Faces.{is_throw, same_throw}
-use Rattle.race_model.proofs.Books.FromLocal.{IsLong}
 use Rattle.race_model.proofs.Books.FromRight.{plan, plan_fits, plan_total, mean_before, best_at}
 use Rattle.race_model.proofs.Books.FromRight.{one_changed, otherwise_at, otherwise_legal, otherwise_at-here}
 

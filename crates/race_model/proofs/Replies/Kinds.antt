@@ -4,9 +4,9 @@ use Rattle.std.proofs.Common.{◌≡◌, ℕ, suc, ◌+◌, ◌*◌, ◌^◌, �
 use Rattle.std.proofs.lemmas.Nat.{pow-add}
 use Rattle.race_model.specs.Positions.{Board, pips}
 use Rattle.race_model.specs.Books.{Book, whole_in, IsRightBook}
+use Rattle.race_model.specs.LocalEquations.{IsLong}
 use Rattle.race_model.specs.SameNumbers.{HasSamePlays}
 use Rattle.race_model.specs.Replies.{IsReplyOver, IsReplyIn}
-use Rattle.race_model.proofs.Books.FromLocal.{IsLong}
 use Rattle.race_model.proofs.Books.Kinds.{further_mean, further_share, no_further_share}
 use Rattle.race_model.proofs.Replies.OneReply.{power_positive}
 use Rattle.race_model.proofs.Replies.EqualReplies.{Carries, same_reply}

@@ -4,27 +4,24 @@ ghost use Rattle.race_model.specs.Positions.{Board, IsPosition, pips};
 ghost use Rattle.race_model.specs.Dice.{Throw, throws};
 ghost use Rattle.race_model.specs.Ranks.{rank};
 ghost use Rattle.race_model.specs.Horizon.{most_rolls};
-ghost use Rattle.race_model.specs.LocalEquations.{IsLocalAt, IsLocalIn, IsLocalBook, HasShareIn};
+ghost use Rattle.race_model.specs.LocalEquations.{IsLocalAt, IsLocalIn, IsLocalBook, IsLong, HasShareIn};
 ghost use Rattle.race_model.specs.Strategies.{Strategy, turn, IsWithin, EndsIn, count_over};
 ghost use Rattle.race_model.specs.Books.{Book, IsRightBook, follow_in};
 ghost use Rattle.race_model.specs.Endings.{endings, IsCounted, HasCountIn};
-ghost use Rattle.race_model.specs.Files.{book_of};
+ghost use Rattle.race_model.specs.Files.{IsFile, book_of};
 
 /// The theorem for any number of throws: the local equations hold of a book exactly where it is
-/// right, if each game from a position of at most its bound is over within its sequences. From any
-/// position a game is over within 33 rolls, the most of at most 90 pips, so a book over 33 throws
-/// needs no condition on pips. The equations of a file are those of its book.
+/// right, if each game from a position of at most its bound is over within its sequences. So it is
+/// of the book of a database. From any position a game is over within 33 rolls, the most of at most
+/// 90 pips, so a book over 33 throws needs no condition on pips. The equations of a file are those
+/// of its book.
 pub fn law_books()
     ensures ends { (x : Board) → IsPosition x → EndsIn 33 x }
     ensures limit { (p : ℕ) → p ≤ 90 → most_rolls p ≤ 33 }
-    ensures right { (f : Book) →
-        ((x : Board) → IsPosition x → pips x ≤ f.bound → EndsIn (suc f.further) x) →
-        IsLocalBook f → IsRightBook f }
-    ensures local { (f : Book) →
-        ((x : Board) → IsPosition x → pips x ≤ f.bound → EndsIn (suc f.further) x) →
-        IsRightBook f → IsLocalBook f }
-    ensures board { (f : Book) → f.further ≡ 32 → IsLocalBook f → IsRightBook f }
-    ensures board_local { (f : Book) → f.further ≡ 32 → IsRightBook f → IsLocalBook f }
+    ensures right { (f : Book) → IsLong f → IsLocalBook f → IsRightBook f }
+    ensures local { (f : Book) → IsLong f → IsRightBook f → IsLocalBook f }
+    ensures file { (f : List ℕ) → IsFile f → IsLong (book_of f) }
+    ensures board { (f : Book) → f.further ≡ 32 → IsLong f }
     ensures file_local { (f : List ℕ) (x : Board) → IsLocalIn (book_of f) x ↔ IsLocalAt f x }
 {}
 

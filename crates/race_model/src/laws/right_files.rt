@@ -6,7 +6,7 @@ ghost use Rattle.race_model.specs.Dice.{Throw};
 ghost use Rattle.race_model.specs.Ranks.{rank, count_to};
 ghost use Rattle.race_model.specs.Versions.{Version};
 ghost use Rattle.race_model.specs.Files.{IsBytes, IsFile, version_of, bound_of, mean, play, spread};
-ghost use Rattle.race_model.specs.LocalEquations.{whole, recorded, IsPlayed, IsLocalDatabase, IsLocalAt};
+ghost use Rattle.race_model.specs.LocalEquations.{whole, recorded, IsPlayed, IsLong, IsLocalDatabase, IsLocalAt};
 ghost use Rattle.race_model.specs.Strategies.{Strategy, Fits, total, count_of};
 ghost use Rattle.race_model.specs.RightFiles.{IsRight, IsRightDatabase, IsRightBoard, IsRightAt};
 ghost use Rattle.race_model.specs.BuiltFile.{IsBuilt};
@@ -61,26 +61,21 @@ pub fn law_agree()
 {}
 
 /// The shares of a position. Those of a strategy from at most 58 pips add up to the whole, and
-/// each times its number of rolls to the total; so do those of a right book, and it has no share
-/// beyond the most rolls of a pip count: a record that leaves these out loses none, and a compact
-/// one tells them all. A right book over 33 throws is that of a board file, to any bound.
+/// each times its number of rolls to the total; so do those of a right book whose sequences are long
+/// enough, and it has no share beyond the most rolls of a pip count: a record that leaves these out
+/// loses none, and a compact one tells them all.
 pub fn law_spread()
     ensures strategy { (x : Board) (s : Strategy) → IsPosition x → pips x ≤ 58 → Fits s x →
         sum_by (count_of s) (range_with_len 0 23) ≡ whole }
     ensures mean { (x : Board) (s : Strategy) → IsPosition x → pips x ≤ 58 → Fits s x →
         sum_by (λ k. count_of s k * k) (range_with_len 0 23) ≡ total s }
-    ensures recorded { (f : List ℕ) → IsRightDatabase f → (x : Board) →
-        IsPosition x → pips x ≤ bound_of f → sum_by (spread f x) (range_with_len 0 23) ≡ whole }
-    ensures weighed { (f : List ℕ) → IsRightDatabase f → (x : Board) →
-        IsPosition x → pips x ≤ bound_of f → sum_by (λ k. spread f x k * k) (range_with_len 0 23) ≡ mean f x }
-    ensures beyond { (f : List ℕ) → IsRightDatabase f → (x : Board) (k : ℕ) →
-        IsPosition x → pips x ≤ bound_of f → most_rolls (pips x) < k → k ≤ 22 → spread f x k ≡ 0 }
-    ensures board { (b : Book) → b.further ≡ 32 → IsRightBook b → (x : Board) →
+    ensures recorded { (b : Book) → IsLong b → IsRightBook b → (x : Board) →
         IsPosition x → pips x ≤ b.bound →
-        (sum_by (share_in b x) (range_with_len 0 (suc (suc b.further))) ≡ whole_in b)
-        × (sum_by (λ k. share_in b x k * k) (range_with_len 0 (suc (suc b.further)))
-        ≡ mean_in b x) }
-    ensures board_beyond { (b : Book) → b.further ≡ 32 → IsRightBook b → (x : Board) (k : ℕ) →
+        sum_by (share_in b x) (range_with_len 0 (suc (suc b.further))) ≡ whole_in b }
+    ensures weighed { (b : Book) → IsLong b → IsRightBook b → (x : Board) →
+        IsPosition x → pips x ≤ b.bound →
+        sum_by (λ k. share_in b x k * k) (range_with_len 0 (suc (suc b.further))) ≡ mean_in b x }
+    ensures beyond { (b : Book) → IsLong b → IsRightBook b → (x : Board) (k : ℕ) →
         IsPosition x → pips x ≤ b.bound → most_rolls (pips x) < k → k ≤ suc b.further →
         share_in b x k ≡ 0 }
     ensures told { (version : Version) (f : List ℕ) (x : Board) (k : ℕ) → IsPosition x →

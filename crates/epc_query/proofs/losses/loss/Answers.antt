@@ -1,7 +1,8 @@
 use Rattle.std.proofs.Common.{◌≤◌, arith, rules}
 use Rattle.race_model.specs.Positions.{pips}
 use Rattle.race_model.specs.Plays.{Legal}
-use Rattle.race_model.specs.Files.{bound_of}
+use Rattle.race_model.specs.Files.{bound_of, book_of}
+use Rattle.race_model.proofs.RightFiles.Right.{short}
 use Rattle.epc_query.proofs.Held.{on_ok_of}
 use Rattle.epc_query.proofs.losses.loss.Goals as goal
 
@@ -12,6 +13,6 @@ returns-clause-lost g c =
     let right = c.bound.ensures.right file t in
     let within : pips c.args.position.now ≤ bound_of file =
     omega (arith, c.if-pips-bound.false, c.pips.ensures.value, c.bound.ensures.bound, right.1) in
-    on_ok_of c.lost.result (c.law_loss.ensures.loss file
-    right.0 c.args.position.now c.pips.ensures.position within
+    on_ok_of c.lost.result (c.law_loss.ensures.loss (book_of file)
+    (short file right.0.file) right.0.book c.args.position.now c.pips.ensures.position within
     c.args.roll c.args.to.now legal)

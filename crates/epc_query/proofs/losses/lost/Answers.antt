@@ -1,9 +1,10 @@
 use Rattle.std.proofs.Common.{◌≡◌, ◌≤◌, subst, ◌∙◌, arith}
 use Rattle.race_model.specs.Positions.{pips}
-use Rattle.race_model.specs.Files.{bound_of}
+use Rattle.race_model.specs.Files.{bound_of, book_of}
 use Rattle.race_model.specs.LocalEquations.{whole}
 use Rattle.race_model.specs.Fractions.{IsFraction}
 use Rattle.race_model.specs.Losses.{loss}
+use Rattle.race_model.proofs.RightFiles.Right.{short}
 use Rattle.certificate.proofs.Databases.{stays_by}
 use Rattle.epc_query.proofs.losses.lost.Goals as goal
 
@@ -32,8 +33,8 @@ returns-in-None-clause-stays g c =
       c.requires.within,
       right.1,
     ) in
-    let low = c.law_loss.ensures.least file
-    right.0 c.args.position.now c.requires.position within
+    let low = c.law_loss.ensures.least (book_of file) (short file right.0.file) right.0.book
+    c.args.position.now c.requires.position within
     c.args.roll c.args.to.now c.requires.legal in
     let least = (c.in_ok-least.ensures {u = tt}).recorded file t in
     let after = (c.in_ok-after.ensures {u = tt}).recorded file

@@ -2,8 +2,9 @@ use Rattle.std.proofs.Common.{◌≡◌, ◌≤◌, ◌↔◌, Contains, List, g
 use Rattle.std.proofs.lemmas.List.Elements.{All-contains_itself}
 use Rattle.race_model.specs.Positions.{Board, pips}
 use Rattle.race_model.specs.Plays.{Legal}
-use Rattle.race_model.specs.Files.{bound_of}
+use Rattle.race_model.specs.Files.{bound_of, book_of}
 use Rattle.race_model.specs.LocalEquations.{recorded}
+use Rattle.race_model.proofs.RightFiles.Right.{short}
 use Rattle.epc_query.proofs.Costs.{mean_after}
 use Rattle.epc_query.proofs.CostOrder.{choices_are}
 use Rattle.epc_query.proofs.move_list.moves.Goals as goal
@@ -50,5 +51,7 @@ returns-clause-choices g c = λ file t.
     ))
     priced
     (λ y is. c.law_rank.ensures.found y (c.law_results.ensures.position x v y position is))
-    (λ y is. c.law_loss.ensures.least file right.0 x position within v y is)
+    (λ y is.
+    c.law_loss.ensures.least (book_of file) (short file right.0.file) right.0.book x position
+    within v y is)
     (recorded file x v) (at.played v).legal (mean_after file x v right.0 position within)

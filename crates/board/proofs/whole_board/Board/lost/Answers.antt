@@ -1,6 +1,7 @@
 use Rattle.std.proofs.Common.{◌≡◌, ◌+◌, refl, subst, arith}
 use Rattle.race_model.specs.Losses.{IsLossIn}
 use Rattle.race_model.specs.BoardFiles.{board_book}
+use Rattle.race_model.proofs.Books.FromLocal.{whole_board}
 use Rattle.std.proofs.lemmas.Option.{IfSome_then}
 use Rattle.board.proofs.whole_board.Board.lost.Goals as goal
 
@@ -9,7 +10,7 @@ returns-clause-some c =
     let f = c.args.self.now in
     c.minus.ensures.some.1 (omega (
       arith,
-      c.law_book_loss.ensures.least (board_book f) refl c.bound-bound.ensures.right.book
+      c.law_loss.ensures.least (board_book f) (whole_board (board_book f) refl) c.bound-bound.ensures.right.book
           c.args.position.now c.pips-pips.ensures.position c.requires.within c.args.roll
           c.args.to.now c.requires.legal,
       (c.in_ok-after.ensures {u = tt}).recorded,
@@ -31,5 +32,5 @@ returns-clause-lost c =
       (c.in_ok-after.ensures {u = tt}).recorded,
       c.requires.least,
     ))
-    (c.law_book_loss.ensures.loss (board_book f) refl c.bound-bound.ensures.right.book
+    (c.law_loss.ensures.loss (board_book f) (whole_board (board_book f) refl) c.bound-bound.ensures.right.book
     x c.pips-pips.ensures.position c.requires.within v y c.requires.legal))

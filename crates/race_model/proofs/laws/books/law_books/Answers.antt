@@ -3,6 +3,7 @@
 use Rattle.race_model.proofs.Strategies.Horizons.{ends_in_33, most_rolls-board}
 use Rattle.race_model.proofs.Books.FromLocal.{right_of_local, whole_board}
 use Rattle.race_model.proofs.Books.FromRight.{local_of_right}
+use Rattle.race_model.proofs.RightFiles.Right.{short}
 use Rattle.race_model.proofs.Books.Files.{local_book, local_file}
 use Rattle.race_model.proofs.laws.books.law_books.Goals as goal
 
@@ -12,7 +13,7 @@ returns c = record {
   limit = most_rolls-board;
   right = right_of_local;
   local = local_of_right;
-  board = λ f e. right_of_local f (whole_board f e);
-  board_local = λ f e. local_of_right f (whole_board f e);
+  file = short;
+  board = whole_board;
   file_local = λ f x. (local_file f x, local_book f x);
 }

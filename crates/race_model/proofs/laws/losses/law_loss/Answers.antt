@@ -1,20 +1,15 @@
 -- The plan that plays to the result at that throw and else
 -- as recorded is least just where nothing is lost.
-use Rattle.race_model.specs.Files.{book_of}
-use Rattle.race_model.proofs.Books.Losses.{begins, no_loss}
-use Rattle.race_model.proofs.RightFiles.Right.{short}
-use Rattle.race_model.proofs.RightFiles.RightFacts.{recorded_least, loss_is_loss}
+use Rattle.race_model.proofs.Books.Losses.{recorded_least, loss_is_loss, begins, no_loss}
 use Rattle.race_model.proofs.laws.losses.law_loss.Goals as goal
 
 pub returns : goal.returns
 returns c = record {
-  least = recorded_least;
-  loss = loss_is_loss;
+  least = λ b long right. recorded_least b right long;
+  loss = λ b long right. loss_is_loss b right long;
   none =
-      λ f right x at low unfinished v y leads. (
-        begins (book_of f) right.book (short f right.file) x at low unfinished v y leads,
-        λ found.
-            no_loss (book_of f) right.book (short f right.file) x at low unfinished v y found.0
-            found.1 found.2 found.3,
+      λ b long right x at low unfinished v y leads. (
+        begins b right long x at low unfinished v y leads,
+        λ found. no_loss b right long x at low unfinished v y found.0 found.1 found.2 found.3,
       );
 }
