@@ -15,9 +15,16 @@ use Rattle.race_model.proofs.Plays.Steps.{to_position, fewer_pips}
 use Rattle.race_model.proofs.Plays.Spent.{step_takes}
 use Rattle.race_model.proofs.Ranks.RankOrder.{rank-fewer, rank_bound}
 use Rattle.race_model.proofs.Ranks.BestPlays.{run_lower}
-use Rattle.least_plays.specs.Choices.{IsNoWorse, IsLeastOf, IsBetterOf}
-use Rattle.least_plays.specs.Steps.{AreSteps}
-use Rattle.least_plays.specs.Known.{number_in, kept_in, dice_left, IsBestAfter, IsNext, IsStart}
+use Rattle.race_model.specs.Positions.{IsHighest, count, fewer, more}
+use Rattle.race_model.specs.Plays.{StepFrom}
+use Rattle.race_model.proofs.Plays.Enumerated.{from_occupied}
+use Rattle.std.proofs.lemmas.Bool.{cases_lt}
+use Rattle.legal_plays.proofs.StepLemmas.{step_source}
+use Rattle.least_plays.specs.Choices.{IsNoWorse, IsBetterOf}
+use Rattle.least_plays.specs.Firsts.{IsFirst, IsBestFirst}
+use Rattle.least_plays.specs.Known.{number_in, kept_in, dice_left, start_of, IsBestAfter, IsNext, IsStart}
+use Rattle.least_plays.proofs.Chains.{step_to, can_step, can_step_highest}
+use Rattle.std.proofs.Common.{inl}
 use Rattle.least_plays.specs.declared.room.LeastPlays.{LeastPlays}
 
 -- what is no worse than a rank is no worse than any rank that this is no worse than
@@ -33,27 +40,100 @@ no_worse_on mean r s t first second = record {
       omega arith;
 }
 
--- the first is the best of one
-pub least_of_one : (mean offered : ℕ → ℕ) (r : ℕ) → r ≡ offered 0 → IsLeastOf mean offered 1 r
-least_of_one mean offered r is = record {
-  one = (0, omega arith, sym is);
-  best = λ i lt.
-      let none : i ≡ 0 = omega (arith, lt) in
-      rw (none, sym is) (record { least = omega arith; lowest = λ e. omega arith });
+-- a rank is no worse than itself
+no_worse_same : (mean : ℕ → ℕ) (r s : ℕ) → r ≡ s → IsNoWorse mean r s
+no_worse_same mean r s same = record {
+  least = omega (arith, ap mean same);
+  lowest = λ e. omega arith;
 }
 
--- .. and the better of the best so far and of the next is the best of one more
-pub least_of_more : (mean offered : ℕ → ℕ) (n s r : ℕ) → IsLeastOf mean offered n s →
-    IsBetterOf mean s (offered n) r → IsLeastOf mean offered (n + 1) r
-least_of_more mean offered n s r before better = record {
-  one = ⊎_elim
-      (λ was. (before.one.0, omega (arith, before.one.1), before.one.2 ∙ sym was))
-      (λ now. (n, omega arith, sym now))
-      better.either;
-  best =
-      below_more (λ i. IsNoWorse mean r (offered i)) n
-      (λ i lt. no_worse_on mean r s (offered i) better.one (before.best i lt)) better.other;
-}
+-- the steps of a die
+module _ (mean kept : ℕ → ℕ) (x : Board) (d : Die) (top : ℕ) (highest : IsHighest x top) where
+  -- the first is that from the highest point
+  pub first_of_highest : (r : ℕ) → r ≡ kept (rank (more (fewer x top) (top - number d))) →
+      IsFirst mean kept x d top 1 r
+  first_of_highest r is = record {
+    one = (
+      top,
+      more (fewer x top) (top - number d),
+      can_step_highest x (number d) top highest,
+      sym is,
+    );
+    best = λ t z seen step. ⊎_elim
+        (λ here.
+        let to : z ≡ more (fewer x top) (top - number d) =
+        subst (λ p. z ≡ more (fewer x p) (p - number d)) here (step_to x (number d) t z step) in
+        no_worse_same mean r (kept (rank z)) (is ∙ sym (ap (λ w. kept (rank w)) to)))
+        (λ low.
+        let none : t ≡ 0 = omega (arith, low) in
+        let has = from_occupied x (number d) t z step in
+        absurd (omega (arith, has, ap (count x) none)))
+        seen;
+  }
+
+  -- .. and the better of the best so far and of what is kept of one step more is the next
+  pub first_more : (s q r : ℕ) → number d ≤ s → 0 < count x s → IsFirst mean kept x d top s q →
+      IsBetterOf mean q (kept (rank (more (fewer x s) (s - number d)))) r →
+      IsFirst mean kept x d top (s + 1) r
+  first_more s q r few occupied before better = record {
+    one = ⊎_elim
+        (λ was. (
+          before.one.0,
+          before.one.1,
+          before.one.2,
+          before.one.3 ∙ sym was,
+        ))
+        (λ now. (
+          s,
+          more (fewer x s) (s - number d),
+          can_step x (number d) s few occupied,
+          sym now,
+        ))
+        better.either;
+    best = λ t z seen step. ⊎_elim
+        (λ high. no_worse_on mean r q (kept (rank z)) better.one (before.best t z (inl high) step))
+        (λ low. ⊎_elim
+        (λ below.
+        no_worse_on mean r q (kept (rank z)) better.one (before.best t z (inr below) step))
+        (λ past.
+        let here : t ≡ s = omega (arith, low, past) in
+        let to : z ≡ more (fewer x s) (s - number d) =
+        subst (λ p. z ≡ more (fewer x p) (p - number d)) here (step_to x (number d) t z step) in
+        subst (λ w. IsNoWorse mean r (kept (rank w))) (sym to) better.other)
+        (cases_lt t s))
+        seen;
+  }
+
+  -- .. the best so far where there is no step more
+  pub first_same : (s r : ℕ) → ((z : Board) → ¬ StepFrom x (number d) s z) →
+      IsFirst mean kept x d top s r → IsFirst mean kept x d top (s + 1) r
+  first_same s r none before = record {
+    one = before.one;
+    best = λ t z seen step. ⊎_elim
+        (λ high. before.best t z (inl high) step)
+        (λ low. ⊎_elim
+        (λ below. before.best t z (inr below) step)
+        (λ past.
+        let here : t ≡ s = omega (arith, low, past) in
+        absurd (none z (subst (λ p. StepFrom x (number d) p z) here step)))
+        (cases_lt t s))
+        seen;
+  }
+
+  -- at the highest point it is the best of all
+  pub first_all : (limit r : ℕ) → limit ≡ top → IsFirst mean kept x d top limit r →
+      IsBestFirst mean kept x d r
+  first_all limit r end first = record {
+    one = (first.one.1, (first.one.0, first.one.2), first.one.3);
+    best = λ z step. ⊎_elim
+        (λ below. first.best step.0 z (inr (omega (arith, below, end))) step.1)
+        (λ past.
+        let within = step_source x top (number d) step.0 z
+        (λ none. absurd (omega (arith, highest.occupied, ap (count x) none))) (λ _. highest)
+        step.1 in
+        first.best step.0 z (inl (omega (arith, past, within))) step.1)
+        (cases_lt step.0 top);
+  }
 
 -- what holds of the nine places
 nine : (P : ℕ → Type 0) → P 0 → P 1 → P 2 → P 3 → P 4 → P 5 → P 6 → P 7 → P 8 →
@@ -116,26 +196,22 @@ best_same mean Here There r same best = record {
 }
 
 -- of the bests after each step, the best is the best of all
-pub best_of_steps : (mean : ℕ → ℕ) (x : Board) (d : Die) (dice : List Die) (ranks : List ℕ)
-    (kept : ℕ → ℕ) (r : ℕ) → ¬ IsFinished x → AreSteps x d ranks →
+pub best_of_steps : (mean : ℕ → ℕ) (x : Board) (d : Die) (dice : List Die) (kept : ℕ → ℕ)
+    (r : ℕ) → ¬ IsFinished x →
     ((z : Board) → Step x d z → IsBestAfter mean z dice (kept (rank z))) →
-    IsLeastOf mean (λ i. kept (slice_index ranks i)) (length ranks) r →
-    IsBestAfter mean x (d ∷ dice) r
-best_of_steps mean x d dice ranks kept r unfinished steps bests least =
+    IsBestFirst mean kept x d r → IsBestAfter mean x (d ∷ dice) r
+best_of_steps mean x d dice kept r unfinished bests least =
     best_of_no_worse mean (Run x (d ∷ dice)) r reached each
   where
     reached : (y : Board) × (Run x (d ∷ dice) y) × (rank y ≡ r)
     reached =
-        let i = least.one in
-        let z = steps.each i.0 i.1 in
+        let z = least.one in
         let y = (bests z.0 z.1).reached in
-        (y.0, inr (unfinished, (z.0, (z.1, y.1))), y.2 ∙ (ap kept z.2 ∙ i.2))
+        (y.0, inr (unfinished, (z.0, (z.1, y.1))), y.2 ∙ z.2)
 
     after : (z y : Board) → Step x d z → Run z dice y → IsNoWorse mean r (rank y)
     after z y step run =
-        let i = steps.all z step in
-        no_worse_on mean r (kept (rank z)) (rank y)
-        (subst (λ q. IsNoWorse mean r (kept q)) i.2 (least.best i.0 i.1))
+        no_worse_on mean r (kept (rank z)) (rank y) (least.best z step)
         (no_worse_of_best mean (Run z dice) (kept (rank z)) y (bests z step) run)
 
     each : (y : Board) → Run x (d ∷ dice) y → IsNoWorse mean r (rank y)
@@ -145,8 +221,8 @@ best_of_steps mean x d dice ranks kept r unfinished steps bests least =
         run
 
 -- the next position, and a step of it
-module _ {n : ℕ} (mean : ℕ → ℕ) (count : ℕ) (plays : LeastPlays n) (x : Board)
-    (next : IsNext mean count plays x) where
+module _ {n : ℕ} (mean : ℕ → ℕ) (size : ℕ) (plays : LeastPlays n) (x : Board)
+    (next : IsNext mean size plays x) where
   -- what is kept of a position one step on is the best there
   pub kept_best : (d e : Die) (n : ℕ) (z : Board) → n ≤ 3 → Step x d z →
       IsBestAfter mean z (replicate n e) (number_in plays.rows (rank z) e n)
@@ -163,49 +239,40 @@ module _ {n : ℕ} (mean : ℕ → ℕ) (count : ℕ) (plays : LeastPlays n) (x 
       ((rank_bound x (pips z + 6) next.position).1 (step_takes x d z step)) e n (omega arith)
 
   -- .. and a rank whose mean is there
-  pub kept_held : (d e : Die) (n : ℕ) (ranks : List ℕ) (i : ℕ) → n ≤ 3 → AreSteps x d ranks →
-      i < length ranks → number_in plays.rows (slice_index ranks i) e n < count
-  kept_held d e n ranks i few steps inside =
-      let z = steps.each i inside in
-      let y = (kept_best d e n z.0 few z.1).reached in
+  pub kept_held : (d e : Die) (n : ℕ) (z : Board) → n ≤ 3 → Step x d z →
+      number_in plays.rows (rank z) e n < size
+  kept_held d e n z few step =
+      let y = (kept_best d e n z few step).reached in
       let lower = run_lower d (replicate n e) x y.0 next.position next.unfinished
-      (inr (next.unfinished, (z.0, (z.1, y.1)))) in
-      let is = ap (λ q. number_in plays.rows q e n) z.2 in
+      (inr (next.unfinished, (z, (step, y.1)))) in
       omega (arith, lower, y.2, next.held)
 
   -- each of the numbers that are kept for what may follow a die is a rank whose mean is there
-  pub kept_held_each : (d : Die) (ranks : List ℕ) (i j : ℕ) → AreSteps x d ranks →
-      i < length ranks → j < 9 →
-      slice_index (kept_in plays.rows (slice_index ranks i) d) j < count
+  pub kept_held_each : (d : Die) (z : Board) (j : ℕ) → Step x d z → j < 9 →
+      slice_index (kept_in plays.rows (rank z) d) j < size
   unfolding kept_in
-  kept_held_each d ranks i j steps inside =
-      let held : (e : Die) (n : ℕ) → n ≤ 3 →
-      number_in plays.rows (slice_index ranks i) e n < count =
-      λ e n few. kept_held d e n ranks i few steps inside in
-      let once : (e : Die) → number_in plays.rows (slice_index ranks i) e 1 < count =
+  kept_held_each d z j step =
+      let held : (e : Die) (n : ℕ) → n ≤ 3 → number_in plays.rows (rank z) e n < size =
+      λ e n few. kept_held d e n z few step in
+      let once : (e : Die) → number_in plays.rows (rank z) e 1 < size =
       λ e. held e 1 (omega arith) in
-      nine (λ j. slice_index (kept_in plays.rows (slice_index ranks i) d) j < count)
+      nine (λ j. slice_index (kept_in plays.rows (rank z) d) j < size)
       (once one) (once two) (once three) (once four) (once five) (once six)
       (held d 0 (omega arith)) (held d 2 (omega arith)) (held d 3 (omega arith)) j
 
   -- the best of each of them over the steps are the best ranks with the die first
-  pub start_of_least : (d : Die) (ranks best : List ℕ) (own : ℕ) → own ≡ number d - 1 →
-      AreSteps x d ranks →
-      ((j : ℕ) → j < 9 → IsLeastOf mean
-      (λ i. slice_index (kept_in plays.rows (slice_index ranks i) d) j) (length ranks)
-      (slice_index best j)) →
-      IsStart mean x d (record {
-        after = slice_index best 6 ∷ slice_index best own ∷ slice_index best 7 ∷ [];
-        plays = set (six_of best) own (slice_index best 8);
-      })
-  unfolding kept_in six_of
-  start_of_least d ranks best own is steps least = record { after = after; plays = plays_of } where
+  pub start_of_least : (d : Die) (best : List ℕ) (own : ℕ) → own ≡ number d - 1 →
+      ((j : ℕ) → j < 9 →
+      IsBestFirst mean (λ q. slice_index (kept_in plays.rows q d) j) x d (slice_index best j)) →
+      IsStart mean x d (start_of best own)
+  unfolding kept_in six_of start_of
+  start_of_least d best own is least = record { after = after; plays = plays_of } where
     of_steps : (e : Die) (n r : ℕ) → n ≤ 3 →
-        IsLeastOf mean (λ i. number_in plays.rows (slice_index ranks i) e n) (length ranks) r →
+        IsBestFirst mean (λ q. number_in plays.rows q e n) x d r →
         IsBestAfter mean x (d ∷ replicate n e) r
     of_steps e n r few =
-        best_of_steps mean x d (replicate n e) ranks (λ q. number_in plays.rows q e n) r
-        next.unfinished steps (λ z step. kept_best d e n z few step)
+        best_of_steps mean x d (replicate n e) (λ q. number_in plays.rows q e n) r
+        next.unfinished (λ z step. kept_best d e n z few step)
 
     once : (e : Die) → IsBestAfter mean x (d ∷ replicate 1 e) (slice_index best (number e - 1))
     once one = of_steps one 1 (slice_index best 0) (omega arith) (least 0 (omega arith))

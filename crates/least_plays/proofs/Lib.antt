@@ -1,5 +1,5 @@
+pub mod Chains
 pub mod Best
-pub mod StepRanks
 pub mod Rolls
 pub mod Knowing
 pub mod RecordedPlays

@@ -1,6 +1,6 @@
 -- What is known of the positions of the last levels of pips. Source: this project's profile.
 use Rattle.std.specs.Prelude.{◌≡◌, ◌⊎◌, ℕ, zero, suc, ◌+◌, ◌-◌, ◌%◌, ◌<◌, ◌≤◌, ◌==◌, if◌then◌else◌}
-use Rattle.std.specs.Prelude.{List, [], ◌∷◌, length, replicate, slice_index, slice_index_or}
+use Rattle.std.specs.Prelude.{List, [], ◌∷◌, length, replicate, slice_index, slice_index_or, slice_set}
 use Rattle.race_model.specs.Positions.{Board, IsPosition, IsFinished, pips}
 use Rattle.race_model.specs.Dice.{Die, one, two, three, four, five, six, number}
 use Rattle.race_model.specs.Plays.{Run}
@@ -67,6 +67,14 @@ pub record IsStart (mean : ℕ → ℕ) (x : Board) (d : Die) (start : Start) : 
   pub after : (n : ℕ) → n < 3 → IsBestAfter mean x (d ∷ replicate n d) (slice_index start.after n)
   pub plays : (e : Die) →
       IsBestAfter mean x (d ∷ replicate (dice_left d e) e) (slice_index start.plays (number e - 1))
+
+-- the best ranks with a die first, of the nine numbers for what may follow it
+unfoldable pub start_of : List ℕ → ℕ → Start
+start_of best own = record {
+  after = slice_index best 6 ∷ slice_index best own ∷ slice_index best 7 ∷ [];
+  plays = slice_set (slice_index best 0 ∷ slice_index best 1 ∷ slice_index best 2
+      ∷ slice_index best 3 ∷ slice_index best 4 ∷ slice_index best 5 ∷ []) own (slice_index best 8);
+}
 
 -- the best ranks from an unfinished position with each die first
 pub record AreStarts (mean : ℕ → ℕ) (count : ℕ) (starts : Starts) : Type 0 where

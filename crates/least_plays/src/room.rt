@@ -1,21 +1,19 @@
 //! The best ranks of the latest positions, from which those of the next are found.
-ghost use Rattle.std.specs.Prelude.{◌≡◌, ℕ, ◌+◌, ◌<◌, ◌≤◌, [], length};
+ghost use Rattle.std.specs.Prelude.{◌≡◌, ℕ, ◌+◌, ◌-◌, ◌<◌, ◌≤◌, [], length};
 ghost use Rattle.std.specs.Prelude.{slice_index, slice_index_or};
-ghost use Rattle.race_model.specs.Positions.{IsPosition, IsFinished, pips};
-ghost use Rattle.race_model.specs.Dice.{roll_at};
+ghost use Rattle.race_model.specs.Positions.{IsPosition, IsFinished, IsHighest, pips};
+ghost use Rattle.race_model.specs.Dice.{Die, number, roll_at};
 ghost use Rattle.race_model.specs.Ranks.{rank as rank_of};
 ghost use Rattle.race_model.specs.BestPlays.{IsBestPlay};
-ghost use Rattle.least_plays.specs.Choices.{IsLeastOf};
-ghost use Rattle.least_plays.specs.Known.{HasRows, kept_in, Knows, IsNext, IsStart, AreStarts};
-ghost use Rattle.least_plays.specs.Steps.{AreSteps};
+ghost use Rattle.least_plays.specs.Known.{HasRows, kept_in, start_of, Knows, IsNext, AreStarts};
+ghost use Rattle.least_plays.specs.Firsts.{AreFirsts, AreBest};
 ghost use Rattle.least_plays.specs.declared.starts.Start.{Start as StartValue};
 
 use crate::RankedMeans;
 use crate::choice::better_of_each;
 use crate::starts::{Start, Starts};
-use crate::steps::Steps;
+use crate::steps::chain;
 use home_board::Position;
-use legal_plays::Die;
 use ranking::Ranks;
 
 /// How many rows do for all positions, to 90 pips: no pip count has more than 1,636 of them, and a
@@ -86,17 +84,17 @@ impl<const ROWS: usize> LeastPlays<ROWS> {
     }
 
     /// The best ranks with each die first.
+    #[inline(always)]
     fn starts<M: RankedMeans>(&self, ranks: &Ranks, position: &Position, means: &M) -> Starts
         requires next { IsNext (M.mean means.now) (M.count means.now) self.now position.now }
         requires rows { (0 < ROWS) × (ROWS ≤ 11452) }
         ensures position { result.position ≡ position.now }
         ensures starts { AreStarts (M.mean means.now) (M.count means.now) result }
     {
+        let best = self.best_of(ranks, position, means);
         let mut dice = [Start::UNKNOWN; 6];
         for index in 0..6 {
-            let die = Die::new(index + 1).unwrap();
-            let steps = Steps::of(ranks, position, die);
-            dice[usize::from(index)] = self.start(&steps, means);
+            dice[index] = start_of(&best[index], index);
         }
         Starts {
             position: *position,
@@ -104,49 +102,82 @@ impl<const ROWS: usize> LeastPlays<ROWS> {
         }
     }
 
-    /// The best ranks with the die of these steps first.
-    fn start<M: RankedMeans>(&self, steps: &Steps, means: &M) -> Start
-        requires next { IsNext (M.mean means.now) (M.count means.now) self.now steps.now.position }
+    /// For each die the best of what is kept of its steps, for what may follow it.
+    #[inline(always)]
+    fn best_of<M: RankedMeans>(
+        &self,
+        ranks: &Ranks,
+        position: &Position,
+        means: &M,
+    ) -> [[u16; 9]; 6]
+        requires next { IsNext (M.mean means.now) (M.count means.now) self.now position.now }
         requires rows { (0 < ROWS) × (ROWS ≤ 11452) }
-        requires steps { AreSteps steps.now.position steps.now.die steps.now.ranks.items }
-        ensures { IsStart (M.mean means.now) steps.now.position steps.now.die result }
+        ensures { AreBest (M.mean means.now) position.now self.now.rows result }
     {
-        let best = self.best_of(steps.ranks.as_slice(), steps.die, means);
-        let own = usize::from(steps.die.number()) - 1;
-        let mut plays = [best[0], best[1], best[2], best[3], best[4], best[5]];
-        plays[own] = best[8];
-        Start {
-            after: [best[6], best[own], best[7]],
-            plays,
-        }
-    }
-
-    /// The best of what is kept of some ranks for what may follow a die.
-    fn best_of<M: RankedMeans>(&self, ranks: &[u16], die: Die, means: &M) -> [u16; 9]
-        requires some { 0 < length ranks.now }
-        requires rows { (0 < ROWS) × (ROWS ≤ 11452) }
-        requires held { (i j : ℕ) → i < length ranks.now → j < 9 →
-            slice_index (kept_in self.now.rows (slice_index ranks.now i) die) j
-            < M.count means.now }
-        ensures best { (j : ℕ) → j < 9 → IsLeastOf (M.mean means.now)
-            (λ i. slice_index (kept_in self.now.rows (slice_index ranks.now i) die) j)
-            (length ranks.now) (slice_index result j) }
-        ensures len { length result ≡ 9 }
-    {
-        let mut best = self.kept(ranks[0], die);
-        for place in 1..ranks.len() {
-            best = better_of_each(&best, &self.kept(ranks[place], die), means);
+        let highest = position.highest();
+        let mut best = self.first_best(ranks, position, highest);
+        for point in 1..highest {
+            self.add(&mut best, ranks, position, highest, point, means);
         }
         best
     }
 
-    /// What is kept of a rank for what may follow a die.
-    fn kept(&self, rank: u16, die: Die) -> [u16; 9]
-        requires { (0 < ROWS) × (ROWS ≤ 11452) }
-        ensures { result ≡ kept_in self.now.rows rank die }
+    /// What is kept of the steps from the highest point: each die has one.
+    #[inline(always)]
+    fn first_best(&self, ranks: &Ranks, position: &Position, highest: u8) -> [[u16; 9]; 6]
+        requires rows { (0 < ROWS) × (ROWS ≤ 11452) }
+        requires highest { IsHighest position.now highest }
+        requires range { highest ≤ 6 }
+        ensures { (mean : ℕ → ℕ) → AreFirsts mean position.now self.now.rows highest 1 result }
+    {
+        let chain = chain(ranks, position, highest);
+        let mut best = [[0; 9]; 6];
+        for index in 0..6 {
+            best[index] = self.kept(chain[pips_less_one(index, highest)], index);
+        }
+        best
+    }
+
+    /// The better ones of those and of what is kept of the steps from one point more, if any.
+    #[inline(always)]
+    fn add<M: RankedMeans>(
+        &self,
+        best: &mut [[u16; 9]; 6],
+        ranks: &Ranks,
+        position: &Position,
+        highest: u8,
+        point: u8,
+        means: &M,
+    )
+        requires next { IsNext (M.mean means.now) (M.count means.now) self.now position.now }
+        requires rows { (0 < ROWS) × (ROWS ≤ 11452) }
+        requires highest { IsHighest position.now highest }
+        requires range { highest ≤ 6 }
+        requires point { point < highest }
+        requires first { 1 ≤ point }
+        requires before { AreFirsts (M.mean means.now) position.now self.now.rows highest point
+            best.old }
+        ensures { AreFirsts (M.mean means.now) position.now self.now.rows highest (point + 1)
+            best.new }
+    {
+        if position.count(point) == 0 {
+            return;
+        }
+        let chain = chain(ranks, position, point);
+        for index in 0..usize::from(point) {
+            best[index] = better_of_each(&best[index], &self.kept(chain[index], index), means);
+        }
+    }
+
+    /// What is kept of a rank for what may follow the die of an index.
+    #[inline(always)]
+    fn kept(&self, rank: u16, index: usize) -> [u16; 9]
+        requires rows { (0 < ROWS) × (ROWS ≤ 11452) }
+        requires index { index < 6 }
+        ensures { (d : Die) → number d ≡ index + 1 → result ≡ kept_in self.now.rows rank d }
     {
         let after = &self.rows[usize::from(rank) % ROWS].after;
-        let own = &after[usize::from(die.number()) - 1];
+        let own = &after[index];
         [
             after[0][0],
             after[1][0],
@@ -158,6 +189,31 @@ impl<const ROWS: usize> LeastPlays<ROWS> {
             own[1],
             own[2],
         ]
+    }
+}
+
+/// How many pips a checker goes from the highest point, less one, by the index of a die.
+#[inline(always)]
+fn pips_less_one(index: usize, highest: u8) -> usize
+    requires { 1 ≤ highest }
+    ensures within { result < highest }
+    ensures value { highest - (result + 1) ≡ highest - (index + 1) }
+{
+    let last = usize::from(highest) - 1;
+    if index < last { index } else { last }
+}
+
+/// The best ranks with a die first, by the index of the die.
+#[inline(always)]
+fn start_of(best: &[u16; 9], own: usize) -> Start
+    requires { own < 6 }
+    ensures { result ≡ start_of best.now own }
+{
+    let mut plays = [best[0], best[1], best[2], best[3], best[4], best[5]];
+    plays[own] = best[8];
+    Start {
+        after: [best[6], best[own], best[7]],
+        plays,
     }
 }
 

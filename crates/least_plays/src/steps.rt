@@ -1,37 +1,37 @@
-//! All steps of a die, as ranks.
-ghost use Rattle.std.specs.Prelude.{◌≡◌};
-ghost use Rattle.least_plays.specs.Steps.{AreSteps};
+//! Where one checker goes from a point, as ranks.
+ghost use Rattle.std.specs.Prelude.{◌≡◌, ◌+◌, ◌-◌, ◌<◌, ◌≤◌};
+ghost use Rattle.race_model.specs.Positions.{count, fewer, more};
+ghost use Rattle.race_model.specs.Ranks.{rank as rank_of};
+ghost use Rattle.least_plays.specs.Steps.{IsChain};
 
-use arrayvec::ArrayVec;
 use home_board::Position;
 use legal_plays::{Die, step};
 use ranking::Ranks;
 
-/// The steps of a die from a position: the ranks that they lead to, at most six.
-#[derive(Drop)]
-pub struct Steps {
-    pub position: Position,
-    pub die: Die,
-    pub ranks: ArrayVec<u16, 6>,
+/// The ranks to which one checker goes from a point, by 1 pip, 2 pips and so on, to off the board.
+pub fn chain(ranks: &Ranks, position: &Position, point: u8) -> [u16; 6]
+    requires occupied { 0 < count position.now point }
+    requires last { point ≤ 6 }
+    ensures { IsChain position.now point point result }
+{
+    let mut chain = [0; 6];
+    for index in 0..point {
+        chain[usize::from(index)] = rank_after(ranks, position, point, index + 1);
+    }
+    chain
 }
 
-impl Steps {
-    /// All steps of the die.
-    pub fn of(ranks: &Ranks, position: &Position, die: Die) -> Self
-        ensures position { result.position ≡ position.now }
-        ensures die { result.die ≡ die }
-        ensures steps { AreSteps position.now die result.ranks.items }
-    {
-        let mut found: ArrayVec<u16, 6> = ArrayVec::new();
-        for below in 0..position.highest() {
-            if let Some(after) = step(position, die, below + 1) {
-                found.push(ranks.rank(&after));
-            }
-        }
-        Steps {
-            position: *position,
-            die,
-            ranks: found,
-        }
+/// The rank to which one checker goes from a point by so many pips.
+fn rank_after(ranks: &Ranks, position: &Position, point: u8, pips: u8) -> u16
+    requires occupied { 0 < count position.now point }
+    requires last { point ≤ 6 }
+    requires first { 1 ≤ pips }
+    requires within { pips ≤ point }
+    ensures { result ≡ rank_of (more (fewer position.now point) (point - pips)) }
+{
+    let die = Die::new(pips).unwrap();
+    match step(position, die, point) {
+        Some(after) => ranks.rank(&after),
+        None => 0,
     }
 }

@@ -1,64 +1,38 @@
--- One rank more.
-use Rattle.std.proofs.Common.{◌≡◌, slice_index, length, ap, subst, arith}
-use Rattle.least_plays.specs.Choices.{IsLeastOf, IsBetterOf}
+-- All points below the highest are added.
+use Rattle.std.proofs.Common.{◌≡◌, ◌<◌, ⊎_elim, arith}
+use Rattle.std.specs.Prelude.{slice_index}
+use Rattle.std.proofs.lemmas.Bool.{cases_lt}
+use Rattle.race_model.specs.Positions.{IsHighest}
+use Rattle.least_plays.specs.Firsts.{at_die}
 use Rattle.least_plays.specs.Known.{kept_in}
-use Rattle.least_plays.proofs.Best.{least_of_one, least_of_more}
+use Rattle.least_plays.proofs.Best.{first_all}
 use Rattle.least_plays.proofs.room.LeastPlays.best_of.Goals as goal
 
-pub loop-place-init : goal.loop-place-init
-unfolding kept_in
-loop-place-init g c = record {
-  len = ap length c.kept-best.ensures;
+pub loop-point-init : goal.loop-point-init
+loop-point-init g c = record {
   some = omega arith;
-  best = λ j lt.
-      least_of_one (g.M.RankedMeans.mean c.args.means.now)
-      (λ i. slice_index (kept_in c.args.self.now.rows (slice_index c.args.ranks.now i) c.args.die)
-      j)
-      (slice_index c.kept-best.result j) (ap (λ xs. slice_index xs j) c.kept-best.ensures);
+  firsts = c.first_best-best.ensures (g.M.RankedMeans.mean c.args.means.now);
 }
 
-pub better_of_each-best-requires-clause-ones : goal.better_of_each-best-requires-clause-ones
-better_of_each-best-requires-clause-ones g c = λ j lt.
-    let i = (c.loop-place.invariant.best j lt).one in
-    let held = c.requires.held i.0 j (omega (arith, i.1, c.loop-place-test.true)) lt in
-    omega (arith, held, i.2)
-
-pub better_of_each-best-requires-clause-others : goal.better_of_each-best-requires-clause-others
-better_of_each-best-requires-clause-others g c = λ j lt.
-    let held = c.requires.held c.loop-place.place j c.loop-place-test.true lt in
-    omega (arith, held, ap (λ xs. slice_index xs j) c.kept.ensures)
-
-pub loop-place-preserved : goal.loop-place-preserved
-loop-place-preserved g c =
-    let mean = g.M.RankedMeans.mean c.args.means.now in
+pub returns : goal.returns
+returns g c =
+    let x = c.args.position.now in
+    let h = c.highest-highest.result in
+    let positive : 0 < h = ⊎_elim
+    (λ some. some)
+    (λ none.
+    absurd (c.requires.next.unfinished (c.highest-highest.ensures.none.0 (omega (arith, none)))))
+    (cases_lt 0 h) in
+    let top : IsHighest x h = c.highest-highest.ensures.highest positive in
+    let past_end = c.loop-point-test.false in
+    let most = c.loop-point.auto.point-end in
+    let some = c.loop-point.invariant.some in
+    let end : c.loop-point.point ≡ h = omega (arith, positive, past_end, most, some) in
     record {
-      len = c.better_of_each-best.ensures.len;
-      some = omega arith;
-      best = λ j lt.
-          least_of_more mean
-          (λ i.
-          slice_index (kept_in c.args.self.now.rows (slice_index c.args.ranks.now i) c.args.die) j)
-          c.loop-place.place (slice_index c.loop-place.best j)
-          (slice_index c.better_of_each-best.result j) (c.loop-place.invariant.best j lt)
-          (subst
-          (λ s. IsBetterOf mean (slice_index c.loop-place.best j) s
-          (slice_index c.better_of_each-best.result j))
-          (ap (λ xs. slice_index xs j) c.kept.ensures)
-          (c.better_of_each-best.ensures.better j lt));
+      long = c.loop-point.invariant.firsts.long;
+      each = λ d j lt.
+          first_all (g.M.RankedMeans.mean c.args.means.now)
+          (λ q. slice_index (kept_in c.args.self.now.rows q d) j) x d h top c.loop-point.point
+          (at_die c.loop-point.best d j) end
+          (c.loop-point.invariant.firsts.each d j lt);
     }
-
-pub returns-clause-best : goal.returns-clause-best
-returns-clause-best g c = λ j lt.
-    let all : c.loop-place.place ≡ length c.args.ranks.now =
-    omega (
-      arith,
-      c.loop-place.auto.place-end,
-      c.loop-place.invariant.some,
-      c.requires.some,
-      c.loop-place-test.false,
-    ) in
-    subst
-    (λ n. IsLeastOf (g.M.RankedMeans.mean c.args.means.now)
-    (λ i. slice_index (kept_in c.args.self.now.rows (slice_index c.args.ranks.now i) c.args.die) j)
-    n (slice_index c.loop-place.best j))
-    all (c.loop-place.invariant.best j lt)

@@ -30,12 +30,11 @@ made-is rows r six = refl
 
 pub returns : goal.returns
 unfolding made at
-returns g c =
+returns g c = λ d is.
     let long : g.row.ROWS ≡ length c.args.self.now.rows = omega arith in
-    let own : c.from-2.result - 1 ≡ number c.args.die - 1 =
-    omega (arith, c.from-2.ensures, c.number.ensures.value) in
-    ap (λ place. made g.row.ROWS c.args.self.now.rows place c.args.rank (c.from-2.result - 1))
+    let own : c.args.index ≡ number d - 1 = omega (arith, is) in
+    ap (λ place. made g.row.ROWS c.args.self.now.rows place c.args.rank c.args.index)
     c.from.ensures
     ∙ ap (made g.row.ROWS c.args.self.now.rows c.args.rank c.args.rank) own
-    ∙ ap (λ n. made n c.args.self.now.rows c.args.rank c.args.rank (number c.args.die - 1)) long
-    ∙ made-is c.args.self.now.rows c.args.rank c.args.die
+    ∙ ap (λ n. made n c.args.self.now.rows c.args.rank c.args.rank (number d - 1)) long
+    ∙ made-is c.args.self.now.rows c.args.rank d
