@@ -3,10 +3,10 @@ use Rattle.bearoff_cli.proofs.act.act.Goals as goal
 
 pub returns-clause-told : goal.returns-clause-told
 returns-clause-told g c some other =
-    let told = c.act_on.ensures.told some other in
-    (told.0, (told.1, told.2.0))
+    let told = c.act_on-told.ensures.told some other in
+    (told.0, (told.1.0, told.1.1.0))
 
 pub returns-clause-fault : goal.returns-clause-fault
 returns-clause-fault g c request asks some =
-    let told = c.act_on.ensures.fault request asks some in
-    (told.0, (told.1, (told.2.0, told.3)))
+    let told = c.act_on-told.ensures.fault request asks some in
+    (told.0, (told.1.0, told.1.1.0, told.1.2))
