@@ -38,6 +38,9 @@ pub struct MemoryDisk {
     alloc: Global,
     calls_left: u64,
     events: Vec<Event>,
+
+    /// Whether the last file that was to be taken away has stayed.
+    has_kept: bool,
 }
 
 impl MemoryDisk {
@@ -49,6 +52,7 @@ impl MemoryDisk {
             alloc,
             calls_left: calls,
             events: Vec::new(alloc),
+            has_kept: false,
         }
     }
 
@@ -82,6 +86,7 @@ impl MemoryDisk {
     /// Counts a call; fails once the disk has stopped.
     fn count(&mut self) -> Result<(), DiskFault>
         ensures stays { self.new.events ≡ self.old.events }
+        ensures kept { self.new.has_kept ≡ self.old.has_kept }
     {
         if self.calls_left == 0 {
             return Err(DiskFault);
@@ -94,6 +99,7 @@ impl MemoryDisk {
     fn happens(&mut self, event: Event) -> Result<(), DiskFault>
         ensures done { OnOk result (self.new.events.items ≡ event ∷ self.old.events.items) }
         ensures failed { OnErr result (self.new.events.items ≡ self.old.events.items) }
+        ensures kept { self.new.has_kept ≡ self.old.has_kept }
     {
         match self.events.insert(0, event) {
             Ok(()) => Ok(()),
@@ -106,6 +112,7 @@ impl MemoryDisk {
         ensures done { OnOk result
             (IsNamed from.now to.now file self.old.events.items self.new.events.items) }
         ensures failed { OnErr result (self.new.events.items ≡ self.old.events.items) }
+        ensures kept { self.new.has_kept ≡ self.old.has_kept }
     {
         let Ok(old) = String::from_str(self.alloc, from) else {
             return Err(DiskFault);
@@ -146,6 +153,8 @@ impl Disk for MemoryDisk {
     ghost told = { λ disk. Some (moment disk.events.items ∷ earlier disk.events.items) };
 
     ghost paths = { λ _. one_folder };
+
+    ghost kept = { λ disk. disk.has_kept ≡ true };
 
     fn open(&mut self, path: &str) -> Result<Option<MemoryFile>, DiskFault> {
         self.count()?;
@@ -244,12 +253,14 @@ impl Disk for MemoryDisk {
     }
 
     fn remove(&mut self, path: &str) -> Result<(), DiskFault> {
+        self.has_kept = true;
         self.count()?;
         let name = name_of(path);
         if events::at(self.events.as_slice(), name) == None {
             return Err(DiskFault);
         }
         self.name(name, name, None)?;
+        self.has_kept = false;
         Ok(())
     }
 

@@ -1,4 +1,5 @@
 pub mod Ends
+pub mod Gone
 pub mod Known
 pub mod Links
 pub mod Puts

@@ -97,6 +97,10 @@ abbrev pub Runs : (Moment → Moment → Type 0) → Option (List Moment) → Op
 Runs Each old new = (first : Moment) (past : List Moment) → old ≡ Some (first ∷ past)
     → Goes (Each first) (first ∷ past) new
 
+-- no file stands at a place
+abbrev pub IsFree : ℕ × List ℕ → Moment → Type 0
+IsFree place disk = disk.at place ≡ None
+
 -- a place stays as it was
 abbrev pub StaysAt : ℕ × List ℕ → Option (List Moment) → Option (List Moment) → Type 0
 StaysAt place old new = Runs (IsSameAt place) old new

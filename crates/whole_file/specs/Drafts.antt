@@ -1,7 +1,7 @@
 -- A draft: a new file that is to take the place of an old one. Source: this project's profile.
 use Rattle.std.specs.Prelude.{◌≡◌, ◌≢◌, ℕ, ◌⊎◌, List, [], ◌∷◌, IsTrue, Option, Some, None, Result, Ok, Err}
 use Rattle.std.specs.String.{string_bytes}
-use Rattle.whole_file.specs.Disks.{Moment, Holds, IsSameAt, MayLeave, Goes, Lastly}
+use Rattle.whole_file.specs.Disks.{Moment, Holds, IsFree, IsSameAt, MayLeave, Goes, Lastly}
 use Rattle.whole_file.specs.Paths.{Paths, IsFixed, LeadsTo, PathStays, folder_of, place_of}
 use Rattle.whole_file.specs.declared.draft.Names.{Names}
 use Rattle.whole_file.specs.declared.fault.DraftFault.{DraftFault}
@@ -80,3 +80,12 @@ IsDropped paths None old new = old ≡ None → new ≡ None
 IsDropped paths (Some names) old new = (first : Moment) (past : List Moment)
     → old ≡ Some (first ∷ past) → IsDraft paths names first
     → Goes (IsSameAt (place_of paths (string_bytes names.place)) first) (first ∷ past) new
+
+-- a file was ended, and nothing stands under its first name; or it has stayed there
+abbrev pub IsGone : Paths → Option Names → Option (List ℕ) → Option (List Moment)
+    → Option (List Moment) → Type 0 → Type 0
+IsGone paths None contents old new Kept = Unit {0}
+IsGone paths (Some names) contents old new Kept = (bytes : List ℕ) (first : Moment)
+    (past : List Moment) → contents ≡ Some bytes → old ≡ Some (first ∷ past)
+    → IsDraft paths names first
+    → Lastly (IsFree (place_of paths (string_bytes names.new))) new ⊎ Kept

@@ -73,6 +73,9 @@ pub trait Disk {
     // how its paths are read. No call makes or changes a folder or a link
     ghost paths: { Self → Paths };
 
+    // the last file that was to be taken away has stayed
+    ghost kept: { Self → Type 0 };
+
     /// Opens a file to be written; none where there is none.
     fn open(&mut self, path: &str) -> Result<Option<Self::File>, DiskFault>
         ensures paths { paths self.new ≡ paths self.old }
@@ -167,7 +170,8 @@ pub trait Disk {
         ensures paths { paths self.new ≡ paths self.old }
         ensures removed { OnOk result (Steps (Removes (place_of (paths self.old) path.now))
             (told self.old) (told self.new)) }
-        ensures failed { OnErr result (told self.new ≡ told self.old) };
+        ensures failed { OnErr result (told self.new ≡ told self.old) }
+        ensures kept { OnErr result (kept self.new) };
 
     /// Makes sure of the names of a folder; whether that can be done there.
     fn settle_names(&mut self, folder: &str) -> Result<bool, DiskFault>

@@ -5,9 +5,10 @@ ghost use Rattle.std.specs.Prelude.{IfOk, IfErr, IfSome, IsSome, IsSomeAnd, OnOk
 ghost use Rattle.std.specs.Io.KnownBytes.{Keeps};
 ghost use Rattle.std.specs.String.{string_bytes};
 ghost use Rattle.std.specs.Io.Buffered.{writer_contents};
-ghost use Rattle.whole_file.specs.Disks.{Moment, Goes, IsSameAt, Steps, Settles, Renames, StaysAt};
+ghost use Rattle.whole_file.specs.Disks.{Moment, Goes, IsSameAt, IsFree, Lastly, Steps, Settles, Renames};
+ghost use Rattle.whole_file.specs.Disks.{Removes, StaysAt};
 ghost use Rattle.whole_file.specs.Calls.{AnswersBeside, AnswersSettled, IsAllowed, RemovesOrStays};
-ghost use Rattle.whole_file.specs.Drafts.{IsDraft, IsReady, IsBegun, IsDropped, IsPut, Finishes};
+ghost use Rattle.whole_file.specs.Drafts.{IsDraft, IsReady, IsBegun, IsDropped, IsGone, IsPut, Finishes};
 ghost use Rattle.whole_file.specs.Paths.{IsFixedOn, LeadsTo, PathStays, is_open_name, place_of};
 ghost use Rattle.whole_file.specs.declared.fault.DraftFault.TheVariants.{Write};
 
@@ -380,6 +381,9 @@ fn drafted<D: Disk>(
     ensures gone { OnErr result (RemovesOrStays
         (place_of (D.paths disk.old) (string_bytes names.new))
         (D.told disk.old) (D.told disk.new)) }
+    ensures kept { OnErr result (Steps (Removes
+        (place_of (D.paths disk.old) (string_bytes names.new)))
+        (D.told disk.old) (D.told disk.new) ⊎ D.kept disk.new) }
 {
     match straight::<D>(alloc, file) {
         Ok(Draft { writer, names: _ }) => Ok(Draft {
@@ -413,7 +417,8 @@ impl<D: Disk> Draft<D> {
     /// answered: the new file is taken away, and the old one stays. Else `Write` where the bytes
     /// can't be brought to the disk or the new file can't take the place of the old one, with the
     /// same after it, and where that place can't be brought to the disk: then the new file has it.
-    /// No memory is taken.
+    /// No memory is taken. Under its first name the new file stays only where the disk fails to take
+    /// it away.
     pub fn finish(self, disk: &mut D, written: Result<(), DraftFault>) -> Result<(), DraftFault>
         ensures paths { D.paths disk.new ≡ D.paths disk.old }
         ensures fault { IfErr written (λ fault. result ≡ Err fault) }
@@ -423,6 +428,9 @@ impl<D: Disk> Draft<D> {
             result }
         ensures stays { OnErr written
             (IsDropped (D.paths disk.old) self.names (D.told disk.old) (D.told disk.new)) }
+        ensures gone { IsGone (D.paths disk.old) self.names
+            (writer_contents D.File.contents self.writer) (D.told disk.old) (D.told disk.new)
+            (D.kept disk.new) }
     {
         let Draft { writer, names } = self;
         match names {
@@ -452,6 +460,12 @@ fn end_beside<D: Disk>(
         → D.told disk.old ≡ Some (first ∷ past) → IsDraft (D.paths disk.old) names.now first
         → Goes (IsSameAt (place_of (D.paths disk.old) (string_bytes names.now.place)) first)
         (first ∷ past) (D.told disk.new)) }
+    ensures gone { (bytes : List ℕ) (first : Moment) (past : List Moment)
+        → writer_contents D.File.contents writer ≡ Some bytes
+        → D.told disk.old ≡ Some (first ∷ past)
+        → IsDraft (D.paths disk.old) names.now first
+        → Lastly (IsFree (place_of (D.paths disk.old) (string_bytes names.now.new)))
+        (D.told disk.new) ⊎ D.kept disk.new }
 {
     match written {
         Ok(()) => put(disk, names, writer),
@@ -539,6 +553,8 @@ fn discard<D: Disk>(disk: &mut D, names: &Names)
     ensures paths { D.paths disk.new ≡ D.paths disk.old }
     ensures gone { RemovesOrStays (place_of (D.paths disk.old) (string_bytes names.now.new))
         (D.told disk.old) (D.told disk.new) }
+    ensures kept { Steps (Removes (place_of (D.paths disk.old) (string_bytes names.now.new)))
+        (D.told disk.old) (D.told disk.new) ⊎ D.kept disk.new }
 {
     let _ = disk.remove(names.new.as_str());
 }
@@ -567,6 +583,12 @@ fn put<D: Disk>(disk: &mut D, names: &Names, writer: BufWriter<D::File>) -> Resu
         → IsDraft (D.paths disk.old) names.now first
         → Finishes (D.paths disk.old) (string_bytes names.now.place) bytes first past
         (D.told disk.new) result }
+    ensures gone { (bytes : List ℕ) (first : Moment) (past : List Moment)
+        → writer_contents D.File.contents writer ≡ Some bytes
+        → D.told disk.old ≡ Some (first ∷ past)
+        → IsDraft (D.paths disk.old) names.now first
+        → Lastly (IsFree (place_of (D.paths disk.old) (string_bytes names.now.new)))
+        (D.told disk.new) ⊎ D.kept disk.new }
     ensures fault { IfErr result (λ fault. fault ≡ Write) }
 {
     match settle(disk, names, writer) {

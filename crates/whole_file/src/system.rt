@@ -64,6 +64,8 @@ where
       fixed = λ _. true;
     } };
 
+    ghost kept = { λ _. Unit {0} };
+
     fn open(&mut self, path: &str) -> Result<Option<R::File>, DiskFault> {
         match OpenOptions::new().write(true).open(self.files, path) {
             Ok(file) => Ok(Some(file)),

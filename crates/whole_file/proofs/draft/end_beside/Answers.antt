@@ -1,6 +1,7 @@
 -- Where a fault came before, nothing but the new file has changed.
 use Rattle.std.proofs.Common.{refl}
 use Rattle.whole_file.proofs.Ends.{end_unsettled}
+use Rattle.whole_file.proofs.Gone.{gone_removed}
 use Rattle.whole_file.proofs.Stays.{stays_gone}
 use Rattle.whole_file.proofs.draft.end_beside.Goals as goal
 
@@ -12,3 +13,7 @@ returns-in-Err-clause-put g c bytes first past known is draft =
 pub returns-in-Err-clause-stays : goal.returns-in-Err-clause-stays
 returns-in-Err-clause-stays g c = rw c.in-Err.is (λ first past is draft.
     stays_gone _ _ _ _ draft.apart c.discard.ensures.gone first past is)
+
+pub returns-in-Err-clause-gone : goal.returns-in-Err-clause-gone
+returns-in-Err-clause-gone g c bytes first past known is draft =
+    gone_removed _ _ first past _ _ is c.discard.ensures.kept

@@ -6,3 +6,6 @@ returns-in-Some-clause-put g c = rw c.in-Some.is c.end_beside.ensures.put
 
 pub returns-in-Some-clause-stays : goal.returns-in-Some-clause-stays
 returns-in-Some-clause-stays g c = rw c.in-Some.is c.end_beside.ensures.stays
+
+pub returns-in-Some-clause-gone : goal.returns-in-Some-clause-gone
+returns-in-Some-clause-gone g c = rw c.in-Some.is c.end_beside.ensures.gone
