@@ -131,8 +131,8 @@ const QUERY: &str = "Checks FILE, then answers each line of standard input";
 const AUDIT: &str = "Checks FILE, then tells the least and the greatest mean of each pip count";
 
 /// What the words after the program's own name ask for, where there is none, or `--` alone,
-/// `Default`. An error of `clap`'s is a mistake in the words, a help text that they ask for, or want
-/// of memory.
+/// `Default`. An error of `clap`'s is a mistake in the words, a help text that they ask for, or
+/// want of memory.
 // so that its room is not on the stack while the request is fulfilled
 #[inline(never)]
 pub fn read_words<'a, S: AsStr>(alloc: Global, words: &'a [S]) -> Result<Request<'a>, Error>

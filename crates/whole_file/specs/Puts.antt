@@ -20,9 +20,9 @@ pub record IsPutAt (paths : Paths) (path : List ℕ) (Whole : List ℕ → Type 
   pub goes : Goes (IsOldOrWhole (place_of paths path) Whole first) (first ∷ past) told
   pub ends : Lastly (Stands paths path Whole) told
 
--- where a disk tells its moments, a file of which this holds was put where a path leads; or, as none
--- can take that place, the old one was emptied, to be written straight, and the disk tells nothing
--- more
+-- where a disk tells its moments, a file of which this holds was put where a path leads; or, as
+-- none can take that place, the old one was emptied, to be written straight, and the disk tells
+-- nothing more
 abbrev pub Puts : Paths → List ℕ → (List ℕ → Type 0) → Option (List Moment)
     → Option (List Moment) → Type 0
 Puts paths path Whole old new = (first : Moment) (past : List Moment)

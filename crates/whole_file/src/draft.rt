@@ -417,8 +417,8 @@ impl<D: Disk> Draft<D> {
     /// answered: the new file is taken away, and the old one stays. Else `Write` where the bytes
     /// can't be brought to the disk or the new file can't take the place of the old one, with the
     /// same after it, and where that place can't be brought to the disk: then the new file has it.
-    /// No memory is taken. Under its first name the new file stays only where the disk fails to take
-    /// it away.
+    /// No memory is taken. Under its first name the new file stays only where the disk fails to
+    /// take it away.
     pub fn finish(self, disk: &mut D, written: Result<(), DraftFault>) -> Result<(), DraftFault>
         ensures paths { D.paths disk.new ≡ D.paths disk.old }
         ensures fault { IfErr written (λ fault. result ≡ Err fault) }
