@@ -267,7 +267,7 @@ PLANTED = [
         "run_reads_once_too_often",
         RUNNING,
         "    Err(RunFault::Turns)\n}",
-        "    let _more = reader.read(&mut chunk);\n    Err(RunFault::Turns)\n}",
+        "    let _more = reads.reader.read(&mut chunk);\n    Err(RunFault::Turns)\n}",
         "failing_calls turns",
     ),
     (

@@ -56,7 +56,8 @@ fields f =
 -- of a file of a layout all questions about its first bytes are answered yes, if the numbers of the
 -- layout have room in the header, and no record begins in it
 module _ (layout : Layout) (number_fits : layout.number < 2 ^ 16)
-    (stated_fits : layout.stated < 2 ^ 32) (behind : (r : ℕ) → 32 ≤ layout.place r) (f : List ℕ) (file : IsFileBy layout f) where
+    (stated_fits : layout.stated < 2 ^ 32) (behind : (r : ℕ) → 32 ≤ layout.place r)
+    (f : List ℕ) (file : IsFileBy layout f) where
   pub front_of_file : (t : HeaderTest) → HeaderHoldsBy layout (take 32 f) (length f) t
   front_of_file long_enough =
       let long = behind (count_to (bound_of f)) in

@@ -61,9 +61,9 @@ pub fn law_agree()
 {}
 
 /// The shares of a position. Those of a strategy from at most 58 pips add up to the whole, and
-/// each times its number of rolls to the total; so do those of a right book whose sequences are long
-/// enough, and it has no share beyond the most rolls of a pip count: a record that leaves these out
-/// loses none, and a compact one tells them all.
+/// each times its number of rolls to the total; so do those of a right book whose sequences are
+/// long enough, and it has no share beyond the most rolls of a pip count: a record that leaves
+/// these out loses none, and a compact one tells them all.
 pub fn law_spread()
     ensures strategy { (x : Board) (s : Strategy) → IsPosition x → pips x ≤ 58 → Fits s x →
         sum_by (count_of s) (range_with_len 0 23) ≡ whole }

@@ -10,9 +10,9 @@ returns-clause-some c =
     let f = c.args.self.now in
     c.minus.ensures.some.1 (omega (
       arith,
-      c.law_loss.ensures.least (board_book f) (whole_board (board_book f) refl) c.bound-bound.ensures.right.book
-          c.args.position.now c.pips-pips.ensures.position c.requires.within c.args.roll
-          c.args.to.now c.requires.legal,
+      c.law_loss.ensures.least (board_book f) (whole_board (board_book f) refl)
+          c.bound-bound.ensures.right.book c.args.position.now c.pips-pips.ensures.position
+          c.requires.within c.args.roll c.args.to.now c.requires.legal,
       (c.in_ok-after.ensures {u = tt}).recorded,
       c.requires.least,
     ))
@@ -32,5 +32,6 @@ returns-clause-lost c =
       (c.in_ok-after.ensures {u = tt}).recorded,
       c.requires.least,
     ))
-    (c.law_loss.ensures.loss (board_book f) (whole_board (board_book f) refl) c.bound-bound.ensures.right.book
-    x c.pips-pips.ensures.position c.requires.within v y c.requires.legal))
+    (c.law_loss.ensures.loss (board_book f) (whole_board (board_book f) refl)
+    c.bound-bound.ensures.right.book x c.pips-pips.ensures.position c.requires.within v y
+    c.requires.legal))
