@@ -1,4 +1,5 @@
 pub mod Choices
+pub mod Steps
 pub mod Firsts
 pub mod Known
 pub mod Recorded

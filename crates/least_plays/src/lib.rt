@@ -15,3 +15,4 @@ pub mod means;
 pub mod recorded;
 pub mod room;
 mod starts;
+mod steps;

@@ -12,6 +12,7 @@ ghost use Rattle.least_plays.specs.declared.starts.Start.{Start as StartValue};
 use crate::RankedMeans;
 use crate::choice::better_of_each;
 use crate::starts::{Start, Starts};
+use crate::steps::chain;
 use home_board::Position;
 use ranking::Ranks;
 
@@ -129,7 +130,7 @@ impl<const ROWS: usize> LeastPlays<ROWS> {
         requires range { highest ≤ 6 }
         ensures { (mean : ℕ → ℕ) → AreFirsts mean position.now self.now.rows highest 1 result }
     {
-        let chain = ranks.chain(position, highest);
+        let chain = chain(ranks, position, highest);
         let mut best = [[0; 9]; 6];
         for index in 0..6 {
             best[index] = self.kept(chain[pips_less_one(index, highest)], index);
@@ -162,7 +163,7 @@ impl<const ROWS: usize> LeastPlays<ROWS> {
         if position.count(point) == 0 {
             return;
         }
-        let chain = ranks.chain(position, point);
+        let chain = chain(ranks, position, point);
         for index in 0..usize::from(point) {
             best[index] = better_of_each(&best[index], &self.kept(chain[index], index), means);
         }
