@@ -1,5 +1,4 @@
 pub mod Choices
-pub mod Steps
 pub mod Firsts
 pub mod Known
 pub mod Recorded

@@ -15,4 +15,3 @@ pub mod means;
 pub mod recorded;
 pub mod room;
 mod starts;
-mod steps;

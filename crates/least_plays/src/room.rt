@@ -12,7 +12,6 @@ ghost use Rattle.least_plays.specs.declared.starts.Start.{Start as StartValue};
 use crate::RankedMeans;
 use crate::choice::better_of_each;
 use crate::starts::{Start, Starts};
-use crate::steps::chain;
 use home_board::Position;
 use ranking::Ranks;
 
@@ -130,7 +129,7 @@ impl<const ROWS: usize> LeastPlays<ROWS> {
         requires range { highest ≤ 6 }
         ensures { (mean : ℕ → ℕ) → AreFirsts mean position.now self.now.rows highest 1 result }
     {
-        let chain = chain(ranks, position, highest);
+        let chain = ranks.chain(position, highest);
         let mut best = [[0; 9]; 6];
         for index in 0..6 {
             best[index] = self.kept(chain[pips_less_one(index, highest)], index);
@@ -163,7 +162,7 @@ impl<const ROWS: usize> LeastPlays<ROWS> {
         if position.count(point) == 0 {
             return;
         }
-        let chain = chain(ranks, position, point);
+        let chain = ranks.chain(position, point);
         for index in 0..usize::from(point) {
             best[index] = better_of_each(&best[index], &self.kept(chain[index], index), means);
         }

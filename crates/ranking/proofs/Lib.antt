@@ -2,6 +2,7 @@ pub mod Cells
 pub mod TableCounts
 pub mod Filling
 pub mod Reading
+pub mod Chains
 pub mod Counting
 pub mod KnownCounts
 pub mod LevelCounts

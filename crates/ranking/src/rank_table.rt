@@ -1,12 +1,15 @@
 //! The counts by which positions are ranked, as one table that can be copied.
 ghost use Rattle.std.specs.Prelude.{◌≡◌, ℕ, ◌+◌, ◌-◌, ◌*◌, ◌<◌, ◌≤◌, ◌↔◌, List, IsSome, IfSome};
 ghost use Rattle.std.specs.Prelude.{slice_index, slice_index_or};
-ghost use Rattle.race_model.specs.Positions.{IsPosition};
+ghost use Rattle.race_model.specs.Positions.{IsPosition, count, fewer, more};
 ghost use Rattle.race_model.specs.Ranks.{rank, at_rank, first_of, count_to};
 ghost use Rattle.ranking.specs.Lists.{ways, used};
 ghost use Rattle.ranking.specs.Tables.{IsRankTable, IsRow};
+ghost use Rattle.ranking.specs.Chains.{IsChain, IsLeft, pips_left, checkers_left};
+ghost use Rattle.ranking.specs.Chains.{sum_from, below, between, above};
 
 use crate::firsts;
+use crate::left::Left;
 use crate::point_table::PointTable;
 use crate::row::{PIP_COUNTS, Row};
 use home_board::Position;
@@ -83,6 +86,130 @@ impl RankTable {
         self.starts[usize::from(pips) + 1] - 1 - later
     }
 
+    /// The ranks of the positions to which one checker goes from a point, by 1 pip, 2 pips and so
+    /// on, to off the board.
+    // a number for each point, so that the compiler knows how long the loops of each call are
+    pub fn chain(&self, position: &Position, point: u8) -> [u16; 6]
+        requires table { IsRankTable self.now }
+        requires occupied { 0 < count position.now point }
+        ensures { IsChain position.now point result }
+    {
+        let left = Left::of(position);
+        match point {
+            1 => self.chain_from(&left, 1),
+            2 => self.chain_from(&left, 2),
+            3 => self.chain_from(&left, 3),
+            4 => self.chain_from(&left, 4),
+            5 => self.chain_from(&left, 5),
+            _ => self.chain_from(&left, 6),
+        }
+    }
+
+    // The same, by what is left of the position. Positions that come after one are counted in
+    // three parts: those that differ first below the point to which the checker goes, from there
+    // on below the point from which it goes, and from there on.
+    #[inline(always)]
+    fn chain_from(&self, left: &Left, source: usize) -> [u16; 6]
+        requires table { IsRankTable self.now }
+        requires left { IsLeft left.now }
+        requires occupied { 0 < count left.now.position source }
+        ensures { IsChain left.now.position source result }
+    {
+        let mut chain = [0; 6];
+        let mut upper = self.sum_above(left, source, 0);
+        for far in 1..source {
+            let target = source - far;
+            upper += self.cell(
+                target,
+                left.checkers[target] - 1,
+                left.pips[target] - source,
+            );
+            chain[far - 1] = self.rank_down(left, source, target, upper);
+        }
+        chain[source - 1] = self.rank_off(left, source);
+        chain
+    }
+
+    // The rank to which a checker goes down, by the sum over the points from there on.
+    #[inline(always)]
+    fn rank_down(&self, left: &Left, source: usize, target: usize, upper: u16) -> u16
+        requires table { IsRankTable self.now }
+        requires left { IsLeft left.now }
+        requires occupied { 0 < count left.now.position source }
+        requires first { 1 ≤ target }
+        requires down { target < source }
+        requires upper { upper
+            ≡ sum_from (between left.now.position source) target (source - target)
+            + sum_from (above left.now.position 0) source (7 - source) }
+        ensures { result ≡ rank (more (fewer left.now.position source) target) }
+    {
+        let far = source - target;
+        self.rank_before(
+            left.pips[0] - far,
+            self.sum_below(left, target, far) + upper,
+        )
+    }
+
+    // The rank to which a checker is borne off.
+    #[inline(always)]
+    fn rank_off(&self, left: &Left, source: usize) -> u16
+        requires table { IsRankTable self.now }
+        requires left { IsLeft left.now }
+        requires occupied { 0 < count left.now.position source }
+        ensures { result ≡ rank (fewer left.now.position source) }
+    {
+        let later = self.sum_below(left, source, source) + self.sum_above(left, source, 1);
+        self.rank_before(left.pips[0] - source, later)
+    }
+
+    // The rank of a position of so many pips, before so many of as many pips.
+    #[inline(always)]
+    fn rank_before(&self, pips: usize, later: u16) -> u16
+        requires table { IsRankTable self.now }
+        requires low { pips ≤ 90 }
+        requires later { later < first_of (pips + 1) }
+        ensures { result ≡ first_of (pips + 1) - 1 - later }
+    {
+        self.starts[pips + 1] - 1 - later
+    }
+
+    // The sum over the points below one, with so many pips fewer.
+    #[inline(always)]
+    fn sum_below(&self, left: &Left, target: usize, far: usize) -> u16
+        requires table { IsRankTable self.now }
+        requires left { IsLeft left.now }
+        requires first { 1 ≤ target }
+        requires last { target ≤ 6 }
+        requires room { (p : ℕ) → p < target → far ≤ pips_left left.now.position p }
+        requires few { sum_from (below left.now.position far) 1 (target - 1) < 54264 }
+        ensures { result ≡ sum_from (below left.now.position far) 1 (target - 1) }
+    {
+        let mut later = 0;
+        for point in 1..target {
+            later += self.cell(point, left.checkers[point], left.pips[point] - far);
+        }
+        later
+    }
+
+    // The sum over the points from one on, with so many checkers more.
+    #[inline(always)]
+    fn sum_above(&self, left: &Left, source: usize, off: usize) -> u16
+        requires table { IsRankTable self.now }
+        requires left { IsLeft left.now }
+        requires first { 1 ≤ source }
+        requires last { source ≤ 6 }
+        requires one { off ≤ 1 }
+        requires room { (p : ℕ) → source ≤ p → checkers_left left.now.position p + off ≤ 15 }
+        requires few { sum_from (above left.now.position off) source (7 - source) < 54264 }
+        ensures { result ≡ sum_from (above left.now.position off) source (7 - source) }
+    {
+        let mut later = 0;
+        for point in source..7 {
+            later += self.cell(point, left.checkers[point] + off, left.pips[point]);
+        }
+        later
+    }
+
     /// The position of a rank; none for 54,264 and above, which are no ranks.
     pub fn unrank(&self, index: u16) -> Option<Position>
         requires { IsRankTable self.now }
@@ -140,9 +267,20 @@ impl RankTable {
         requires low { pips ≤ 90 }
         ensures { result ≡ used point checkers pips }
     {
-        let table = &self.points[usize::from(point) - 1];
-        let row = &table.rows[usize::from(checkers)];
-        row.cells[usize::from(pips)]
+        self.cell(usize::from(point), usize::from(checkers), usize::from(pips))
+    }
+
+    // The same, by numbers that are places.
+    #[inline(always)]
+    fn cell(&self, point: usize, checkers: usize, pips: usize) -> u16
+        requires table { IsRankTable self.now }
+        requires first { 1 ≤ point }
+        requires last { point ≤ 6 }
+        requires few { checkers ≤ 15 }
+        requires low { pips ≤ 90 }
+        ensures { result ≡ used point checkers pips }
+    {
+        self.points[point - 1].rows[checkers].cells[pips]
     }
 }
 

@@ -1,8 +1,9 @@
 //! Ranks of positions, by a table of counts that is made once.
 ghost use Rattle.std.specs.Prelude.{◌≡◌, ◌<◌, ◌↔◌, IsSome, IfSome};
-ghost use Rattle.race_model.specs.Positions.{IsPosition};
+ghost use Rattle.race_model.specs.Positions.{IsPosition, count};
 ghost use Rattle.race_model.specs.Ranks.{rank, at_rank, first_of, count_to};
 ghost use Rattle.ranking.specs.Tables.{IsRankTable};
+ghost use Rattle.ranking.specs.Chains.{IsChain};
 
 use crate::rank_table::RankTable;
 use home_board::Position;
@@ -45,6 +46,15 @@ impl Ranks {
         ensures range { result < 54264 }
     {
         self.table.rank(position)
+    }
+
+    /// The ranks of the positions to which one checker goes from a point, by 1 pip, 2 pips and so
+    /// on, to off the board.
+    pub fn chain(&self, position: &Position, point: u8) -> [u16; 6]
+        requires { 0 < count position.now point }
+        ensures { IsChain position.now point result }
+    {
+        self.table.chain(position, point)
     }
 
     /// The position of a rank; none for 54,264 and above, which are no ranks.

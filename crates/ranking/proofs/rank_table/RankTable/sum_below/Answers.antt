@@ -1,0 +1,71 @@
+use Rattle.std.proofs.Common.{◌≡◌, ◌+◌, ◌-◌, ◌≤◌, w16, slice_index, ap, ◌∙◌, arith}
+use Rattle.std.proofs.Math.Facts.{Fits-of_lt}
+use Rattle.ranking.specs.Chains.{checkers_left, pips_left, sum_from, below}
+use Rattle.ranking.proofs.Chains.{sum_from-none, sum_from-more, sum_from-part, left-most, used-equal}
+use Rattle.ranking.proofs.rank_table.RankTable.sum_below.Goals as goal
+
+pub loop-point-init : goal.loop-point-init
+loop-point-init c = record {
+  first = omega arith;
+  sum = sum_from-none (below c.args.left.now.position c.args.far) 1 (1 - 1) (omega arith);
+}
+
+pub cell-later-requires-clause-few : goal.cell-later-requires-clause-few
+cell-later-requires-clause-few c =
+    let p = c.loop-point.point in
+    omega (
+      arith,
+      c.requires.left.checkers_at p (omega (arith, c.loop-point-test.true, c.requires.last)),
+      (left-most c.args.left.now.position p c.requires.left.position).0,
+    )
+
+pub cell-later-requires-clause-low : goal.cell-later-requires-clause-low
+cell-later-requires-clause-low c =
+    let p = c.loop-point.point in
+    omega (
+      arith,
+      c.requires.left.pips_at p (omega (arith, c.loop-point-test.true, c.requires.last)),
+      (left-most c.args.left.now.position p c.requires.left.position).1,
+    )
+
+-- one point more
+next : (c : goal.After-cell-later) → c.loop-point.later + c.cell-later.result
+    ≡ sum_from (below c.args.left.now.position c.args.far) 1 (c.loop-point.point + 1 - 1)
+next c =
+    let x = c.args.left.now.position in
+    let p = c.loop-point.point in
+    let low : p ≤ 6 = omega (arith, c.loop-point-test.true, c.requires.last) in
+    let term : c.cell-later.result ≡ below x c.args.far p =
+    c.cell-later.ensures
+    ∙ used-equal p (slice_index c.args.left.now.checkers p) (checkers_left x p)
+    (slice_index c.args.left.now.pips p - c.args.far) (pips_left x p - c.args.far)
+    (c.requires.left.checkers_at p low)
+    (ap (λ m. m - c.args.far) (c.requires.left.pips_at p low)) in
+    omega (
+      arith,
+      c.loop-point.invariant.sum,
+      term,
+      sum_from-more (below x c.args.far) 1 p (p - 1) (omega (arith, c.loop-point.invariant.first))
+          (omega arith),
+    )
+
+pub overflow_add-later : goal.overflow_add-later
+overflow_add-later c =
+    Fits-of_lt {w = w16}
+    (omega (
+      arith,
+      next c,
+      sum_from-part (below c.args.left.now.position c.args.far) 1 (c.loop-point.point + 1 - 1)
+          (c.args.target - 1) (omega (arith, c.loop-point-test.true)),
+      c.requires.few,
+    ))
+
+pub loop-point-preserved : goal.loop-point-preserved
+loop-point-preserved c = record { first = omega arith; sum = next c }
+
+pub returns : goal.returns
+returns c =
+    let end : c.loop-point.point ≡ c.args.target =
+    omega (arith, c.loop-point-test.false, c.loop-point.auto.point-end, c.requires.first) in
+    c.loop-point.invariant.sum
+    ∙ ap (λ n. sum_from (below c.args.left.now.position c.args.far) 1 (n - 1)) end
