@@ -88,7 +88,6 @@ impl RankTable {
 
     /// The ranks of the positions to which one checker goes from a point, by 1 pip, 2 pips and so
     /// on, to off the board.
-    // a number for each point, so that the compiler knows how long the loops of each call are
     pub fn chain(&self, position: &Position, point: u8) -> [u16; 6]
         requires table { IsRankTable self.now }
         requires occupied { 0 < count position.now point }
@@ -96,13 +95,25 @@ impl RankTable {
     {
         let left = Left::of(position);
         match point {
-            1 => self.chain_from(&left, 1),
-            2 => self.chain_from(&left, 2),
-            3 => self.chain_from(&left, 3),
-            4 => self.chain_from(&left, 4),
-            5 => self.chain_from(&left, 5),
-            _ => self.chain_from(&left, 6),
+            1 => self.chain_of::<1>(&left),
+            2 => self.chain_of::<2>(&left),
+            3 => self.chain_of::<3>(&left),
+            4 => self.chain_of::<4>(&left),
+            5 => self.chain_of::<5>(&left),
+            _ => self.chain_of::<6>(&left),
         }
+    }
+
+    // The same from a point that the compiler knows. Where one function uses the table more than a
+    // hundred times, it is taken to keep it, and each caller that counts one has room for two.
+    #[inline(never)]
+    fn chain_of<const SOURCE: usize>(&self, left: &Left) -> [u16; 6]
+        requires table { IsRankTable self.now }
+        requires left { IsLeft left.now }
+        requires occupied { 0 < count left.now.position SOURCE }
+        ensures { IsChain left.now.position SOURCE result }
+    {
+        self.chain_from(left, SOURCE)
     }
 
     // The same, by what is left of the position. Positions that come after one are counted in
