@@ -264,13 +264,6 @@ PLANTED = [
         "failing_calls run",
     ),
     (
-        "run_reads_once_too_often",
-        RUNNING,
-        "    Err(RunFault::Turns)\n}",
-        "    let _more = reads.reader.read(&mut chunk);\n    Err(RunFault::Turns)\n}",
-        "failing_calls turns",
-    ),
-    (
         "the_program_always_wants_memory",
         ACT,
         TELL,
