@@ -8,7 +8,8 @@ says of it; and so many checkers, or so many on a point, have to be there. A dif
 behind `from:`, as in `51.943 - 49.679 > 2` or `158/81 - 1/1 = 77/81`, and has to hold of such
 numbers. A roll that is asked has to have more than one play. The page, docs/lessons.md, has to
 name the lessons in their order. What the ace-stack rule is off over all stacks is compared too,
-and what a third checker costs at most."""
+and what a third checker costs at most. An
+estimate that a step names has to be what its rule of thumb says of the position."""
 
 import itertools
 import re
@@ -65,15 +66,17 @@ def steps_of(text):
             lessons[-1][1].append({"at": value, "from": [], "words": ""})
         elif word == "from":
             lessons[-1][1][-1]["from"].append(value)
-        elif word == "roll":
-            lessons[-1][1][-1]["roll"] = value
+        elif word in ("roll", "rule", "estimate"):
+            lessons[-1][1][-1][word] = value
         elif line:
             lessons[-1][1][-1]["words"] += f" {line}"
     return lessons
 
 
 # what is no number of a position: a position, a move, a roll, the rule's own words
-PASSED_OVER = re.compile(r"(\d+,){5}\d+|\b[1-6]/(off|[1-5])\b|\b[1-6]-[1-6]\b|7n \+ 1")
+PASSED_OVER = re.compile(
+    r"(\d+,){5}\d+|\b[1-6]/(off|[1-5])\b|\b[1-6]-[1-6]\b|7n \+ 1|\b8\.5\b"
+)
 COUNTS = [
     "no",
     "one",
@@ -94,7 +97,7 @@ COUNTS = [
 ]
 POINTS = ["ace", *COUNTS[2:7]]
 CHECKERS = re.compile(
-    rf"\b({'|'.join(COUNTS)}) (?:checkers\b|on the ({'|'.join(POINTS)}) point)", re.IGNORECASE
+    rf"(?<!over )\b({'|'.join(COUNTS)}) (?:checkers\b|on the ({'|'.join(POINTS)}) point)", re.IGNORECASE
 )
 COMPARED = re.compile(r"([\d./]+) - ([\d./]+) ([>=]) ([\d./]+)")
 
@@ -104,12 +107,22 @@ def rule_of(count):
     return 7 * ((count + 1) // 2) + 1
 
 
-def faults_of(words, known, boards):
-    """What a step says that is not so, where its numbers are known and its boards were shown or
-    named."""
+def estimates_of(board):
+    """What the rules of thumb say of a board: pips and eight, the pips with Tom Keith's additions
+    and 8.5, and seven for each roll without a double, and one."""
+    pips = sum(point * count for point, count in enumerate(board, 1))
+    ace, deuce, three, *high = board
+    added = 2 * max(0, ace - 1) + max(0, deuce - 1) + max(0, three - 3) + high.count(0)
+    return {str(pips + 8), f"{pips + added + 8.5:.1f}", str(rule_of(sum(board)))}
+
+
+def faults_of(words, known, boards, estimated=()):
+    """What a step says that is not so, where its numbers are known, its boards were shown or named,
+    and the numbers of some are estimated."""
     left = PASSED_OVER.sub(lambda passed: passed[0] if passed[0] in known else " ", words)
     whole = {str(sum(point * count for point, count in enumerate(board, 1))) for board in boards}
     whole |= {str(rule_of(board[0])) for board in boards if board[0] == sum(board)}
+    whole |= set().union(*map(estimates_of, estimated))
     for number in re.findall(r"\d+(?:/\d+|\.\d+)?", left):
         if number not in known | whole:
             yield f"{number} is none of the program's"
@@ -148,7 +161,7 @@ def test_lesson(replies, title, steps):
                 said.append(f"{line} doesn't hold")
             elif sign == "=":
                 known.add(least)
-        said += faults_of(step["words"], known, boards)
+        said += faults_of(step["words"], known, boards, boards[-1:] if "rule" in step else ())
         if "roll" in step:
             plays = replies([f"moves {step['at']} {step['roll']}"])[0].split()
             if len(plays) < 3:

@@ -12,12 +12,12 @@ import { answered, dayOf, readMemory, Store, written } from "./memory.js";
 import { readDraft, readPicks, writeDraft as keepDraft, writePicks } from "./kept.js";
 import { asText, MOST_LESSONS, readLessons } from "./trainer.js";
 import {
-    addCheckers, addDraft, askNext, beginDraft, beginToday, captionOf, chooseDrill, choosePlay,
+    addCheckers, addDraft, askNext, beginDraft, beginEstimates, beginToday, captionOf, chooseDrill, choosePlay,
     chooseRoll, closeDraft, draftText, endTraining, giveEstimate, giveLesson, goToStep, hasBegun,
     isTraining, keep, makingOf, moveDraft, needsMore, openAnswer, openMemory, orderOf, picksOf,
     playOn, pressed, refuseMemory, remove, removeDraft, resetGuesses, setCaption, setEstimate,
     setGuess, setPoints, stopAt, tellDraft, titleDraft, touch, triedAgain, typePosition, undo,
-    visit, withMemory, withPicks, writeDraft,
+    visit, weigh, withMemory, withPicks, writeDraft,
 } from "./state.js";
 import { draw } from "./tree.js";
 import { view } from "./view.js";
@@ -165,8 +165,8 @@ export function actionsOf(session, document, window, store) {
         },
         step(step) {
             change(goToStep, step);
-            const board = onBoard();
-            if (board) board.focus({ preventScroll: true });
+            const asked = onBoard() || document.querySelector('[data-key="estimate"]');
+            if (asked) asked.focus({ preventScroll: true });
             else if (!isWithin("steering")) focusOn([], "coach");
         },
         question(place) {
@@ -179,8 +179,9 @@ export function actionsOf(session, document, window, store) {
         guessNumber(text = document.querySelector('[data-key="estimate"]').value) {
             change(giveEstimate, text);
             if (session.state.estimateFault) focusOn(["estimate"], "numbers");
-            else focusOn(["next question"], "numbers");
+            else focusOn(["next question", "next step", "next lesson", "finish"], "numbers");
         },
+        weigh: (place, text) => change(weigh, place, text),
         end() {
             change(endTraining);
             document.getElementById("train").scrollIntoView({ block: "start" });
@@ -192,11 +193,13 @@ export function actionsOf(session, document, window, store) {
                 document.querySelector(`[data-key="${key}"]`).value);
             change(chooseDrill, { theme, ask, level, seed }, anySeed());
         },
-        // today's ten, of what is kept by now
-        today() {
+        // today's ten, or ten estimates, of what is kept by now
+        today() { this.remembered(beginToday); },
+        estimates() { this.remembered(beginEstimates); },
+        remembered(begin) {
             const memory = store.read(session.state.memory);
             change(withMemory, memory, today(window), store.why);
-            change(beginToday);
+            change(begin);
         },
         openMemory: () => change(openMemory),
         async copyMemory() {

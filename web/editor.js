@@ -37,6 +37,8 @@ export function editor({ draft, draftTold }, act) {
                         "aria-label": `${name} of step ${place + 1}`,
                         change: ({ target }) => act.writeDraft(place, word, target.value),
                     })))))),
+        h("p", { class: "hint" }, "In a text {pips}, {mean}, {EPC} and {wastage} stand for the "
+            + "numbers of the step\u2019s position, and {best} for the best play of its roll."),
         h("p", { class: "steering" },
             button("draft add", "Add the board\u2019s position", () => act.addDraft()),
             count > 0 && button("draft try", "Try it", () => act.tryDraft(), { class: "first" }),

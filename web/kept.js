@@ -2,7 +2,7 @@
 // loaded anew: texts and counts in the browser's own store of the tab. A browser that lets the page
 // keep nothing has none.
 import { MOST_CHECKERS, sumOf } from "./points.js";
-import { ESTIMATED } from "./trainer.js";
+import { ESTIMATED } from "./questions.js";
 
 const NAME = "bearoff drills";
 const LESSON = "bearoff lesson";

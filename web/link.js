@@ -3,9 +3,9 @@
 import { isTooLong, MOST_TEXT } from "../js/checks.js";
 import { NoRaceError, read } from "../js/notation.js";
 import { FIRST, GREATEST, MOST_CHECKERS, readPoints, sumOf } from "./points.js";
-import {
-    ASKED, ESTIMATED, LEVELS, readDrill, readDue, readLessons, readSeed, themeOf, writeDue,
-} from "./trainer.js";
+import { ASKED, ESTIMATED, readDrill, readDue, readSeed, writeDue } from "./questions.js";
+import { LEVELS, themeOf } from "./themes.js";
+import { readLessons } from "./trainer.js";
 
 export const MOST_KEPT = 10;
 const LONGEST_CAPTION = 200;
@@ -35,16 +35,17 @@ export function readCounts(typed) {
 }
 
 // What a reader types or pastes: six counts, an XGID, or an ID of GNU Backgammon. The checkers of
-// the player on roll, and the roll where the text has one; or, in words, why there are none.
+// the player on roll, and the roll and those of the other side where the text has them; or, in
+// words, why there are none.
 export function readTyped(typed) {
     if (isTooLong(typed)) {
         return { fault: `A position has at most ${MOST_TEXT} characters, and this text has more.` };
     }
     const counts = readCounts(typed);
-    if (counts.points) return { points: counts.points, roll: null };
+    if (counts.points) return { points: counts.points, roll: null, theirs: null };
     try {
-        const { mine, dice } = read(typed);
-        return { points: mine, roll: dice };
+        const { mine, theirs, dice } = read(typed);
+        return { points: mine, roll: dice, theirs };
     } catch (error) {
         if (!(error instanceof NoRaceError)) throw error;
         // And not counts with a letter among them
@@ -75,8 +76,8 @@ function faultsOf(words, drill) {
             `a drill asks ${Object.keys(ASKED).join(", ")}`],
         ["level", (value) => !LEVELS.some(({ name }) => name === value),
             `a level is ${LEVELS.map(({ name }) => name).join(", ")}`],
-        ["ten", (value) => readDue(value) === null,
-            "what comes back are six counts and a roll of each"],
+        ["ten", (value) => readDue(value, words.get("ask") ?? "play") === null,
+            "what comes back are six counts of each, and a roll where plays are asked"],
         ["question", isNone(/^[1-9]\d?$/), "it is the number of one"],
         ["estimate", (value) => !ESTIMATED.includes(value),
             `what is estimated is ${ESTIMATED.join(", ")}`],

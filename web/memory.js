@@ -3,13 +3,15 @@
 // each with its day. All are whole numbers; it is one text of lines, which can be taken along and
 // read in again.
 import { readPoints, sumOf } from "./points.js";
-import { ESTIMATED, TEN, themeOf, THEMES } from "./trainer.js";
+import { dailyLevel, ESTIMATED, TEN } from "./questions.js";
+import { themeOf, THEMES } from "./themes.js";
 
-export const VERSION = 1;
+export const VERSION = 2; // older texts have no estimates that come back
 export const MOST_CARDS = 300;
 export const MOST_DAYS = 400;
 export const MOST_LETTERS = 100_000; // of a text that is read in
 const MOST_DUE = 6; // of today's ten, so that some are always new
+const LIKE = 2; // the box from which on a question like it is asked
 const KNOWN = 5; // answers after which it is known how much a theme loses
 
 // After how many days a question comes back, by its box. One that is right in the last is learnt.
@@ -23,10 +25,17 @@ const DAY = 86400000; // milliseconds
 export const dayOf = (date) =>
     Math.floor((date.getTime() - date.getTimezoneOffset() * 60000) / DAY);
 
-const cardKey = ({ points, roll }) => `${points.join()} ${roll.join("")}`;
+// Which question it is: a roll of a position, or, without a roll, what is estimated of it.
+const cardKey = ({ points, roll, theme }) =>
+    (roll ? `${points.join()} ${roll.join("")}` : `${points.join()} - ${theme}`);
 
-// Those that come back on a day or before: the longest due first, and of these the dearest.
-export const dueOn = ({ cards }, day) => cards.filter(({ due }) => due <= day)
+const cardOf = (cards, question) => cards.find((one) => cardKey(one) === cardKey(question));
+
+// Those that come back on a day or before: the longest due first, and of these the dearest. All, or
+// the plays, or those of which one thing is estimated.
+export const dueOn = ({ cards }, day, ask = null) => cards
+    .filter(({ due, roll, theme }) =>
+        due <= day && (ask === null || (ask === "play" ? roll !== null : !roll && theme === ask)))
     .sort((one, other) => one.due - other.due || other.lost - one.lost);
 
 // Rows of counts by their first column, with more in one of them.
@@ -48,29 +57,29 @@ export const SIZES = [20, 80];
 
 const sizeOf = (lost) => SIZES.filter((size) => lost >= size).length;
 
-// The cards after a play: a miss goes to the first box; what was due and is right goes one box on;
-// what is right before it is due stays where it is.
-function carded(cards, { points, roll, theme, lost, isMissed }, day) {
-    const card = cards.find((one) => cardKey(one) === cardKey({ points, roll }));
+// The cards after an answer to one of them, or to another question: what is missed goes to the
+// first box; what was due and is right goes one box on; what is right before it is due stays where
+// it is.
+function carded(cards, card, { points, roll, theme, lost, isMissed }, day) {
     const isDue = card && card.due <= day;
     if (!isMissed && !isDue) return cards;
-    const rest = cards.filter((one) => one !== card);
     const box = isMissed ? 0 : card.box + 1;
-    if (box >= BOXES.length) return rest;
-    return [...rest, {
-        points, roll, theme: card?.theme ?? theme, box, due: day + BOXES[box],
-        lost: isMissed ? lost : card.lost,
-    }];
+    const next = {
+        ...(isMissed ? { points, roll, lost } : card), theme: card?.theme ?? theme, box,
+        due: day + BOXES[box],
+    };
+    const rest = cards.filter((one) => one !== card && cardKey(one) !== cardKey(next));
+    return box < BOXES.length ? [...rest, next] : rest;
 }
 
 // The memory after an answer on a day: `theme` is that of the drill, or what is estimated, `lost`
-// are thousandths of a roll, or of a pip for an estimate, and `isLast` says whether a drill had no
-// other question.
+// are thousandths of a roll, or of a pip for an estimate, `card` is the question that comes back
+// where one like it was asked in its place, and `isLast` says whether a drill had no other one.
 export function answered(memory, answer, day) {
-    const { points, roll, lost, isMissed, isLast } = answer;
-    const asked = roll && memory.cards.find((one) => cardKey(one) === cardKey({ points, roll }));
+    const { roll, lost, isMissed, isLast } = answer;
+    const asked = cardOf(memory.cards, answer.card ?? answer);
     const theme = asked ? asked.theme : answer.theme;
-    const cards = roll ? carded(memory.cards, answer, day) : memory.cards;
+    const cards = carded(memory.cards, asked, answer, day);
     const isLearnt = cards.length < memory.cards.length;
     return {
         cards: boundedCards(cards), learnt: memory.learnt + (isLearnt ? 1 : 0),
@@ -92,10 +101,9 @@ export function streak({ days }, today) {
     return count;
 }
 
-// The themes of today's ten: what every database has, and no theme whose questions all tempt, since
-// its name would give the answers away.
-export const DAILY = THEMES.filter(({ isPlayed, isTempting, most }) =>
-    isPlayed && !isTempting && !most).map(({ name }) => name);
+// The themes of today's ten: what every database has.
+export const DAILY = THEMES.filter(({ isPlayed, most }) => isPlayed && !most)
+    .map(({ name }) => name);
 
 // Of the rows of themes, those that are asked often enough to say how much they lose.
 const knownOf = ({ themes }) =>
@@ -117,13 +125,28 @@ export function weakest(memory, day) {
 
 const APART = 100_000; // seeds between two drills of a day
 
+// A question that comes back, or, from its third time on, its theme, of which another is asked.
+const backOf = ({ points, roll, theme, box }) =>
+    ({ points, roll, ...(roll && box >= LIKE ? { theme } : {}) });
+
 // Today's ten, as a drill: at most six that come back, and the rest new, by the number of the day,
 // so that who begins on one day is asked the same. What follows on that day has another seed.
 export function todays(memory, day) {
+    const theme = weakest(memory, day);
     return {
-        theme: weakest(memory, day), seed: day + APART * Math.min(askedOn(memory, day), 1000),
-        ask: "play", level: "hard",
-        due: dueOn(memory, day).slice(0, MOST_DUE).map(({ points, roll }) => ({ points, roll })),
+        theme, seed: day + APART * Math.min(askedOn(memory, day), 1000),
+        ask: "play", level: dailyLevel(theme),
+        due: dueOn(memory, day, "play").slice(0, MOST_DUE).map(backOf),
+    };
+}
+
+// Ten estimates, as a drill, of what most are due of; or null where none is. Those that come back
+// are first.
+export function todaysEstimates(memory, day) {
+    const [ask, due] = ESTIMATED.map((kind) => [kind, dueOn(memory, day, kind)])
+        .reduce((most, one) => (one[1].length > most[1].length ? one : most));
+    return due.length === 0 ? null : {
+        theme: DAILY[0], seed: day, ask, due: due.slice(0, TEN).map(backOf),
     };
 }
 
@@ -132,8 +155,8 @@ export const written = ({ days, cards, themes, sizes, learnt }) => [
     `bearoff memory ${VERSION}`, `learnt ${learnt}`, `sizes ${sizes.join(" ")}`,
     ...themes.map((row) => `theme ${row.join(" ")}`),
     ...days.map((row) => `day ${row.join(" ")}`),
-    ...cards.map(({ theme, box, due, lost, ...card }) =>
-        `card ${cardKey(card)} ${theme} ${box} ${due} ${lost}`),
+    ...cards.map(({ points, roll, theme, box, due, lost }) =>
+        `card ${points.join()} ${roll ? roll.join("") : "-"} ${theme} ${box} ${due} ${lost}`),
 ].join("\n");
 
 const isNew = (rows, key) => !rows.some(([name]) => name === key);
@@ -151,13 +174,14 @@ const LINES = {
         const row = counts.map(Number);
         return isNew(memory.days, row[0]) ? { ...memory, days: [...memory.days, row] } : null;
     }],
-    card: [/^([\d,]+) ([1-6])([1-6]) ([a-z]+) ([0-4]) (\d{1,6}) (\d{1,6})$/,
+    card: [/^([\d,]+) (?:([1-6])([1-6])|-) ([a-z]+) ([0-4]) (\d{1,6}) (\d{1,6})$/,
         (memory, [counts, high, low, theme, ...numbers]) => {
-            const [points, roll] = [readPoints(counts), [Number(high), Number(low)]];
+            const [points, roll] = [readPoints(counts), high ? [Number(high), Number(low)] : null];
             const [box, due, lost] = numbers.map(Number);
-            if (!points || sumOf(points) === 0 || high < low || !themeOf(theme)) return null;
+            if (!points || sumOf(points) === 0 || high < low
+                || !(roll ? themeOf(theme) : ESTIMATED.includes(theme))) return null;
             const card = { points, roll, theme, box, due, lost };
-            return memory.cards.some((one) => cardKey(one) === cardKey(card)) ? null
+            return cardOf(memory.cards, card) ? null
                 : { ...memory, cards: [...memory.cards, card] };
         }],
 };

@@ -65,6 +65,22 @@ export function numbers(answer, isComing = true, awaited = false) {
     ];
 }
 
+// The counts of both sides of a race, each where it is known; nothing is said of who wins.
+export function sides(mine, theirs, awaited) {
+    const row = (name, answer, pips) => h("tr", {}, h("th", { scope: "row" }, name),
+        answer?.refusal ? h("td", { colspan: 3 }, answer.refusal)
+            : [answer ? answer.standing.pips : pips, answer?.effective.text, answer?.wastage.text]
+                .map((text) => h("td", {}, text ?? COMING)));
+    return [
+        h("table", { class: "sides" },
+            h("caption", {}, "Both sides"),
+            h("thead", {}, h("tr", {}, h("td", {}), ["Pips", "EPC", "Wastage"]
+                .map((name) => h("th", { scope: "col" }, name)))),
+            h("tbody", {}, row("On roll", mine), row("Other side", theirs, awaited))),
+        h("p", { class: "hint" }, "Nothing is said of who wins."),
+    ];
+}
+
 // How long a bar is, of a hundred: the longest chance has them all.
 const length = (exactly, longest) => (100 * Number(exactly)) / Number(longest);
 

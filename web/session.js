@@ -18,7 +18,7 @@ function whyNot(failure) {
 function noReply({ kind }, { bound }, refusal) {
     return {
         ask: { refusal, status: 0, standing: null, bound }, rolls: [], draw: [],
-        again: { plays: [], answers: [] },
+        again: { plays: [], answers: [] }, why: [], measure: { count: 0, rows: [] }, fill: [],
     }[kind];
 }
 

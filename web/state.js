@@ -2,15 +2,17 @@
 // change makes a new one. An answer stands under its position and is read for that one alone; so
 // nothing of a former position can be shown.
 import { MOST_KEPT, readLink, readTyped, writeLink } from "./link.js";
-import { EMPTY, todays } from "./memory.js";
+import { EMPTY, todays, todaysEstimates } from "./memory.js";
 import { FIRST, GREATEST, inWords, MOST_CHECKERS, pipsOf, sumOf } from "./points.js";
 import { decimal } from "./texts.js";
 import { decimalOf, inPips, inSentence, sumOfFractions } from "./fractions.js";
 import { sameRoll } from "./rolls.js";
 import { isWhole, reachedBy, ways } from "./steps.js";
+import { drillOf, ESTIMATED, FAR, mostOf, readSeed, WANTED, writeDue } from "./questions.js";
+import { ADDITIONS, isMiss, readWeight } from "./rules.js";
+import { LEVELS, themeOf } from "./themes.js";
 import {
-    drillOf, ESTIMATED, FAR, isMiss, LEVELS, meanOf, mostOf, readEstimate, readLessons, readSeed,
-    themeOf, thousandthsOf, WANTED, writeDue, writeLesson,
+    filledStep, hasValues, meanOf, readEstimate, readLessons, thousandthsOf, writeLesson,
 } from "./trainer.js";
 
 // A digit that follows another one within so many milliseconds is its second.
@@ -40,6 +42,7 @@ export function begin(link, lessons = []) {
         picked: null, // the point there whose checker is to move
         shown: null, // the text of the play that was chosen, or null for the best
         typed: null, // a position that was typed and refused, with the reason
+        theirs: null, // the checkers of the other side, where what was typed has them
         digits: null, // the digits that were typed on a point, and when
         // Where Tab stops within the rolls, the plays, and the board
         stops: { rolls: null, plays: null, board: null },
@@ -53,6 +56,10 @@ export function begin(link, lessons = []) {
         trouble: "", // what went wrong, in words
         answers: new Map(), // what the open database says of a position
         why: null, // and of a play that was guessed and loses: which one, and the sentences
+        // The weights of one's own rule, why another one is none, and how far the rules of thumb
+        // are off over the open database
+        weights: ADDITIONS, weightFault: "", measures: null,
+        filled: null, // the values of a lesson's steps, with the lesson and the database
         rolls: new Map(), // and of its 21 rolls
         said: "", // what is read aloud
         notice: "", // what a link has that can't be taken, or what has ended
@@ -81,6 +88,14 @@ export const lessonOf = ({ lesson, lessons, given }) =>
 
 // The step of the lesson that is on, or null.
 export const stepOf = (state) => lessonOf(state)?.steps[state.step - 1] || null;
+
+// A step of the lesson as it is told, with its values filled in.
+export function toldStep(state, place = state.step - 1) {
+    const lesson = lessonOf(state);
+    const { filled } = state;
+    const isKnown = filled && filled.lesson === lesson && filled.database === state.database;
+    return filledStep(lesson.steps[place], isKnown ? filled.values[place] : null);
+}
 
 // Whether an estimate is far off.
 export const isFar = ({ kind, error }) => error >= FAR[kind];
@@ -146,6 +161,10 @@ export const freeOf = ({ points }) => MOST_CHECKERS - sumOf(points);
 // The answer for a position, or undefined while it isn't known.
 export const answerOf = (state, points = state.points) => state.answers.get(keyOf(points));
 
+// .. and for the other side, where there is one and the database has it.
+export const theirAnswer = (state) =>
+    (state.theirs && !isAwaited(state, state.theirs) ? answerOf(state, state.theirs) : undefined);
+
 // The 21 rolls of the board's position, or undefined while they aren't known.
 export const rollsOf = (state) => state.rolls.get(keyOf(state.points));
 
@@ -184,9 +203,10 @@ export function reasonsFor(state) {
 // Whether the answer for a roll is hidden, since it is to be guessed.
 export const hides = (state, roll = state.roll) => state.guess && !guessOf(state, roll);
 
-// What is to be estimated: the pip count, the effective one or the wastage; or null.
-export const estimated = ({ drill, estimate }) =>
-    (drill ? (drill.ask === "play" ? null : drill.ask) : estimate);
+// What is to be estimated: the pip count, the effective one or the wastage; or null. What a step of
+// a lesson asks comes before what was chosen.
+export const estimated = (state) => (state.drill ? (state.drill.ask === "play" ? null : state.drill.ask)
+    : (isTraining(state) && stepOf(state).estimate) || state.estimate);
 
 // What was estimated of a position, by what is asked now; where it is asked once more, then.
 export const estimateOf = (state, points = state.points) =>
@@ -196,7 +216,7 @@ export const estimateOf = (state, points = state.points) =>
 // Whether a lesson asks for a number of the board's position, and its answer isn't open yet.
 export function asksNumber(state) {
     const step = stepOf(state);
-    return Boolean(step && step.answer && !step.roll && !state.isAnswered)
+    return Boolean(step && step.answer && !step.roll && !step.estimate && !state.isAnswered)
         && keyOf(step.points) === keyOf(state.points);
 }
 
@@ -204,7 +224,7 @@ export function asksNumber(state) {
 // is asked.
 export const hidesNumbers = (state) => asksNumber(state)
     || (Boolean(estimated(state)) && (!answerOf(state)?.refusal || isAwaited(state))
-        && !estimateOf(state));
+        && !estimateOf(state) && !(isTraining(state) && stepOf(state)?.estimate && state.isAnswered));
 
 // Whether the whole board is made ready for a position, which the open database doesn't have.
 export function isAwaited(state, points = state.points) {
@@ -265,9 +285,10 @@ export const firstBound = ({ points }) => (pipsOf(points) > FIRST ? GREATEST : F
 // Whether something on the page needs the whole board: a position, a step of the lesson, the drill,
 // or the link.
 export function needsMore(state) {
-    const { database, drill, kept } = state;
+    const { database, drill, kept, theirs } = state;
     if (!database || database.bound >= GREATEST) return false;
     return state.bound === GREATEST || Boolean(drill && database.bound < mostOf(drill))
+        || Boolean(theirs && pipsOf(theirs) > database.bound)
         || [state, ...kept, ...(lessonOf(state)?.steps || [])]
             .some(({ points }) => pipsOf(points) > database.bound);
 }
@@ -294,11 +315,22 @@ export function wanted(state) {
     const answer = answerOf(state);
     if (!answer) return { kind: "ask", points };
     if (!answer.refusal && !rollsOf(state)) return { kind: "rolls", points };
+    if (state.theirs && !theirAnswer(state)) return { kind: "ask", points: state.theirs };
     const kept = state.kept.find((entry) => !answerOf(state, entry.points));
     if (kept) return { kind: "ask", points: kept.points };
     const miss = missOf(state);
     if (miss && state.why?.key !== missKey(miss)) {
         return { kind: "why", points, roll: miss.roll, to: miss.play.to, key: missKey(miss) };
+    }
+    const { weights, measures } = state;
+    if (showsRules(state) && !(measuredOf(state) && measures.weights === weights)) {
+        return { kind: "measure", weights };
+    }
+    const lesson = lessonOf(state);
+    if (lesson && hasValues(lesson)
+        && (state.filled?.lesson !== lesson || state.filled.database !== state.database)) {
+        const steps = lesson.steps.map(({ points: at, roll }) => ({ points: at, roll }));
+        return { kind: "fill", lesson, steps };
     }
     const { drill, questions, picks } = state;
     if (!drill || state.database.bound < mostOf(drill)) return null;
@@ -347,8 +379,19 @@ function spoken(state) {
     }
     if (answer.refusal) return answer.refusal;
     const { standing, mean, effective, wastage } = answer;
-    return `${standing.pips} pips, mean ${mean.text} rolls, effective pip count ${effective.text}, `
-        + `wastage ${wastage.text}.`;
+    return [
+        `${standing.pips} pips, mean ${mean.text} rolls, effective pip count ${effective.text}, `
+            + `wastage ${wastage.text}.`, spokenOfThem(state),
+    ].filter(Boolean).join(" ");
+}
+
+// .. and of the other side.
+function spokenOfThem(state) {
+    const answer = theirAnswer(state);
+    if (!answer || answer.refusal || hidesNumbers(state)) return "";
+    const { standing, effective, wastage } = answer;
+    return `The other side: ${standing.pips} pips, effective pip count ${effective.text}, wastage ${
+        wastage.text}.`;
 }
 
 // What a guess lost, and all guesses so far.
@@ -389,6 +432,7 @@ function lostInAll(state) {
 // The answers of positions that are still shown.
 function stillShown(answers, state) {
     const shown = new Set([state, ...state.kept].map(({ points }) => keyOf(points)));
+    if (state.theirs) shown.add(keyOf(state.theirs));
     return new Map([...answers].filter(([key]) => shown.has(key)));
 }
 
@@ -406,12 +450,21 @@ export function received(state, database, question, reply) {
             ? arrived(resumed({ ...state, picks: null }, question.picks, reply)) : state;
     }
     if (question.kind === "why") return { ...state, why: { key: question.key, says: reply } };
+    if (question.kind === "fill") {
+        return { ...state, filled: { lesson: question.lesson, database, values: reply } };
+    }
+    if (question.kind === "measure") {
+        return { ...state, measures: { ...reply, database, weights: question.weights } };
+    }
     const key = keyOf(question.points);
     if (question.kind === "rolls") {
         return { ...state, rolls: stillShown(new Map([[key, reply]]), state) };
     }
     const next = { ...state, answers: stillShown(new Map(state.answers).set(key, reply), state) };
-    if (key !== keyOf(state.points)) return next;
+    if (key !== keyOf(state.points)) {
+        const more = state.theirs && key === keyOf(state.theirs) ? spokenOfThem(next) : "";
+        return { ...next, said: [next.said, more].filter(Boolean).join(" ") };
+    }
     // what a lesson or a drill asks is heard before the numbers
     const first = isTraining(state) ? state.said : "";
     const then = state.roll && isTraining(state) ? "" : spoken(next);
@@ -437,7 +490,7 @@ function resumed(state, picks, { plays, answers }) {
     });
     const estimates = (told, first) => told.flatMap(([points, kind, text], place) => {
         const answer = answers[first + place];
-        return answer && !answer.refusal ? [measured(points, kind, BigInt(text), answer)] : [];
+        return answer && !answer.refusal ? [errorOf(points, kind, BigInt(text), answer)] : [];
     });
     return {
         ...state, guesses: guesses(picks.guesses, 0),
@@ -512,7 +565,8 @@ export function ended(state, words) {
 
 // Nothing chosen or typed that belongs to a former position or roll.
 const AFRESH = {
-    shown: null, typed: null, digits: null, steps: [], picked: null, estimateFault: "",
+    shown: null, typed: null, theirs: null, digits: null, steps: [], picked: null,
+    estimateFault: "",
 };
 
 // Another position on the board.
@@ -561,9 +615,10 @@ export function pressed(state, point, key, now) {
 // A position that was typed, with its roll where it has one. What is refused stays in the field,
 // with the reason, and the board stays.
 export function typePosition(state, text) {
-    const { points, roll, fault } = readTyped(text);
+    const { points, roll, theirs, fault } = readTyped(text);
     if (fault) return { ...state, typed: { text, fault } };
-    return { ...setPoints(state, points), roll };
+    const next = { ...setPoints(state, points), roll, theirs };
+    return { ...next, said: spoken(next) };
 }
 
 // A roll, or none.
@@ -572,8 +627,25 @@ export function chooseRoll(state, roll) {
         ...state, roll, shown: null, steps: [], picked: null,
         stops: { ...state.stops, plays: null }, said: "",
     };
-    return roll && hides(next)
-        ? { ...next, said: `Which play of ${roll.join("-")} is best?` } : next;
+    if (!roll) return next;
+    return {
+        ...next, said: hides(next) ? `Which play of ${roll.join("-")} is best?` : heardPlays(next),
+    };
+}
+
+// What a play loses, as it is heard.
+const heardPlay = ({ text, isBest, lossText }) =>
+    (isBest ? `${text} loses nothing.` : `${text} loses ${lossText} of a roll.`);
+
+// The plays of the chosen roll, as they are heard: the best, and how many others there are; nothing
+// while they aren't known.
+function heardPlays(state) {
+    const list = chosenOf(state)?.plays;
+    if (!list) return "";
+    const [best, ...others] = byLoss(list);
+    const more = others.length === 0 ? "It is the only play."
+        : `The next of ${others.length} others, ${heardPlay(others[0])}`;
+    return `${state.roll.join("-")}: best is ${best.text}. ${more}`;
 }
 
 // A play of the chosen roll: a guess where it is to be guessed, and else one to look at. A roll is
@@ -582,7 +654,7 @@ export function choosePlay(state, text) {
     const chosen = chosenOf(state);
     const play = chosen?.plays.find((one) => one.text === text);
     if (!play) return state;
-    if (!hides(state)) return { ...state, shown: text };
+    if (!hides(state)) return { ...state, shown: text, said: heardPlay(play) };
     const guess = {
         at: keyOf(state.points), roll: state.roll, play, best: byLoss(chosen.plays)[0],
     };
@@ -681,8 +753,10 @@ export function beginDrill(state, drill) {
     return { ...changeDrill(state, drill), ...NO_RUN, isPlaced: false };
 }
 
-// Today's ten begin.
+// Today's ten begin, or ten estimates.
 export const beginToday = (state) => beginDrill(state, todays(state.memory, state.day));
+export const beginEstimates = (state) =>
+    beginDrill(state, todaysEstimates(state.memory, state.day));
 
 // A drill of what the fields say, whose seed is the one there, or else another one.
 export function chooseDrill(state, { theme, ask, level, seed }, another) {
@@ -713,20 +787,19 @@ export function endTraining(state) {
 
 // Another step of the lesson.
 export function goToStep(state, step) {
-    const next = lessonOf(state)?.steps[step - 1];
-    if (!next) return state;
+    if (!lessonOf(state)?.steps[step - 1]) return state;
+    const { points, roll, text, ask } = toldStep(state, step - 1);
     return {
-        ...setPoints(state, next.points), roll: next.roll, guess: Boolean(next.roll), step,
-        isAnswered: false,
+        ...setPoints(state, points), roll, guess: Boolean(roll), step, isAnswered: false,
         said: [
-            `Step ${step} of ${lessonOf(state).steps.length}.`, next.text, next.ask,
-            `The board: ${inWords(next.points)}.`,
+            `Step ${step} of ${lessonOf(state).steps.length}.`, text, ask,
+            `The board: ${inWords(points)}.`,
         ].filter(Boolean).join(" "),
     };
 }
 
 export function openAnswer(state) {
-    return { ...state, isAnswered: true, said: stepOf(state)?.answer || "" };
+    return { ...state, isAnswered: true, said: stepOf(state) ? toldStep(state).answer : "" };
 }
 
 // A lesson that was given as a text, as by a file.
@@ -746,7 +819,7 @@ export function setEstimate(state, kind) {
 }
 
 // How far something told of a position is off.
-function measured(points, kind, told, answer) {
+function errorOf(points, kind, told, answer) {
     const exact = thousandthsOf(answer, kind);
     return {
         at: keyOf(points), kind, told, exact, error: told > exact ? told - exact : exact - told,
@@ -769,10 +842,34 @@ export function giveEstimate(state, text) {
             ...state, estimateFault: "The number is still being computed: compare in a moment.",
         };
     }
-    const estimate = measured(state.points, estimated(state), told, answer);
+    const estimate = errorOf(state.points, estimated(state), told, answer);
     const list = isAgain(state) ? "estimatesAgain" : "estimates";
-    const next = { ...state, estimateFault: "", [list]: [...state[list], estimate] };
-    return { ...next, said: [toldOf(estimate), spoken(next)].join(" ") };
+    const step = isTraining(state) && stepOf(state) ? toldStep(state) : null;
+    const next = {
+        ...state, estimateFault: "", [list]: [...state[list], estimate],
+        isAnswered: state.isAnswered || Boolean(step),
+    };
+    const said = [toldOf(estimate), step?.answer, spoken(next)];
+    return { ...next, said: said.filter(Boolean).join(" ") };
+}
+
+// Whether the step of a lesson is about a rule of thumb, and so shows what each is worth.
+export const showsRules = (state) => isTraining(state) && Boolean(stepOf(state)?.rule);
+
+// What was measured of the rules over the open database, or null.
+export const measuredOf = ({ measures, database }) =>
+    (measures && measures.database === database ? measures : null);
+
+// Another weight of one's own rule, in halves of a pip. What is none is said beside its field.
+export function weigh(state, place, text) {
+    const weight = readWeight(text);
+    if (weight === null) {
+        return {
+            ...state, weightFault: "A weight is a whole or a half number of pips, from 0 to 20.",
+        };
+    }
+    const weights = state.weights.map((one, other) => (other === place ? weight : one));
+    return { ...state, weights, weightFault: "" };
 }
 
 // What was estimated, and how far that was off.
@@ -956,10 +1053,12 @@ export function answeredBetween(before, after) {
     if (drill !== before.drill) return null;
     const isLast = Boolean(drill) && answeredOf(after) === after.questions?.length;
     if (drill?.ask === "play" && drillGuesses(after).length > drillGuesses(before).length) {
-        const { roll, play } = after.guesses.at(-1);
+        const { at, roll, play } = after.guesses.at(-1);
+        const { card } = after.questions.find((question) =>
+            keyOf(question.points) === at && sameRoll(question.roll, roll));
         return {
             points: before.points, roll, theme: drill.theme, lost: Number(play.loss),
-            isMissed: isMiss(play), isLast,
+            isMissed: isMiss(play), isLast, ...(card ? { card } : {}),
         };
     }
     if (after.estimates.length <= before.estimates.length) return null;

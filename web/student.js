@@ -1,7 +1,8 @@
 // What is shown to a student who comes back: today's ten, what was done, and what of it is kept.
 import { h } from "./tree.js";
-import { askedOn, BOXES, dueOn, isKnown, SIZES, streak, todays, written } from "./memory.js";
-import { ASKED, TEN, themeOf } from "./trainer.js";
+import { askedOn, BOXES, dueOn, isKnown, SIZES, streak, todays, todaysEstimates, written } from "./memory.js";
+import { ASKED, TEN, WANTED } from "./questions.js";
+import { themeOf } from "./themes.js";
 import { decimal } from "./texts.js";
 
 const SHOWN_DAYS = 14;
@@ -102,13 +103,17 @@ function all({ memory, isMemoryOpen, memoryFault, memoryTold }, act) {
         h("p", { role: "status", class: "hint" }, memoryTold));
 }
 
+// How many questions of a drill come back.
+const counted = ({ due }) => `${due.length} again, ${TEN - due.length} new`;
+
 // The panel: one button, what was done, and all that is kept.
 export function student(state, act) {
     const { memory, day, unkept } = state;
     const isDone = askedOn(memory, day) >= TEN;
     const row = streak(memory, day);
-    const { due } = todays(memory, day);
-    const counts = due.length > 0 ? `${due.length} again, ${TEN - due.length} new` : "ten new";
+    const ten = todays(memory, day);
+    const estimates = todaysEstimates(memory, day);
+    const counts = ten.due.length > 0 ? counted(ten) : "ten new";
     const [asked, lost] = memory.themes.filter(([name]) => themeOf(name))
         .reduce(([count, sum], [, one, , more]) => [count + one, sum + more], [0, 0]);
     const each = decimal(Math.round(lost / Math.max(1, asked)));
@@ -117,7 +122,11 @@ export function student(state, act) {
             h("h2", {}, "Today\u2019s ten"),
             h("p", { class: "daily-told" }, told(state)),
             button("today", [h("b", {}, isDone ? "Ten more" : "Begin"), " ", h("span", {}, counts)],
-                () => act.today(), { class: isDone ? "begin" : "begin first" })),
+                () => act.today(), { class: isDone ? "begin" : "begin first" }),
+            estimates && button("estimates", [
+                h("b", {}, "Estimates of the ", WANTED[estimates.ask]), " ",
+                h("span", {}, counted(estimates)),
+            ], () => act.estimates(), { class: "begin" })),
         h("div", { class: "done" },
             memory.days.length > 0 && [
                 h("dl", { class: "figures" },

@@ -4,13 +4,15 @@ import { lookedAt } from "./board.js";
 import { COMING, dicePicture } from "./panels.js";
 import { comesBack } from "./student.js";
 import { h } from "./tree.js";
-import {
-    ASKED, drillName, ESTIMATED, isMiss, LEVELS, meanOf, mostOf, TEN, themeOf, THEMES, WANTED,
-} from "./trainer.js";
+import { ASKED, askedFor, drillName, ESTIMATED, mostOf, TEN, WANTED } from "./questions.js";
+import { isMiss, OWN, WEIGHTS } from "./rules.js";
+import { LEVELS, themeOf, THEMES } from "./themes.js";
+import { meanOf } from "./trainer.js";
 import {
     answeredIn, answeredOf, askedIn, askedOf, drillErrors, drillGuesses, estimated, estimateOf,
-    hasBegun, isAgain, isFar, isTraining, lengthOf, lessonOf, meanError, missedOf, mistakesOf,
-    questionOf, scoreOf, stepOf, toldOf,
+    hasBegun, isAgain, isFar, isTraining, lengthOf, lessonOf, meanError, measuredOf, missedOf,
+    mistakesOf,
+    questionOf, scoreOf, stepOf, toldOf, toldStep,
 } from "./state.js";
 import { decimalOf, isShort, sumOfFractions } from "./fractions.js";
 
@@ -32,7 +34,7 @@ const lookAround = (state) => isTraining(state)
 
 function lessonPanel(state, act) {
     const lesson = lessonOf(state);
-    const { text, ask, answer, roll } = stepOf(state);
+    const { text, ask, answer, roll } = toldStep(state);
     return h("div", { class: "coach" },
         head(act, lesson.title),
         h("p", { class: "how" }, `Step ${state.step} of ${lesson.steps.length}.`,
@@ -62,6 +64,7 @@ function score(state) {
             state.drill.ask === "pips"
                 ? askedAgain("wrong", near, "right")
                 : askedAgain("a pip or more off", near, "nearer"),
+            state.drill.due && h("p", { class: "says" }, comesBack(state)),
         ];
     }
     const [rolls, pips] = scoreOf(state);
@@ -90,15 +93,24 @@ function soFar(state) {
 }
 
 // The title of a drill.
-const drillTitle = (drill) => (drill.due ? drillName(drill)
-    : `Drill: ${drillName(drill)}, ${ASKED[drill.ask]}`
-        + (drill.level
-            ? `, ${LEVELS.find(({ name }) => name === drill.level).words.toLowerCase()}` : ""));
+function drillTitle(drill) {
+    const { ask, level, due } = drill;
+    if (due && ask === "play") return drillName(drill);
+    const words = LEVELS.find(({ name }) => name === level)?.words.toLowerCase();
+    return [`${due ? "" : "Drill: "}${drillName(drill)}`, ASKED[ask], ...(words ? [words] : [])]
+        .join(", ");
+}
 
-// What a drill is drawn by.
-const drawnBy = ({ seed, theme, due }) => (!due ? `Seed ${seed}.`
-    : due.length === 0 ? `Ten that are new: ${themeOf(theme).words}.`
-    : `${due.length} again, ${TEN - due.length} new: ${themeOf(theme).words}.`);
+// What a drill is drawn by, and where it has fewer questions than it asks for.
+function drawnBy({ drill, questions }) {
+    const { seed, theme, due } = drill;
+    const how = !due ? `Seed ${seed}.`
+        : due.length === 0 ? `Ten that are new: ${themeOf(theme).words}.`
+        : `${due.length} again, ${TEN - due.length} new: ${themeOf(theme).words}.`;
+    const [found, wanted] = [questions?.length, askedFor(drill)];
+    return !questions || found === wanted ? how
+        : `${how} ${found} of ${wanted} questions were found.`;
+}
 
 function drillPanel(state, act) {
     const { drill, questions, place } = state;
@@ -109,11 +121,11 @@ function drillPanel(state, act) {
             state.database?.bound < mostOf(drill)
                 ? `A drill of this theme needs ${mostOf(drill)} pips, and the open database has `
                     + `${state.database.bound}.` : COMING)
-            : questions.length === 0 ? h("p", {}, "No roll of this theme is of this level.")
+            : questions.length === 0 ? h("p", {}, "No question of this theme was found.")
             : question ? h("p", { class: "asks" }, askedIn(state),
                 question.roll && [" ", dicePicture(question.roll)])
             : score(state),
-        h("p", { class: "how" }, `${drawnBy(drill)}${question ? soFar(state) : ""}`,
+        h("p", { class: "how" }, `${drawnBy(state)}${question ? soFar(state) : ""}`,
             lookAround(state)),
         question && !isTraining(state) && h("p", { class: "steering" },
             button("back to it", "Back to the question", () => act.question(place))));
@@ -151,7 +163,7 @@ export function steering(state, making, verdict, act) {
                 () => act.play(making.play.text), { class: "first" }),
             making && begun && button("undo", "Undo", () => act.undo()),
             step?.answer && !state.isAnswered && button("answer", "Show the answer",
-                () => act.answer(), { class: making ? null : "first" }),
+                () => act.answer(), { class: making || step.estimate ? null : "first" }),
             step ? before(state.step > 1, "step", () => act.step(state.step - 1))
                 : before(place > 0 && questions, "question", () => act.question(place - 1)),
             !step ? questionOf(state) && button("next question",
@@ -173,7 +185,7 @@ function printedDrill(state) {
     const told = (questions || []).map((question) => answeredIn(state, question));
     return [
         h("h2", {}, drillTitle(drill)),
-        h("p", {}, `${drawnBy(drill)} `,
+        h("p", {}, `${drawnBy(state)} `,
             drill.ask === "play" ? "Which play is best?" : askedOf(drill, null)),
         h("ol", { class: "steps-printed drill-printed" },
             (questions || []).map(({ points, roll }) => h("li", {},
@@ -190,16 +202,52 @@ function printedDrill(state) {
 export function printed(state) {
     const lesson = lessonOf(state);
     if (!lesson) return state.drill ? printedDrill(state) : [];
+    const steps = lesson.steps.map((_, place) => toldStep(state, place));
     return [
         h("h2", {}, lesson.title),
-        h("ol", { class: "steps-printed" }, lesson.steps.map(({ points, roll, text, ask }) =>
+        h("ol", { class: "steps-printed" }, steps.map(({ points, roll, text, ask }) =>
             h("li", {},
                 lookedAt(points, []),
                 h("p", {}, text, " ", (ask || roll) && h("b", {}, ask),
                     roll && [" ", dicePicture(roll)])))),
-        lesson.steps.some(({ answer }) => answer) && [
+        steps.some(({ answer }) => answer) && [
             h("h3", {}, "Answers"),
-            h("ol", {}, lesson.steps.map(({ answer }) => h("li", {}, answer || "\u2013"))),
+            h("ol", {}, steps.map(({ answer }) => h("li", {}, answer || "\u2013"))),
+        ],
+    ];
+}
+
+// What each rule of thumb is worth: how far it is off where it is for, everywhere, and at most, in
+// pips; that of the step stands out, and one's own has fields.
+export function rules(state, act) {
+    const { rule } = stepOf(state);
+    const told = measuredOf(state);
+    const pips = (thousandths) => decimal(thousandths).slice(0, -1);
+    const row = ({ name, words, where, countFor, meanFor, mean, worst }) =>
+        h("tr", { class: name === rule ? "now" : null, "data-rule": name },
+            h("th", { scope: "row" }, words,
+                h("small", {}, ` ${where}, ${countFor.toLocaleString("en")}`)),
+            [meanFor, mean, worst].map((error) => h("td", {}, pips(error))));
+    const field = (name, place) => h("label", {}, h("span", {}, name), h("input", {
+        type: "text", "data-key": `weight ${place}`, inputmode: "decimal", autocomplete: "off",
+        value: String(state.weights[place] / 2), "aria-describedby": "weight-why",
+        change: ({ target }) => act.weigh(place, target.value),
+    }));
+    return [
+        h("h3", {}, "What each rule is worth"),
+        h("table", { class: "worth" },
+            h("thead", {}, h("tr", {}, ["Rule", "where it is for", "everywhere", "at most"]
+                .map((name) => h("th", { scope: "col" }, name)))),
+            h("tbody", {}, (told?.rows || []).filter(({ name }) => name !== OWN || rule === OWN)
+                .map(row))),
+        h("p", { class: "hint" }, told && told.count > 0
+            ? `Errors in pips: the mean over the positions that a rule is for, the mean over all ${
+                told.count.toLocaleString("en")} of the open database, and the greatest.` : COMING),
+        rule === OWN && [
+            h("div", { class: "weights", role: "group", "aria-label": "Your own rule" },
+                h("p", {}, "Your own rule: the pips, and so many more"),
+                WEIGHTS.map(field)),
+            fault("weight-why", state.weightFault),
         ],
     ];
 }

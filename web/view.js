@@ -1,22 +1,23 @@
 // What the page shows of a state: trees for its parts, its texts, and what is hidden. Each is what
 // this state says, and nothing of a former one.
 import { writeLink } from "./link.js";
-import { drillName } from "./trainer.js";
+import { drillName } from "./questions.js";
 import { inWords, pipsOf } from "./points.js";
 import { h } from "./tree.js";
 import { board, compared, played, watched } from "./board.js";
 import { editor } from "./editor.js";
 import {
-    chances, COMING, kept, numbers, plays, reasons, rolls, verdict,
+    chances, COMING, kept, numbers, plays, reasons, rolls, sides, verdict,
 } from "./panels.js";
 import { student } from "./student.js";
 import {
-    coach, estimateField, estimateTold, printed, steering, thumb, training,
+    coach, estimateField, estimateTold, printed, rules, steering, thumb, training,
 } from "./training.js";
 import {
     answerOf, asksNumber, byLoss, chosenOf, drillKey, hasBegun, hides, hidesNumbers, isAwaited,
     isComing, isFull, isKept, isTraining, lessonOf, lostPips, makingOf, needsMore, orderOf,
-    questionOf, reasonsFor, rollsOf, shownPlay, stepOf, verdictOf, whichOf,
+    questionOf, reasonsFor, rollsOf, showsRules, shownPlay, stepOf, theirAnswer,
+    verdictOf, whichOf,
 } from "./state.js";
 
 // What stands in the place of numbers that a lesson asks for.
@@ -65,6 +66,7 @@ export function view(state, act) {
                     ? compared(points, shown, byLoss(chosen)[0])
                 : trains ? watched(points, moves) : board(points, moves, act),
             reasons: reasons(reasonsFor(state)),
+            worth: showsRules(state) ? rules(state, act) : [],
             coach: coach(state, act),
             steering: steering(state, making, told, act),
             printed: printed(state),
@@ -77,6 +79,7 @@ export function view(state, act) {
                 : state.drill && !state.questions ? drawing
                 : isEstimated ? estimateField(state, act)
                 : [numbers(answer, isComing(state), waits && pipsOf(points)), thumb(points, answer),
+                    state.theirs && sides(answer, theirAnswer(state), pipsOf(state.theirs)),
                     estimateTold(state)],
             chances: answer && hasChances ? chances(answer.distribution) : [],
             grid: rolls(list, roll, (dice) => hides(state, dice), stops.rolls, act),
@@ -118,6 +121,7 @@ export function view(state, act) {
             rolls: !hasRolls,
             keeping: state.kept.length === 0,
             reasons: reasonsFor(state).length === 0,
+            worth: !showsRules(state),
             why: !typed,
         },
         title: titleOf(state),

@@ -3,8 +3,10 @@ import { Database } from "../js/database.js";
 import { BearoffError } from "../js/errors.js";
 import { chancesOf, choicesOf, playsOf, roundedOf, signedOf } from "./answers.js";
 import { ROLLS } from "./rolls.js";
+import { measured } from "./rules.js";
 import { REFUSALS } from "./texts.js";
-import { drawQuestions, mostOf } from "./trainer.js";
+import { positions } from "./themes.js";
+import { drawQuestions, mostOf } from "./questions.js";
 import { reasonsOf } from "./why.js";
 
 // The numbers of a position. Over the bound, or with too many checkers, only why there are none.
@@ -40,6 +42,19 @@ export function drawn(database, drill) {
         ? [] : drawQuestions(drill, ROLLS, (points, roll) => choicesOf(database, points, roll));
 }
 
+// The values of a lesson's steps, by their names, as texts; none of a position that the database
+// doesn't have.
+export const valuesOf = (database, steps) => steps.map(({ points, roll }) => {
+    const { standing, mean, effective, wastage, refusal } = answer(database, points);
+    if (refusal) return {};
+    const best = roll && standing.checkers > 0
+        && playsOf(database, points, roll).find(({ isRecorded }) => isRecorded).text;
+    return {
+        pips: String(standing.pips), mean: mean.text, EPC: effective.text, wastage: wastage.text,
+        ...(best ? { best } : {}),
+    };
+});
+
 // The plays of rolls that were guessed before, and the numbers of positions that were estimated.
 export function again(database, { guesses, again: more, estimates, estimatesAgain }) {
     return {
@@ -47,6 +62,10 @@ export function again(database, { guesses, again: more, estimates, estimatesAgai
         answers: [...estimates, ...estimatesAgain].map(([points]) => answer(database, points)),
     };
 }
+
+// Every position with a checker, and its effective pip count in thousandths.
+const countedIn = (database) => positions(database.bound).slice(1).map((points) =>
+    ({ points, effective: database.epc(points).thousandths }));
 
 // One desk of the worker: the compiled module, and the open database.
 export class Desk {
@@ -60,6 +79,7 @@ export class Desk {
         this.module = module;
         this.tell = tell;
         this.database = null;
+        this.counted = null; // its positions with their effective pip counts, once they are wanted
     }
 
     // Builds the database of a bound, checks it like any other, and opens it; `took` is for how
@@ -88,10 +108,17 @@ export class Desk {
     become(database) {
         this.database?.close();
         this.database = database;
+        this.counted = null;
         return { bound: database.bound, positions: database.positionCount };
     }
 
-    async take({ kind, file, points, drill, picks, roll, to }) {
+    // How far the rules of thumb are off over all positions, and the one of these weights.
+    measure(weights) {
+        this.counted ??= countedIn(this.database);
+        return { count: this.counted.length, rows: measured(this.counted, weights) };
+    }
+
+    async take({ kind, file, points, drill, picks, roll, to, weights, steps }) {
         switch (kind) {
             case "open":
                 this.tell({ from: 0.1, until: 1, usual: 400, text: "Checking the file\u2026" });
@@ -106,6 +133,10 @@ export class Desk {
                 return again(this.database, picks);
             case "why":
                 return reasonsOf(this.database, points, roll, to);
+            case "measure":
+                return this.measure(weights);
+            case "fill":
+                return valuesOf(this.database, steps);
             default:
                 throw new Error("no such question");
         }

@@ -5,9 +5,11 @@ import { Client } from "../../web/client.js";
 import { decimal, notation, percent } from "../../web/texts.js";
 import { MOST_KEPT, readLink, START, writeLink } from "../../web/link.js";
 import { readPoints } from "../../web/points.js";
-import { chances, die, kept, numbers } from "../../web/panels.js";
+import { chances, dicePicture, die, kept, numbers } from "../../web/panels.js";
 import { asSvg, linesOf } from "../../web/picture.js";
 import { Bar, reached } from "../../web/progress.js";
+import { followingOf, numbersFrom, temptingOf } from "../../web/questions.js";
+import { ROLLS } from "../../web/rolls.js";
 import { byLoss } from "../../web/state.js";
 import { build, draw, h, textOf } from "../../web/tree.js";
 import { Browser } from "./browser.mjs";
@@ -127,6 +129,65 @@ part("what stands in a picture", async () => {
     equal("the places under a board's width", [0, 0.1, 0.15, 0.5, 0.85, 0.9, 1, -0.1, 1.1].map(placeUnder), [6, 6, 5, 3, 1, 0, 0, null, null]);
     const small = [...all(build(document, miniature([2, 0, 0, 0, 0, 7])), "circle")].map((disc) => `${disc.getAttribute("cx")} ${Number(disc.getAttribute("cy")).toFixed(2)}`);
     equal("the discs of a miniature", small.sort(), [...Array.from({ length: 7 }, (_, higher) => `8 ${(35 - 5 * higher).toFixed(2)}`), "88 30.00", "88 35.00"].sort());
+});
+
+// How many stand on a point is over each ring of a play that is being made, and far from it.
+part("counts over the rings of a play that is made", () => {
+    for (const [points, picked, to] of [
+        [[15, 0, 0, 0, 0, 0], 1, 0], [[0, 0, 0, 5, 0, 9], 6, 4], [[5, 5, 5, 0, 0, 0], 3, 1], [[0, 0, 14, 0, 0, 1], 6, 3],
+    ]) {
+        const ways = new Map(points.flatMap((count, place) => (count > 0 ? [[place + 1, new Map([[to, []]])]] : [])));
+        for (const chosen of [null, picked]) {
+            const drawn = build(document, played({ points, ways, play: null }, { picked: chosen, stop: null }, act));
+            const order = [...drawn.querySelectorAll("*")].map((node) => node.getAttribute("class"));
+            const tallies = [...drawn.querySelectorAll("text.tally")];
+            equal(`${points}, ${chosen}: each high stack is counted`, tallies.map((text) => text.textContent), [...points].reverse().filter((count) => count > 4).map(String));
+            const rings = [...drawn.querySelectorAll("circle.mark, circle.spot")];
+            equal(`${points}, ${chosen}: there are rings`, rings.length > 0 || to === 0, true);
+            const last = Math.max(...["mark", "spot", "checker"].map((name) => order.lastIndexOf(name)));
+            equal(`${points}, ${chosen}: the counts are drawn last`, order.indexOf("under-tally") > last, true);
+            const met = rings.filter((ring) => tallies.some((text) => {
+                const [across, down] = [["cx", "x", 0], ["cy", "y", 8]].map(([one, other, lower]) =>
+                    Number(ring.getAttribute(one)) - (Number(text.getAttribute(other)) - lower));
+                return Math.hypot(across, down) < Number(ring.getAttribute("r")) + 20;
+            }));
+            equal(`${points}, ${chosen}: no ring meets a count`, met.length, 0);
+        }
+    }
+});
+
+part("each roll has its name in words, beside its picture", () => {
+    for (const [high, low] of ROLLS) {
+        const span = build(document, h("p", {}, dicePicture([high, low])));
+        const words = high === low ? `Double ${high}` : `${high} and ${low}`;
+        equal(`${high}-${low} in words`, span.textContent, words);
+        const [heard, dice] = span.childNodes;
+        equal(`${high}-${low} is heard, and its picture isn't`, [heard.getAttribute("class"), dice.getAttribute("aria-hidden")], ["heard", "true"]);
+        const spots = [...dice.querySelectorAll("svg")].map((one) => one.querySelectorAll("circle").length);
+        equal(`${high}-${low} as dice`, spots, [high, low]);
+    }
+});
+
+// The numbers are those of the generator that C++ calls minstd_rand, whose ten thousandth its standard names.
+part("the numbers of a seed", () => {
+    const numbers = (seed, count) => {
+        const drawn = numbersFrom(seed);
+        return Array.from({ length: count }, () => drawn.next().value);
+    };
+    equal("of the first seed", numbers(1, 5), [48271, 182605794, 1291394886, 1914720637, 2078669041]);
+    equal("its ten thousandth", numbers(1, 10000).at(-1), 399268537);
+    equal("of another one", numbers(7, 1), [7 * 48271]);
+    equal("of the greatest", numbers(999999999, 1), [Number((999999999n * 48271n) % 2147483647n)]);
+    // a half of the questions tempt, and a half follow their theme's name, at places that tell nothing of each other
+    let [both, places] = [0, Array(20).fill(0)];
+    for (let seed = 1; seed <= 400; seed += 1) {
+        const [tempts, follows] = [temptingOf(seed), followingOf(seed)];
+        equal(`seed ${seed}: halves`, [tempts.length, ...[tempts, follows].map((are) => are.filter(Boolean).length)], [20, 10, 10]);
+        both += tempts.filter((tempting, place) => tempting && follows[place]).length;
+        places = places.map((count, place) => count + (follows[place] ? 1 : 0));
+    }
+    equal("a quarter are both", both > 1800 && both < 2200, true);
+    equal("and each place is as likely", places.every((count) => count > 150 && count < 250), true);
 });
 
 part("each word of a link, there and back", () => {

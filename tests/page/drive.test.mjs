@@ -9,7 +9,8 @@ import { join } from "node:path";
 import { after, test } from "node:test";
 import { pathToFileURL } from "node:url";
 import { installed, started } from "./browser.mjs";
-import { positions, readLessons } from "../../web/trainer.js";
+import { positions } from "../../web/themes.js";
+import { readLessons } from "../../web/trainer.js";
 import { audit } from "./audit.mjs";
 import { legalFrom } from "./stand_in.mjs";
 import { effectOf, equal as same, isJoined, pagePath, part, programPath, testedFolder, wrong as fault } from "./given.mjs";
@@ -1041,7 +1042,7 @@ async function driveLessons(browser) {
     const page = await browser.open(address);
     await page.until(READY);
     const count = await page.value('document.querySelectorAll(".lessons a").length');
-    equal("how many lessons", count, 16);
+    equal("how many lessons", count, 17);
     for (let number = 1; number <= count; number += 1) {
         const title = await page.value(`document.querySelector('[data-key="lesson ${number}"]').textContent`);
         await page.click(`[data-key="lesson ${number}"]`);
@@ -1496,6 +1497,9 @@ const PICTURED = [
     ["beginning play", "#lesson=16&step=4", "#board .source", `document.querySelector("#board .source").dispatchEvent(new MouseEvent("click", { bubbles: true }))`, "#board .target"],
     ["drill", "#drill=all&seed=31&ask=play&level=hard", "#board .source", `document.querySelector(".plays button:last-child").click()`, "#reasons li"],
     ["estimate", "#drill=all&seed=31&ask=effective", ".estimate input", `document.querySelector(".estimate input").value = "40"; document.querySelector('[data-key="tell"]').click()`, "#numbers .verdict"],
+    ["estimating", "#lesson=17&step=4", ".worth .now", `document.querySelector(".estimate input").value = "57"; document.querySelector('[data-key="tell"]').click()`, "#numbers .verdict"],
+    ["own rule", "#lesson=17&step=6", ".worth .now", "scrollTo(0, 400)"],
+    ["both sides", "#at=1,0,0,0,0,0", ".figures", `document.getElementById("counts").value = "XGID=-ABC--D------------a-b--c-:0:0:-1:12:0:0:0:0:10"; document.getElementById("counts").dispatchEvent(new Event("change"))`, ".sides"],
     ["guess", "#at=2,2,2,2,2,2&roll=31&guess=1", "#board .source", `document.querySelector("#board .source").dispatchEvent(new MouseEvent("click", { bubbles: true }))`, "#board .target"],
     ["editor", "#at=0,0,0,1,0,1&t=Two checkers&p=0,0,0,1,0,1&c=Four and six&p=3,0,0,0,0,0&c=Three on the ace point", '[data-key="draft begin"]', `document.querySelector('[data-key="draft begin"]').click()`, "#draft label"],
     ["print", "#lesson=3", "#printed h2", "print"],

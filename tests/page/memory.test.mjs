@@ -3,9 +3,10 @@
 import assert from "node:assert/strict";
 import { test } from "node:test";
 import {
-    answered, askedOn, BOXES, DAILY, dayOf, dueOn, EMPTY, isKnown, MOST_CARDS, MOST_DAYS, MOST_LETTERS, readMemory, Store, streak, todays, VERSION, weakest, written,
+    answered, askedOn, BOXES, DAILY, dayOf, dueOn, EMPTY, isKnown, MOST_CARDS, MOST_DAYS, MOST_LETTERS, readMemory, Store, streak, todays, todaysEstimates, VERSION, weakest, written,
 } from "../../web/memory.js";
-import { drawQuestions, drillOf, mostOf, readDue, TEN, THEMES, writeDue } from "../../web/trainer.js";
+import { drawQuestions, drillOf, mostOf, readDue, TEN, writeDue } from "../../web/questions.js";
+import { themeOf, THEMES } from "../../web/themes.js";
 import { readLink, writeLink } from "../../web/link.js";
 import { ROLLS } from "../../web/rolls.js";
 import { drawFrom } from "./stand_in.mjs";
@@ -45,7 +46,7 @@ test("what comes back counts for the theme of its own, and an estimate for what 
     memory = answered(answered(memory, right(1, "low"), 101), { ...estimate(2100, true), isLast: true }, 101);
     assert.deepEqual(memory.themes, [["gaps", 2, 1, 56], ["low", 1, 0, 0], ["effective", 1, 1, 2100]]);
     assert.deepEqual(memory.days, [[100, 1, 1, 0], [101, 3, 1, 1]]);
-    assert.deepEqual([memory.cards.length, memory.sizes, askedOn(memory, 101), askedOn(memory, 99)], [1, [0, 1, 0], 3, 0]);
+    assert.deepEqual([memory.cards.length, memory.sizes, askedOn(memory, 101), askedOn(memory, 99)], [2, [0, 1, 0], 3, 0]);
     assert.equal(answered(EMPTY, right(0), 1).cards.length, 0);
 });
 
@@ -70,6 +71,70 @@ test("bounds: the best known and cheapest are forgotten, and the oldest days", (
     assert.deepEqual(readMemory(["bearoff memory 1", ...days].join("\n")).memory.days.map(([day]) => day), Array.from({ length: 400 }, (_, place) => 501 + place));
 });
 
+// A question that came back so often that one like it is asked from then on, in its third box.
+function known(day) {
+    let memory = answered(EMPTY, missed(0, 56, "low"), day - 4);
+    for (const then of [day - 3, day]) memory = answered(memory, right(0, "gaps"), then);
+    return memory;
+}
+
+test("from its third time on a question like it is asked, of its theme, and another one each day", () => {
+    const memory = known(100);
+    assert.deepEqual([memory.cards[0].box, memory.cards[0].due], [2, 107]);
+    const drill = todays(memory, 107);
+    assert.deepEqual(drill.due, [{ ...question(0), theme: "low" }]);
+    assert.deepEqual(todays({ ...memory, cards: [{ ...memory.cards[0], box: 1 }] }, 107).due, [{ points: question(0).points, roll: [3, 1] }]);
+    const firsts = [drill, drill, { ...drill, seed: 108 }].map((one) => drawFrom(drillOf(one))[0]);
+    const [first, same, next] = firsts;
+    assert.deepEqual(first, same);
+    assert.notDeepEqual(first.points, next.points);
+    for (const { points, card } of firsts) {
+        assert.deepEqual(card, { points: question(0).points, roll: [3, 1] });
+        assert.ok(points.join() !== card.points.join() && themeOf("low").has(points), points.join());
+    }
+    // neither it nor what comes back too is drawn
+    const both = [{ ...question(0), theme: "low" }, { ...question(1), theme: "low" }];
+    const drawn = drawFrom(drillOf({ ...drill, due: both })).map(({ points }) => points.join());
+    assert.equal(new Set([...drawn, ...both.map(({ points }) => points.join())]).size, 12);
+    // where its theme has no other one it is that one
+    const alone = drawQuestions(drillOf(drill), ROLLS, (points) => (points.join() === question(0).points.join() ? drawnPlays : [{ isBest: true }]));
+    assert.deepEqual(alone, [{ points: question(0).points, roll: [3, 1] }]);
+    assert.deepEqual([mostOf(drill), mostOf({ ...drill, due: [{ ...question(0), theme: "fifteen" }] })], [44, 90]);
+});
+
+const drawnPlays = [{ isBest: true, to: [1, 0, 0, 0, 0, 0], loss: 0n }, { isBest: false, to: [2, 0, 0, 0, 0, 0], loss: 50n }];
+
+test("an answer to a question like it counts for the one that comes back", () => {
+    const [memory, like] = [known(100), { points: [9, 0, 0, 0, 0, 0], roll: [6, 5], theme: "all", card: { points: question(0).points, roll: [3, 1] }, isLast: false }];
+    const rightly = answered(memory, { ...like, lost: 0, isMissed: false }, 107);
+    assert.deepEqual(rightly.cards, [{ ...question(0), theme: "low", box: 3, due: 128, lost: 56 }]);
+    assert.deepEqual(rightly.themes, [["low", 4, 1, 56]]);
+    // what was missed is what comes back
+    const wrongly = answered(memory, { ...like, lost: 30, isMissed: true }, 107);
+    assert.deepEqual(wrongly.cards, [{ points: like.points, roll: [6, 5], theme: "low", box: 0, due: 108, lost: 30 }]);
+    // once, where it came back already
+    const twice = answered(answered(memory, { ...missed(7), points: like.points, roll: [6, 5] }, 106), { ...like, lost: 30, isMissed: true }, 107);
+    assert.deepEqual(twice.cards, wrongly.cards);
+    assert.equal(readMemory(written(twice)).fault, "");
+});
+
+test("estimates that were far off come back, ten at a time, and none among today's ten", () => {
+    let memory = answered(answered(EMPTY, estimate(2100, true), 100), estimate(900, false, "pips"), 100);
+    assert.deepEqual(memory.cards, [{ points: [1, 2, 3, 0, 0, 0], roll: null, theme: "effective", box: 0, due: 101, lost: 2100 }]);
+    assert.deepEqual([todays(memory, 101).due, todaysEstimates(memory, 100), todaysEstimates(EMPTY, 101)], [[], null, null]);
+    assert.deepEqual(todaysEstimates(memory, 101), { theme: "all", seed: 101, ask: "effective", due: [{ points: [1, 2, 3, 0, 0, 0], roll: null }] });
+    const questions = drawFrom(drillOf(todaysEstimates(memory, 101)));
+    assert.deepEqual([questions.length, questions[0], questions.every(({ roll }) => roll === null), new Set(questions.map(({ points }) => points.join())).size], [TEN, { points: [1, 2, 3, 0, 0, 0], roll: null }, true, TEN]);
+    // two numbers of one position are two questions, and the one that most are due of is asked
+    for (const [points, kind] of [[[1, 2, 3, 0, 0, 0], "wastage"], [[1, 2, 0, 0, 0, 0], "wastage"]]) memory = answered(memory, { ...estimate(1500, true, kind), points }, 100);
+    assert.deepEqual([memory.cards.length, todaysEstimates(memory, 101).ask, todaysEstimates(memory, 101).due.length], [3, "wastage", 2]);
+    memory = answered(memory, estimate(0, false), 101);
+    assert.deepEqual(memory.cards.find(({ theme }) => theme === "effective"), { points: [1, 2, 3, 0, 0, 0], roll: null, theme: "effective", box: 1, due: 104, lost: 2100 });
+    // it is the same question each time, and of ten at most
+    const many = Array.from({ length: 14 }, (_, place) => ({ points: [place, 1, 0, 0, 0, 0], roll: null, theme: "pips", box: 3, due: 90, lost: 1000 }));
+    assert.deepEqual(todaysEstimates({ ...EMPTY, cards: many }, 101).due, many.slice(0, TEN).map(({ points }) => ({ points, roll: null })));
+});
+
 test("days in a row, up to today or yesterday", () => {
     const memory = { ...EMPTY, days: [[5, 10, 0, 0], [7, 12, 1, 1], [8, 10, 0, 0], [9, 9, 0, 0]] };
     assert.deepEqual([9, 8, 10, 5, 6, 7].map((day) => streak(memory, day)), [2, 2, 0, 1, 1, 1]);
@@ -88,7 +153,7 @@ test("today's ten: at most six that come back, the longest due first, and then t
     let memory = EMPTY;
     for (let number = 0; number < 8; number += 1) memory = answered(memory, missed(number, number + 1), number < 4 ? 10 : 9);
     const { due, seed, ask, level } = todays(memory, 12);
-    assert.deepEqual([seed, ask, level], [12, "play", "hard"]);
+    assert.deepEqual([seed, ask, level], [12, "play", "mixed"]);
     assert.deepEqual(due, [7, 6, 5, 4, 3, 2].map((number) => ({ points: question(number).points, roll: [3, 1] })));
     assert.deepEqual([todays(EMPTY, 12).due, todays(EMPTY, 12).seed], [[], 12]);
     // what follows on that day has another seed
@@ -100,16 +165,17 @@ test("the theme that loses most for each answer, once each is known", () => {
     const rows = DAILY.map((name) => [name, 5, 1, 10]);
     const of = (...more) => ({ ...EMPTY, themes: [...rows.filter(([name]) => !more.some(([other]) => other === name)), ...more] });
     assert.equal(weakest(of(["gaps", 10, 1, 30], ["low", 5, 1, 16]), 3), "low");
-    assert.equal(weakest(of(["gaps", 10, 1, 40], ["low", 5, 1, 16], ["effective", 5, 5, 99999], ["fewer", 5, 5, 9999]), 3), "gaps");
+    assert.equal(weakest(of(["gaps", 10, 1, 40], ["low", 5, 1, 16], ["effective", 5, 5, 99999], ["board", 5, 5, 9999]), 3), "gaps");
     assert.deepEqual([weakest(of(["gaps", 4, 4, 999]), 3), isKnown(of(["gaps", 4, 4, 999])), isKnown(of())], ["gaps", false, true]);
     assert.deepEqual(DAILY.map((_, day) => weakest(EMPTY, day)), DAILY);
-    // a name that gives the answers away is none of them
-    assert.deepEqual(DAILY, ["all", "low", "gaps", "middle", "high", "few"]);
+    assert.deepEqual(DAILY, ["all", "low", "gaps", "middle", "high", "few", "fewer"]);
+    // where the natural play is never best, or the next loses little, it is called hard
+    assert.deepEqual(DAILY.map((_, day) => todays(EMPTY, day).level), [...Array(6).fill("mixed"), "hard"]);
 });
 
 test("the questions: first those that come back, and then new ones, the same by the day", () => {
     const due = [3, 8, 9].map((number) => ({ points: question(number).points, roll: [3, 1] }));
-    const drill = drillOf({ theme: "all", seed: 20784, ask: "play", level: "hard", due });
+    const drill = drillOf({ theme: "all", seed: 20784, ask: "play", level: "mixed", due });
     const questions = drawFrom(drill);
     assert.equal(questions.length, TEN);
     assert.deepEqual(questions.slice(0, 3), due);
@@ -137,21 +203,37 @@ test("a link has what comes back, and what can't be taken is said", () => {
     }
     for (const text of ["x", "1,2,3,0,0,0", "1,2,3,0,0,0,13", "0,0,0,0,0,0,31", "9,9,0,0,0,0,31", "1,2,3,0,0,0,71", Array(11).fill("1,2,3,0,0,0,31").join(".")]) {
         assert.equal(readDue(text), null, text);
-        assert.match(readLink(`#drill=all&seed=1&ten=${text}`).faults[0], /what comes back are six counts and a roll of each/);
+        assert.match(readLink(`#drill=all&seed=1&ten=${text}`).faults[0], /what comes back are six counts of each, and a roll where plays are asked/);
     }
     assert.deepEqual(readLink("#drill=all&seed=1").drill, { theme: "all", seed: 1, ask: "play" });
-    assert.deepEqual(readLink("#drill=all&seed=1&ask=effective&ten=").drill, { theme: "all", seed: 1, ask: "effective" });
+    assert.deepEqual(readLink("#drill=all&seed=1&ask=effective&ten=").drill, { theme: "all", seed: 1, ask: "effective", due: [] });
+    // where a question like it is asked its theme stands before it, and an estimate has no roll
+    const like = { theme: "gaps", seed: 7, ask: "play", level: "mixed", due: [{ ...question(3), theme: "low" }, { points: [1, 2, 0, 0, 0, 0], roll: [2, 1] }] };
+    const told = { theme: "all", seed: 7, ask: "wastage", due: [{ points: [1, 2, 0, 0, 0, 0], roll: null }] };
+    for (const drill of [like, told]) {
+        const link = writeLink({ ...readLink(""), drill });
+        assert.deepEqual([readLink(link).drill, readLink(link).faults], [drill, []]);
+    }
+    assert.match(writeLink({ ...readLink(""), drill: like }), /ten=low-3,2,0,0,1,0,31\.1,2,0,0,0,0,21&/);
+    for (const [ask, text] of [["play", "nowhere-1,2,0,0,0,0,21"], ["play", "ace-1,2,0,0,0,0,21"], ["play", "low-1,2,0,0,0,0"], ["effective", "1,2,0,0,0,0,21"], ["effective", "low-1,2,0,0,0,0"]]) {
+        assert.equal(readDue(text, ask), null, text);
+        assert.equal(readLink(`#drill=all&seed=1&ask=${ask}&ten=${text}`).faults.length, 1, text);
+    }
 });
 
 test("the text comes back", () => {
     let memory = answered(answered(EMPTY, missed(3, 56, "gaps"), 20000), estimate(2100, true), 20001);
     memory = { ...answered(memory, { ...right(3), isLast: true }, 20001), learnt: 4 };
     assert.equal(written(memory), [
-        "bearoff memory 1", "learnt 4", "sizes 0 1 0", "theme gaps 2 1 56", "theme effective 1 1 2100", "day 20000 1 1 0", "day 20001 2 1 1", "card 3,2,0,0,1,0 31 gaps 1 20004 56",
+        "bearoff memory 2", "learnt 4", "sizes 0 1 0", "theme gaps 2 1 56", "theme effective 1 1 2100", "day 20000 1 1 0", "day 20001 2 1 1",
+        "card 1,2,3,0,0,0 - effective 0 20002 2100", "card 3,2,0,0,1,0 31 gaps 1 20004 56",
     ].join("\n"));
     assert.deepEqual(readMemory(written(memory)), { memory, fault: "" });
     assert.deepEqual(readMemory(`\ufeff${written(memory).replaceAll("\n", "\r\n")}\r\n`).memory, memory);
     assert.deepEqual(readMemory(written(EMPTY)).memory, EMPTY);
+    // a text of the first version, which had no estimates that come back, is read as it is
+    const first = written(memory).replace("memory 2", "memory 1").split("\n").filter((line) => !line.includes(" - ")).join("\n");
+    assert.deepEqual(readMemory(first).memory, { ...memory, cards: memory.cards.filter(({ roll }) => roll) });
     for (const { name } of THEMES) assert.equal(faultOf(`theme ${name} 1 1 1`), "");
 });
 
@@ -160,11 +242,13 @@ test("a text with a fault is refused whole, by the number of its line", () => {
     assert.equal(faultOf(good), "");
     for (const line of [
         "", "day x", "day 1 1 1", "day 1 1 1 1 1", "day 1234567 1 1 1", "card 16,0,0,0,0,0 31 all 0 1 1", "card 0,0,0,0,0,0 31 all 0 1 1", "card 1,0,0,0,0,0 71 all 0 1 1", "card 1,0,0,0,0,0 13 all 0 1 1",
-        "card 1,0,0,0,0,0 31 all 5 1 1", "card 1,0,0,0,0,0 31 none 0 1 1", "card 1,0,0,0,0,0 31 effective 0 1 1", "constructor 1", "toString 1", "theme nowhere 1 1 1", "theme all -1 1 1", "theme all 1.5 1 1",
+        "card 1,0,0,0,0,0 31 all 5 1 1", "card 1,0,0,0,0,0 31 none 0 1 1", "card 1,0,0,0,0,0 31 effective 0 1 1", "card 1,0,0,0,0,0 - all 0 1 1", "card 1,0,0,0,0,0 - effective 5 1 1", "constructor 1", "toString 1", "theme nowhere 1 1 1", "theme all -1 1 1", "theme all 1.5 1 1",
         "sizes 1 2", "learnt", "rating 1000 1 1", "Day 1 1 1 1", good,
     ]) assert.equal(faultOf(good, line, "day 1 1 1 1"), "Line 3 can't be read.", line);
     assert.equal(faultOf("theme all 1 1 1", "theme all 1 1 1"), "Line 3 can't be read.");
     assert.equal(faultOf("day 5 1 1 1", "day 5 2 1 1"), "Line 3 can't be read.");
+    const [pips, wastage] = ["pips", "wastage"].map((kind) => `card 1,0,0,0,0,0 - ${kind} 0 1 1`);
+    assert.deepEqual([faultOf(pips, wastage), faultOf(pips, wastage, pips)], ["", "Line 4 can't be read."]);
     for (const text of ["", "x", "bearoff memory", "bearoff memory 0", "bearoff memory x", "Bearoff memory 1", "bearoff memory 1 2"]) {
         assert.deepEqual(readMemory(text), { memory: null, fault: "Line 1: it doesn't begin with \"bearoff memory\" and a version." }, text);
     }
@@ -219,7 +303,7 @@ test("what a newer page has kept stays as it is", () => {
         const store = new Store({ localStorage });
         const memory = store.change(EMPTY, (own) => answered(own, missed(1), 10));
         assert.deepEqual([memory.cards.length, localStorage.kept.get("bearoff memory")], [1, text]);
-        assert.match(store.why, /^What is kept here can't be read, and stays as it is\. (It is of version 2|Line 2 can't)/);
+        assert.match(store.why, /^What is kept here can't be read, and stays as it is\. (It is of version 3|Line 2 can't)/);
         // until all is forgotten
         assert.deepEqual([store.forget(), store.why, localStorage.kept.size], [EMPTY, "", 0]);
         assert.equal(store.change(EMPTY, (own) => answered(own, missed(1), 10)).cards.length, 1);

@@ -11,7 +11,9 @@ import { decimalOf } from "../../web/fractions.js";
 import { readPoints, sumOf } from "../../web/points.js";
 import { ROLLS } from "../../web/rolls.js";
 import { decimal, FAULTS, notation } from "../../web/texts.js";
-import { drillOf, levelsOf, temptingOf, themeOf, THEMES } from "../../web/trainer.js";
+import { drillOf, followingOf, temptingOf } from "../../web/questions.js";
+import { ADDITIONS } from "../../web/rules.js";
+import { levelsOf, positions, themeOf, THEMES } from "../../web/themes.js";
 import { answer, Desk, drawn, rollsOf, serve } from "../../web/worker.js";
 import { effectOf, equal, isJoined, linesOf, modulesFolder, part, programPath, testedFolder, wrong } from "./given.mjs";
 
@@ -173,48 +175,125 @@ async function compareDrawn(desk) {
     equal("the same drill", JSON.stringify(await desk.take({ kind: "draw", drill })), JSON.stringify(questions));
 }
 
-// By its level: a novice, who bears off the most checkers and then fills the most points, is right in fewer than 60 % of the
-// hard questions, and in all of the easy ones, whose next best play loses a good deal; and where bearing off fewer is best,
-// never.
+// Three rules that players go by, each with the plays that it chooses: the most borne off, and then the most points filled;
+// the most borne off, and then the fewest on the ace point; and the fewest pips with Tom Keith's additions.
+const RULES_OF_THUMB = [
+    ({ to }) => 20 * sumOf(to) - to.filter((count) => count > 0).length,
+    ({ to }) => 20 * sumOf(to) + to[0],
+    ({ to: [ace, deuce, three, ...high] }) => [ace, deuce, three, ...high].reduce((sum, count, place) => sum + count * (place + 1), 0)
+        + 2 * Math.max(0, ace - 1) + Math.max(0, deuce - 1) + Math.max(0, three - 3) + high.filter((count) => count === 0).length,
+];
+function chosenBy(rule, plays) {
+    const least = Math.min(...plays.map(rule));
+    return plays.filter((play) => rule(play) === least);
+}
+
+// What the names of two themes say of a play: whether it fills a gap, and whether it bears off fewer than another.
+const NAMED = {
+    gaps: ({ to }, points) => points.some((on, place) => on === 0 && to[place] > 0 && points.slice(0, place).some(Boolean) && points.slice(place).some(Boolean)),
+    fewer: ({ to }, points, plays) => sumOf(to) > Math.min(...plays.map((play) => sumOf(play.to))),
+};
+
+// By its level: whoever goes by a rule of thumb is right in all of the easy questions, whose next best play loses a good
+// deal; in a half of the mixed ones; and in the hard ones two rules of three fail. Where a theme's name says what to play,
+// it is wrong in a half.
 function compareLevels(database) {
-    const least = (plays) => Math.min(...plays.map(({ to }) => sumOf(to)));
-    const isRight = (plays) => {
-        const off = plays.filter(({ to }) => sumOf(to) === least(plays));
-        const filled = (play) => play.to.filter((count) => count > 0).length;
-        return off.filter((play) => off.every((other) => filled(other) <= filled(play))).some(({ exact }) => exact === "0/1");
-    };
+    const isRight = (plays, rule = RULES_OF_THUMB[0]) => chosenBy(rule, plays).some(({ exact }) => exact === "0/1");
     for (const { name } of THEMES.filter(({ isPlayed, most = 44 }) => isPlayed && (most > 44) === (database.bound > 44))) {
         for (const level of levelsOf({ theme: name, ask: "play" }).map((one) => one.name)) {
-            let [count, right, close, fewer] = [0, 0, 0, 0];
+            let [count, close, slowest] = [0, 0, 0];
+            const right = [0, 0, 0];
             for (const seed of [3, 1789, 20260101]) {
+                const begun = performance.now();
                 const questions = drawn(database, drillOf({ theme: name, seed, ask: "play", level }));
-                // where it tempts the seed says; a position that is drawn again changes its question
+                slowest = Math.max(slowest, performance.now() - begun);
+                const all = questions.map(({ points, roll }) => ({ points, roll, plays: playsOf(database, points, roll) }));
+                // where it tempts, and where the best play is as the theme's name says, the seed tells; a position that is
+                // drawn again changes its question
                 const tempts = temptingOf(seed);
-                const asSaid = questions.filter(({ points, roll }, place) => isRight(playsOf(database, points, roll)) !== tempts[place]).length;
-                if (level === "hard" && name !== "fewer") equal(`${name}: hard ones of ${seed} tempt where the seed says`, asSaid >= 15, true);
-                for (const { points, roll } of questions) {
-                    const plays = playsOf(database, points, roll);
+                const asSaid = all.filter(({ plays }, place) => isRight(plays) !== tempts[place]).length;
+                if (level === "mixed") equal(`${name}: mixed ones of ${seed} tempt where the seed says`, asSaid >= 15, true);
+                const does = NAMED[name];
+                if (does) {
+                    const follows = followingOf(seed);
+                    const named = all.map(({ points, plays }) => does(plays[0], points, plays));
+                    equal(`${name}, ${level}: a half of ${seed} is as its name says`, Math.abs(named.filter(Boolean).length - 10) <= 2, true);
+                    equal(`${name}, ${level}: where the seed says`, named.filter((is, place) => is === follows[place]).length >= 15, true);
+                    for (const { points, roll, plays } of all) {
+                        const kinds = [true, false].map((is) => plays.find((play) => does(play, points, plays) === is));
+                        if (!kinds.every(Boolean)) wrong(`${name}, ${level}: ${points} ${roll} has plays of one kind`);
+                        else if (!kinds[0].isBest && ["any", "mixed"].includes(level) && kinds[0].loss > 40n) wrong(`${name}, ${level}: ${points} ${roll} is no decoy`);
+                    }
+                }
+                for (const { points, roll, plays } of all) {
                     const [best, next] = plays;
                     if (!best.isBest || next.isBest) wrong(`${name}, ${level}: ${points} ${roll} has nothing to decide`);
                     if (!themeOf(name).has(points)) wrong(`${name}, ${level}: ${points} is of another theme`);
                     count += 1;
-                    if (isRight(plays)) right += 1;
+                    RULES_OF_THUMB.forEach((rule, place) => { right[place] += isRight(plays, rule) ? 1 : 0; });
                     if (next.loss <= 20n) close += 1;
-                    if (sumOf(best.to) > least(plays)) fewer += 1;
-                    const isFilled = points.some((on, place) => on === 0 && best.to[place] > 0 && points.slice(0, place).some(Boolean) && points.slice(place).some(Boolean));
-                    if (name === "gaps" && !isFilled) wrong(`gaps, ${level}: the best play of ${points} ${roll} fills none`);
                     if (level === "easy" && next.loss < 80n) wrong(`${name}, easy: ${points} ${roll} loses ${next.loss} thousandths`);
-                    if (level === "hard" && isRight(plays) && next.loss > 20n) wrong(`${name}, hard: ${points} ${roll} is neither`);
+                    if (level === "mixed" && isRight(plays) && next.loss > 20n) wrong(`${name}, mixed: ${points} ${roll} is neither`);
+                    const failing = RULES_OF_THUMB.filter((rule) => chosenBy(rule, plays).every(({ loss }) => loss > 0n)).length;
+                    if (level === "hard" && (name === "fewer" ? next.loss > 40n || next.loss === 0n : failing < 2)) wrong(`${name}, hard: ${points} ${roll} isn't`);
                 }
             }
             equal(`${name}, ${level}: questions`, count, 60);
-            if (level === "hard") equal(`${name}: the novice in the hard ones`, 100 * right < 60 * count, true);
-            if (level === "easy") equal(`${name}: the novice in the easy ones`, right, count);
-            if (name === "fewer") equal(`${name}, ${level}: fewer are borne off`, [fewer, right], [count, 0]);
-            if (level === "hard") console.log(`page: the novice is right in ${right} of ${count} hard questions of ${name}, ${close} of which are close`);
+            if (level === "mixed") equal(`${name}: the novice in the mixed ones`, 100 * right[0] >= 40 * count && 100 * right[0] <= 60 * count, true);
+            if (level === "hard" && name !== "fewer") equal(`${name}: the novice in the hard ones`, 100 * right[0] < 40 * count, true);
+            if (level === "easy") equal(`${name}: each rule in the easy ones`, right, [count, count, count]);
+            console.log(`page: ${name}, ${level}: three rules are right in ${right.join(", ")} of ${count}, ${close} of which are close; drawn in ${slowest.toFixed(0)} ms at most`);
         }
     }
     equal("no drill of plays where there are none", THEMES.filter(({ isPlayed }) => !isPlayed).map(({ name }) => name), ["ace"]);
+}
+
+// How far the rules of thumb for the effective pip count are off, by the answers for each position; over the whole board as an
+// independent table of it has them, in thousandths of a pip.
+async function compareMeasured(desk) {
+    const sevens = (points) => 7000 * Math.ceil(sumOf(points) / 2) + 1000;
+    const pips = (points) => 1000 * points.reduce((sum, count, place) => sum + count * (place + 1), 0);
+    const added = (points) => 1000 * RULES_OF_THUMB[2]({ to: points }) + 8500;
+    const rules = [sevens, (points) => pips(points) + 8000, added, (points) => Math.max(sevens(points), added(points))];
+    const known = {
+        90: [[11309, 43937, 15, 27], [6401, 34000, 7371, 1206], [1021, 7333, 54263, 1021], [986, 7333, 54263, 986], [1021, 7333, 54263, 1021]],
+    };
+    const all = positions(desk.database.bound).slice(1).map((points) => ({ points, exact: Number(answer(desk.database, points).effective.thousandths) }));
+    const begun = performance.now();
+    const { count, rows } = await desk.take({ kind: "measure", weights: ADDITIONS });
+    const took = performance.now() - begun;
+    console.log(`page: the rules of thumb are measured over ${count} positions in ${took.toFixed(0)} ms`);
+    equal("over all positions", count, desk.database.positionCount - 1);
+    equal("which rules", rows.map(({ name }) => name), ["rolls", "eight", "additions", "greater", "own"]);
+    equal("one's own begins as the additions do", { ...rows[4], name: "", words: "" }, { ...rows[2], name: "", words: "" });
+    if (known[desk.database.bound]) equal("as another table has them", rows.map(({ mean, worst, countFor, meanFor }) => [mean, worst, countFor, meanFor]), known[desk.database.bound]);
+    rules.forEach((rule, place) => {
+        const errors = all.map(({ points, exact }) => Math.abs(rule(points) - exact));
+        equal(`the mean error of ${rows[place].name}`, rows[place].mean, Math.round(errors.reduce((sum, error) => sum + error, 0) / errors.length));
+        equal(`the greatest of ${rows[place].name}`, rows[place].worst, Math.max(...errors));
+    });
+    // each weight of one's own rule counts what it says, and one is less than a pip off on average
+    const [, , , , own] = (await desk.take({ kind: "measure", weights: [16, 4, 2, 2, 3, 0] })).rows;
+    if (desk.database.bound === 90) equal("less than a pip", own.mean < 1000, true);
+    for (const [weight, counted] of [
+        () => 1, ([ace]) => Math.max(0, ace - 1), ([, deuce]) => Math.max(0, deuce - 1), ([, , three]) => Math.max(0, three - 3),
+        ([, , , ...high]) => high.filter((on) => on === 0).length, sumOf,
+    ].entries()) {
+        const weights = ADDITIONS.map((halves, place) => halves + (place === weight ? 3 : 0));
+        const { rows: [, , , , mine] } = await desk.take({ kind: "measure", weights });
+        const errors = all.map(({ points, exact }) => Math.abs(added(points) + 1500 * counted(points) - exact));
+        equal(`another weight ${weight}`, [mine.mean, mine.worst], [Math.round(errors.reduce((sum, error) => sum + error, 0) / errors.length), Math.max(...errors)]);
+    }
+}
+
+// The values of a lesson's steps are those of its positions, and of the recorded plays.
+async function compareFilled(desk) {
+    const steps = [{ points: [0, 0, 0, 1, 0, 1], roll: [5, 2] }, { points: [0, 0, 0, 0, 0, 1], roll: null }, { points: [0, 0, 0, 0, 0, 15], roll: null }, { points: [0, 0, 0, 0, 0, 0], roll: [2, 1] }];
+    const { mean, effective, wastage } = answer(desk.database, steps[0].points);
+    equal("of each step", await desk.take({ kind: "fill", steps }), [
+        { pips: "10", mean: mean.text, EPC: effective.text, wastage: wastage.text, best: "6/1 4/2" }, { pips: "6", mean: "1.250", EPC: "10.208", wastage: "4.208" },
+        desk.database.bound < 90 ? {} : { pips: "90", mean: "12.266", EPC: "100.174", wastage: "10.174" }, { pips: "0", mean: "0.000", EPC: "0.000", wastage: "0.000" },
+    ]);
 }
 
 // What was chosen before the page was loaded anew is told again by the module.
@@ -277,6 +356,20 @@ part("drills", async () => {
 });
 part("drills of each level", () => compareLevels(large.database));
 part("drills of each level, of the whole board", () => compareLevels(whole.database));
+part("rules of thumb, measured", async () => {
+    await compareMeasured(large);
+    await compareMeasured(whole);
+    // of another database nothing is kept
+    const { count } = await small.take({ kind: "measure", weights: ADDITIONS });
+    equal("of a small one", count, 63);
+    await small.build(9);
+    equal("of the one that took its place", (await small.take({ kind: "measure", weights: ADDITIONS })).count, small.database.positionCount - 1);
+    await small.build(8);
+});
+part("values of a lesson", async () => {
+    await compareFilled(large);
+    await compareFilled(whole);
+});
 part("what was chosen before", () => compareAgain(large));
 part("rounded fractions", compareRounded);
 part("messages", compareServed);

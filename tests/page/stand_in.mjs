@@ -6,7 +6,7 @@ import { readFileSync } from "node:fs";
 import Module, { createRequire } from "node:module";
 import { delimiter } from "node:path";
 import { ROLLS } from "../../web/rolls.js";
-import { drawQuestions } from "../../web/trainer.js";
+import { drawQuestions } from "../../web/questions.js";
 import { decimal, notation, percent } from "../../web/texts.js";
 
 // Debian's jsdom and what it rests on stand in a folder of their own.
@@ -178,11 +178,12 @@ export class Worker {
     async answerAll(bound = 44) {
         await settled();
         while (this.asked.length > 0) {
-            const { kind, points, drill, picks, roll, to } = this.asked[0].question;
+            const { kind, points, drill, picks, roll, to, weights, steps } = this.asked[0].question;
             const plays = this.plays || rollsFrom;
             await this.answer({
                 ask: answerTo, rolls: plays, draw: () => drawFrom(drill), again: () => playedBefore(picks, plays),
-                why: () => whyFrom(points, roll, to),
+                why: () => whyFrom(points, roll, to), measure: () => measuredFrom(weights),
+                fill: () => steps.map((step) => valuesFrom(step, bound)),
             }[kind](points, bound));
         }
     }
@@ -266,6 +267,22 @@ export function legalFrom(points) {
 
 // Sentences about a play that loses.
 export const whyFrom = (points, roll, to) => [`Why ${points} with ${roll} to ${to}.`, "And so on."];
+
+// The values of a lesson's step.
+function valuesFrom({ points, roll }, bound) {
+    const { standing, mean, effective, wastage, refusal } = answerTo(points, bound);
+    if (refusal) return {};
+    return { pips: String(standing.pips), mean: mean.text, EPC: effective.text, wastage: wastage.text, ...(roll ? { best: `best of ${roll.join("")}` } : {}) };
+}
+
+// How far rules of thumb are off: one's own by the sum of its weights.
+export const measuredFrom = (weights) => ({
+    count: 26313,
+    rows: ["rolls", "eight", "additions", "greater", "own"].map((name, place) => ({
+        name, words: `the rule ${name}`, where: "any shape", countFor: 1000 * (place + 1), meanFor: 1000 + place,
+        mean: name === "own" ? 100 * weights.reduce((sum, weight) => sum + weight) : 2000 + place, worst: 30009 + place,
+    })),
+});
 
 // What was chosen before the page was loaded anew.
 export const playedBefore = ({ guesses, again, estimates, estimatesAgain }, plays) => ({

@@ -8,12 +8,15 @@ import { ROLLS } from "../../web/rolls.js";
 import { moved, verdict } from "../../web/panels.js";
 import { asSvg } from "../../web/picture.js";
 import { begin, giveEstimate, isFar, mistakesOf, missedOf, pressed, received, verdictOf, wanted } from "../../web/state.js";
-import { drawQuestions, drillOf, LEVELS, levelsOf, meanOf, mostOf, numbersFrom, positions, readEstimate, readLessons, temptingOf, THEMES, writeLesson } from "../../web/trainer.js";
+import { drawQuestions, drillOf, mostOf, numbersFrom, temptingOf } from "../../web/questions.js";
+import { isNamed, LEVELS, levelsOf, positions, THEMES } from "../../web/themes.js";
+import { meanOf, readEstimate, readLessons, writeLesson } from "../../web/trainer.js";
 import { drawn } from "../../web/worker.js";
 import { thumb } from "../../web/training.js";
 import { textOf } from "../../web/tree.js";
 import { view } from "../../web/view.js";
 import { equal as same, part as test, wrong as fault } from "./given.mjs";
+import { failing } from "../../web/rules.js";
 import { reachedBy, ways } from "../../web/steps.js";
 import { answerTo, newDocument, drawFrom, legalFrom, pipsOf, rollsFrom, settled, whyFrom, Window, Worker, tell } from "./stand_in.mjs";
 
@@ -683,7 +686,7 @@ const TEXTS = JSON.parse(readFileSync(new URL("../callers/notation_texts.json", 
 
 async function pasted() {
     part = "positions as players have them";
-    for (const [text, points, , roll] of TEXTS.read) equal(`read ${text}`, readTyped(text), { points, roll });
+    for (const [text, points, theirs, roll] of TEXTS.read) equal(`read ${text}`, readTyped(text), { points, roll, theirs });
     let ids = 0;
     for (const [text, , line] of TEXTS.refused) {
         if (readCounts(text).points) continue; // the field takes more spellings of counts
@@ -695,7 +698,7 @@ async function pasted() {
     }
     equal("IDs that are refused", ids > 40, true);
     // how long a text may be is looked at before anything else
-    equal("a text of 1000 characters", readTyped("1,2,3,0,0,4".padEnd(1000)), { points: [1, 2, 3, 0, 0, 4], roll: null });
+    equal("a text of 1000 characters", readTyped("1,2,3,0,0,4".padEnd(1000)), { points: [1, 2, 3, 0, 0, 4], roll: null, theirs: null });
     for (const long of ["1,2,3,0,0,4".padEnd(1001), "1,".repeat(2.5e6), "1 ".repeat(10 ** 7), "x".repeat(10 ** 7)]) {
         equal("a longer one", readTyped(long), { fault: "A position has at most 1000 characters, and this text has more." });
         equal("no estimate", readEstimate(long), null);
@@ -710,11 +713,23 @@ async function pasted() {
     };
     equal("it is said that it takes them", [used.text("how").includes("XGID"), field.getAttribute("aria-describedby")], [true, "why how"]);
     const xgid = "XGID=-ABC--D------------a-b--c-:0:0:-1:12:0:0:0:0:10";
+    await used.clicked("clear");
     give(xgid);
     used.check("the other player is on roll");
     equal("the side on roll", [used.board, used.session.state.roll, field.value, used.at("why").hidden], [[3, 0, 0, 2, 0, 1], [2, 1], "3,0,0,2,0,1", true]);
+    const race = () => [...used.at("numbers").querySelectorAll(".sides tr")].slice(1).map((row) => [...row.childNodes].map((node) => node.textContent));
+    equal("both sides, which aren't known yet", race(), [["On roll", "\u2026", "\u2026", "\u2026"], ["Other side", "38", "\u2026", "\u2026"]]);
     await used.worker.answerAll();
     used.check("answered");
+    const [mine, theirs] = [[3, 0, 0, 2, 0, 1], [1, 2, 3, 0, 0, 4]].map((points) => answerTo(points));
+    equal("both sides", race(), [["On roll", mine], ["Other side", theirs]].map(([name, { standing, effective, wastage }]) => [name, String(standing.pips), effective.text, wastage.text]));
+    equal("nothing of who wins", used.text("numbers").includes("Nothing is said of who wins."), true);
+    equal("the other side is heard, too", used.text("said").endsWith(` The other side: 38 pips, effective pip count ${theirs.effective.text}, wastage ${theirs.wastage.text}.`), true);
+    await used.clicked("Remove 1");
+    equal("of another position there is no other side", [used.session.state.theirs, used.at("numbers").querySelector(".sides")], [null, null]);
+    give(xgid);
+    await used.worker.answerAll();
+    equal("and heard once", used.text("said").split(" The other side: ").length, 2);
     equal("its roll is chosen", [used.find("roll 21").getAttribute("aria-pressed"), used.plays().length > 0], ["true", true]);
     used.window.pass(1000);
     equal("its link", used.window.location.hash, "#at=3,0,0,2,0,1&roll=21");
@@ -1048,7 +1063,7 @@ function trained() {
     equal("positions in the order of their ranks", [all.length, all.slice(0, 7).map(String)], [26314, ["0,0,0,0,0,0", "1,0,0,0,0,0", "0,1,0,0,0,0", "2,0,0,0,0,0", "0,0,1,0,0,0", "1,1,0,0,0,0", "3,0,0,0,0,0"]]);
     const numbers = numbersFrom(1);
     equal("numbers", [1, 2, 3].map(() => numbers.next().value), [48271, 182605794, 1291394886]);
-    const two = (points) => [{ isBest: true, to: points.map((count) => Math.max(1, count)) }, { isBest: false }];
+    const two = (points) => [{ isBest: true, to: points.map((count) => Math.max(1, count)), loss: 0n }, { isBest: false, to: points, loss: 50n }];
     const text = (drill) => JSON.stringify(drawQuestions(drill, ROLLS, two));
     const drill = { theme: "gaps", seed: 7, ask: "play" };
     equal("a seed draws the same", text(drill) === text({ ...drill }), true);
@@ -1063,17 +1078,34 @@ function trained() {
     equal("themes", [has("low", [4, 0, 1, 0, 0, 0]), has("low", [4, 0, 0, 1, 0, 0]), has("gaps", [2, 0, 3, 0, 0, 0]), has("gaps", [0, 2, 3, 0, 0, 0]), has("middle", [5, 0, 0, 0, 0, 0]), has("middle", [10, 0, 0, 0, 0, 0]), has("high", [0, 0, 0, 1, 1, 1]), has("high", [0, 0, 1, 1, 1, 1]), has("ace", [3, 0, 0, 0, 0, 0]), has("few", [0, 0, 0, 0, 0, 5]), has("fifteen", [0, 0, 0, 3, 5, 7]), has("fifteen", [0, 0, 0, 3, 5, 6]), has("stacks", [0, 0, 0, 3, 5, 5]), has("stacks", [0, 0, 0, 3, 4, 5]), has("stacks", [0, 0, 1, 3, 5, 6])],
         [true, false, true, false, true, false, true, false, true, false, true, false, true, false, false]);
     equal("one play is not asked", drawQuestions(drill, ROLLS, () => [{ isBest: true }]).length, 0);
-    equal("nor a tie", drawQuestions(drill, ROLLS, (points) => [two(points)[0], { isBest: true }, { isBest: false }]).length, 0);
-    equal("nor a gap that stays", drawQuestions(drill, ROLLS, (points) => [{ isBest: true, to: points }, { isBest: false }]).length, 0);
+    equal("nor a tie", drawQuestions(drill, ROLLS, (points) => [two(points)[0], { isBest: true, to: points, loss: 0n }, two(points)[1]]).length, 0);
+    equal("nor gaps that stay", drawQuestions(drill, ROLLS, (points) => [{ isBest: true, to: points, loss: 0n }, two(points)[1]]).length, 0);
+    equal("nor gaps that each play fills", drawQuestions(drill, ROLLS, (points) => [two(points)[0], { ...two(points)[0], isBest: false, loss: 50n }]).length, 0);
+    // where the best play leaves the gaps, one that fills some loses little, but in an easy or a hard drill
+    const decoy = (loss) => (points) => [{ isBest: true, to: points, loss: 0n }, { ...two(points)[0], isBest: false, loss }];
+    const isNear = (loss, level = "any") => {
+        const [points] = [[2, 0, 2, 1, 1, 0]];
+        return [true, false, null].map((follows) => isNamed(THEMES.find(({ name }) => name === "gaps"), points, decoy(loss)(points), level, follows));
+    };
+    equal("decoys", [isNear(40n), isNear(41n), isNear(41n, "mixed"), isNear(41n, "easy"), isNear(41n, "hard")], [[false, true, true], [false, false, false], [false, false, false], [false, true, true], [false, true, true]]);
+    equal("a gap that is filled", [true, false, null].map((follows) => isNamed(THEMES.find(({ name }) => name === "gaps"), [2, 0, 2, 1, 1, 0], two([2, 0, 2, 1, 1, 0]), "any", follows)), [true, false, true]);
+    equal("no other theme's name says what to play", THEMES.filter(({ does }) => does).map(({ name, words }) => [name, words]), [["gaps", "Gaps"], ["fewer", "How many to bear off"]]);
     const asks = (name, loss, best, tempts = null, isTempting = false) => LEVELS.find((level) => level.name === name).isAsked(
         [{ to: best, isBest: true, loss: 0n }, { to: [1, 0, 0, 0, 0, 0], isBest: false, loss }], tempts, { isTempting });
     const [natural, tempted] = [[0, 0, 0, 0, 0, 0], [2, 0, 0, 0, 0, 0]];
     equal("what an easy drill asks", [asks("easy", 80n, natural), asks("easy", 79n, natural), asks("easy", 500n, tempted)], [true, false, false]);
     for (const [tempts, wanted] of [[true, [true, true, false, false, false, false]], [false, [false, false, true, true, false, false]], [null, [true, true, true, true, false, false]]]) {
-        equal(`what a hard one asks, ${tempts}`, [[500n, tempted], [1n, tempted], [1n, natural], [20n, natural], [21n, natural], [0n, tempted]].map(([loss, best]) => asks("hard", loss, best, tempts)), wanted);
+        equal(`what a mixed one asks, ${tempts}`, [[500n, tempted], [1n, tempted], [1n, natural], [20n, natural], [21n, natural], [0n, tempted]].map(([loss, best]) => asks("mixed", loss, best, tempts)), wanted);
+        equal(`what a hard one asks, ${tempts}`, [[500n, tempted], [1n, tempted], [1n, natural], [21n, natural], [0n, tempted]].map(([loss, best]) => asks("hard", loss, best, tempts)), [true, true, false, false, false]);
     }
+    // the rules fail one by one: the most off, and the most points filled; the most off, and the fewest aces; the least count
+    const failed = [
+        [[[0, 2, 0, 0, 0, 0], 0n], [[1, 1, 0, 0, 0, 0], 9n]], [[[2, 0, 0, 0, 0, 0], 0n], [[0, 2, 0, 0, 0, 0], 9n]], [[[2, 0, 0, 0, 0, 1], 0n], [[0, 1, 1, 0, 1, 0], 9n]], [[[2, 0, 0, 0, 0, 0], 0n], [[1, 0, 0, 0, 0, 0], 9n]],
+    ].map((plays) => plays.map(([to, loss]) => ({ to, loss, isBest: loss === 0n })));
+    equal("how many rules fail", failed.map(failing), [2, 1, 2, 3]);
+    equal("what two of three make hard", failed.map((plays) => LEVELS.find(({ name }) => name === "hard").isAsked(plays, null, {})), [true, false, true, true]);
     equal("and where each question tempts", [1n, 40n, 41n, 0n].map((loss) => asks("hard", loss, tempted, false, true)), [true, true, false, false]);
-    equal("no level but those that are there", [levelsOf({ theme: "fewer", ask: "play" }), levelsOf({ theme: "all", ask: "pips" }), levelsOf({ theme: "all", ask: "play" })].map((levels) => levels.map(({ name }) => name).join()), ["any,hard", "any", "any,easy,hard"]);
+    equal("no level but those that are there", [levelsOf({ theme: "fewer", ask: "play" }), levelsOf({ theme: "all", ask: "pips" }), levelsOf({ theme: "all", ask: "play" })].map((levels) => levels.map(({ name }) => name).join()), ["any,hard", "any", "any,easy,mixed,hard"]);
     equal("a drill has one of them", [drillOf({ theme: "fewer", seed: 1, ask: "play", level: "easy" }), drillOf({ theme: "all", seed: 1, ask: "wastage", level: "hard" })].map(({ level }) => level), [undefined, undefined]);
     // at each place a half of the seeds tempts, at whatever place after it too, and of each drill ten questions do
     const mixed = Array.from({ length: 400 }, (_, seed) => temptingOf(997 * seed + 1));
@@ -1083,8 +1115,8 @@ function trained() {
     equal("a seed mixes the same", temptingOf(31).join(), temptingOf(31).join());
     const kinds = (points, [high]) => (high > 3 ? [{ isBest: true, loss: 0n, to: [2, 0, 0, 0, 0, 0] }, { isBest: false, loss: 90n, to: [1, 0, 0, 0, 0, 0] }]
         : [{ isBest: true, loss: 0n, to: [1, 0, 0, 0, 0, 0] }, { isBest: false, loss: 5n, to: [2, 0, 0, 0, 0, 0] }]);
-    equal("a hard drill tempts where its seed says", drawQuestions({ theme: "all", seed: 31, ask: "play", level: "hard" }, ROLLS, kinds).map(({ roll: [high] }) => high > 3).join(), temptingOf(31).join());
-    equal("where nothing tempts, it asks the rest", drawQuestions({ theme: "all", seed: 31, ask: "play", level: "hard" }, ROLLS, (points) => kinds(points, [1])).length, 20);
+    equal("a mixed drill tempts where its seed says", drawQuestions({ theme: "all", seed: 31, ask: "play", level: "mixed" }, ROLLS, kinds).map(({ roll: [high] }) => high > 3).join(), temptingOf(31).join());
+    equal("where nothing tempts, it asks the rest", drawQuestions({ theme: "all", seed: 31, ask: "play", level: "mixed" }, ROLLS, (points) => kinds(points, [1])).length, 20);
     equal("a small database has none", drawn({ bound: 8 }, drill).length, 0);
     equal("links", [readLink("#drill=gaps&seed=7").drill, readLink("#drill=ace&seed=7&ask=play").drill, readLink("#drill=gaps&seed=0").drill, readLink("#drill=x&seed=1").drill], [drill, null, null, null]);
     part = "texts";
@@ -1592,7 +1624,7 @@ async function silence() {
         ["#drill=x&seed=1", "The link has drill=x, which can't be taken: there is no such theme."],
         ["#drill=gaps&seed=12345678901", "The link has seed=12345678901, which can't be taken: a seed is a whole number from 1 to 999999999."],
         ["#drill=gaps&seed=7&ask=all", "The link has ask=all, which can't be taken: a drill asks play, pips, effective, wastage."],
-        ["#drill=gaps&seed=7&level=6", "The link has level=6, which can't be taken: a level is any, easy, hard."],
+        ["#drill=gaps&seed=7&level=6", "The link has level=6, which can't be taken: a level is any, easy, mixed, hard."],
         ["#drill=gaps&seed=7&question=x", "The link has question=x, which can't be taken: it is the number of one."],
         ["#drill=gaps", "The link has a drill without a seed."],
         ["#drill=ace&seed=7", "The link's drill has nothing to decide: Ace point alone, Play."],
@@ -1656,7 +1688,7 @@ async function silence() {
     tell(used.find("seed"), "keydown", { key: "Enter" });
     await used.worker.answerAll();
     equal("Enter begins, and the words are gone", [used.session.state.drill.level, used.at("notice").hidden], ["hard", true]);
-    for (const [theme, ask, level, words] of [["fewer", "play", "easy", "Bear off fewer: no question there is easy, so any are asked."], ["all", "wastage", "hard", "Plays alone are hard: any positions are asked."], ["fewer", "play", "hard", ""]]) {
+    for (const [theme, ask, level, words] of [["fewer", "play", "easy", "How many to bear off: no question there is easy, so any are asked."], ["fewer", "play", "mixed", "How many to bear off: no question there is mixed, so any are asked."], ["all", "wastage", "hard", "Plays alone are hard: any positions are asked."], ["fewer", "play", "hard", ""]]) {
         [used.find("theme").value, used.find("asked").value, used.find("level").value] = [theme, ask, level];
         await used.clicked("begin drill");
         equal(`${theme}, ${ask}, ${level}: no level goes in silence`, used.text("notice"), words);
@@ -1881,11 +1913,11 @@ async function student() {
     equal("what stays where", [used.at("today").textContent.includes("What you answer stays on this device; nothing of it is sent."), used.window.kept.size, used.at("today").querySelector(".days")], [true, 0, null]);
     await used.clicked("today");
     const { drill, questions } = used.session.state;
-    equal("today's ten", [drill, questions.length, used.focus(), used.at("today").hidden], [{ theme: "all", seed: day, ask: "play", level: "hard", due: [] }, 10, "coach", true]);
+    equal("today's ten", [drill, questions.length, used.focus(), used.at("today").hidden], [{ theme: "low", seed: day, ask: "play", level: "mixed", due: [] }, 10, "coach", true]);
     equal("its link", [readLink(used.window.location.hash).drill, used.document.title], [drill, "Question 1 of 10: Today\u2019s ten \u2013 Bearing off"]);
-    equal("what is said of it", ["Today\u2019s ten", "Question 1 of 10.", "Ten that are new: All positions."].filter((text) => !used.text("coach").includes(text)), []);
+    equal("what is said of it", ["Today\u2019s ten", "Question 1 of 10.", "Ten that are new: Low stacks."].filter((text) => !used.text("coach").includes(text)), []);
     await used.clicked(losing(questions[0].roll));
-    equal("one is missed", kept(used), `bearoff memory 1\nlearnt 0\nsizes 0 1 0\ntheme all 1 1 56\nday ${day} 1 1 0\ncard ${questions[0].points} ${questions[0].roll.join("")} all 0 ${day + 1} 56`);
+    equal("one is missed", kept(used), `bearoff memory 2\nlearnt 0\nsizes 0 1 0\ntheme low 1 1 56\nday ${day} 1 1 0\ncard ${questions[0].points} ${questions[0].roll.join("")} low 0 ${day + 1} 56`);
     await used.clicked("next question");
     for (const { roll } of questions.slice(1)) {
         await used.clicked(roll === questions[1].roll ? losing(roll) : best(roll));
@@ -1917,13 +1949,13 @@ async function student() {
 
     part = "the day after";
     const next = await Used.open("", later(used, 1));
-    equal("what comes back", [told(next), next.find("today").textContent], [`${missed.length} that you missed come${missed.length === 1 ? "s" : ""} back, ${10 - missed.length} are new: Low stacks.`, `Begin ${missed.length} again, ${10 - missed.length} new`]);
+    equal("what comes back", [told(next), next.find("today").textContent], [`${missed.length} that you missed come${missed.length === 1 ? "s" : ""} back, ${10 - missed.length} are new: Gaps.`, `Begin ${missed.length} again, ${10 - missed.length} new`]);
     await next.clicked("today");
     equal("they are first", next.session.state.questions.slice(0, missed.length).map(({ points, roll }) => [points, roll]), missed.map(({ points, roll }) => [points, roll]));
-    equal("what is said of them", next.text("coach").includes(`${missed.length} again, ${10 - missed.length} new: Low stacks.`), true);
+    equal("what is said of them", next.text("coach").includes(`${missed.length} again, ${10 - missed.length} new: Gaps.`), true);
     await play(next, () => false);
-    equal("right, they come after three days", kept(next).split("\n").filter((line) => line.startsWith("card")).map((line) => line.split(" ").slice(3).join(" ")), missed.map(() => `all 1 ${day + 4} 56`));
-    equal("themes of their own", kept(next).split("\n").filter((line) => line.startsWith("theme")), [`theme all ${10 + missed.length} ${missed.length} ${56 * missed.length}`, `theme low ${10 - missed.length} 0 0`]);
+    equal("right, they come after three days", kept(next).split("\n").filter((line) => line.startsWith("card")).map((line) => line.split(" ").slice(3).join(" ")), missed.map(() => `low 1 ${day + 4} 56`));
+    equal("themes of their own", kept(next).split("\n").filter((line) => line.startsWith("theme")), [`theme low ${10 + missed.length} ${missed.length} ${56 * missed.length}`, `theme gaps ${10 - missed.length} 0 0`]);
     equal("nothing comes tomorrow", next.text("coach").includes("Nothing comes back tomorrow."), true);
     await next.clicked("end training");
     equal("two days in a row", next.at("today").querySelector("dd").textContent, "2 days");
@@ -1971,7 +2003,7 @@ async function student() {
     await used.clicked("end training");
     equal("it works till then", [told(used).startsWith("Today\u2019s ten are done."), used.session.state.memory.days[0].slice(0, 2)], [true, [day, 10]]);
     used = await Used.open("", { before: (window) => { window.kept = new Map([["bearoff memory", "bearoff memory 9"]]); } });
-    equal("what is of a newer page", used.at("today").textContent.includes("What is kept here can't be read, and stays as it is. It is of version 9, and this page knows 1."), true);
+    equal("what is of a newer page", used.at("today").textContent.includes("What is kept here can't be read, and stays as it is. It is of version 9, and this page knows 2."), true);
 
     part = "what counts";
     used = await Used.open("#at=1,0,0,1,0,0&guess=1&roll=31");
@@ -1986,7 +2018,7 @@ async function student() {
     await used.worker.answerAll(44);
     used.session.change(giveEstimate, "1");
     const [[name, asked, far, lost]] = used.session.state.memory.themes;
-    equal("an estimate does", [name, asked, far, lost > 1000, kept(used).includes("card")], ["effective", 1, 1, true, false]);
+    equal("an estimate does", [name, asked, far, lost > 1000, kept(used).split("\n").at(-1)], ["effective", 1, 1, true, `card ${used.session.state.points} - effective 0 ${day + 1} ${lost}`]);
     await used.clicked("end training");
     await used.clicked("all that is kept");
     equal("in pips", /EPC 1 1 [0-9.]+ pips/.test(textOf(view(used.session.state, {}).trees.training).replace(/\s+/g, " ")), true);
@@ -2001,6 +2033,163 @@ async function student() {
     equal("not the way back to it", used.session.state.memory.themes.map(([, count]) => count), [1, 1]);
     const within = await Used.open("#view=board&at=1,0,0,1,0,0");
     equal("the embedded view has no panel", [within.at("today").hidden, within.document.querySelector(".student")], [true, null]);
+}
+
+// A question like one that comes back is asked in its place, and estimates come back in a drill of their own.
+async function comeBack() {
+    const day = Math.floor(Date.UTC(2026, 10, 27) / 86400000);
+    const open = (...lines) => Used.open("", { before: (window) => { window.kept = new Map([["bearoff memory", ["bearoff memory 2", ...lines].join("\n")]]); } });
+    const cards = (used) => used.window.kept.get("bearoff memory").split("\n").filter((line) => line.startsWith("card"));
+    const known = `card 4,1,0,0,0,0 31 low 2 ${day} 56`;
+    for (const isRight of [true, false]) {
+        part = `a question like one that comes back, ${isRight}`;
+        const used = await open(known, "theme low 3 1 56");
+        await used.clicked("today");
+        const [{ points, roll, card }] = used.session.state.questions;
+        const [high, low] = roll;
+        equal("another position, of its theme", [points.join() === "4,1,0,0,0,0", THEMES.find(({ name }) => name === "low").has(points), used.board, card], [false, true, points, { points: [4, 1, 0, 0, 0, 0], roll: [3, 1] }]);
+        used.window.pass(1000);
+        equal("the link asks everybody the same", readLink(used.window.location.hash).drill.due, [{ points: [4, 1, 0, 0, 0, 0], roll: [3, 1], theme: "low" }]);
+        await used.clicked(isRight ? `play ${high}/off ${low}/0` : `play ${high}/1 ${low}/2`);
+        equal("what comes back then", cards(used), [isRight ? `card 4,1,0,0,0,0 31 low 3 ${day + 21} 56` : `card ${points} ${high}${low} low 0 ${day + 1} 56`]);
+    }
+    part = "estimates that come back";
+    let used = await open(`card 1,2,0,0,0,0 - pips 1 ${day - 1} 2000`, `card 1,0,0,0,0,0 31 all 0 ${day + 1} 56`, "theme pips 2 1 2000");
+    equal("a button of their own", [used.text("estimates"), used.find("today").textContent], ["Estimates of the pip count 1 again, 9 new", "Begin ten new"]);
+    await used.clicked("estimates");
+    equal("they are first", [used.board, used.session.state.questions.length, used.session.state.drill], [[1, 2, 0, 0, 0, 0], 10, { theme: "all", seed: day, ask: "pips", due: [{ points: [1, 2, 0, 0, 0, 0], roll: null }] }]);
+    equal("what is said of them", ["Ten estimates, Pip count", "Question 1 of 10. What is the pip count?", "1 again, 9 new: All positions."].filter((text) => !used.text("coach").includes(text)), []);
+    used.window.pass(1000);
+    equal("their link", [readLink(used.window.location.hash).drill, used.document.title], [used.session.state.drill, "Question 1 of 10: Ten estimates \u2013 Bearing off"]);
+    used.find("estimate").value = "5";
+    await used.clicked("tell");
+    equal("right, it comes after seven days", cards(used).find((line) => line.includes("pips")), `card 1,2,0,0,0,0 - pips 2 ${day + 7} 2000`);
+    await used.clicked("next question");
+    used.find("estimate").value = "999";
+    await used.clicked("tell");
+    equal("wrong, the next day", cards(used).filter((line) => line.endsWith(`- pips 0 ${day + 1} ${used.session.state.estimates[1].error}`)).length, 1);
+    used.window.type(`#drill=all&seed=${day}&ask=pips&ten=1,2,0,0,0,0&question=11`);
+    await used.worker.answerAll();
+    for (let left = 0; used.find("estimate") && left < 12; left += 1) await used.clicked("next question");
+    equal("how many come back", used.text("coach").includes("2 questions come back tomorrow."), true);
+    used = await open();
+    equal("no button where none are due", used.find("estimates"), null);
+
+    part = "fewer questions than were asked for";
+    used = await Used.open("#drill=ace&seed=3&ask=effective");
+    equal("it is said", [used.session.state.questions.length, used.text("coach").includes("Seed 3. 15 of 20 questions were found.")], [15, true]);
+    used = await Used.open("#drill=all&seed=3&ask=effective");
+    equal("and else nothing of it", [used.session.state.questions.length, used.text("coach").includes("were found")], [20, false]);
+    equal("no question at all", view({ ...used.session.state, questions: [] }, {}).trees.coach !== null
+        && textOf(view({ ...used.session.state, questions: [] }, {}).trees.coach).includes("No question of this theme was found."), true);
+}
+
+// A lesson whose steps ask for an estimate, and say what each rule of thumb is worth.
+async function estimating() {
+    part = "a lesson's lines";
+    const text = "lesson: Counting\nstep: 3,2,3,0,3,2\nestimate: pips\nrule: additions\nask: How many?\nanswer: 43 pips.\nstep: 7,0,0,0,0,0\nestimate: effective\nrule: own\nanswer: 29.\nstep: 1,0,0,0,0,0\ntext: The end.";
+    equal("there and back", writeLesson(readLessons(text).lessons[0]), text);
+    for (const [line, why] of [
+        ["estimate: mean", "what is estimated is pips, effective, wastage"], ["rule: mine", "a rule is rolls, eight, additions, greater, own"],
+        ["roll: 31\nestimate: pips", "a step has a roll or an estimate"], ["estimate: pips\nroll: 31", "a step has a roll or an estimate"],
+    ]) equal(line, readLessons(`lesson: x\nstep: 1,0,0,0,0,0\n${line}`).fault, `Line ${3 + line.split("\n").length - 1}: ${why}`);
+
+    part = "a step that asks for an estimate";
+    const used = await Used.open(`#${new URLSearchParams({ text })}`);
+    const worth = () => used.at("worth");
+    equal("a field, and no number", [used.find("estimate") !== null, used.figures, used.at("chances").childNodes.length, used.text("said").includes("43 pips")], [true, [], 0, false]);
+    equal("what it asks", [used.at("numbers").textContent.includes("Your estimate of the pip count"), used.find("answer").getAttribute("class"), used.text("coach").includes("43 pips.")], [true, null, false]);
+    used.find("estimate").value = "42";
+    await used.clicked("tell");
+    equal("how far it was off", [used.text("numbers").includes("You said 42.000: 1.000 pips off."), used.figures[0]], [true, "43"]);
+    equal("the answer opens, and one goes on", [used.text("coach").includes("43 pips."), used.find("answer"), used.focus(), used.text("said").startsWith("You said 42.000: 1.000 pips off. 43 pips. 43 pips, mean")], [true, null, "next step", true]);
+
+    part = "what each rule is worth";
+    const rows = () => [...worth().querySelectorAll("tbody tr")].map((row) => [row.getAttribute("data-rule"), row.getAttribute("class"), ...[...row.querySelectorAll("td")].map((cell) => cell.textContent)]);
+    equal("they are there", [worth().hidden, rows()], [false, [
+        ["rolls", null, "1.00", "2.00", "30.00"], ["eight", null, "1.00", "2.00", "30.01"], ["additions", "now", "1.00", "2.00", "30.01"], ["greater", null, "1.00", "2.00", "30.01"],
+    ]]);
+    equal("over how many", [worth().textContent.includes("all 26,313 of the open database"), worth().textContent.includes("any shape, 3,000"), worth().querySelectorAll("input").length], [true, true, 0]);
+    await used.clicked("next step");
+    equal("the field is where one goes on", [used.focus(), used.find("estimate").value], ["estimate", ""]);
+    equal("one's own has fields", [[...worth().querySelectorAll("input")].map(({ value }) => value), rows().at(-1)], [["8.5", "2", "1", "1", "1", "0"], ["own", "now", "1.00", "2.70", "30.01"]]);
+    const weigh = async (place, value) => {
+        used.find(`weight ${place}`).value = value;
+        tell(used.find(`weight ${place}`), "change");
+        await used.worker.answerAll();
+    };
+    await weigh(0, "9");
+    equal("another weight is measured", [used.session.state.weights, rows().at(-1)[3], used.text("weight-why")], [[18, 4, 2, 2, 2, 0], "2.80", ""]);
+    await weigh(5, "0,5");
+    equal("a half, too", [used.session.state.weights.at(-1), rows().at(-1)[3], used.find("weight 5").value], [1, "2.90", "0.5"]);
+    for (const none of ["x", "", "-1", "20.5", "1.25", "100"]) {
+        await weigh(1, none);
+        equal(`no weight, ${none}`, [used.session.state.weights[1], used.text("weight-why"), used.at("weight-why").getAttribute("role")], [4, "A weight is a whole or a half number of pips, from 0 to 20.", "alert"]);
+    }
+    await weigh(1, "20");
+    equal("and the words are gone", [used.session.state.weights[1], used.text("weight-why")], [40, ""]);
+    equal("measured once", used.worker.asked.length, 0);
+    await used.clicked("answer");
+    equal("the answer without an estimate", [used.find("estimate"), used.figures[0], used.text("coach").includes("29."), used.text("numbers").includes("You said")], [null, "7", true, false]);
+    await used.clicked("next step");
+    equal("a step without a rule has no table", [worth().hidden, worth().childNodes.length, used.figures[0]], [true, 0, "1"]);
+    await used.clicked("previous step");
+    equal("back there, it asks anew", [used.find("estimate") !== null, used.find("weight 1").value], [true, "20"]);
+    used.window.type("#at=7,0,0,0,0,0");
+    await used.worker.answerAll();
+    equal("elsewhere nothing is asked", [used.find("estimate"), worth().hidden, used.figures[0]], [null, true, "7"]);
+}
+
+// A lesson whose texts have values of its positions, which are filled in.
+async function filled() {
+    part = "values in a lesson";
+    const text = "lesson: Values\nstep: 0,0,0,1,0,1\nroll: 52\ntext: {pips} pips, {mean} rolls, {EPC} and {wastage}, {other} {PIPS}.\nask: Is {best} best?\nanswer: {best}.\nstep: 2,0,0,0,0,0\ntext: {EPC}\nanswer: {best} {pips}\nstep: 0,0,0,0,9,0\ntext: {pips}";
+    const used = new Used(`#${new URLSearchParams({ text })}`);
+    equal("nothing yet", used.text("coach").includes("\u2026 pips, \u2026 rolls, \u2026 and \u2026, {other} {PIPS}."), true);
+    await used.ready();
+    const { standing, mean, effective, wastage } = answerTo([0, 0, 0, 1, 0, 1]);
+    const first = `${standing.pips} pips, ${mean.text} rolls, ${effective.text} and ${wastage.text}, {other} {PIPS}.`;
+    equal("each value of its own step", [used.text("coach").includes(first), used.text("coach").includes("Is best of 52 best?")], [true, true]);
+    used.window.pass(1000);
+    equal("the link has the words", new URLSearchParams(used.window.location.hash.slice(1)).get("text"), text);
+    equal("on paper, of each step", [first, answerTo([2, 0, 0, 0, 0, 0]).effective.text, "best of 52.", "\u2026 2"].filter((words) => !used.text("printed").includes(words)), []);
+    await used.clicked("answer");
+    equal("an answer is told and heard with them", [used.text("coach").includes("best of 52."), used.text("said")], [true, "best of 52."]);
+    await used.clicked("next step");
+    equal("a step is heard with them", used.text("said").startsWith(`Step 2 of 3. ${answerTo([2, 0, 0, 0, 0, 0]).effective.text} The board:`), true);
+    await used.clicked("answer");
+    equal("without a roll there is no best play", used.text("said"), "\u2026 2");
+    equal("asked once", used.worker.asked.length, 0);
+    await used.clicked("next step");
+    equal("over the bound nothing is known", used.text("coach").includes("\u2026"), true);
+    await used.widened();
+    equal("the whole board has it", used.text("coach").includes("45"), true);
+    const plain = await Used.open(`#${new URLSearchParams({ text: "lesson: x\nstep: 1,0,0,0,0,0\ntext: {nothing}" })}`);
+    equal("a lesson without them asks for none", [plain.session.state.filled, plain.text("coach").includes("{nothing}")], [null, true]);
+    await plain.clicked("end training");
+    await plain.clicked("draft begin");
+    equal("the editor names them", ["{pips}", "{mean}", "{EPC}", "{wastage}", "{best}"].filter((word) => !plain.text("draft").includes(word)), []);
+}
+
+// What is chosen on the free page is heard.
+async function heard() {
+    part = "what is chosen is heard";
+    const used = await Used.open("#at=1,0,0,1,0,1", { plays: (points) => legalFrom(points) });
+    await used.clicked("roll 31");
+    const { plays } = legalFrom([1, 0, 0, 1, 0, 1]).find(({ dice }) => dice.join("") === "31");
+    equal("a roll", used.text("said"), `3-1: best is ${plays[0].text}. The next of ${plays.length - 1} others, ${plays[1].text} loses ${plays[1].lossText} of a roll.`);
+    await used.clicked(`play ${plays[2].text}`);
+    equal("a play", used.text("said"), `${plays[2].text} loses ${plays[2].lossText} of a roll.`);
+    await used.clicked(`play ${plays[0].text}`);
+    equal("the best one", used.text("said"), `${plays[0].text} loses nothing.`);
+    await used.clicked("close");
+    equal("none any more", used.text("said"), "");
+    const only = await Used.open("#at=1,0,0,0,0,0", { plays: (points) => legalFrom(points) });
+    await only.clicked("roll 66");
+    equal("the only play", only.text("said"), "6-6: best is 1/off. It is the only play.");
+    const coming = new Used("#at=1,0,0,1,0,1");
+    coming.click("roll 31");
+    equal("nothing while it isn't known", coming.text("said"), "");
 }
 
 // Those that take seconds stand last. The variable FIRST names one that comes before the others.
@@ -2019,6 +2208,10 @@ const PARTS = [
     ["a guess on the board", guessed],
     ["keeping", keeping],
     ["a student's days", student],
+    ["what comes back otherwise", comeBack],
+    ["estimating", estimating],
+    ["values in a lesson", filled],
+    ["what is chosen", heard],
     ["lessons", lessons],
     ["browsers that can't", older],
     ["a lesson of one's own", editing],

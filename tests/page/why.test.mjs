@@ -6,7 +6,8 @@ import { join } from "node:path";
 import { Database } from "../../js/database.js";
 import { choicesOf } from "../../web/answers.js";
 import { ROLLS } from "../../web/rolls.js";
-import { drawQuestions, THEMES } from "../../web/trainer.js";
+import { drawQuestions } from "../../web/questions.js";
+import { THEMES } from "../../web/themes.js";
 import { reasonsOf } from "../../web/why.js";
 import { equal, modulesFolder, part, wrong } from "./given.mjs";
 

@@ -1,0 +1,166 @@
+// The questions of a drill, drawn by a seed that stands in its link.
+import { FIRST, GREATEST, pipsOf, readPoints, sumOf } from "./points.js";
+import { isNamed, LEVELS, levelsOf, positions, themeOf } from "./themes.js";
+
+export const QUESTIONS = 20; // of a drill
+export const TEN = 10; // of today's ten
+
+const MODULUS = 2147483647;
+const MOST_TRIES = 20000; // until a drill has its questions
+const PATIENCE = 1000; // tries after which a question may tempt or not
+
+// What a drill asks: the name in a link, the words, and the words within a sentence.
+export const ASKED = { play: "Play", pips: "Pip count", effective: "EPC", wastage: "Wastage" };
+export const ESTIMATED = ["pips", "effective", "wastage"];
+export const WANTED = { pips: "pip count", effective: "EPC", wastage: "wastage" };
+
+// From how many thousandths on an estimate is far off, and asked once more: a pip count is right or
+// wrong.
+export const FAR = { pips: 1n, effective: 1000n, wastage: 1000n };
+
+// How many pips the questions of a drill can have.
+export const mostOf = ({ theme, due = [] }) => Math.max(themeOf(theme).most ?? FIRST,
+    ...due.map((one) => (pipsOf(one.points) > FIRST ? GREATEST : themeOf(one.theme)?.most ?? 0)));
+
+// How many questions a drill asks for.
+export const askedFor = ({ due }) => (due ? TEN : QUESTIONS);
+
+// What a drill is called: today's ten has questions that come back.
+export const drillName = ({ theme, ask, due }) => (!due ? themeOf(theme).words
+    : ask === "play" ? "Today\u2019s ten" : "Ten estimates");
+
+// A drill of some words, of a level that its theme has; "any" has no word. With questions that come
+// back, where there are any, it has ten.
+export const drillOf = ({ theme, seed, ask, level, due }) => ({
+    theme, seed, ask,
+    ...(level !== "any" && levelsOf({ theme, ask }).some(({ name }) => name === level)
+        ? { level } : {}),
+    ...(due ? { due } : {}),
+});
+
+// How hard the new questions of a theme are that each day asks.
+export const dailyLevel = (theme) =>
+    (levelsOf({ theme, ask: "play" }).some(({ name }) => name === "mixed") ? "mixed" : "hard");
+
+// A seed as it is typed, or null.
+export const readSeed = (text) =>
+    (/^\s*\d{1,9}\s*$/.test(text || "") && Number(text) > 0 ? Number(text) : null);
+
+// The questions that come back, as a link has them with full stops between them: the counts of
+// each and, where plays are asked, its roll, and before them its theme where a question like it is
+// asked; or null.
+export function readDue(text, ask = "play") {
+    if (text === "") return [];
+    const pattern = ask === "play" ? /^(?:([a-z]+)-)?([\d,]+),([1-6])([1-6])$/ : /^()([\d,]+)$/;
+    const due = text.split(".").map((one) => {
+        const [, theme, counts, high, low] = pattern.exec(one) || [];
+        const points = counts ? readPoints(counts) : null;
+        const isRight = points && sumOf(points) > 0 && !(high < low)
+            && (!theme || themeOf(theme)?.isPlayed);
+        return isRight ? {
+            points, roll: high ? [Number(high), Number(low)] : null, ...(theme ? { theme } : {}),
+        } : null;
+    });
+    return due.length <= TEN && due.every(Boolean) ? due : null;
+}
+
+export const writeDue = (due) => due.map(({ points, roll, theme }) =>
+    [theme && `${theme}-`, points.join(), roll && `,${roll.join("")}`].filter(Boolean).join(""))
+    .join(".");
+
+// The drill of these words of a link, or null.
+export function readDrill({ theme, seed, ask, level, ten }) {
+    const known = themeOf(theme);
+    const read = readSeed(seed);
+    if (!known || read === null) return null;
+    const kind = Object.hasOwn(ASKED, ask) ? ask : "play";
+    if (kind === "play" && !known.isPlayed) return null;
+    return drillOf({
+        theme, seed: read, ask: kind,
+        level: LEVELS.some(({ name }) => name === level) ? level : "any",
+        due: (ten ?? null) === null ? null : readDue(ten, kind),
+    });
+}
+
+// Numbers that look random: each is 48271 times the one before it, modulo 2^31 - 1; the first comes
+// from the seed.
+export function* numbersFrom(seed) {
+    for (let number = seed % MODULUS; ;) {
+        number = (48271 * number) % MODULUS;
+        yield number;
+    }
+}
+
+// A half of a drill's questions, at places that a number mixes, so that the place of a question
+// tells nothing.
+function halfOf(number) {
+    const are = Array.from({ length: QUESTIONS }, (_, place) => place % 2 === 0);
+    const numbers = numbersFrom(number % MODULUS || 1);
+    for (let place = QUESTIONS - 1; place > 0; place -= 1) {
+        const other = numbers.next().value % (place + 1);
+        [are[place], are[other]] = [are[other], are[place]];
+    }
+    return are;
+}
+
+// Which of a drill's questions tempt, and in which the best play does what its theme names.
+export const temptingOf = (seed) => halfOf(31 * seed + 7);
+export const followingOf = (seed) => halfOf(37 * seed + 11);
+
+// Whether there is something to decide: more than one play, and the next best loses something.
+const decides = (plays) => plays.length > 1 && !plays[1].isBest;
+
+// Draws a question for each of some places of a drill, of positions that no question of `without`
+// has: `playsOf` says the plays of a roll, the best first. A roll is asked only where there is
+// something to decide, and where its theme and its level ask it.
+function drawAt(places, without, { theme, seed, ask, level = "any" }, rolls, playsOf) {
+    const asked = themeOf(theme);
+    const { isAsked } = LEVELS.find(({ name }) => name === level);
+    const themed = positions(mostOf({ theme })).filter(asked.has);
+    const taken = new Set(without.map(({ points }) => points.join()));
+    const numbers = numbersFrom(seed);
+    const [tempts, follows] = [temptingOf(seed), followingOf(seed)];
+    const drawn = new Map();
+    const most = Math.min(places.length, themed.length);
+    let last = 0; // the try of the question that was drawn last
+    for (let tries = 0; drawn.size < most && tries < MOST_TRIES; tries += 1) {
+        const points = themed[numbers.next().value % themed.length];
+        const roll = rolls[numbers.next().value % rolls.length];
+        if (taken.has(points.join())) continue;
+        if (ask !== "play") {
+            drawn.set(points.join(), { points, roll: null });
+            continue;
+        }
+        const plays = playsOf(points, roll);
+        const [isTempting, isFollowing] = tries - last > PATIENCE ? [null, null]
+            : [tempts, follows].map((are) => are[places[drawn.size]]);
+        if (!decides(plays) || !isNamed(asked, points, plays, level, isFollowing)
+            || !isAsked(plays, isTempting, asked)) continue;
+        drawn.set(points.join(), { points, roll });
+        last = tries;
+    }
+    return [...drawn.values()];
+}
+
+// A question like one that comes back, of its theme, so that one doesn't learn the picture; another
+// one on each day. Where there is none, it is that one.
+function siblingOf({ points, roll, theme }, without, seed, rolls, playsOf) {
+    const number = [...points, ...roll].reduce((sum, count) => 16 * sum + count, seed);
+    const drill = { theme, seed: 1 + (number % (MODULUS - 1)), ask: "play", level: dailyLevel(theme) };
+    const [found] = drawAt([0], without, drill, rolls, playsOf);
+    return found ? { ...found, card: { points, roll } } : { points, roll };
+}
+
+// The questions of a drill. Today's ten has first what comes back, or a question like it.
+export function drawQuestions(drill, rolls, playsOf) {
+    const { seed, ask, due = [] } = drill;
+    const again = due.reduce((asked, { theme, ...one }) => {
+        if (theme) {
+            const without = [...asked, ...due];
+            return [...asked, siblingOf({ ...one, theme }, without, seed, rolls, playsOf)];
+        }
+        return ask !== "play" || decides(playsOf(one.points, one.roll)) ? [...asked, one] : asked;
+    }, []);
+    const places = Array.from({ length: askedFor(drill) }, (_, place) => place);
+    return [...again, ...drawAt(places.slice(again.length), again, drill, rolls, playsOf)];
+}

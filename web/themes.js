@@ -1,0 +1,140 @@
+// What can be asked of a play: themes, and how hard a question is.
+import { GREATEST, MOST_CHECKERS, sumOf } from "./points.js";
+import { failing, isMiss, naturalOf, RULES } from "./rules.js";
+
+// The positions of at most so many pips, in the order of their ranks: by pips, and then as words in
+// a dictionary.
+export function positions(most) {
+    const found = [];
+    const fill = (points, pips, checkers) => {
+        const point = points.length + 1;
+        if (point > 6) {
+            found.push({ points, pips: most - pips });
+            return;
+        }
+        for (let count = 0; count <= checkers && count * point <= pips; count += 1) {
+            fill([...points, count], pips - count * point, checkers - count);
+        }
+    };
+    fill([], most, MOST_CHECKERS);
+    return found.sort((one, other) => one.pips - other.pips).map(({ points }) => points);
+}
+
+const isWithin = (low, high) => (points) =>
+    points.every((count, place) => count === 0 || (place + 1 >= low && place + 1 <= high));
+
+// The empty points with checkers on both sides of them, by their places.
+const gapsOf = (points) => points.flatMap((count, place) =>
+    (count === 0 && sumOf(points.slice(0, place)) > 0 && sumOf(points.slice(place)) > 0
+        ? [place] : []));
+
+// How few checkers a play can leave.
+const leastLeft = (plays) => Math.min(...plays.map(({ to }) => sumOf(to)));
+
+// The themes: the name in a link, the words, the positions, of at most `most` pips or else of 44,
+// whether a roll can have something to decide there, where the words name something that a play
+// does, whether one does it, and whether that is never natural.
+export const THEMES = [
+    { name: "all", words: "All positions", has: (points) => sumOf(points) > 1, isPlayed: true },
+    {
+        name: "low", words: "Low stacks", isPlayed: true,
+        has: (points) => isWithin(1, 3)(points) && points.some((count) => count > 3),
+    },
+    {
+        name: "gaps", words: "Gaps", isPlayed: true,
+        has: (points) => gapsOf(points).length > 0 && sumOf(points) > 4,
+        does: ({ to }, points) => gapsOf(points).some((place) => to[place] > 0),
+    },
+    {
+        name: "middle", words: "Five to nine checkers", isPlayed: true,
+        has: (points) => sumOf(points) > 4 && sumOf(points) < 10,
+    },
+    {
+        name: "high", words: "6-5-4 shapes", isPlayed: true,
+        has: (points) => isWithin(4, 6)(points) && sumOf(points) > 2,
+    },
+    {
+        name: "ace", words: "Ace point alone", isPlayed: false,
+        has: (points) => points[0] === sumOf(points) && points[0] > 0,
+    },
+    {
+        name: "few", words: "Two to four checkers", isPlayed: true,
+        has: (points) => sumOf(points) > 1 && sumOf(points) < 5,
+    },
+    {
+        name: "fewer", words: "How many to bear off", isPlayed: true,
+        has: (points) => sumOf(points) > 1,
+        does: ({ to }, points, plays) => sumOf(to) > leastLeft(plays), isTempting: true,
+    },
+    {
+        name: "board", words: "The whole board", has: (points) => sumOf(points) > 1,
+        isPlayed: true, most: GREATEST,
+    },
+    {
+        name: "fifteen", words: "All fifteen checkers", isPlayed: true, most: GREATEST,
+        has: (points) => sumOf(points) === MOST_CHECKERS,
+    },
+    {
+        name: "stacks", words: "7-5-3 shapes", isPlayed: true, most: GREATEST,
+        has: (points) => isWithin(4, 6)(points) && sumOf(points) > 12,
+    },
+];
+
+export const themeOf = (theme) => THEMES.find(({ name }) => name === theme);
+
+// Thousandths of a roll that the next best play loses, at most in a close decision and at least in
+// a clear one; and that a play at most loses that does what a theme names, where the best doesn't.
+const CLOSE = 20n;
+const CLEAR = 80n;
+const NEAR = 40n;
+
+const isClose = ([, next], most) => isMiss(next) && next.loss <= most;
+
+// Of how many of the rules a hard question has to make fools.
+const MOST_FAIL = 2;
+
+// How hard a drill is, the easiest first, and what may be any last: the name in a link, the words,
+// and which plays it asks of a theme, the best first, where a question tempts, where it doesn't,
+// or, where `tempts` is null, either way. In an easy one each rule is right, and the next best
+// loses much. In a mixed one the natural plays of those that tempt all lose something; of the
+// others one is best, and the next best loses little. In a hard one most of the rules fail, or,
+// where a theme's name is never natural, the next best loses little.
+export const LEVELS = [
+    { name: "any", words: "Any", isAsked: () => true },
+    {
+        name: "easy", words: "Easy",
+        isAsked: (plays) => plays[1].loss >= CLEAR
+            && RULES.every((rule) => rule(plays).some(({ isBest }) => isBest)),
+    },
+    {
+        name: "mixed", words: "Mixed",
+        isAsked: (plays, tempts) =>
+            (tempts !== false && naturalOf(plays).every(isMiss))
+                || (tempts !== true && isClose(plays, CLOSE)
+                    && naturalOf(plays).some(({ isBest }) => isBest)),
+    },
+    {
+        name: "hard", words: "Hard",
+        isAsked: (plays, tempts, { isTempting }) =>
+            (isTempting ? isClose(plays, NEAR) : failing(plays) >= MOST_FAIL),
+    },
+];
+
+// The levels that a theme has: where what it names is never natural, none is easy or mixed.
+export const levelsOf = ({ theme, ask }) =>
+    LEVELS.filter(({ name }) => name === "any"
+        || (ask === "play" && (name === "hard" || !themeOf(theme).isTempting)));
+
+// Whether a theme asks the plays of a roll, the best first, of some level: where its words name
+// something that a play does, one does it and another doesn't. The best does it where the question
+// `follows` them, and doesn't where it doesn't; then one that does it loses little, but in an easy
+// or a hard question. Where `follows` is null, either way.
+export function isNamed({ does }, points, plays, level, follows) {
+    if (!does) return true;
+    const [named, others] = [true, false].map((is) =>
+        plays.filter((play) => does(play, points, plays) === is));
+    if (named.length === 0 || others.length === 0) return false;
+    const isFollowed = named.includes(plays[0]);
+    if (follows !== null && isFollowed !== follows) return false;
+    return isFollowed || level === "easy" || level === "hard" || named[0].loss <= NEAR;
+}
