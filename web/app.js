@@ -10,14 +10,16 @@ import { Bar } from "./progress.js";
 import { Session } from "./session.js";
 import { answered, dayOf, readMemory, Store, written } from "./memory.js";
 import { readDraft, readPicks, writeDraft as keepDraft, writePicks } from "./kept.js";
+import { writeResult } from "./results.js";
 import { asText, MOST_LESSONS, readLessons } from "./trainer.js";
 import {
-    addCheckers, addDraft, askNext, beginDraft, beginEstimates, beginToday, captionOf, chooseDrill, choosePlay,
-    chooseRoll, closeDraft, draftText, endTraining, giveEstimate, giveLesson, goToStep, hasBegun,
-    isTraining, keep, makingOf, moveDraft, needsMore, openAnswer, openMemory, orderOf, picksOf,
-    playOn, pressed, refuseMemory, remove, removeDraft, resetGuesses, setCaption, setEstimate,
-    setGuess, setPoints, stopAt, tellDraft, titleDraft, touch, triedAgain, typePosition, undo,
-    visit, weigh, withMemory, withPicks, writeDraft,
+    addCheckers, addDraft, askNext, beginDraft, beginEstimates, beginToday, captionOf, chooseDrill,
+    choosePlay, chooseRoll, closeDraft, draftText, endTraining, giveEstimate, giveLesson,
+    giveResults, goToStep, hasBegun, isTraining, keep, lostInEach, makingOf, moveDraft, needsMore,
+    openAnswer, openMemory, orderOf, picksOf, playOn, pressed, refuseMemory, remove, removeDraft,
+    resetGuesses, setCaption, setEstimate, setGuess, setPoints, stopAt, tellDraft, tellResult,
+    titleDraft, touch, triedAgain, typePosition, undo, visit, weigh, withMemory, withPicks,
+    writeDraft,
 } from "./state.js";
 import { draw } from "./tree.js";
 import { view } from "./view.js";
@@ -223,6 +225,23 @@ export function actionsOf(session, document, window, store) {
         },
         forget() {
             change(withMemory, store.forget(), today(window), store.why, "All is forgotten.");
+        },
+        results(text = document.querySelector('[data-key="results"]').value) {
+            change(giveResults, text);
+        },
+        async copyResult() {
+            const { drill } = session.state;
+            const name = document.querySelector('[data-key="result name"]').value;
+            if (name.trim() === "") {
+                change(tellResult, "A result has a name.");
+                focusOn(["result name"], "coach");
+                return;
+            }
+            const text = writeResult(drill, name, lostInEach(session.state));
+            const told = await window.navigator.clipboard.writeText(text)
+                .then(() => "The result is copied: send it back.",
+                () => `The browser lets this page copy nothing. The result: ${text}`);
+            change(tellResult, told);
         },
         beginDraft() {
             change(beginDraft);

@@ -44,7 +44,7 @@ const added = (points) => 1000 * (pipsOf(points) + additionsOf(points)) + 8500;
 const anyShape = { isFor: () => true, where: "any shape" };
 export const ESTIMATES = [
     {
-        name: "rolls", words: "7 for each roll without a double, and 1", says: sevens,
+        name: "rolls", words: "7n + 1 for n rolls without a double", says: sevens,
         isFor: (points) => points[0] === sumOf(points), where: "the ace point alone",
     },
     {

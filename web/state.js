@@ -67,6 +67,8 @@ export function begin(link, lessons = []) {
         // why what was typed there is no memory, or what was done with it
         memory: EMPTY, day: 0, unkept: "", memoryFault: "", memoryTold: "",
         isMemoryOpen: false, // whether all that is kept is shown
+        results: "", // the texts of a class's results
+        resultTold: "", // what was done with the result of a drill
         isStart: writeLink(link) === START, // whether it was opened without a link to something
     }, link);
 }
@@ -422,6 +424,22 @@ export function answeredIn({ drill, guesses, estimates }, { points, roll }) {
     return estimate ? `${toldOf(estimate)} It is ${signed(estimate.exact)}.` : "";
 }
 
+// What each answer of the drill lost, in thousandths of a roll or of a pip, or null where a question
+// wasn't answered.
+export const lostInEach = (state) => (state.questions || []).map(({ points, roll }) => {
+    const isIts = ({ at }) => at === keyOf(points);
+    if (state.drill.ask === "play") {
+        const guess = state.guesses.find((one) => isIts(one) && sameRoll(one.roll, roll));
+        return guess ? Number(guess.play.loss) : null;
+    }
+    const estimate = state.estimates.find((one) => isIts(one) && one.kind === state.drill.ask);
+    return estimate ? Number(estimate.error) : null;
+});
+
+// A text of a class's results, which is read as it is shown; and what was done with one's own.
+export const giveResults = (state, results) => ({ ...state, results });
+export const tellResult = (state, resultTold) => ({ ...state, resultTold });
+
 // What all guesses have lost, in words.
 function lostInAll(state) {
     const count = state.guesses.length;
@@ -744,7 +762,7 @@ function changeDrill(state, drill) {
     const run = (drill && runs.get(drillKey(drill))) || NO_RUN;
     return {
         ...state, ...AFRESH, ...run, drill, runs, lesson: null, text: "", given: null, place: 0,
-        seedFault: "", estimate: null, notice: "",
+        seedFault: "", estimate: null, notice: "", resultTold: "",
     };
 }
 

@@ -1,7 +1,7 @@
 // What is shown to a student who comes back: today's ten, what was done, and what of it is kept.
 import { h } from "./tree.js";
 import { askedOn, BOXES, dueOn, isKnown, SIZES, streak, todays, todaysEstimates, written } from "./memory.js";
-import { ASKED, TEN, WANTED } from "./questions.js";
+import { ASKED, TEN } from "./questions.js";
 import { themeOf } from "./themes.js";
 import { decimal } from "./texts.js";
 
@@ -124,8 +124,8 @@ export function student(state, act) {
             button("today", [h("b", {}, isDone ? "Ten more" : "Begin"), " ", h("span", {}, counts)],
                 () => act.today(), { class: isDone ? "begin" : "begin first" }),
             estimates && button("estimates", [
-                h("b", {}, "Estimates of the ", WANTED[estimates.ask]), " ",
-                h("span", {}, counted(estimates)),
+                h("b", {}, "Estimates"), " ",
+                h("span", {}, `${ASKED[estimates.ask]}: ${counted(estimates)}`),
             ], () => act.estimates(), { class: "begin" })),
         h("div", { class: "done" },
             memory.days.length > 0 && [

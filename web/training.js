@@ -5,6 +5,7 @@ import { COMING, dicePicture } from "./panels.js";
 import { comesBack } from "./student.js";
 import { h } from "./tree.js";
 import { ASKED, askedFor, drillName, ESTIMATED, mostOf, TEN, WANTED } from "./questions.js";
+import { classOf, readResults } from "./results.js";
 import { isMiss, OWN, WEIGHTS } from "./rules.js";
 import { LEVELS, themeOf, THEMES } from "./themes.js";
 import { meanOf } from "./trainer.js";
@@ -46,6 +47,16 @@ function lessonPanel(state, act) {
             && h("p", { class: "steering" },
                 button("back to it", "Back to the step", () => act.step(state.step))));
 }
+
+// The result of a drill that asks everybody the same, to send back as a text.
+const result = (state, act) => !state.drill.due && [
+    h("p", { class: "choices" },
+        h("label", {}, "Your name ", h("input", {
+            type: "text", "data-key": "result name", autocomplete: "off", maxlength: 60,
+        })),
+        button("copy result", "Copy the result", () => act.copyResult())),
+    h("p", { role: "status", class: "hint" }, state.resultTold),
+];
 
 // A drill's score, once all was asked.
 function score(state) {
@@ -124,7 +135,7 @@ function drillPanel(state, act) {
             : questions.length === 0 ? h("p", {}, "No question of this theme was found.")
             : question ? h("p", { class: "asks" }, askedIn(state),
                 question.roll && [" ", dicePicture(question.roll)])
-            : score(state),
+            : [score(state), result(state, act)],
         h("p", { class: "how" }, `${drawnBy(state)}${question ? soFar(state) : ""}`,
             lookAround(state)),
         question && !isTraining(state) && h("p", { class: "steering" },
@@ -222,22 +233,24 @@ export function printed(state) {
 export function rules(state, act) {
     const { rule } = stepOf(state);
     const told = measuredOf(state);
-    const pips = (thousandths) => decimal(thousandths).slice(0, -1);
+    const pips = (thousandths) => (Math.round(thousandths / 10) / 100).toFixed(2);
+    const heads = ["where it is for", "everywhere", "at most"];
     const row = ({ name, words, where, countFor, meanFor, mean, worst }) =>
         h("tr", { class: name === rule ? "now" : null, "data-rule": name },
             h("th", { scope: "row" }, words,
                 h("small", {}, ` ${where}, ${countFor.toLocaleString("en")}`)),
-            [meanFor, mean, worst].map((error) => h("td", {}, pips(error))));
+            [meanFor, mean, worst].map((error, place) =>
+                h("td", { "data-head": heads[place] }, pips(error))));
     const field = (name, place) => h("label", {}, h("span", {}, name), h("input", {
         type: "text", "data-key": `weight ${place}`, inputmode: "decimal", autocomplete: "off",
         value: String(state.weights[place] / 2), "aria-describedby": "weight-why",
         change: ({ target }) => act.weigh(place, target.value),
     }));
     return [
-        h("h3", {}, "What each rule is worth"),
         h("table", { class: "worth" },
-            h("thead", {}, h("tr", {}, ["Rule", "where it is for", "everywhere", "at most"]
-                .map((name) => h("th", { scope: "col" }, name)))),
+            h("caption", {}, "What each rule is worth"),
+            h("thead", {},
+                h("tr", {}, ["Rule", ...heads].map((name) => h("th", { scope: "col" }, name)))),
             h("tbody", {}, (told?.rows || []).filter(({ name }) => name !== OWN || rule === OWN)
                 .map(row))),
         h("p", { class: "hint" }, told && told.count > 0
@@ -257,7 +270,8 @@ const NAMES = WANTED;
 // The field for an estimate, where the numbers are hidden till then.
 export const estimateField = (state, act) => [
     h("div", { class: "estimate" },
-        h("label", {}, `Your estimate of the ${NAMES[estimated(state)]} `, h("input", {
+        h("label", {}, h("span", { class: "long" }, "Your estimate of the "),
+            h("span", { class: "short" }, NAMES[estimated(state)]), " ", h("input", {
             type: "text", "data-key": "estimate", inputmode: "decimal", autocomplete: "off",
             "aria-invalid": String(Boolean(state.estimateFault)),
             "aria-describedby": "estimate-why",
@@ -302,6 +316,46 @@ export function thumb(points, answer) {
 const choice = (key, name, options) => h("label", {}, `${name} `, h("select", { "data-key": key },
     options.map(([value, text]) => h("option", { value }, text))));
 
+// What a class did in a drill, by the texts that its pupils send back.
+function ofClass({ results: text }, act) {
+    const { results, fault: why } = text.trim() === "" ? { results: [], fault: "" }
+        : readResults(text);
+    const known = results.length > 0 && classOf(results);
+    const unit = known && known.drill.ask !== "play" ? "pips" : "rolls";
+    const heads = ["Pupil", "answered", "missed", `lost, in ${unit}`];
+    const to = ({ drill: { theme, seed, ask, level }, place }) => link({
+        drill: theme, seed, ask, ...(level ? { level } : {}), question: place + 1,
+    });
+    return h("div", { class: "class" },
+        h("p", { class: "hint" }, "The link of a drill asks everybody the same, and its score has "
+            + "the result as a text. Paste here what comes back, one below the other."),
+        h("p", {}, h("textarea", {
+            "data-key": "results", rows: 3, spellcheck: "false", value: text,
+            "aria-label": "Results, one below the other",
+            "aria-invalid": String(Boolean(why)), "aria-describedby": "results-why",
+            change: ({ target }) => act.results(target.value),
+        })),
+        h("p", {}, button("show results", "Show", () => act.results())),
+        fault("results-why", why),
+        known && [
+            h("table", { class: "pupils" },
+                h("caption", {}, drillTitle(known.drill)),
+                h("thead", {}, h("tr", {}, heads.map((name) => h("th", { scope: "col" }, name)))),
+                h("tbody", {}, known.pupils.map(({ name, answered, missed, lost }) => h("tr", {},
+                    h("th", { scope: "row" }, name),
+                    [answered, missed, decimal(lost)].map((cell) => h("td", {}, cell)))))),
+            known.missed.length > 0 && h("p", {}, "Missed most: ",
+                known.missed.slice(0, MOST_NAMED).map(({ place, count }, number) => [
+                    number > 0 && ", ",
+                    h("a", { href: to({ drill: known.drill, place }), "data-key": `missed ${place}` },
+                        `question ${place + 1}`),
+                    ` by ${count} of ${results.length}`,
+                ]), "."),
+        ]);
+}
+
+const MOST_NAMED = 5; // questions that a class has missed
+
 // What can be begun: lessons, a drill, estimates.
 export const training = (state, act) => [
     h("h3", {}, "Lessons"),
@@ -322,6 +376,8 @@ export const training = (state, act) => [
         })),
         button("begin drill", "Begin", () => act.drill())),
     fault("seed-why", state.seedFault),
+    h("h3", {}, "Results of a class"),
+    ofClass(state, act),
     h("h3", {}, "Estimate first"),
     h("p", { class: "choices" },
         h("label", {}, "Hide the numbers until you have estimated ", h("select", {

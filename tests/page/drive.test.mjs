@@ -913,7 +913,8 @@ async function driveSight(browser) {
                 const name = `${title}, step ${step}`;
                 const [hasText, hasQuestion, hasRoll, hasAnswer] = await page.value(`[".says", ".asks", ".asks .die", '[data-key="answer"]'].map((part) => Boolean(document.querySelector((part.startsWith(".") ? "#coach " : "") + part)))`);
                 if (hasRoll) await page.until('document.querySelector("#board .source")');
-                await look(name, ...(hasText ? ["#coach .says"] : []), ...(hasQuestion ? ["#coach .asks"] : []));
+                const hasField = await page.value('Boolean(document.querySelector(".estimate input"))');
+                await look(name, ...(hasText ? ["#coach .says"] : []), ...(hasQuestion ? ["#coach .asks"] : []), ...(hasField ? [".estimate input", '[data-key="tell"]'] : []));
                 equal(`${name}: dice where a roll is asked`, await page.value('document.querySelectorAll("#coach .die").length'), hasRoll ? 2 : 0);
                 if (hasRoll) {
                     await press(".plays button:last-child");
@@ -979,7 +980,11 @@ async function driveSight(browser) {
                     await acted(`${name}, a word`);
                     await look(`${name}, a word`, "#estimate-why p");
                     await page.value('document.querySelector(".estimate input").value = "40"');
-                    await press('[data-key="tell"]');
+                    // a number that is still being computed is compared in a moment
+                    for (let tried = 0; tried < 40 && await page.value('document.querySelector("#numbers .verdict") === null'); tried += 1) {
+                        if (tried > 0) await wait(100);
+                        await press('[data-key="tell"]');
+                    }
                     await page.until('document.querySelector("#numbers .verdict")');
                     equal(`${name}: the focus is at the way on`, await acted(`${name}, estimated`), "next question");
                     await look(`${name}, its verdict`, "#numbers .verdict", NEXT);

@@ -102,7 +102,7 @@ test("from its third time on a question like it is asked, of its theme, and anot
     assert.deepEqual([mostOf(drill), mostOf({ ...drill, due: [{ ...question(0), theme: "fifteen" }] })], [44, 90]);
 });
 
-const drawnPlays = [{ isBest: true, to: [1, 0, 0, 0, 0, 0], loss: 0n }, { isBest: false, to: [2, 0, 0, 0, 0, 0], loss: 50n }];
+const drawnPlays = [{ isBest: true, to: [1, 0, 0, 0, 0, 0], loss: 0n }, { isBest: false, to: [2, 0, 0, 0, 0, 0], loss: 5n }];
 
 test("an answer to a question like it counts for the one that comes back", () => {
     const [memory, like] = [known(100), { points: [9, 0, 0, 0, 0, 0], roll: [6, 5], theme: "all", card: { points: question(0).points, roll: [3, 1] }, isLast: false }];

@@ -2055,7 +2055,7 @@ async function comeBack() {
     }
     part = "estimates that come back";
     let used = await open(`card 1,2,0,0,0,0 - pips 1 ${day - 1} 2000`, `card 1,0,0,0,0,0 31 all 0 ${day + 1} 56`, "theme pips 2 1 2000");
-    equal("a button of their own", [used.text("estimates"), used.find("today").textContent], ["Estimates of the pip count 1 again, 9 new", "Begin ten new"]);
+    equal("a button of their own", [used.text("estimates"), used.find("today").textContent], ["Estimates Pip count: 1 again, 9 new", "Begin ten new"]);
     await used.clicked("estimates");
     equal("they are first", [used.board, used.session.state.questions.length, used.session.state.drill], [[1, 2, 0, 0, 0, 0], 10, { theme: "all", seed: day, ask: "pips", due: [{ points: [1, 2, 0, 0, 0, 0], roll: null }] }]);
     equal("what is said of them", ["Ten estimates, Pip count", "Question 1 of 10. What is the pip count?", "1 again, 9 new: All positions."].filter((text) => !used.text("coach").includes(text)), []);
@@ -2107,7 +2107,7 @@ async function estimating() {
     part = "what each rule is worth";
     const rows = () => [...worth().querySelectorAll("tbody tr")].map((row) => [row.getAttribute("data-rule"), row.getAttribute("class"), ...[...row.querySelectorAll("td")].map((cell) => cell.textContent)]);
     equal("they are there", [worth().hidden, rows()], [false, [
-        ["rolls", null, "1.00", "2.00", "30.00"], ["eight", null, "1.00", "2.00", "30.01"], ["additions", "now", "1.00", "2.00", "30.01"], ["greater", null, "1.00", "2.00", "30.01"],
+        ["rolls", null, "1.00", "2.00", "30.01"], ["eight", null, "1.00", "2.00", "30.01"], ["additions", "now", "1.00", "2.00", "30.01"], ["greater", null, "1.00", "2.00", "30.01"],
     ]]);
     equal("over how many", [worth().textContent.includes("all 26,313 of the open database"), worth().textContent.includes("any shape, 3,000"), worth().querySelectorAll("input").length], [true, true, 0]);
     await used.clicked("next step");
@@ -2171,6 +2171,87 @@ async function filled() {
     equal("the editor names them", ["{pips}", "{mean}", "{EPC}", "{wastage}", "{best}"].filter((word) => !plain.text("draft").includes(word)), []);
 }
 
+// The result of a drill goes back to a teacher as a text, and a class's results are read in.
+async function results() {
+    part = "a result";
+    const used = await Used.open("#drill=all&seed=7&ask=play&level=hard");
+    const { questions } = used.session.state;
+    equal("none at a question", used.find("copy result"), null);
+    for (const [place, { roll: [high, low] }] of questions.entries()) {
+        if (place !== 2) await used.clicked(place < 4 ? `play ${high}/1 ${low}/2` : `play ${high}/off ${low}/0`);
+        await used.clicked("next question");
+    }
+    for (let left = missedOf(used.session.state).length; left > 0; left -= 1) await used.clicked("next question");
+    equal("at the end alone", used.find("copy result") !== null, true);
+    await used.clicked("copy result");
+    equal("it has a name", [used.window.copied, used.focus(), used.text("coach").includes("A result has a name.")], [null, "result name", true]);
+    used.find("result name").value = "  Ada\n  L. ";
+    await used.clicked("copy result");
+    await settled();
+    const text = `bearoff result 1\ndrill all 7 play hard\nname Ada L.\nlost 56 56 - 56${" 0".repeat(16)}`;
+    equal("its text", [used.window.copied, used.text("coach").includes("The result is copied: send it back.")], [text, true]);
+    used.window.navigator.clipboard.writeText = async () => { throw new Error("denied"); };
+    used.find("result name").value = "Bo";
+    used.click("copy result");
+    await settled();
+    equal("or it stands there", used.text("coach").includes(`The browser lets this page copy nothing. The result: ${text.replace("Ada L.", "Bo")}`), true);
+    await used.clicked("another drill");
+    equal("it isn't said of another drill", used.text("coach").includes("copy nothing"), false);
+    const ten = await Used.open("#drill=all&seed=7&ask=play&ten=&question=11");
+    for (let left = 0; ten.find("next question") && left < 12; left += 1) await ten.clicked("next question");
+    equal("none of today's ten, which each has of its own", [ten.text("coach").includes("were played"), ten.find("copy result")], [true, null]);
+    const told = await Used.open("#drill=ace&seed=7&ask=pips");
+    for (let place = 0; place < 15; place += 1) {
+        const pips = told.session.state.questions[place].points[0];
+        if (place < 3) {
+            told.find("estimate").value = String(pips + place);
+            await told.clicked("tell");
+        }
+        await told.clicked("next question");
+    }
+    for (let left = missedOf(told.session.state).length; left > 0; left -= 1) await told.clicked("next question");
+    told.find("result name").value = "Cy";
+    await told.clicked("copy result");
+    await settled();
+    equal("of estimates", told.window.copied, `bearoff result 1\ndrill ace 7 pips any\nname Cy\nlost 0 1000 2000${" -".repeat(12)}`);
+
+    part = "a class";
+    const one = (name, lost, drill = "all 7 play hard") => `bearoff result 1\ndrill ${drill}\nname ${name}\nlost ${lost}`;
+    const field = () => told.find("results");
+    const give = async (words) => {
+        field().value = words;
+        tell(field(), "change");
+        await told.worker.answerAll();
+    };
+    const rows = () => [...told.document.querySelectorAll(".pupils tbody tr")].map((row) => [...row.childNodes].map((node) => node.textContent).join(" "));
+    equal("nothing yet", [rows(), told.text("results-why"), told.at("results-why").getAttribute("role")], [[], "", "alert"]);
+    await give(`Dear teacher,\n\n${one("Ada L.", "56 0 - 0")}\n\nBye\n${one("Bo", "0 0 20 1")}\r\n${one("<i>Cy</i>", "0 70 20 7")}`);
+    equal("who answered most and lost least first", rows(), ["Bo 4 2 0.021", "<i>Cy</i> 4 3 0.097", "Ada L. 3 1 0.056"]);
+    const missed = () => [...told.at("training").querySelectorAll(".class a")].map((node) => [node.textContent, readLink(node.getAttribute("href")).place, readLink(node.getAttribute("href")).drill.level]);
+    equal("which questions most have missed", [missed(), told.at("training").querySelector(".class").textContent.includes("Missed most: question 3 by 2 of 3, question 4 by 2 of 3, question 1 by 1 of 3, question 2 by 1 of 3.")],
+        [[["question 3", 2, "hard"], ["question 4", 3, "hard"], ["question 1", 0, "hard"], ["question 2", 1, "hard"]], true]);
+    equal("of which drill", told.at("training").querySelector(".pupils caption").textContent, "Drill: All positions, Play, hard");
+    await give(one("Ada", "999 1000 0", "few 3 effective any"));
+    equal("estimates that are a pip off are missed", [rows(), missed().map(([name]) => name), told.at("training").querySelector(".pupils").textContent.includes("lost, in pips")], [["Ada 3 1 1.999"], ["question 2"], true]);
+    await give(one("Ada", "0 0"));
+    equal("nothing missed", [rows(), missed()], [["Ada 2 0 0.000"], []]);
+    for (const [words, why] of [
+        ["hello", "There is no result in it."], [one("", "0"), "Line 3 can't be read."], [one("A", "x"), "Line 4 can't be read."], [one("A", "0 -1"), "Line 4 can't be read."],
+        [one("A", "0 ".repeat(21).trim()), "Line 4 can't be read."], [one("A", "0", "all 7 play harder"), "Line 2 can't be read."], [one("A", "0", "nowhere 7 play any"), "Line 2 can't be read."],
+        [one("A", "0", "all 7 play any more"), "Line 2 can't be read."], [one("A", "0", "fewer 7 play easy"), "Line 2 can't be read."], ["name A", "Line 1 can't be read."], [`${one("A", "0")}\nname B`, "Line 5 can't be read."],
+        ["bearoff result 2", "Line 1 is of another version."], ["bearoff result 1\nname A", "Result 1 is not whole."], [`${one("A", "0")}\n${one("B", "0", "all 8 play hard")}`, "Result 2 is of another drill than the first."],
+        [`${one("A", "0")}\n${one("B", "0 1")}`, "Result 2 is of another drill than the first."], ["x".repeat(200001), "It has more than 200000 characters."],
+    ]) {
+        await give(words);
+        equal(`refused, ${words.slice(0, 60)}`, [told.text("results-why"), rows(), field().getAttribute("aria-invalid"), field().value === words.replaceAll("\r\n", "\n")], [why, [], "true", true]);
+    }
+    await give("");
+    equal("an empty field is none", [told.text("results-why"), field().getAttribute("aria-invalid")], ["", "false"]);
+    field().value = one("Ada", "0 0");
+    await told.clicked("show results");
+    equal("by the button, too", rows(), ["Ada 2 0 0.000"]);
+}
+
 // What is chosen on the free page is heard.
 async function heard() {
     part = "what is chosen is heard";
@@ -2211,6 +2292,7 @@ const PARTS = [
     ["what comes back otherwise", comeBack],
     ["estimating", estimating],
     ["values in a lesson", filled],
+    ["results", results],
     ["what is chosen", heard],
     ["lessons", lessons],
     ["browsers that can't", older],
