@@ -76,7 +76,7 @@ $(ARCHIVE): $(SOURCES)
 
 page: $(PAGE)
 work-page: $(WORK_PAGE)
-$(PAGE) $(WORK_PAGE): $(MODULES) $(wildcard web/*) $(wildcard js/*.js) VERSION packaging/page.py
+$(PAGE) $(WORK_PAGE): $(MODULES) $(wildcard web/* web/*/*) $(wildcard js/*.js) VERSION packaging/page.py
 	/usr/bin/python3 -I packaging/page.py web $(OUT)/modules VERSION $@ \
 		$(if $(filter %/work.html,$@),--maps)
 

@@ -13,14 +13,21 @@ import { readDraft, readPicks, writeDraft as keepDraft, writePicks } from "./kep
 import { writeResult } from "./results.js";
 import { asText, MOST_LESSONS, readLessons } from "./trainer.js";
 import {
-    addCheckers, addDraft, askNext, beginDraft, beginEstimates, beginToday, captionOf, chooseDrill,
-    choosePlay, chooseRoll, closeDraft, draftText, endTraining, giveEstimate, giveLesson,
-    giveResults, goToStep, hasBegun, isTraining, keep, lostInEach, makingOf, moveDraft, needsMore,
-    openAnswer, openMemory, orderOf, picksOf, playOn, pressed, refuseMemory, remove, removeDraft,
-    resetGuesses, setCaption, setEstimate, setGuess, setPoints, stopAt, tellDraft, tellResult,
-    titleDraft, touch, triedAgain, typePosition, undo, visit, weigh, withMemory, withPicks,
+    addCheckers, choosePlay, chooseRoll, playOn, pressed, setPoints, stopAt, touch, typePosition,
+    undo,
+} from "./state/board.js";
+import { needsMore, triedAgain } from "./state/database.js";
+import {
+    addDraft, beginDraft, closeDraft, draftText, moveDraft, removeDraft, tellDraft, titleDraft,
     writeDraft,
-} from "./state.js";
+} from "./state/draft.js";
+import { captionOf, hasBegun, isTraining, lostInEach, makingOf, orderOf } from "./state/reads.js";
+import { keep, remove, setCaption } from "./state/shelf.js";
+import { openMemory, picksOf, refuseMemory, visit, withMemory, withPicks } from "./state.js";
+import {
+    askNext, beginEstimates, beginToday, chooseDrill, endTraining, giveEstimate, giveLesson,
+    giveResults, goToStep, openAnswer, resetGuesses, setEstimate, setGuess, tellResult, weigh,
+} from "./state/training.js";
 import { draw } from "./tree.js";
 import { view } from "./view.js";
 

@@ -4,7 +4,7 @@ import { lookedAt, miniature } from "./board.js";
 import { GREATEST } from "./points.js";
 import { decimalOf, inSentence, isShort } from "./fractions.js";
 import { ROLLS, sameRoll } from "./rolls.js";
-import { byLoss } from "./state.js";
+import { byLoss } from "./state/reads.js";
 
 const FACES = {
     1: [5], 2: [1, 9], 3: [1, 5, 9], 4: [1, 3, 7, 9], 5: [1, 3, 5, 7, 9], 6: [1, 3, 4, 6, 7, 9],

@@ -2,9 +2,10 @@
 import { FAULTS } from "./texts.js";
 import { GREATEST } from "./points.js";
 import {
-    answeredBetween, begin, dropped, ended, firstBound, loading, notWidened, opened, received,
-    refused, wanted, wantsMore, widened, widening,
-} from "./state.js";
+    dropped, ended, firstBound, loading, notWidened, opened, received, refused, wanted, wantsMore,
+    widened, widening,
+} from "./state/database.js";
+import { answeredBetween, begin } from "./state.js";
 
 // Why a database was not opened, in words.
 function whyNot(failure) {

@@ -12,9 +12,8 @@ import { meanOf } from "./trainer.js";
 import {
     answeredIn, answeredOf, askedIn, askedOf, drillErrors, drillGuesses, estimated, estimateOf,
     hasBegun, isAgain, isFar, isTraining, lengthOf, lessonOf, meanError, measuredOf, missedOf,
-    mistakesOf,
-    questionOf, scoreOf, stepOf, toldOf, toldStep,
-} from "./state.js";
+    mistakesOf, questionOf, scoreOf, stepOf, toldOf, toldStep,
+} from "./state/reads.js";
 import { decimalOf, isShort, sumOfFractions } from "./fractions.js";
 
 const button = (key, text, click, more = {}) =>

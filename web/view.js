@@ -13,12 +13,12 @@ import { student } from "./student.js";
 import {
     coach, estimateField, estimateTold, printed, rules, steering, thumb, training,
 } from "./training.js";
+import { needsMore } from "./state/database.js";
 import {
     answerOf, asksNumber, byLoss, chosenOf, drillKey, hasBegun, hides, hidesNumbers, isAwaited,
-    isComing, isFull, isKept, isTraining, lessonOf, lostPips, makingOf, needsMore, orderOf,
-    questionOf, reasonsFor, rollsOf, showsRules, shownPlay, stepOf, theirAnswer,
-    verdictOf, whichOf,
-} from "./state.js";
+    isComing, isFull, isKept, isTraining, lessonOf, lostPips, makingOf, orderOf, questionOf,
+    reasonsFor, rollsOf, shownPlay, showsRules, stepOf, theirAnswer, verdictOf, whichOf,
+} from "./state/reads.js";
 
 // What stands in the place of numbers that a lesson asks for.
 const asked = h("p", { class: "hint" }, "The numbers come with the answer.");

@@ -10,7 +10,7 @@ import { asSvg, linesOf } from "../../web/picture.js";
 import { Bar, reached } from "../../web/progress.js";
 import { followingOf, numbersFrom, temptingOf } from "../../web/questions.js";
 import { ROLLS } from "../../web/rolls.js";
-import { byLoss } from "../../web/state.js";
+import { byLoss } from "../../web/state/reads.js";
 import { build, draw, h, textOf } from "../../web/tree.js";
 import { Browser } from "./browser.mjs";
 import { equal, part } from "./given.mjs";

@@ -97,7 +97,7 @@ test("from its third time on a question like it is asked, of its theme, and anot
     const drawn = drawFrom(drillOf({ ...drill, due: both })).map(({ points }) => points.join());
     assert.equal(new Set([...drawn, ...both.map(({ points }) => points.join())]).size, 12);
     // where its theme has no other one it is that one
-    const alone = drawQuestions(drillOf(drill), ROLLS, (points) => (points.join() === question(0).points.join() ? drawnPlays : [{ isBest: true }]));
+    const alone = drawQuestions(drillOf({ ...drill, due: [{ ...question(0), theme: "few" }] }), ROLLS, (points) => (points.join() === question(0).points.join() ? drawnPlays : [{ isBest: true }]));
     assert.deepEqual(alone, [{ points: question(0).points, roll: [3, 1] }]);
     assert.deepEqual([mostOf(drill), mostOf({ ...drill, due: [{ ...question(0), theme: "fifteen" }] })], [44, 90]);
 });

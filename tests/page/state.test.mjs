@@ -7,7 +7,11 @@ import { readCounts, readLink, readTyped, START, writeLink } from "../../web/lin
 import { ROLLS } from "../../web/rolls.js";
 import { moved, verdict } from "../../web/panels.js";
 import { asSvg } from "../../web/picture.js";
-import { begin, giveEstimate, isFar, mistakesOf, missedOf, pressed, received, verdictOf, wanted } from "../../web/state.js";
+import { pressed } from "../../web/state/board.js";
+import { received, wanted } from "../../web/state/database.js";
+import { isFar, measuredOf, missedOf, mistakesOf, verdictOf } from "../../web/state/reads.js";
+import { begin } from "../../web/state.js";
+import { giveEstimate } from "../../web/state/training.js";
 import { drawQuestions, drillOf, mostOf, numbersFrom, temptingOf } from "../../web/questions.js";
 import { isNamed, LEVELS, levelsOf, positions, THEMES } from "../../web/themes.js";
 import { meanOf, readEstimate, readLessons, writeLesson } from "../../web/trainer.js";
@@ -2135,6 +2139,10 @@ async function estimating() {
     equal("a step without a rule has no table", [worth().hidden, worth().childNodes.length, used.figures[0]], [true, 0, "1"]);
     await used.clicked("previous step");
     equal("back there, it asks anew", [used.find("estimate") !== null, used.find("weight 1").value], [true, "20"]);
+    equal("of another database nothing is told", [measuredOf({ measures: { database: 1 }, database: 2 }), measuredOf({ measures: null, database: 2 })], [null, null]);
+    used.window.type(`#${new URLSearchParams({ text, at: "1,1,0,0,0,0" })}`);
+    await used.worker.answerAll();
+    equal("beside another position neither is there", [used.find("estimate"), worth().hidden, used.figures[0], used.find("back to it") !== null], [null, true, "3", true]);
     used.window.type("#at=7,0,0,0,0,0");
     await used.worker.answerAll();
     equal("elsewhere nothing is asked", [used.find("estimate"), worth().hidden, used.figures[0]], [null, true, "7"]);
@@ -2164,6 +2172,10 @@ async function filled() {
     equal("over the bound nothing is known", used.text("coach").includes("\u2026"), true);
     await used.widened();
     equal("the whole board has it", used.text("coach").includes("45"), true);
+    used.window.type(`#${new URLSearchParams({ text: "lesson: Other\nstep: 1,0,0,0,0,0\ntext: EPC {EPC}." })}`);
+    equal("another lesson has none of these", used.text("coach").includes("EPC \u2026."), true);
+    await used.worker.answerAll(90);
+    equal("but its own", used.text("coach").includes(`EPC ${answerTo([1, 0, 0, 0, 0, 0]).effective.text}.`), true);
     const plain = await Used.open(`#${new URLSearchParams({ text: "lesson: x\nstep: 1,0,0,0,0,0\ntext: {nothing}" })}`);
     equal("a lesson without them asks for none", [plain.session.state.filled, plain.text("coach").includes("{nothing}")], [null, true]);
     await plain.clicked("end training");
