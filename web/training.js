@@ -161,6 +161,7 @@ export function steering(state, making, verdict, act) {
         || (step?.answer && !state.isAnswered));
     const last = step ? state.step === count : place + 1 >= count && !isOpen;
     const begun = hasBegun(state);
+    const estimate = step && estimated(state) && estimateOf(state);
     const before = (isThere, what, click) => isThere && button(`previous ${what}`, "Previous", click);
     return [
         making && h("p", { class: "hint" }, making.play ? `${making.play.text}?`
@@ -168,6 +169,8 @@ export function steering(state, making, verdict, act) {
             : "Move a checker, or choose from the list."),
         verdict && h("p", { class: verdict.isMiss ? "verdict" : "verdict good" }, verdict.first,
             !verdict.isMiss ? null : ` In EPC: ${decimalOf(verdict.pips)} pips.`),
+        estimate && h("p", { class: isFar(estimate) ? "verdict" : "verdict good" },
+            toldOf(estimate)),
         h("p", { class: "steering" },
             making?.play && button("made", `Play ${making.play.text}`,
                 () => act.play(making.play.text), { class: "first" }),
@@ -284,10 +287,10 @@ export const estimateField = (state, act) => [
 const fault = (id, words) =>
     h("div", { role: "alert", id }, words && h("p", { class: "trouble" }, words));
 
-// How far an estimate was off, and all of them.
+// How far an estimate was off, and all of them; that of a lesson's step stands with its ways on.
 export function estimateTold(state) {
     const estimate = estimated(state) && estimateOf(state);
-    if (!estimate) return null;
+    if (!estimate || (isTraining(state) && stepOf(state))) return null;
     return h("p", { class: "verdict" },
         `${toldOf(estimate)} The mean error so far is ${decimal(meanError(state))} pips.`);
 }

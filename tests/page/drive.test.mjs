@@ -1502,7 +1502,7 @@ const PICTURED = [
     ["beginning play", "#lesson=16&step=4", "#board .source", `document.querySelector("#board .source").dispatchEvent(new MouseEvent("click", { bubbles: true }))`, "#board .target"],
     ["drill", "#drill=all&seed=31&ask=play&level=hard", "#board .source", `document.querySelector(".plays button:last-child").click()`, "#reasons li"],
     ["estimate", "#drill=all&seed=31&ask=effective", ".estimate input", `document.querySelector(".estimate input").value = "40"; document.querySelector('[data-key="tell"]').click()`, "#numbers .verdict"],
-    ["estimating", "#lesson=17&step=4", ".worth .now", `document.querySelector(".estimate input").value = "57"; document.querySelector('[data-key="tell"]').click()`, "#numbers .verdict"],
+    ["estimating", "#lesson=17&step=4", ".worth .now", `document.querySelector(".estimate input").value = "57"; document.querySelector('[data-key="tell"]').click()`, "#steering .verdict"],
     ["own rule", "#lesson=17&step=6", ".worth .now", "scrollTo(0, 400)"],
     ["both sides", "#at=1,0,0,0,0,0", ".figures", `document.getElementById("counts").value = "XGID=-ABC--D------------a-b--c-:0:0:-1:12:0:0:0:0:10"; document.getElementById("counts").dispatchEvent(new Event("change"))`, ".sides"],
     ["guess", "#at=2,2,2,2,2,2&roll=31&guess=1", "#board .source", `document.querySelector("#board .source").dispatchEvent(new MouseEvent("click", { bubbles: true }))`, "#board .target"],

@@ -2105,7 +2105,8 @@ async function estimating() {
     equal("what it asks", [used.at("numbers").textContent.includes("Your estimate of the pip count"), used.find("answer").getAttribute("class"), used.text("coach").includes("43 pips.")], [true, null, false]);
     used.find("estimate").value = "42";
     await used.clicked("tell");
-    equal("how far it was off", [used.text("numbers").includes("You said 42.000: 1.000 pips off."), used.figures[0]], [true, "43"]);
+    equal("how far it was off", [used.at("steering").querySelector(".verdict").textContent, used.at("numbers").querySelector(".verdict"), used.figures[0]], ["You said 42.000: 1.000 pips off.", null, "43"]);
+    equal("a pip count that is wrong isn't near", used.at("steering").querySelector(".verdict").getAttribute("class"), "verdict");
     equal("the answer opens, and one goes on", [used.text("coach").includes("43 pips."), used.find("answer"), used.focus(), used.text("said").startsWith("You said 42.000: 1.000 pips off. 43 pips. 43 pips, mean")], [true, null, "next step", true]);
 
     part = "what each rule is worth";
@@ -2134,7 +2135,7 @@ async function estimating() {
     equal("and the words are gone", [used.session.state.weights[1], used.text("weight-why")], [40, ""]);
     equal("measured once", used.worker.asked.length, 0);
     await used.clicked("answer");
-    equal("the answer without an estimate", [used.find("estimate"), used.figures[0], used.text("coach").includes("29."), used.text("numbers").includes("You said")], [null, "7", true, false]);
+    equal("the answer without an estimate", [used.find("estimate"), used.figures[0], used.text("coach").includes("29."), used.at("steering").querySelector(".verdict")], [null, "7", true, null]);
     await used.clicked("next step");
     equal("a step without a rule has no table", [worth().hidden, worth().childNodes.length, used.figures[0]], [true, 0, "1"]);
     await used.clicked("previous step");
