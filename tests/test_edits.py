@@ -168,6 +168,19 @@ def test_prover(room):
     expect_that(verdicts == wanted and done.status == 1, done, f"status 1 and {wanted}")
 
 
+def test_each_edit_can_be_planted():
+    """What an edit changes stands once in its crate."""
+    edits = [*ROOT.glob("crates/*/must-fail/*"), *ROOT.glob("crates/*/wrong_bodies/*")]
+    wrong = []
+    for path in sorted(edits):
+        for kind, text in re.findall(r"(?m)^(file|old): (.*)", path.read_text()):
+            if kind == "file":
+                source = path.parents[1] / text.strip()
+            elif source.read_text().count(text) != 1:
+                wrong.append(f"{path.relative_to(ROOT)}: '{text}' is not once in {source.name}")
+    assert len(edits) > 300 and not wrong, "\n".join(wrong)
+
+
 def test_parts():
     """`make check` names all parts."""
     parts = re.findall(r'(?m)^    "(\w+)": Part', (ROOT / "tools/check").read_text())
