@@ -19,7 +19,7 @@ have:
   through crates that are there;
 - README.md has at most 950 words, no sentence of more than eight words stands twice in it and the
   pages by hand, and no figure on two of them;
-- docs/tour.md and docs/second-opinion.md quote the sources: each block of code of theirs stands
+- README.md, docs/tour.md and docs/second-opinion.md quote the sources: each block of code stands
   word for word in the file that the last link to a source above the block leads to;
 - the version in VERSION is that of the program, the header, the manual page, the packages for
   Python and JavaScript and the newest section of CHANGELOG.md, and the page and the file for
@@ -206,7 +206,7 @@ def compare_quotes(page):
     for prose, kind, block in zip(parts[0::3], parts[1::3], parts[2::3]):
         for target in re.findall(r"\]\(([^)]*\.(?:antt|rt|v))\)", prose):
             source = os.path.normpath(os.path.join(os.path.dirname(page), target))
-        if kind not in ("antt", "rt", "coq"):
+        if kind not in ("antt", "rt", "rust", "coq"):
             continue
         count += 1
         if source is None or "\n" + block not in "\n" + read(source):
@@ -930,7 +930,7 @@ def test_edits(page):
     none_wrong(compare_edits, page)
 
 
-@pytest.mark.parametrize("page", ["docs/tour.md", "docs/second-opinion.md"])
+@pytest.mark.parametrize("page", ["README.md", "docs/tour.md", "docs/second-opinion.md"])
 def test_quotes(page):
     none_wrong(compare_quotes, page)
 
