@@ -119,7 +119,7 @@ IsQueryFault Open = Unit {0}
 IsQueryFault (Refused cause) = Unit {0}
 IsQueryFault fault = IsAnswerFault fault
 
--- a bound over the greatest is told as that, if not as want of memory, and no other one is
+-- a bound over the greatest is told as that, if not as want of memory
 abbrev pub IsBoundFault : ℕ → Fault → Type 0
 IsBoundFault pips fault = (IsBuildFault fault ⊎ (fault ≡ OverBound))
     × (58 < pips → (fault ≡ OverBound) ⊎ (fault ≡ Memory))

@@ -47,11 +47,11 @@ pub gone_named : (paths : Paths) (folder : ℕ) (from to : ℕ × List ℕ) (byt
     → from ≢ to → told ≡ Some (first ∷ past) → Steps (Settles from bytes) told sure
     → Steps (Renames from to) sure named → AnswersSettled paths folder named ended b
     → Lastly (IsFree from) ended
-gone_named paths folder from to bytes first past told sure named ended false apart is settled renamed
-    answer =
+gone_named paths folder from to bytes first past told sure named ended false apart is settled
+    renamed answer =
     gone_unsure from to bytes first past told sure named ended apart is settled renamed answer.1
-gone_named paths folder from to bytes first past told sure named ended true apart is settled renamed
-    answer =
+gone_named paths folder from to bytes first past told sure named ended true apart is settled
+    renamed answer =
     let step = settled first past is in
     let next = renamed step.0 (first ∷ past) step.1 in
     let last = answer next.0 (step.0 ∷ first ∷ past) next.1 in

@@ -57,9 +57,10 @@ pub enum Made<F> {
 
 /// A disk, as far as it is needed to write a file (this project's profile).
 ///
-/// A disk that tells its moments has files and links alone, of one owner and on one device, and
-/// nobody else changes it: it says at each moment which file stands where, and what a crash may
-/// leave. Of a disk that tells nothing, as that of the system, no answer is promised.
+/// A disk that tells its moments has files and links alone, of one owner and on one device, each
+/// of its links can be read, and nobody else changes it: it says at each moment which file stands
+/// where, and what a crash may leave. Of a disk that tells nothing, as that of the system, no
+/// answer is promised.
 pub trait Disk {
     /// A file that is being written.
     type File: Write + Drop;

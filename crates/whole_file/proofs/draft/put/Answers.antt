@@ -51,8 +51,8 @@ returns-in-Ok-settle_names-clause-gone g c bytes first past known is draft =
     let settled = rw same at c.in-Ok-settle_names.ensures.settled in
     let paths = g.D.Disk.paths c.args.disk.now in
     let folder = paths.folder (string_bytes c.args.names.now.folder) in
-    inl (gone_named paths folder _ _ bytes first past _ _ _ _ c.in-Ok-settle_names.field-0 draft.apart
-    is (c.in-Ok.ensures.settled bytes known) renamed settled)
+    inl (gone_named paths folder _ _ bytes first past _ _ _ _ c.in-Ok-settle_names.field-0
+    draft.apart is (c.in-Ok.ensures.settled bytes known) renamed settled)
 
 pub returns-in-Err-settle_names-clause-gone : goal.returns-in-Err-settle_names-clause-gone
 returns-in-Err-settle_names-clause-gone g c bytes first past known is draft =
