@@ -1879,6 +1879,8 @@ async function reasons() {
     while (used.session.state.place < 2) await used.clicked("next question");
     const three = used.session.state.questions[2];
     used.click(losing(three));
+    await settled();
+    equal("not what is said of another play", [says(), used.session.state.why.says.length > 0], [null, true]);
     used.click("next question");
     await used.worker.answerAll(44);
     equal("what comes too late is shown nowhere", says(), null);
