@@ -9,7 +9,7 @@ import { moved, verdict } from "../../web/panels.js";
 import { asSvg } from "../../web/picture.js";
 import { pressed } from "../../web/state/board.js";
 import { received, wanted } from "../../web/state/database.js";
-import { isFar, measuredOf, missedOf, mistakesOf, verdictOf } from "../../web/state/reads.js";
+import { isFar, measuredOf, missedOf, missKey, mistakesOf, verdictOf } from "../../web/state/reads.js";
 import { begin } from "../../web/state.js";
 import { giveEstimate } from "../../web/state/training.js";
 import { drawQuestions, drillOf, mostOf, numbersFrom, temptingOf } from "../../web/questions.js";
@@ -1886,6 +1886,10 @@ async function reasons() {
     equal("what comes too late is shown nowhere", says(), null);
     await used.clicked("previous question");
     equal("and there it is", says(), whyFrom(three.points, three.roll, used.session.state.guesses.at(-1).play.to));
+
+    const miss = { at: "2,2,2,2,2,2", roll: [3, 1], play: { text: "3/1" } };
+    const others = [{ at: "2,2,2,2,2,1" }, { roll: [3, 2] }, { play: { text: "3/off" } }];
+    equal("another miss has another key", others.filter((other) => missKey({ ...miss, ...other }) === missKey(miss)), []);
 
     const free = await Used.open("#at=2,2,2,2,2,2&guess=1&roll=31");
     await free.clicked("play 3/1 1/2");
