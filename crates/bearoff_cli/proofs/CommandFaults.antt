@@ -128,20 +128,6 @@ build_turns input left OverBound is = absurd is
 build_turns input left (Refused cause) is = absurd is
 build_turns input left NotOld is = absurd is
 
--- answers that stopped have the status of what failed outside the database
-pub answer_status : {A : Type 0} (r : Result A Fault) → IfErr r IsAnswerFault
-    → IfErr r (λ fault. status_of fault ≡ 1)
-answer_status (Ok x) is = tt
-answer_status (Err Open) is = absurd is
-answer_status (Err File) is = refl
-answer_status (Err Read) is = refl
-answer_status (Err Write) is = refl
-answer_status (Err Memory) is = refl
-answer_status (Err Turns) is = refl
-answer_status (Err OverBound) is = absurd is
-answer_status (Err (Refused cause)) is = absurd is
-answer_status (Err NotOld) is = absurd is
-
 -- a run whose reads ran out used so many
 pub run_turns : (input : List ℕ) (left : Option (List ℕ)) (cause : RunFault)
     → HasUsed 1099511627776 input left cause → HasUsedTurns input left (of_run cause)

@@ -32,7 +32,7 @@ use Rattle.command_line.specs.declared.words.Request.TheVariants.{Upgrade, Board
 use Rattle.command_line.specs.declared.words.BoardCommand.{BoardCommand}
 use Rattle.command_line.specs.declared.words.BoardCommand.TheVariants.{Build as BuildBoard, Check as CheckBoard}
 use Rattle.command_line.specs.declared.words.BoardCommand.TheVariants.{Query as QueryBoard, Audit as AuditBoard}
-use Rattle.bearoff_cli.specs.Faults.{CanEnd, IsFaultIn, IsFirstBy, IsOwnFault, IsFaultOf, IsRefused}
+use Rattle.bearoff_cli.specs.Faults.{CanEnd, IsFaultIn, IsFirstBy, IsOwnFault, IsFaultOf}
 use Rattle.bearoff_cli.specs.StoppedRuns.{IsEndOf, IsRefusalOf, Leaves}
 use Rattle.bearoff_cli.specs.Turns.{UsesTurns}
 use Rattle.bearoff_cli.specs.Tellings.{IsToldBy}
@@ -105,35 +105,17 @@ old_status IsNotOld version r is says old =
 old_status OldRead version r is says old = refl
 old_status NewWrite version r is says old = refl
 
--- a check refuses a database, or could not read it
-check_status : (cause : CheckFault) → (status_of (of_check cause) ≡ 1) ⊎ IsRefused (of_check cause)
-check_status TableRead = inl refl
-check_status (Header fault) = inr tt
-check_status (Play rank roll) = inr tt
-check_status (NotLeast rank roll) = inr tt
-check_status (Mean rank) = inr tt
-check_status (Spread rank k) = inr tt
-
--- .. so a command over a table fails by no database, or it was refused
-pub told_status : {A C T : Type 0} (told : Result C (T × CheckFault)) (r : Result A Fault)
-    → IfErr told (λ refused. r ≡ Err (of_check refused.1))
-    → OnOk told (IfErr r (λ fault. status_of fault ≡ 1))
-    → IfErr r (λ fault. (status_of fault ≡ 1) ⊎ IsRefused fault)
-told_status (Ok checked) (Ok x) refusal status = tt
-told_status (Ok checked) (Err fault) refusal status = inl status
-told_status (Err refused) r refusal status = rw refusal (check_status refused.1)
-
 -- want of memory may come to each request
 pub memory_of : {F : Type 0} (remaining : F → Option (List ℕ)) (request : Request)
     → IsFaultOf remaining request Memory
-memory_of remaining Default = refl
-memory_of remaining (Build pips path) = inl refl
+memory_of remaining Default = tt
+memory_of remaining (Build pips path) = tt
 memory_of remaining (Check path) = inl refl
 memory_of remaining (Query path None) = inl refl
-memory_of remaining (Query path (Some records)) = inl refl
+memory_of remaining (Query path (Some records)) = tt
 memory_of remaining (Audit path) = inl refl
 memory_of remaining (Upgrade before after) = inl refl
-memory_of remaining (Board BuildBoard path) = refl
+memory_of remaining (Board BuildBoard path) = tt
 memory_of remaining (Board CheckBoard path) = inl refl
 memory_of remaining (Board QueryBoard path) = inl refl
 memory_of remaining (Board AuditBoard path) = inl refl
@@ -166,7 +148,7 @@ memory_end remaining request input left old = (
   where
     can_want : (request : Request) → CanEnd request Memory
     can_want Default = tt
-    can_want (Build pips path) = (inl tt, λ over. inr refl)
+    can_want (Build pips path) = record { within = λ low. tt; over = λ over. inr refl }
     can_want (Check path) = tt
     can_want (Query path records) = tt
     can_want (Audit path) = tt

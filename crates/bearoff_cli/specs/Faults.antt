@@ -1,5 +1,5 @@
 -- Which fault is told where a command fails. Source: this project's profile.
-use Rattle.std.specs.Prelude.{◌≡◌, ℕ, ◌<◌, ◌⊎◌, List, Option, Some, None}
+use Rattle.std.specs.Prelude.{◌≡◌, ℕ, ◌<◌, ◌≤◌, ◌⊎◌, List, Option, Some, None}
 use Rattle.race_model.specs.Versions.{compact}
 use Rattle.race_model.specs.Files.{version_of}
 use Rattle.race_model.specs.RightFiles.{IsRightDatabase}
@@ -48,33 +48,17 @@ abbrev pub IsOwnFault : {F : Type 0} → (List ℕ → AnyFile) → (F → Optio
 IsOwnFault kind remaining fault = (status_of fault ≡ 1)
     ⊎ ((file : List ℕ) × IsReadFrom remaining file × IsFaultIn (kind file) fault)
 
--- a database was refused
-abbrev pub IsRefused : Fault → Type 0
-IsRefused Open = ⊥
-IsRefused File = ⊥
-IsRefused Read = ⊥
-IsRefused Write = ⊥
-IsRefused Memory = ⊥
-IsRefused Turns = ⊥
-IsRefused OverBound = ⊥
-IsRefused (Refused cause) = Unit {0}
-IsRefused NotOld = ⊥
-
--- the fault of a request that failed. Which fault a refused database has is not said of the answers
--- by pages
+-- what the fault of a request says of the file that it reads. Which fault a refused database has is
+-- not said of the answers by pages
 abbrev pub IsFaultOf : {F : Type 0} → (F → Option (List ℕ)) → Request → Fault → Type 0
-IsFaultOf remaining Default fault = status_of fault ≡ 1
-IsFaultOf remaining (Build pips path) fault =
-    (status_of fault ≡ 1) ⊎ ((fault ≡ OverBound) × (58 < pips))
-IsFaultOf remaining (Check path) fault = IsOwnFault database_file remaining fault
-IsFaultOf remaining (Query path None) fault = IsOwnFault database_file remaining fault
-IsFaultOf remaining (Query path (Some records)) fault = (status_of fault ≡ 1) ⊎ IsRefused fault
-IsFaultOf remaining (Audit path) fault = IsOwnFault database_file remaining fault
-IsFaultOf remaining (Upgrade before after) fault = IsOwnFault database_file remaining fault
-IsFaultOf remaining (Board BuildBoard path) fault = status_of fault ≡ 1
-IsFaultOf remaining (Board CheckBoard path) fault = IsOwnFault board_file remaining fault
-IsFaultOf remaining (Board QueryBoard path) fault = IsOwnFault board_file remaining fault
-IsFaultOf remaining (Board AuditBoard path) fault = IsOwnFault board_file remaining fault
+IsFaultOf remaining (Check path) = IsOwnFault database_file remaining
+IsFaultOf remaining (Query path None) = IsOwnFault database_file remaining
+IsFaultOf remaining (Audit path) = IsOwnFault database_file remaining
+IsFaultOf remaining (Upgrade before after) = IsOwnFault database_file remaining
+IsFaultOf remaining (Board CheckBoard path) = IsOwnFault board_file remaining
+IsFaultOf remaining (Board QueryBoard path) = IsOwnFault board_file remaining
+IsFaultOf remaining (Board AuditBoard path) = IsOwnFault board_file remaining
+IsFaultOf remaining _ = λ fault. Unit {0}
 
 -- what a command that writes a file, and reads none, can fail by
 abbrev pub IsBuildFault : Fault → Type 0
@@ -119,10 +103,11 @@ IsQueryFault Open = Unit {0}
 IsQueryFault (Refused cause) = Unit {0}
 IsQueryFault fault = IsAnswerFault fault
 
--- a bound over the greatest is told as that, if not as want of memory
-abbrev pub IsBoundFault : ℕ → Fault → Type 0
-IsBoundFault pips fault = (IsBuildFault fault ⊎ (fault ≡ OverBound))
-    × (58 < pips → (fault ≡ OverBound) ⊎ (fault ≡ Memory))
+-- a build of a pip bound: one over the greatest is told as that, if not as want of memory, and no
+-- other one is
+pub record IsBoundFault (pips : ℕ) (fault : Fault) : Type 0 where
+  pub within : pips ≤ 58 → IsBuildFault fault
+  pub over : 58 < pips → (fault ≡ OverBound) ⊎ (fault ≡ Memory)
 
 -- the faults that a request can end with
 abbrev pub CanEnd : Request → Fault → Type 0

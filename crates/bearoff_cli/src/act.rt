@@ -17,7 +17,7 @@ ghost use Rattle.certificate.specs.declared.check_fault.CheckFault.{CheckFault};
 ghost use Rattle.bearoff_cli.specs.Tellings.{IsToldBy, IsWritten};
 ghost use Rattle.bearoff_cli.specs.Turns.{UsesTurns};
 ghost use Rattle.bearoff_cli.specs.Faults.{CanEnd, IsAnswerFault, IsBoundFault, IsBuildFault, IsCheckFault};
-ghost use Rattle.bearoff_cli.specs.Faults.{IsFaultIn, IsFaultOf, IsOwnFault, IsQueryFault, IsRefused, IsUpgradeFault};
+ghost use Rattle.bearoff_cli.specs.Faults.{IsFaultIn, IsFaultOf, IsOwnFault, IsQueryFault, IsUpgradeFault};
 ghost use Rattle.bearoff_cli.specs.InputAnswers.{AreAnswered, AreAnsweredOver};
 ghost use Rattle.bearoff_cli.specs.FileAnswers.{AreAnsweredFrom, IsHandedTo, SaysRight, SaysUpgraded, SaysLevels};
 ghost use Rattle.retrograde.specs.BuiltBytes.{WritesBuilt};
@@ -288,7 +288,6 @@ fn answer_default<I: Read, O: Write>(
 ) -> Result<(), Fault>
     ensures cause { IfErr result IsAnswerFault }
     ensures turns { IfErr result (UsesTurns (I.remaining input.old) (I.remaining input.new)) }
-    ensures status { IfErr result (λ fault. status_of fault ≡ 1) }
     ensures left { WhereTold (I.remaining input.old) (λ given. IfErr result
         (λ fault. (O.contents output.new ≡ O.contents output.old)
         ⊎ ((file : List ℕ) × IsBuilt (usual_version 8) 8 file
@@ -340,7 +339,6 @@ fn answer_pages<D: Disk, I: Read, O: Write>(
     ensures refused { KeepsIfRefused result (O.contents output.old) (O.contents output.new) }
     ensures cause { IfErr result IsQueryFault }
     ensures turns { IfErr result (UsesTurns (I.remaining input.old) (I.remaining input.new)) }
-    ensures fault { IfErr result (λ fault. (status_of fault ≡ 1) ⊎ IsRefused fault) }
 {
     let room = stack_room(alloc)?;
     let Ok(file) = disk.open_to_read(path) else {
@@ -391,7 +389,6 @@ fn answer_table<T: Table + Drop, I: Read, O: Write>(
     ensures refused { KeepsIfRefused result (O.contents output.old) (O.contents output.new) }
     ensures cause { IfErr result IsQueryFault }
     ensures turns { IfErr result (UsesTurns (I.remaining input.old) (I.remaining input.new)) }
-    ensures fault { IfErr result (λ fault. (status_of fault ≡ 1) ⊎ IsRefused fault) }
 {
     reply(alloc, check(table), input, output)
 }
@@ -407,7 +404,6 @@ fn reply<T: Table + Drop, I: Read, O: Write>(
 ) -> Result<(), Fault>
     ensures refused { KeepsIfRefused result (O.contents output.old) (O.contents output.new) }
     ensures refusal { IfErr told (λ refused. result ≡ Err (of_check refused.1)) }
-    ensures status { OnOk told (IfErr result (λ fault. status_of fault ≡ 1)) }
     ensures cause { OnOk told (IfErr result IsAnswerFault) }
     ensures turns { IfErr result (UsesTurns (I.remaining input.old) (I.remaining input.new)) }
 {
@@ -448,8 +444,6 @@ fn write_database<D: Disk, O: Write>(
     ensures refused { KeepsIfRefused result (O.contents output.old) (O.contents output.new) }
     ensures over { 58 < pips → result ≡ Err Fault.OverBound }
     ensures cause { IfErr result (IsBoundFault pips) }
-    ensures fault { IfErr result
-        (λ fault. (status_of fault ≡ 1) ⊎ ((fault ≡ OverBound) × (58 < pips))) }
     ensures left { OnErr result (AppendsPart (O.contents output.old) (O.contents output.new)
         (count_line Built pips (count_to pips))) }
     ensures handed { OnOk result (IsHandedTo ⟦<BufWriter<D::File> as Write>⟧.contents
@@ -517,7 +511,6 @@ fn write_board<D: Disk, O: Write>(
     output: &mut O,
 ) -> Result<(), Fault>
     ensures cause { IfErr result IsBuildFault }
-    ensures status { IfErr result (λ fault. status_of fault ≡ 1) }
     ensures left { OnErr result (AppendsPart (O.contents output.old) (O.contents output.new)
         (count_line Built 90 (count_to 90))) }
     ensures handed { OnOk result (IsHandedTo ⟦<BufWriter<D::File> as Write>⟧.contents
@@ -574,7 +567,6 @@ enum Done {
 // so that the room of the ranks is not part of its caller's
 #[inline(never)]
 fn write_count<O: Write>(done: Done, pips: u8, output: &mut O) -> Result<(), Fault>
-    ensures status { IfErr result (λ fault. status_of fault ≡ 1) }
     ensures cause { IfErr result (λ fault. fault ≡ Write) }
     ensures part { OnErr result (AppendsPart (O.contents output.old) (O.contents output.new)
         (count_line done pips (count_to pips))) }

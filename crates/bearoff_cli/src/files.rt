@@ -51,7 +51,6 @@ const MOST_BYTES: usize = 20_000_001;
 /// that a check needs, `Open` where the file can't be opened, `File` where a read fails, and
 /// `Memory` where there is no room for the bytes.
 pub fn read_file<D: Disk>(disk: &mut D, alloc: Global, path: &str) -> Result<Vec<u8>, Fault>
-    ensures status { IfErr result (λ fault. status_of fault ≡ 1) }
     ensures cause { IfErr result IsReadFault }
     ensures read { IfOk result (λ bytes. IsReadFrom D.Reader.remaining bytes.items) }
     ensures paths { D.paths disk.new ≡ D.paths disk.old }
@@ -66,7 +65,6 @@ pub fn read_file<D: Disk>(disk: &mut D, alloc: Global, path: &str) -> Result<Vec
 
 /// The bytes that a reader has left, at most 20,000,001 of them.
 fn read_bytes<F: Read>(alloc: Global, file: &mut F) -> Result<Vec<u8>, Fault>
-    ensures status { IfErr result (λ fault. status_of fault ≡ 1) }
     ensures cause { IfErr result IsReadFault }
     ensures read { WhereTold (F.remaining file.old)
         (λ left. IfOk result (λ bytes. bytes.items ≡ take 20000001 left)) }
@@ -141,7 +139,6 @@ fn read_block<'a, F: Read>(file: &mut F, block: &'a mut [u8; BLOCK]) -> Result<&
 /// Begins to write a file (`whole_file`).
 fn begin_file<D: Disk>(disk: &mut D, alloc: Global, path: &str) -> Result<Draft<D>, Fault>
     ensures cause { IfErr result IsBuildFault }
-    ensures status { IfErr result (λ fault. status_of fault ≡ 1) }
     ensures paths { D.paths disk.new ≡ D.paths disk.old }
     ensures begun { IfOk result (λ draft. IsBegun (D.paths disk.old) path.now draft.names
         (writer_contents D.File.contents draft.writer) (D.told disk.old) (D.told disk.new)) }
@@ -159,7 +156,6 @@ fn finish_file<D: Disk>(
     written: Result<(), Fault>,
 ) -> Result<(), Fault>
     ensures fault { IfErr written (λ fault. result ≡ Err fault) }
-    ensures closing { IfOk written (λ _. IfErr result (λ fault. status_of fault ≡ 1)) }
     ensures cause { IfOk written (λ _. IfErr result IsBuildFault) }
     ensures paths { D.paths disk.new ≡ D.paths disk.old }
     ensures put { OnOk result (IsPut (D.paths disk.old) draft.names
@@ -195,7 +191,6 @@ fn of_draft(fault: DraftFault) -> Fault
 /// can't be made, and `Write` where a write fails: then the old file stays, or, where the bytes go
 /// straight into it, it may hold a prefix of the database.
 pub fn build_file<D: Disk>(disk: &mut D, alloc: Global, pips: u8, path: &str) -> Result<(), Fault>
-    ensures fault { pips ≤ 58 → IfErr result (λ fault. status_of fault ≡ 1) }
     ensures cause { pips ≤ 58 → IfErr result IsBuildFault }
     ensures built { OnOk result (IsHandedTo ⟦<BufWriter<D::File> as Write>⟧.contents
         (WritesBuilt (usual_version pips) pips)) }
@@ -213,7 +208,6 @@ pub fn build_file<D: Disk>(disk: &mut D, alloc: Global, pips: u8, path: &str) ->
 
 /// Writes the database of a build that has its memory, to its last byte.
 fn build_into<O: Write>(ready: ReadyBuild, output: &mut O) -> Result<(), Fault>
-    ensures fault { ready ≤ 58 → IfErr result (λ fault. status_of fault ≡ 1) }
     ensures cause { ready ≤ 58 → IfErr result IsBuildFault }
     ensures built { OnOk result (WritesBuilt (usual_version ready) ready (O.contents output.old)
         (O.contents output.new)) }
@@ -225,7 +219,6 @@ fn build_into<O: Write>(ready: ReadyBuild, output: &mut O) -> Result<(), Fault>
 /// Writes the board file of 90 pips into a file, with the faults of `build_file`. It is made in
 /// memory, of which it needs as much as it is long, and which is taken before the file is begun.
 pub fn build_board_file<D: Disk>(disk: &mut D, alloc: Global, path: &str) -> Result<(), Fault>
-    ensures fault { IfErr result (λ fault. status_of fault ≡ 1) }
     ensures cause { IfErr result IsBuildFault }
     ensures built { OnOk result (IsHandedTo ⟦<BufWriter<D::File> as Write>⟧.contents
         (WritesBuiltBoard 90)) }
@@ -254,7 +247,6 @@ fn board_room(alloc: Global) -> Result<Vec<u8>, Fault>
 
 /// Writes the board file of 90 pips, to its last byte. It is made in a room that has as many bytes.
 fn build_board_into<O: Write>(room: &mut Vec<u8>, output: &mut O) -> Result<(), Fault>
-    ensures fault { IfErr result (λ fault. status_of fault ≡ 1) }
     ensures cause { IfErr result IsBuildFault }
     ensures built { OnOk result (WritesBuiltBoard 90 (O.contents output.old)
         (O.contents output.new)) }
@@ -270,7 +262,6 @@ fn build_board_into<O: Write>(room: &mut Vec<u8>, output: &mut O) -> Result<(), 
 // so that the room of the builder is not part of its caller's
 #[inline(never)]
 fn whole_board(room: &mut Vec<u8>) -> Result<&[u8], Fault>
-    ensures fault { IfErr result (λ fault. status_of fault ≡ 1) }
     ensures cause { IfErr result IsBuildFault }
     ensures built { IfOk result (λ file. IsBuiltBoard 90 file.now) }
 {
@@ -322,7 +313,6 @@ fn upgrade_into<T: Table, O: Write>(checked: &mut Checked<T>, output: &mut O) ->
 
 /// Hands on what a writer may still hold.
 pub fn flush<O: Write>(output: &mut O) -> Result<(), Fault>
-    ensures status { IfErr result (λ fault. status_of fault ≡ 1) }
     ensures cause { IfErr result (λ fault. fault ≡ Write) }
     ensures kept { Keeps (O.contents output.old) (O.contents output.new) }
 {

@@ -68,7 +68,6 @@ pub trait Kind: Copy {
         ensures cause { IfErr result IsAnswerFault }
         ensures turns { IfErr result
             (UsesTurns (I.remaining input.old) (I.remaining input.new)) }
-        ensures status { IfErr result (λ fault. status_of fault ≡ 1) }
         ensures left { WhereTold (I.remaining input.old) (λ given. IfErr result
             (AreStopped (kind bytes.now) given (I.remaining input.new) (O.contents output.old)
             (O.contents output.new))) }
@@ -88,7 +87,6 @@ pub trait Kind: Copy {
         requires kept { keeps self bytes.now }
         requires table { IsRankTable ranks.now }
         requires within { pips ≤ bound_by (kind bytes.now) }
-        ensures status { IfErr result (λ fault. status_of fault ≡ 1) }
         ensures cause { IfErr result (λ fault. fault ≡ Write) }
         ensures part { OnErr result (WritesLevelPart (kind bytes.now) pips
             (O.contents output.old) (O.contents output.new)) }
@@ -102,7 +100,6 @@ pub trait Kind: Copy {
 pub fn write_levels<K: Kind, O: Write>(kept: K, bytes: &[u8], output: &mut O) -> Result<(), Fault>
     requires right { IsRightBy (K.kind bytes.now) }
     requires kept { K.keeps kept bytes.now }
-    ensures status { IfErr result (λ fault. status_of fault ≡ 1) }
     ensures cause { IfErr result (λ fault. fault ≡ Write) }
     ensures part { OnErr result (WritesLevelsPart (K.kind bytes.now)
         (O.contents output.old) (O.contents output.new)) }

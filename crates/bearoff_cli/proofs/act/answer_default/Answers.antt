@@ -4,7 +4,6 @@ use Rattle.retrograde.specs.UsualVersion.{usual_version}
 use Rattle.epc_query.specs.AnyFiles.{database_file}
 use Rattle.bearoff_cli.specs.InputAnswers.{AreAnswered, AreAnsweredOver}
 use Rattle.race_model.proofs.RightFiles.Right.{right_of_local}
-use Rattle.bearoff_cli.proofs.CommandFaults.{answer_status}
 use Rattle.bearoff_cli.proofs.StoppedRuns.{built_stopped}
 use Rattle.bearoff_cli.proofs.act.answer_default.Goals as goal
 
@@ -41,11 +40,3 @@ returns-clause-cause g c =
     let bytes = c.as_slice.ensures.value ∙ built.2
     ∙ ap (λ bytes. bytes ++ built.0) c.new-bytes.ensures.items in
     c.answer_bytes.ensures.right (rw bytes (right_of_local built.0 built.1.local))
-
-pub returns-clause-status : goal.returns-clause-status
-returns-clause-status g c =
-    let built = c.in_ok-build.ensures.built in
-    let bytes = c.as_slice.ensures.value ∙ built.2
-    ∙ ap (λ bytes. bytes ++ built.0) c.new-bytes.ensures.items in
-    answer_status c.answer_bytes.result
-    (c.answer_bytes.ensures.right (rw bytes (right_of_local built.0 built.1.local)))
