@@ -6,18 +6,26 @@ import { readPoints, sumOf } from "./points.js";
 import { dailyLevel, ESTIMATED, TEN } from "./questions.js";
 import { themeOf, THEMES } from "./themes.js";
 
-export const VERSION = 2; // older texts have no estimates that come back
+// Texts of version 2 have no rating, and those of version 1 no estimates that come back.
+export const VERSION = 3;
 export const MOST_CARDS = 300;
 export const MOST_DAYS = 400;
 export const MOST_LETTERS = 100_000; // of a text that is read in
 const MOST_DUE = 6; // of today's ten, so that some are always new
 const LIKE = 2; // the box from which on a question like it is asked
 const KNOWN = 5; // answers after which it is known how much a theme loses
+const FADING = 50; // a play counts a fiftieth less in the rating with each further one
+const RATED = 20; // plays after which there is a rating
+const LEAST_RATING = -100;
 
 // After how many days a question comes back, by its box. One that is right in the last is learnt.
 export const BOXES = [1, 3, 7, 21, 60];
 
-export const EMPTY = { days: [], cards: [], themes: [], sizes: [0, 0, 0], learnt: 0 };
+// `rating` is what the last plays lost, what natural ones would have lost in their place, both in
+// millionths of a roll, and how many plays there were.
+export const EMPTY = {
+    days: [], cards: [], themes: [], sizes: [0, 0, 0], learnt: 0, rating: [0, 0, 0],
+};
 
 const DAY = 86400000; // milliseconds
 
@@ -72,9 +80,23 @@ function carded(cards, card, { points, roll, theme, lost, isMissed }, day) {
     return box < BOXES.length ? [...rest, next] : rest;
 }
 
+// The rating's sums after a play that lost so many thousandths, where the natural one loses others.
+const rated = ([lost, natural, plays], more) => [
+    lost - Math.floor(lost / FADING) + 1000 * more.lost,
+    natural - Math.floor(natural / FADING) + 1000 * more.natural, plays + 1,
+];
+
+// Of a hundred parts of what natural plays would have lost in the place of the last plays, those
+// that weren't lost: 100 for no loss, 0 for as much as they, less for more; null until it is known.
+export function ratingOf({ rating: [lost, natural, plays] }) {
+    if (plays < RATED || natural === 0) return null;
+    return Math.max(LEAST_RATING, Math.round((100 * (natural - lost)) / natural));
+}
+
 // The memory after an answer on a day: `theme` is that of the drill, or what is estimated, `lost`
-// are thousandths of a roll, or of a pip for an estimate, `card` is the question that comes back
-// where one like it was asked in its place, and `isLast` says whether a drill had no other one.
+// are thousandths of a roll, or of a pip for an estimate, `natural` are those of a natural play in
+// its place, `card` is the question that comes back where one like it was asked in its place, and
+// `isLast` says whether a drill had no other one.
 export function answered(memory, answer, day) {
     const { roll, lost, isMissed, isLast } = answer;
     const asked = cardOf(memory.cards, answer.card ?? answer);
@@ -87,6 +109,7 @@ export function answered(memory, answer, day) {
         themes: tallied(memory.themes, theme, [1, isMissed ? 1 : 0, lost]),
         sizes: memory.sizes.map((count, size) =>
             count + (roll && isMissed && size === sizeOf(lost) ? 1 : 0)),
+        rating: roll ? rated(memory.rating, answer) : memory.rating,
     };
 }
 
@@ -151,8 +174,9 @@ export function todaysEstimates(memory, day) {
 }
 
 // The memory as a text of lines.
-export const written = ({ days, cards, themes, sizes, learnt }) => [
+export const written = ({ days, cards, themes, sizes, learnt, rating }) => [
     `bearoff memory ${VERSION}`, `learnt ${learnt}`, `sizes ${sizes.join(" ")}`,
+    `rating ${rating.join(" ")}`,
     ...themes.map((row) => `theme ${row.join(" ")}`),
     ...days.map((row) => `day ${row.join(" ")}`),
     ...cards.map(({ points, roll, theme, box, due, lost }) =>
@@ -167,6 +191,8 @@ const LINES = {
     learnt: [/^(\d{1,7})$/, (memory, [learnt]) => ({ ...memory, learnt: Number(learnt) })],
     sizes: [/^(\d{1,7}) (\d{1,7}) (\d{1,7})$/, (memory, sizes) =>
         ({ ...memory, sizes: sizes.map(Number) })],
+    rating: [/^(\d{1,9}) (\d{1,9}) (\d{1,7})$/, (memory, sums) =>
+        ({ ...memory, rating: sums.map(Number) })],
     theme: [/^([a-z]+) (\d{1,7}) (\d{1,7}) (\d{1,9})$/, (memory, [name, ...counts]) =>
         ((themeOf(name) || ESTIMATED.includes(name)) && isNew(memory.themes, name)
             ? { ...memory, themes: [...memory.themes, [name, ...counts.map(Number)]] } : null)],

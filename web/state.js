@@ -3,10 +3,10 @@
 import { readLink, writeLink } from "./link.js";
 import { EMPTY } from "./memory.js";
 import { sameRoll } from "./rolls.js";
-import { ADDITIONS, isMiss } from "./rules.js";
+import { ADDITIONS, isMiss, naturalOf } from "./rules.js";
 import { AFRESH } from "./state/board.js";
 import {
-    answeredOf, drillGuesses, drillKey, heardOf, isFar, isTraining, keyOf, lessonOf, questionOf,
+    answeredOf, chosenOf, drillGuesses, drillKey, heardOf, isFar, isTraining, keyOf, lessonOf, questionOf,
     spoken,
 } from "./state/reads.js";
 import { askNext, changeDrill, NO_RUN } from "./state/training.js";
@@ -129,6 +129,9 @@ export function withPicks(state, all) {
     return { ...state, ...(run || {}), runs };
 }
 
+// The least that one of some plays loses.
+const leastLoss = (plays) => Math.min(...plays.map(({ loss }) => Number(loss)));
+
 // What the reader's change has answered: a question of the drill, where it isn't asked once more,
 // or an estimate; or null.
 export function answeredBetween(before, after) {
@@ -141,6 +144,7 @@ export function answeredBetween(before, after) {
             keyOf(question.points) === at && sameRoll(question.roll, roll));
         return {
             points: before.points, roll, theme: drill.theme, lost: Number(play.loss),
+            natural: leastLoss(naturalOf(chosenOf(before).plays)),
             isMissed: isMiss(play), isLast, ...(card ? { card } : {}),
         };
     }

@@ -1,6 +1,8 @@
 // What is shown to a student who comes back: today's ten, what was done, and what of it is kept.
 import { h } from "./tree.js";
-import { askedOn, BOXES, dueOn, isKnown, SIZES, streak, todays, todaysEstimates, written } from "./memory.js";
+import {
+    askedOn, BOXES, dueOn, isKnown, ratingOf, SIZES, streak, todays, todaysEstimates, written,
+} from "./memory.js";
 import { ASKED, TEN } from "./questions.js";
 import { themeOf } from "./themes.js";
 import { decimal } from "./texts.js";
@@ -89,6 +91,9 @@ function all({ memory, isMemoryOpen, memoryFault, memoryTold }, act) {
             `${memory.cards.filter((card) => card.box === box).length} after ${days}`).join(", "),
             `; ${memory.learnt} learnt. `,
             "A miss comes back the next day, and each time that it is right, later."),
+        h("p", {}, "The rating looks at about the last fifty plays: 100 where nothing was lost, 0 ",
+            "where as much was lost as by the play that bears off the most checkers and then ",
+            "fills the most points."),
         memory.themes.length > 0 && themes(memory),
         h("p", {}, h("label", {}, "As a text ", h("textarea", {
             "data-key": "memory text", rows: 5, spellcheck: "false", value: written(memory),
@@ -117,6 +122,7 @@ export function student(state, act) {
     const [asked, lost] = memory.themes.filter(([name]) => themeOf(name))
         .reduce(([count, sum], [, one, , more]) => [count + one, sum + more], [0, 0]);
     const each = decimal(Math.round(lost / Math.max(1, asked)));
+    const rating = ratingOf(memory);
     return h("div", { class: "student" },
         h("div", { class: "daily" },
             h("h2", {}, "Today\u2019s ten"),
@@ -132,7 +138,8 @@ export function student(state, act) {
                 h("dl", { class: "figures" },
                     fact("In a row", row, row === 1 ? "day" : "days"),
                     fact("Come back", dueOn(memory, day).length, "today"),
-                    fact("Lost each", each, "rolls")),
+                    fact("Lost each", each, "rolls"),
+                    rating !== null && fact("Rating", rating, "of 100")),
                 lastDays(memory, day),
                 h("p", { class: "hint days-told" }, "The last fourteen days: dark is right."),
             ],

@@ -3,7 +3,7 @@
 import assert from "node:assert/strict";
 import { test } from "node:test";
 import {
-    answered, askedOn, BOXES, DAILY, dayOf, dueOn, EMPTY, isKnown, MOST_CARDS, MOST_DAYS, MOST_LETTERS, readMemory, Store, streak, todays, todaysEstimates, VERSION, weakest, written,
+    answered, askedOn, BOXES, DAILY, dayOf, dueOn, EMPTY, isKnown, MOST_CARDS, MOST_DAYS, MOST_LETTERS, ratingOf, readMemory, Store, streak, todays, todaysEstimates, VERSION, weakest, written,
 } from "../../web/memory.js";
 import { drawQuestions, drillOf, mostOf, readDue, TEN, writeDue } from "../../web/questions.js";
 import { themeOf, THEMES } from "../../web/themes.js";
@@ -12,8 +12,8 @@ import { ROLLS } from "../../web/rolls.js";
 import { drawFrom } from "./stand_in.mjs";
 
 const question = (number = 0, theme = "all") => ({ points: [number % 6, 2, Math.floor(number / 6) % 6, 0, 1, Math.floor(number / 36) % 4], roll: [3, 1], theme });
-const missed = (number, lost = 56, theme = "all") => ({ ...question(number, theme), lost, isMissed: true, isLast: false });
-const right = (number, theme = "all") => ({ ...question(number, theme), lost: 0, isMissed: false, isLast: false });
+const missed = (number, lost = 56, theme = "all") => ({ ...question(number, theme), lost, natural: 20, isMissed: true, isLast: false });
+const right = (number, theme = "all") => ({ ...question(number, theme), lost: 0, natural: 20, isMissed: false, isLast: false });
 const estimate = (lost, isMissed, kind = "effective") => ({ points: [1, 2, 3, 0, 0, 0], roll: null, theme: kind, lost, isMissed, isLast: false });
 const faultOf = (...lines) => readMemory(["bearoff memory 1", ...lines].join("\n")).fault;
 
@@ -54,6 +54,22 @@ test("misses by their size", () => {
     const memory = [1, 19, 20, 79, 80, 300].reduce((so, lost, place) => answered(so, missed(place, lost), 7), EMPTY);
     assert.deepEqual(memory.sizes, [2, 2, 2]);
     assert.deepEqual(answered(memory, right(0), 7).sizes, [2, 2, 2]);
+});
+
+test("a rating: of what natural plays lose, the part that was not lost, of the last plays most", () => {
+    const after = (memory, count, lost, natural) => Array.from({ length: count }).reduce((so) => answered(so, { ...right(0), lost, natural, isMissed: lost > 0 }, 7), memory);
+    assert.deepEqual([0, 19, 20].map((count) => ratingOf(after(EMPTY, count, 30, 40))), [null, null, 25]);
+    assert.deepEqual([[0, 40], [40, 40], [60, 40], [400, 40], [0, 0]].map(([lost, natural]) => ratingOf(after(EMPTY, 30, lost, natural))), [100, 0, -50, -100, null]);
+    // where natural plays are right too they say nothing, and a play of theirs that loses does
+    assert.deepEqual([ratingOf(after(after(EMPTY, 20, 10, 20), 5, 0, 0)), ratingOf(after(after(EMPTY, 20, 10, 20), 5, 20, 0)) < 30], [50, true]);
+    // a play counts a fiftieth less with each further one
+    assert.deepEqual(after(EMPTY, 1, 30, 40).rating, [30000, 40000, 1]);
+    assert.deepEqual(after(EMPTY, 2, 30, 40).rating, [59400, 79200, 2]);
+    const [old, later] = [after(EMPTY, 300, 40, 40), after(after(EMPTY, 300, 40, 40), 50, 0, 40)];
+    assert.deepEqual([ratingOf(old), ratingOf(later), ratingOf(after(later, 200, 0, 40))], [0, 64, 99]);
+    assert.ok(after(EMPTY, 400, 999, 999).rating.every((sum) => sum < 10 ** 9));
+    // an estimate has none
+    assert.deepEqual(answered(after(EMPTY, 3, 30, 40), estimate(2100, true), 7).rating, after(EMPTY, 3, 30, 40).rating);
 });
 
 test("bounds: the best known and cheapest are forgotten, and the oldest days", () => {
@@ -105,7 +121,7 @@ test("from its third time on a question like it is asked, of its theme, and anot
 const drawnPlays = [{ isBest: true, to: [1, 0, 0, 0, 0, 0], loss: 0n }, { isBest: false, to: [2, 0, 0, 0, 0, 0], loss: 5n }];
 
 test("an answer to a question like it counts for the one that comes back", () => {
-    const [memory, like] = [known(100), { points: [9, 0, 0, 0, 0, 0], roll: [6, 5], theme: "all", card: { points: question(0).points, roll: [3, 1] }, isLast: false }];
+    const [memory, like] = [known(100), { points: [9, 0, 0, 0, 0, 0], roll: [6, 5], theme: "all", natural: 0, card: { points: question(0).points, roll: [3, 1] }, isLast: false }];
     const rightly = answered(memory, { ...like, lost: 0, isMissed: false }, 107);
     assert.deepEqual(rightly.cards, [{ ...question(0), theme: "low", box: 3, due: 128, lost: 56 }]);
     assert.deepEqual(rightly.themes, [["low", 4, 1, 56]]);
@@ -225,15 +241,16 @@ test("the text comes back", () => {
     let memory = answered(answered(EMPTY, missed(3, 56, "gaps"), 20000), estimate(2100, true), 20001);
     memory = { ...answered(memory, { ...right(3), isLast: true }, 20001), learnt: 4 };
     assert.equal(written(memory), [
-        "bearoff memory 2", "learnt 4", "sizes 0 1 0", "theme gaps 2 1 56", "theme effective 1 1 2100", "day 20000 1 1 0", "day 20001 2 1 1",
+        "bearoff memory 3", "learnt 4", "sizes 0 1 0", "rating 54880 39600 2", "theme gaps 2 1 56", "theme effective 1 1 2100", "day 20000 1 1 0", "day 20001 2 1 1",
         "card 1,2,3,0,0,0 - effective 0 20002 2100", "card 3,2,0,0,1,0 31 gaps 1 20004 56",
     ].join("\n"));
     assert.deepEqual(readMemory(written(memory)), { memory, fault: "" });
     assert.deepEqual(readMemory(`\ufeff${written(memory).replaceAll("\n", "\r\n")}\r\n`).memory, memory);
     assert.deepEqual(readMemory(written(EMPTY)).memory, EMPTY);
-    // a text of the first version, which had no estimates that come back, is read as it is
-    const first = written(memory).replace("memory 2", "memory 1").split("\n").filter((line) => !line.includes(" - ")).join("\n");
-    assert.deepEqual(readMemory(first).memory, { ...memory, cards: memory.cards.filter(({ roll }) => roll) });
+    // a text of the first version, which had no estimates that come back, or of the second, which had no rating, is read as it is
+    const [first, second] = [/ - |^rating/, /^rating/].map((none, place) => written(memory).replace("memory 3", `memory ${place + 1}`).split("\n").filter((line) => !none.test(line)).join("\n"));
+    assert.deepEqual(readMemory(first).memory, { ...memory, rating: EMPTY.rating, cards: memory.cards.filter(({ roll }) => roll) });
+    assert.deepEqual(readMemory(second).memory, { ...memory, rating: EMPTY.rating });
     for (const { name } of THEMES) assert.equal(faultOf(`theme ${name} 1 1 1`), "");
 });
 
@@ -243,7 +260,7 @@ test("a text with a fault is refused whole, by the number of its line", () => {
     for (const line of [
         "", "day x", "day 1 1 1", "day 1 1 1 1 1", "day 1234567 1 1 1", "card 16,0,0,0,0,0 31 all 0 1 1", "card 0,0,0,0,0,0 31 all 0 1 1", "card 1,0,0,0,0,0 71 all 0 1 1", "card 1,0,0,0,0,0 13 all 0 1 1",
         "card 1,0,0,0,0,0 31 all 5 1 1", "card 1,0,0,0,0,0 31 none 0 1 1", "card 1,0,0,0,0,0 31 effective 0 1 1", "card 1,0,0,0,0,0 - all 0 1 1", "card 1,0,0,0,0,0 - effective 5 1 1", "constructor 1", "toString 1", "theme nowhere 1 1 1", "theme all -1 1 1", "theme all 1.5 1 1",
-        "sizes 1 2", "learnt", "rating 1000 1 1", "Day 1 1 1 1", good,
+        "sizes 1 2", "learnt", "rating 1000 1", "rating 1 -1 1", "rating 1234567890 1 1", "Day 1 1 1 1", good,
     ]) assert.equal(faultOf(good, line, "day 1 1 1 1"), "Line 3 can't be read.", line);
     assert.equal(faultOf("theme all 1 1 1", "theme all 1 1 1"), "Line 3 can't be read.");
     assert.equal(faultOf("day 5 1 1 1", "day 5 2 1 1"), "Line 3 can't be read.");
@@ -303,7 +320,7 @@ test("what a newer page has kept stays as it is", () => {
         const store = new Store({ localStorage });
         const memory = store.change(EMPTY, (own) => answered(own, missed(1), 10));
         assert.deepEqual([memory.cards.length, localStorage.kept.get("bearoff memory")], [1, text]);
-        assert.match(store.why, /^What is kept here can't be read, and stays as it is\. (It is of version 3|Line 2 can't)/);
+        assert.match(store.why, /^What is kept here can't be read, and stays as it is\. (It is of version 4|Line 2 can't)/);
         // until all is forgotten
         assert.deepEqual([store.forget(), store.why, localStorage.kept.size], [EMPTY, "", 0]);
         assert.equal(store.change(EMPTY, (own) => answered(own, missed(1), 10)).cards.length, 1);

@@ -1928,14 +1928,14 @@ async function student() {
     equal("its link", [readLink(used.window.location.hash).drill, used.document.title], [drill, "Question 1 of 10: Today\u2019s ten \u2013 Bearing off"]);
     equal("what is said of it", ["Today\u2019s ten", "Question 1 of 10.", "Ten that are new: Low stacks."].filter((text) => !used.text("coach").includes(text)), []);
     await used.clicked(losing(questions[0].roll));
-    equal("one is missed", kept(used), `bearoff memory 2\nlearnt 0\nsizes 0 1 0\ntheme low 1 1 56\nday ${day} 1 1 0\ncard ${questions[0].points} ${questions[0].roll.join("")} low 0 ${day + 1} 56`);
+    equal("one is missed", kept(used), `bearoff memory 3\nlearnt 0\nsizes 0 1 0\nrating 56000 0 1\ntheme low 1 1 56\nday ${day} 1 1 0\ncard ${questions[0].points} ${questions[0].roll.join("")} low 0 ${day + 1} 56`);
     await used.clicked("next question");
     for (const { roll } of questions.slice(1)) {
         await used.clicked(roll === questions[1].roll ? losing(roll) : best(roll));
         await used.clicked("next question");
     }
     const missed = missedOf(used.session.state);
-    equal("ten are kept, and a run", kept(used).split("\n")[4], `day ${day} 10 ${missed.length} 1`);
+    equal("ten are kept, and a run", kept(used).split("\n")[5], `day ${day} 10 ${missed.length} 1`);
     const before = kept(used);
     for (const { roll } of missed) {
         await used.clicked(losing(roll));
@@ -1953,6 +1953,38 @@ async function student() {
     equal("sizes", used.at("today").textContent.includes(`1 drill was ended. Misses by what they lost, in rolls: 0 less than 0.020, ${missed.length} 0.020 or more, 0 0.080 or more.`), true);
     await used.clicked("today");
     equal("ten more are others", [used.session.state.drill.seed === day, used.session.state.questions.length], [false, 10]);
+
+    part = "a rating";
+    // the play that loses leaves the fewest checkers, so it is the natural one
+    const tempting = (points) => rollsFrom(points).map(({ dice, plays }) => ({
+        dice, plays: plays.map((one, place) => ({ ...one, to: [2 - place, ...points.slice(1)] })),
+    }));
+    const rated = await Used.open("", { plays: tempting });
+    await rated.clicked("today");
+    const rating = () => kept(rated).split("\n")[3];
+    const [first, second] = rated.session.state.questions;
+    await rated.clicked(best(first.roll));
+    equal("the natural play loses", rating(), "rating 0 56000 1");
+    await rated.clicked("next question");
+    await rated.clicked(losing(second.roll));
+    equal("it is played", rating(), "rating 56000 110880 2");
+    // of two natural plays the one counts that loses less
+    const either = await Used.open("", { plays: (points) => tempting(points).map(({ dice, plays }) => ({
+        dice, plays: plays.map((one, place) => ({ ...one, to: [place === 0 ? 1 : 0, ...points.slice(1)] })),
+    })) });
+    await either.clicked("today");
+    await either.clicked(losing(either.session.state.questions[0].roll));
+    equal("one is right", kept(either).split("\n")[3], "rating 56000 0 1");
+    const facts = async (...lines) => {
+        const shown = await Used.open("", { before: (window) => {
+            window.kept = new Map([["bearoff memory", ["bearoff memory 3", ...lines, `day ${day} 20 9 1`].join("\n")]]);
+        } });
+        return [...shown.at("today").querySelectorAll("dt, dd")].map((node) => node.textContent).slice(6).join(" ");
+    };
+    equal("shown once it is known", [await facts("rating 300000 400000 20"), await facts("rating 300000 400000 19"), await facts("rating 0 0 20")], ["Rating 25 of 100", "", ""]);
+    await rated.clicked("end training");
+    await rated.clicked("all that is kept");
+    equal("told", rated.at("today").textContent.includes("The rating looks at about the last fifty plays: 100 where nothing was lost, 0 where as much was lost as by the play that bears off the most checkers and then fills the most points."), true);
 
     part = "loaded anew";
     const anew = await Used.open(used.window.entries[1], { before: (window) => { [window.kept, window.stored] = [used.window.kept, used.window.stored]; } });
@@ -2014,7 +2046,7 @@ async function student() {
     await used.clicked("end training");
     equal("it works till then", [told(used).startsWith("Today\u2019s ten are done."), used.session.state.memory.days[0].slice(0, 2)], [true, [day, 10]]);
     used = await Used.open("", { before: (window) => { window.kept = new Map([["bearoff memory", "bearoff memory 9"]]); } });
-    equal("what is of a newer page", used.at("today").textContent.includes("What is kept here can't be read, and stays as it is. It is of version 9, and this page knows 2."), true);
+    equal("what is of a newer page", used.at("today").textContent.includes("What is kept here can't be read, and stays as it is. It is of version 9, and this page knows 3."), true);
 
     part = "what counts";
     used = await Used.open("#at=1,0,0,1,0,0&guess=1&roll=31");
