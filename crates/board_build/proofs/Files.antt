@@ -9,7 +9,6 @@ use Rattle.race_model.specs.Ranks.{rank, count_to}
 use Rattle.race_model.specs.Files.{IsBytes, bytes_at, bound_of}
 use Rattle.race_model.specs.BoardFiles.{board_header, board_length, board_place, IsBoardFile}
 use Rattle.race_model.proofs.Ranks.RankOrder.{rank_bound}
-use Rattle.race_model.proofs.Ranks.PositionTotals.{count_to-most}
 use Rattle.race_model.proofs.RightFiles.Places.{board_place-by, place_by-most}
 use Rattle.race_model.proofs.FirstFaults.HeaderFacts.{small_bytes}
 use Rattle.race_model.proofs.Books.Boards.{right_board}

@@ -8,7 +8,7 @@ ghost use Rattle.board_records.specs.Lower.{AreBelow, board_mean};
 ghost use Rattle.board_build.specs.NextRecord.{AreBestPlays, AreCountsBy, IsRecordBy};
 
 use board_layout::{put_count, put_mean, put_plays};
-use board_records::{LowerRecords, count_of, mean_of};
+use board_records::{LowerRecords, count_of, mean_of, word_sums};
 use db_layout::most_rolls;
 use fixed_fraction::BoardMean;
 use home_board::Position;
@@ -45,7 +45,8 @@ fn put_counts(bytes: &mut [u8], lower: &LowerRecords<'_>, pips: u8, plays: &[u16
     ensures counts { AreCountsBy lower.now.bytes pips plays.now bytes.new }
 {
     let places = lower.places(plays);
+    let words = word_sums(lower, &places);
     for k in 0..most_rolls(pips) {
-        put_count(bytes, k + 1, count_of(lower, &places, k));
+        put_count(bytes, k + 1, count_of(lower, &places, &words, k));
     }
 }

@@ -5,12 +5,13 @@ ghost use Rattle.race_model.specs.Ranks.{rank as rank_of};
 ghost use Rattle.race_model.specs.Horizon.{most_rolls};
 ghost use Rattle.race_model.specs.BoardFiles.{board_record, board_play_of};
 ghost use Rattle.board_records.specs.Lower.{AreBelow, AreResults, ArePlaced};
+ghost use Rattle.board_records.specs.Words.{AreWordSums};
 ghost use Rattle.board_check.specs.Tested.{IsMeanOf, IsCountOf, Holds, MeanHolds, CountHolds};
 ghost use Rattle.board_check.specs.Faults.{IsNumberFault};
 
 use crate::fault::RecordFault;
 use board_layout::{BoardRecord, Parts};
-use board_records::{LowerRecords, RankedPlace, count_of, mean_of};
+use board_records::{LowerRecords, RankedPlace, WORDS, count_of, mean_of, word_sums};
 use db_layout::most_rolls;
 use home_board::Position;
 use legal_plays::Roll;
@@ -50,6 +51,7 @@ fn has_count(
     lower: &LowerRecords<'_>,
     stored: &BoardRecord<'_>,
     places: &[RankedPlace; 21],
+    words: &[u64; WORDS],
     k: u8,
 ) -> bool
     ghost plays: { ℕ → ℕ }
@@ -57,9 +59,10 @@ fn has_count(
     requires few { k ≤ most_rolls stored.now.pips }
     requires most { k ≤ 33 }
     requires places { ArePlaced lower.now.count plays places.now }
+    requires words { AreWordSums lower.now.bytes plays words.now }
     ensures { IsTrue result ↔ IsCountOf lower.now.bytes plays stored.now.bytes k }
 {
-    are_equal(&stored.count(k), &count_of(lower, places, k - 1))
+    are_equal(&stored.count(k), &count_of(lower, places, words, k - 1))
 }
 
 /// Whether two numbers have the same parts.
@@ -92,8 +95,9 @@ fn wrong_count(
     ensures earlier { IfSome result (λ k. (j : ℕ) → 1 ≤ j → j < k →
         IsCountOf lower.now.bytes plays stored.now.bytes j) }
 {
+    let words = word_sums(lower, places);
     for below in 0..rolls {
-        if !has_count(lower, stored, places, below + 1) {
+        if !has_count(lower, stored, places, &words, below + 1) {
             return Some(below + 1);
         }
     }

@@ -1,3 +1,4 @@
 pub mod Known
 pub mod Weighted
 pub mod Sums
+pub mod WordSums

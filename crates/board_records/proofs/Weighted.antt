@@ -1,5 +1,5 @@
 -- Sums over the rolls of what stands in a list by their index.
-use Rattle.std.proofs.Common.{◌≡◌, ℕ, ◌+◌, ◌*◌, ◌^◌, ◌<◌, List, map, refl, sym, ap, ◌∙◌, arith}
+use Rattle.std.proofs.Common.{◌≡◌, ℕ, ◌+◌, ◌*◌, ◌^◌, ◌<◌, List, map, sym, ap, ◌∙◌, arith}
 use Rattle.std.proofs.Math.ListN.{get_or-map}
 use Rattle.std.specs.Prelude.{slice_index}
 use Rattle.race_model.specs.Dice.{roll_index, weight, all_rolls, weighted}
@@ -21,23 +21,21 @@ weighted-listed xs h same =
     (λ i lt. get_or-map (λ x. x) xs i 0 ∙ same i lt)
 
 -- numbers in two parts, whose parts are added up apart
-pub weighted-parts : (uppers lowers : List ℕ) (h : ℕ → ℕ) (n m : ℕ) →
-    n ≡ weighted (λ v. slice_index (map (λ x. x) uppers) (roll_index v)) →
-    m ≡ weighted (λ v. slice_index (map (λ x. x) lowers) (roll_index v)) →
-    ((i : ℕ) → i < 21 → slice_index uppers i * 36 ^ 11 + slice_index lowers i ≡ h i) →
+pub weighted-parts : (uppers lowers h : ℕ → ℕ) (n m : ℕ) →
+    n ≡ weighted (λ v. uppers (roll_index v)) → m ≡ weighted (λ v. lowers (roll_index v)) →
+    ((i : ℕ) → i < 21 → uppers i * 36 ^ 11 + lowers i ≡ h i) →
     n * 36 ^ 11 + m ≡ weighted (λ v. h (roll_index v))
 weighted-parts uppers lowers h n m up low are =
     omega (
       arith,
-      up ∙ weighted-listed uppers (slice_index uppers) (λ i lt. refl),
-      low ∙ weighted-listed lowers (slice_index lowers) (λ i lt. refl),
-      sum_by-times (36 ^ 11) (λ v. weight v * slice_index uppers (roll_index v)) all_rolls,
+      up,
+      low,
+      sum_by-times (36 ^ 11) (λ v. weight v * uppers (roll_index v)) all_rolls,
       sum_by-add (λ v. weight v * h (roll_index v))
-          (λ v. 36 ^ 11 * (weight v * slice_index uppers (roll_index v)))
-          (λ v. weight v * slice_index lowers (roll_index v)) all_rolls
+          (λ v. 36 ^ 11 * (weight v * uppers (roll_index v)))
+          (λ v. weight v * lowers (roll_index v)) all_rolls
           (λ v. sym (ap (λ k. weight v * k) (are (roll_index v) (roll_index-range v)))
-          ∙ spread (weight v) (slice_index uppers (roll_index v))
-          (slice_index lowers (roll_index v))),
+          ∙ spread (weight v) (uppers (roll_index v)) (lowers (roll_index v))),
     )
   where
     spread : (w a b : ℕ) → w * (a * 36 ^ 11 + b) ≡ 36 ^ 11 * (w * a) + w * b

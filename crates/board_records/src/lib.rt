@@ -7,8 +7,9 @@
 pub use lower::{LowerRecords, RankedPlace};
 pub use numbers::{count_of, mean_of};
 pub use stored_mean::StoredMean;
+pub use words::{WORDS, word_sums};
 
 pub mod lower;
 pub mod numbers;
 pub mod stored_mean;
-mod words;
+pub mod words;

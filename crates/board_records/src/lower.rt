@@ -8,8 +8,10 @@ ghost use Rattle.race_model.specs.BoardFiles.{mean_parts, value_of_parts};
 ghost use Rattle.std.specs.Int.{w64, w128, from_be_bytes};
 ghost use Rattle.board_records.specs.Lower.{Lower, AreRecords, AreLocalTo, AreBelow};
 ghost use Rattle.board_records.specs.Lower.{ArePlaced, IsPlaced, board_mean};
+ghost use Rattle.board_records.specs.Words.{words_length};
 
 use crate::stored_mean::{StoredMean, is_less};
+use board_layout::count_place;
 use db_layout::{most_rolls, read_long, read_wide};
 use fixed_fraction::BoardMean;
 use least_plays::RankedMeans;
@@ -89,6 +91,18 @@ impl<'a> LowerRecords<'a> {
         }
     }
 
+    /// The bytes of a record's counts of 1 to 22 throws.
+    #[inline(always)]
+    pub(crate) fn words(&self, placed: &RankedPlace) -> &'a [u8]
+        requires placed { IsPlaced self.now.count placed.now }
+        ensures bytes { result.now ≡ bytes_at (board_record self.now.bytes placed.now.rank) 66
+            (words_length placed.now.rolls) }
+        ensures len { length result.now ≡ words_length placed.now.rolls }
+    {
+        let length = count_place(placed.rolls.min(22) + 1) - 66;
+        part_of(self.bytes, placed.offset as usize + 66, length)
+    }
+
     /// The number of 64 bits at a place in a record.
     #[inline(always)]
     pub(crate) fn word(&self, placed: &RankedPlace, place: usize) -> u64
@@ -139,7 +153,8 @@ impl<'a> LowerRecords<'a> {
 #[inline(always)]
 fn part_of(bytes: &[u8], place: usize, count: usize) -> &[u8]
     requires { place + count ≤ length bytes.now }
-    ensures { result.now ≡ bytes_at bytes.now place count }
+    ensures bytes { result.now ≡ bytes_at bytes.now place count }
+    ensures len { length result.now ≡ count }
 {
     &bytes[place..place + count]
 }

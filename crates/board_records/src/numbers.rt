@@ -4,9 +4,10 @@ ghost use Rattle.race_model.specs.Positions.{IsPosition, IsFinished};
 ghost use Rattle.race_model.specs.Dice.{roll_index, weighted};
 ghost use Rattle.race_model.specs.BoardFiles.{count_at, count_place};
 ghost use Rattle.board_records.specs.Lower.{AreBelow, AreResults, ArePlaced, IsPlaced, board_mean};
+ghost use Rattle.board_records.specs.Words.{AreWordSums};
 
 use crate::lower::{LowerRecords, RankedPlace};
-use crate::words::Word;
+use crate::words::WORDS;
 use board_layout::{Parts, count_place};
 use fixed_fraction::{BoardMean, LongCount, LongSum, PART, sum_of};
 use home_board::Position;
@@ -38,12 +39,19 @@ fn sum_of_means(lower: &LowerRecords<'_>, plays: &[u16; 21]) -> LongSum
 }
 
 /// Of the sequences of k + 1 throws, how many end the game of 21 plays with the last one: the
-/// counts of what they lead to at k throws, added up. To 11 throws the upper part is 0, to 22 it
-/// has one word, and from 12 throws on the lower part is less than 36 ^ 11.
-pub fn count_of(lower: &LowerRecords<'_>, places: &[RankedPlace; 21], k: u8) -> Parts
+/// counts of what they lead to at k throws, added up; to 22 throws these sums are given, word by
+/// word. To 11 throws the upper part is 0, to 22 it has one word, and from 12 throws on the lower
+/// part is less than 36 ^ 11.
+pub fn count_of(
+    lower: &LowerRecords<'_>,
+    places: &[RankedPlace; 21],
+    words: &[u64; WORDS],
+    k: u8,
+) -> Parts
     ghost plays: { ℕ → ℕ }
     requires few { k < 33 }
     requires places { ArePlaced lower.now.count plays places.now }
+    requires words { AreWordSums lower.now.bytes plays words.now }
     ensures value { result.upper * 36 ^ 11 + result.lower
         ≡ weighted (λ v. count_at lower.now.bytes (plays (roll_index v)) k) }
     ensures one { k < 11 → result.upper ≡ 0 }
@@ -51,18 +59,18 @@ pub fn count_of(lower: &LowerRecords<'_>, places: &[RankedPlace; 21], k: u8) -> 
     ensures lower { 11 ≤ k → result.lower < 36 ^ 11 }
 {
     let _count = lower.count();
+    let word = usize::from(k);
     if k < 11 {
         return Parts {
             upper: 0,
-            lower: sum_of_short(lower, places, k),
+            lower: words[word],
         };
     }
     if k == 11 {
-        return carried(0, sum_of_short(lower, places, k));
+        return carried(0, words[word]);
     }
     if k <= 22 {
-        let sums = sums_of_middle(lower, places, k);
-        return carried(sums.upper, sums.lower);
+        return carried(words[2 * word - 12], words[2 * word - 11]);
     }
     parts_of_long(
         sum_of_long(lower, places, k)
@@ -73,13 +81,12 @@ pub fn count_of(lower: &LowerRecords<'_>, places: &[RankedPlace; 21], k: u8) -> 
 
 /// A number in two parts, the lower one less than 36 ^ 11.
 #[inline(always)]
-fn carried(upper: u128, lower: u64) -> Parts
-    requires { upper ≤ 36 ^ 12 }
+fn carried(upper: u64, lower: u64) -> Parts
     ensures value { result.upper * 36 ^ 11 + result.lower ≡ upper * 36 ^ 11 + lower }
     ensures lower { result.lower < 36 ^ 11 }
 {
     Parts {
-        upper: upper + u128::from(lower / PART),
+        upper: u128::from(upper) + u128::from(lower / PART),
         lower: lower % PART,
     }
 }
@@ -92,47 +99,6 @@ fn parts_of_long(count: LongCount) -> Parts
     Parts {
         upper: count.upper(),
         lower: count.lower(),
-    }
-}
-
-/// The sum of the counts of at most 11 throws.
-fn sum_of_short(lower: &LowerRecords<'_>, places: &[RankedPlace; 21], k: u8) -> u64
-    ghost plays: { ℕ → ℕ }
-    requires few { k ≤ 11 }
-    requires places { ArePlaced lower.now.count plays places.now }
-    ensures { result ≡ weighted (λ v. count_at lower.now.bytes (plays (roll_index v)) k) }
-{
-    let records = lower.again();
-    let place = count_place(k.max(1));
-    let mut counts = [Word::NONE; 21];
-    for index in 0..21 {
-        counts[index] = short(&records, &places[index], k, place);
-    }
-    sum_of(&counts).number()
-}
-
-/// The sums of the parts of the counts of 12 to 22 throws.
-fn sums_of_middle(lower: &LowerRecords<'_>, places: &[RankedPlace; 21], k: u8) -> Parts
-    ghost plays: { ℕ → ℕ }
-    requires many { 12 ≤ k }
-    requires few { k ≤ 22 }
-    requires places { ArePlaced lower.now.count plays places.now }
-    ensures value { result.upper * 36 ^ 11 + result.lower
-        ≡ weighted (λ v. count_at lower.now.bytes (plays (roll_index v)) k) }
-    ensures upper { result.upper ≤ 36 ^ 12 }
-{
-    let records = lower.again();
-    let place = count_place(k);
-    let mut uppers = [Word::NONE; 21];
-    let mut lowers = [Word::NONE; 21];
-    for index in 0..21 {
-        let count = middle(&records, &places[index], k, place);
-        uppers[index] = count.upper;
-        lowers[index] = count.lower;
-    }
-    Parts {
-        upper: u128::from(sum_of(&uppers).number()),
-        lower: sum_of(&lowers).number(),
     }
 }
 
@@ -154,59 +120,8 @@ fn sum_of_long(lower: &LowerRecords<'_>, places: &[RankedPlace; 21], k: u8) -> L
     sum_of(&counts)
 }
 
-/// The count of at most 11 throws that a record tells, which begins at a place in it: one of no
-/// throw for the finished position alone, and none of more throws than a game from there can take.
-#[inline(always)]
-fn short(lower: &LowerRecords<'_>, placed: &RankedPlace, k: u8, place: usize) -> Word
-    requires few { k ≤ 11 }
-    requires place { 1 ≤ k → place ≡ count_place k }
-    requires placed { IsPlaced lower.now.count placed.now }
-    ensures { result ≡ count_at lower.now.bytes placed.now.rank k }
-{
-    let _count = lower.count();
-    if k > placed.rolls {
-        return Word::NONE;
-    }
-    if k > 0 {
-        return Word::of(lower.word(placed, place));
-    }
-    if placed.rolls == 0 {
-        return Word::ONE;
-    }
-    Word::NONE
-}
-
-/// The words of a count of 12 to 22 throws.
-#[derive(Clone, Copy)]
-struct MiddleWords {
-    upper: Word,
-    lower: Word,
-}
-
-/// .. of 12 to 22 throws.
-#[inline(always)]
-fn middle(lower: &LowerRecords<'_>, placed: &RankedPlace, k: u8, place: usize) -> MiddleWords
-    requires many { 12 ≤ k }
-    requires few { k ≤ 22 }
-    requires place { place ≡ count_place k }
-    requires placed { IsPlaced lower.now.count placed.now }
-    ensures { result.upper * 36 ^ 11 + result.lower
-        ≡ count_at lower.now.bytes placed.now.rank k }
-{
-    let _count = lower.count();
-    if k > placed.rolls {
-        return MiddleWords {
-            upper: Word::NONE,
-            lower: Word::NONE,
-        };
-    }
-    MiddleWords {
-        upper: Word::of(lower.word(placed, place)),
-        lower: Word::of(lower.word(placed, place + 8)),
-    }
-}
-
-/// .. of 23 to 33 throws.
+/// The count of 23 to 33 throws that a record tells, which begins at a place in it, and none of more
+/// throws than a game from there can take.
 #[inline(always)]
 fn long(lower: &LowerRecords<'_>, placed: &RankedPlace, k: u8, place: usize) -> LongCount
     requires many { 23 ≤ k }

@@ -1,87 +1,73 @@
-//! Words of the counts in accepted records, and their sums over the 21 rolls: none is tested.
-ghost use Rattle.std.specs.Prelude.{◌≡◌, ℕ, ◌*◌, ◌^◌, ◌≤◌};
-ghost use Rattle.fixed_fraction.specs.Board.{part, WeightedSum};
+//! Sums of the words of the counts in accepted records, over the 21 rolls. A count of at most 11
+//! throws is one word of 64 bits, and one of 12 to 22 throws two. Each is at most 36 ^ 11, so those
+//! of all 36 throws have room, and none is tested.
+ghost use Rattle.std.specs.Prelude.{◌≡◌, ℕ, ◌+◌, ◌*◌, ◌^◌, ◌<◌, ◌≤◌, ◌⊎◌, length, slice_index};
+ghost use Rattle.std.specs.Int.{w64, from_be_bytes};
+ghost use Rattle.race_model.specs.Dice.{roll_index, weighted};
+ghost use Rattle.race_model.specs.Files.{bytes_at};
+ghost use Rattle.fixed_fraction.specs.Board.{part};
+ghost use Rattle.board_records.specs.Lower.{ArePlaced, IsPlaced};
+ghost use Rattle.board_records.specs.Words.{word_at, AreWordSums};
 
-use fixed_fraction::Summand;
-use std::marker::Model;
+use crate::lower::{LowerRecords, RankedPlace};
+use board_layout::count_place;
+use db_layout::read_long;
+use fixed_fraction::WEIGHTS;
 
-/// A word of a count: at most 36 ^ 11, so that those of all 36 throws have room in 64 bits.
-#[derive(Clone, Copy)]
-pub(crate) struct Word {
-    number: u64,
+/// How many words the counts of 0 to 22 throws have: one each to 11 throws, and two beyond.
+pub const WORDS: usize = 34;
+
+/// The sums of the words of the counts of what 21 plays lead to, with the weights of the rolls.
+pub fn word_sums(lower: &LowerRecords<'_>, places: &[RankedPlace; 21]) -> [u64; WORDS]
+    ghost plays: { ℕ → ℕ }
+    requires places { ArePlaced lower.now.count plays places.now }
+    ensures sums { AreWordSums lower.now.bytes plays result }
+    ensures len { length result ≡ 34 }
+{
+    let _count = lower.count();
+    let mut sums = [0; WORDS];
+    for index in 0..21 {
+        add_words(&mut sums, lower, &places[index], WEIGHTS[index]);
+    }
+    sums
 }
 
-// Clauses see the number.
-impl Model for Word {
-    ghost Value = { ℕ };
-
-    ghost view = { λ word. word.number };
-
-    ghost invariant = { λ word. word.number ≤ part };
-
-    ghost inverse = { λ number. record { number = number } };
-}
-
-impl Word {
-    /// The word of nothing.
-    pub(crate) const NONE: Word = Word { number: 0 };
-
-    /// The word of one.
-    pub(crate) const ONE: Word = Word { number: 1 };
-
-    /// The word of a number.
-    #[inline(always)]
-    pub(crate) fn of(number: u64) -> Self
-        requires { number ≤ part }
-        ensures { result ≡ number }
-    {
-        Word { number }
+/// Adds the words of the counts that a record tells, with the weight of a roll.
+#[inline(always)]
+fn add_words(sums: &mut [u64; WORDS], lower: &LowerRecords<'_>, placed: &RankedPlace, weight: u8)
+    requires placed { IsPlaced lower.now.count placed.now }
+    requires weight { (weight ≡ 1) ⊎ (weight ≡ 2) }
+    requires room { (i : ℕ) → i < 34 → slice_index sums.old i + weight * part < 2 ^ 64 }
+    ensures added { (i : ℕ) → i < 34 → slice_index sums.new i
+        ≡ slice_index sums.old i + weight * word_at lower.now.bytes placed.now.rank i }
+    ensures len { length sums.new ≡ 34 }
+{
+    let _count = lower.count();
+    if placed.rolls == 0 {
+        sums[0] += u64::from(weight);
+        return;
+    }
+    let words = lower.words(placed);
+    if weight == 1 {
+        add(sums, words, 1);
+    } else {
+        add(sums, words, 2);
     }
 }
 
-/// A sum of words with their weights.
-#[derive(Drop)]
-pub(crate) struct WordSum {
-    sum: u64,
-    weight: u8,
-}
-
-// Clauses see the sum and the weight.
-impl Model for WordSum {
-    ghost Value = { WeightedSum };
-
-    ghost view = { λ words. record { weight = words.weight; sum = words.sum } };
-
-    ghost invariant = { λ words. (words.sum ≤ words.weight * part) × (words.weight ≤ 36) };
-}
-
-impl WordSum {
-    /// The sum.
-    #[inline(always)]
-    pub(crate) fn number(&self) -> u64
-        ensures { result ≡ self.now.sum }
-    {
-        self.sum
-    }
-}
-
-impl Summand for Word {
-    type Sum = WordSum;
-
-    ghost value = { λ word. word };
-
-    ghost total = { λ sum. sum };
-
-    #[inline(always)]
-    fn none() -> WordSum {
-        WordSum { sum: 0, weight: 0 }
-    }
-
-    #[inline(always)]
-    fn plus(sum: WordSum, weight: u8, word: Word) -> WordSum {
-        WordSum {
-            sum: sum.sum + u64::from(weight) * word.number,
-            weight: sum.weight + weight,
-        }
+/// Adds to all sums but the first the words in some bytes, as often as it says.
+#[inline(always)]
+fn add(sums: &mut [u64; WORDS], words: &[u8], times: u64)
+    requires few { length words.now ≤ 264 }
+    requires room { (i : ℕ) → 8 * i + 8 ≤ length words.now → slice_index sums.old (i + 1)
+        + times * from_be_bytes w64 (bytes_at words.now (8 * i) 8) < 2 ^ 64 }
+    ensures added { (i : ℕ) → 8 * i + 8 ≤ length words.now → slice_index sums.new (i + 1)
+        ≡ slice_index sums.old (i + 1) + times * from_be_bytes w64 (bytes_at words.now (8 * i) 8) }
+    ensures kept { (i : ℕ) → length words.now < 8 * i → slice_index sums.new i ≡ slice_index sums.old i }
+    ensures first { slice_index sums.new 0 ≡ slice_index sums.old 0 }
+    ensures len { length sums.new ≡ 34 }
+{
+    for index in 0..words.len() / 8 {
+        sums[index + 1] += times * read_long(words, 8 * index);
     }
 }

@@ -15,7 +15,7 @@ const INVERSE_OF_NINE: u128 = 75618303760208547436305468318170713657;
 
 /// How many of the 36 throws are each roll, by its index: one for a double, else two (the rules of
 /// backgammon: 36 throws count equally).
-pub(crate) const WEIGHTS: [u8; 21] = [
+pub const WEIGHTS: [u8; 21] = [
     1, 2, 1, 2, 2, 1, 2, 2, 2, 1, 2, 2, 2, 2, 1, 2, 2, 2, 2, 2, 1,
 ];
 

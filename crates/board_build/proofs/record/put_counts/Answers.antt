@@ -8,6 +8,11 @@ use Rattle.board_records.proofs.Weighted.{weighted-by_index}
 use Rattle.board_build.proofs.Counts.{ranks_of, ranks-are, ranks-placed, written-next, value-next}
 use Rattle.board_build.proofs.record.put_counts.Goals as goal
 
+pub word_sums-words-requires : goal.word_sums-words-requires
+word_sums-words-requires c =
+    ranks-placed c.args.lower.now.count c.args.plays.now c.places-places.result
+    c.places-places.ensures
+
 pub count_of-requires : goal.count_of-requires
 count_of-requires c = (
   omega (
@@ -16,8 +21,11 @@ count_of-requires c = (
     c.most_rolls-k-end.ensures,
     most_rolls-board c.args.pips c.requires.low,
   ),
-  ranks-placed c.args.lower.now.count c.args.plays.now c.places-places.result
-      c.places-places.ensures,
+  (
+    ranks-placed c.args.lower.now.count c.args.plays.now c.places-places.result
+        c.places-places.ensures,
+    c.word_sums-words.ensures.sums,
+  ),
 )
 
 pub loop-k-preserved : goal.loop-k-preserved

@@ -7,6 +7,9 @@ use Rattle.board_build.proofs.Counts.{ranks_of}
 use Rattle.board_build.proofs.record.put_counts.Given as goal
 
 -- the ranks whose places they are
+abbrev pub ghost-word_sums : goal.ghost-word_sums
+ghost-word_sums a = slice_index (ranks_of a.places.now)
+
 abbrev pub ghost-count_of : goal.ghost-count_of
 ghost-count_of a = slice_index (ranks_of a.places.now)
 

@@ -37,7 +37,7 @@ module _ (c : After-part_of) where
   mean_is : mean_parts c.part_of.result.now
       ≡ mean_parts (board_record c.self.inside.bytes.now c.args.rank)
   mean_is =
-      ap mean_parts c.part_of.ensures
+      ap mean_parts c.part_of.ensures.bytes
       ∙ mean-alone c.self.inside.bytes.now
       (slice_index c.self.inside.offsets.now c.from.result) c.args.rank (begins here)
 
@@ -47,7 +47,7 @@ invariant_of-result c =
     record {
       long = omega (
         arith,
-        ap length c.part_of.ensures,
+        ap length c.part_of.ensures.bytes,
         length-bytes_at c.self.inside.bytes.now
             (slice_index c.self.inside.offsets.now c.from.result) 24 (inside (here c)),
       );

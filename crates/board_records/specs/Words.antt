@@ -1,0 +1,26 @@
+-- The counts of a record as words of 64 bits. Source: this project's profile.
+use Rattle.std.specs.Prelude.{◌≡◌, ℕ, zero, suc, ◌+◌, ◌-◌, ◌*◌, ◌<◌, min, nat_le, if◌then◌else◌}
+use Rattle.std.specs.Prelude.{List, slice_index}
+use Rattle.std.specs.Int.{w64, from_be_bytes}
+use Rattle.race_model.specs.Positions.{pips}
+use Rattle.race_model.specs.Dice.{roll_index, weighted}
+use Rattle.race_model.specs.Ranks.{at_rank}
+use Rattle.race_model.specs.Files.{bytes_at}
+use Rattle.race_model.specs.BoardFiles.{board_record, board_length, count_at, count_place}
+
+-- a word of the counts of at most 22 throws that are told for a rank: that of no throw, and then
+-- those that stand in its record, or 0 beyond them
+unfoldable pub word_at : List ℕ → ℕ → ℕ → ℕ
+word_at f r zero = count_at f r 0
+word_at f r (suc i) =
+    if nat_le (74 + 8 * i) (board_length (pips (at_rank r)))
+    then from_be_bytes w64 (bytes_at (board_record f r) (66 + 8 * i) 8) else 0
+
+-- how many bytes the counts of 1 to 22 throws have, of a position that needs at most so many rolls
+abbrev pub words_length : ℕ → ℕ
+words_length rolls = count_place (min rolls 22 + 1) - 66
+
+-- the sums of the words of what 21 plays lead to, with the weights of the rolls
+abbrev pub AreWordSums : List ℕ → (ℕ → ℕ) → List ℕ → Type 0
+AreWordSums f plays sums =
+    (i : ℕ) → i < 34 → slice_index sums i ≡ weighted (λ v. word_at f (plays (roll_index v)) i)
