@@ -1,8 +1,10 @@
-// What a page says to a reader who hears it, and whether it can be seen: roles and names in Chromium's own accessibility
+// What a page says to a reader who hears it, and whether it can be seen: roles and names in Chromium's own
+// accessibility
 // tree, labels that have what is seen, one stop of Tab for a group, and contrasts of what is drawn.
 
 // The roles of what one acts on, each of which needs a name.
-const ACTED_ON = new Set(["button", "checkbox", "textbox", "spinbutton", "link", "toolbar", "progressbar", "DisclosureTriangle"]);
+const ACTED_ON = new Set(["button", "checkbox", "textbox", "spinbutton", "link", "toolbar", "progressbar",
+        "DisclosureTriangle"]);
 
 // The roles of what has to have a name too, since it stands for something.
 const NAMED = new Set(["image", "img", "table", "region", "dialog"]);
@@ -116,34 +118,42 @@ const look = (isStart) => `(() => {
     return { faults, compared, seen };
 })()`;
 
-// The faults of an open page, in words, and how much was compared. At its start a roll of it is chosen, and positions are
+// The faults of an open page, in words, and how much was compared. At its start a roll of it is chosen, and positions
+// are
 // kept.
 export async function audit(page, isStart = true) {
     const { faults, compared, seen } = await page.value(look(isStart));
     await page.send("DOM.enable");
     await page.send("Accessibility.enable");
     const { nodes } = await page.send("Accessibility.getFullAXTree");
-    const told = nodes.filter(({ ignored }) => !ignored).map(({ role, name, value, backendDOMNodeId, properties = [] }) => ({
-        role: role?.value, value: value?.value, name: (name?.value || "").replace(/\s+/g, " ").trim(), node: backendDOMNodeId,
+    const told = nodes.filter(({ ignored }) => !ignored)
+            .map(({ role, name, value, backendDOMNodeId, properties = [] }) => ({
+        role: role?.value, value: value?.value, name: (name?.value || "").replace(/\s+/g, " ").trim(),
+            node: backendDOMNodeId,
         properties: Object.fromEntries(properties.map((property) => [property.name, property.value?.value])),
     }));
     const roles = (role) => told.filter((node) => node.role === role);
     for (const { role, name } of told) {
         if ((ACTED_ON.has(role) || NAMED.has(role)) && !name) faults.push(`a ${role} has no name`);
     }
-    for (const [role, count] of [["banner", 1], ["main", 1], ["contentinfo", 1], ["spinbutton", 6], ["toolbar", 2], ["status", 2]]) {
+    for (const [role, count] of [["banner", 1], ["main", 1], ["contentinfo", 1], ["spinbutton", 6], ["toolbar", 2],
+            ["status", 2]]) {
         if (!isStart && role !== "main") continue;
         if (roles(role).length !== count) faults.push(`${roles(role).length} of the role ${role}, and not ${count}`);
     }
     for (const { name, value } of roles("spinbutton")) {
         if (!/^Point [1-6]$/.test(name) || !/^\d+$/.test(value)) faults.push(`a point is called ${name}, ${value}`);
     }
-    if (isStart && !roles("group").some(({ name }) => name.startsWith("Home board"))) faults.push("the board has no name");
+    if (isStart && !roles("group").some(({ name }) =>
+            name.startsWith("Home board"))) faults.push("the board has no name");
     const toolbars = roles("toolbar").map(({ name }) => name).sort().join();
     if (isStart && toolbars !== "Plays,The 21 rolls") faults.push(`the groups are called ${toolbars}`);
     const levels = roles("heading").map(({ properties }) => properties.level);
-    if (levels.filter((level) => level === 1).length !== 1 || levels.some((level, place) => level > (levels[place - 1] ?? 0) + 1)) faults.push(`headings of the levels ${levels}`);
-    const pressed = told.filter(({ role, properties }) => role === "button" && properties.pressed === "true").map(({ name }) => name);
+    if (levels.filter((level) => level === 1).length !== 1
+            || levels.some((level, place) => level > (levels[place - 1] ?? 0)
+        + 1)) faults.push(`headings of the levels ${levels}`);
+    const pressed = told.filter(({ role, properties }) => role === "button" && properties.pressed === "true")
+            .map(({ name }) => name);
     if (isStart && pressed.length !== 2) faults.push(`pressed are ${pressed.join("; ")}`);
     const names = [...roles("button"), ...roles("textbox")].map(({ role, name }) => `${role} ${name}`);
     for (const name of new Set(names)) {
@@ -160,7 +170,8 @@ export async function audit(page, isStart = true) {
         const { text } = seen.find((one) => one.number === number);
         const found = told.find((one) => one.node === node.backendNodeId);
         if (!found) faults.push(`what shows "${text}" isn't told`);
-        else if (!found.name.toLowerCase().includes(text.toLowerCase())) faults.push(`what shows "${text}" is called "${found.name}"`);
+        else if (!found.name.toLowerCase()
+                .includes(text.toLowerCase())) faults.push(`what shows "${text}" is called "${found.name}"`);
         else labels += 1;
     }
     return { faults, compared, labels, told: told.length };

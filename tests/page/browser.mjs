@@ -135,7 +135,8 @@ export class Browser extends Program {
     }
 
     // A page at an address, of a size, in light, dark or forced colours, in which a script runs before all others.
-    async open(address, { width = 1280, height = 900, colours = "light", mobile = false, before = "", scripts = true } = {}) {
+    async open(address, { width = 1280, height = 900, colours = "light", mobile = false, before = "",
+            scripts = true } = {}) {
         const { targetId } = await this.send("Target.createTarget", { url: "about:blank" });
         const { sessionId } = await this.send("Target.attachToTarget", { targetId, flatten: true });
         const page = new Page(this, sessionId, targetId);
@@ -186,16 +187,19 @@ export class Page extends AnyPage {
     // A click at a place of the window, whatever stands there.
     async press({ x, y }, { shift = false, button = "left" } = {}) {
         for (const type of ["mousePressed", "mouseReleased"]) {
-            await this.send("Input.dispatchMouseEvent", { type, x, y, button, clickCount: 1, modifiers: shift ? 8 : 0 });
+            await this.send("Input.dispatchMouseEvent",
+                { type, x, y, button, clickCount: 1, modifiers: shift ? 8 : 0 });
         }
     }
 
     // A drag from the middle of an element to that of another one, both in sight.
     async drag(from, to) {
         const [start, end] = [await this.middle(from), await this.middle(to)];
-        const mouse = (type, x, y) => this.send("Input.dispatchMouseEvent", { type, x, y, button: "left", buttons: type === "mouseReleased" ? 0 : 1, clickCount: 1 });
+        const mouse = (type, x, y) => this.send("Input.dispatchMouseEvent",
+            { type, x, y, button: "left", buttons: type === "mouseReleased" ? 0 : 1, clickCount: 1 });
         await mouse("mousePressed", start.x, start.y);
-        for (const part of [0.2, 0.6, 1]) await mouse("mouseMoved", start.x + part * (end.x - start.x), start.y + part * (end.y - start.y));
+        for (const part of [0.2, 0.6, 1]) await mouse("mouseMoved", start.x + part * (end.x - start.x),
+            start.y + part * (end.y - start.y));
         await mouse("mouseReleased", end.x, end.y);
     }
 
@@ -215,7 +219,8 @@ export class Page extends AnyPage {
         const touch = (type, ...touchPoints) => this.send("Input.dispatchTouchEvent", { type, touchPoints });
         await touch("touchStart", start);
         for (let part = 1; part <= 8; part += 1) {
-            await touch("touchMove", { x: start.x + (part / 8) * (end.x - start.x), y: start.y + (part / 8) * (end.y - start.y) });
+            await touch("touchMove", { x: start.x + (part / 8) * (end.x - start.x),
+                    y: start.y + (part / 8) * (end.y - start.y) });
             await wait(16);
         }
         await touch("touchEnd");
@@ -257,7 +262,8 @@ export class Page extends AnyPage {
 
     // What went wrong in the page, and what its policy refused.
     troubles() {
-        return this.browser.events.filter((event) => event.sessionId === this.sessionId).flatMap(({ method, params }) => {
+        return this.browser.events.filter((event) => event.sessionId === this.sessionId)
+                .flatMap(({ method, params }) => {
             if (method === "Runtime.exceptionThrown") {
                 return [params.exceptionDetails.exception?.description || params.exceptionDetails.text];
             }
@@ -371,7 +377,8 @@ class FirefoxPage extends AnyPage {
         const [start, end] = [await this.middle(from), await this.middle(to)];
         const move = ({ x, y }) => ({ type: "pointerMove", x, y, origin: "viewport", duration: 50 });
         await this.perform("pointer", [
-            move(start), { type: "pointerDown", button: 0 }, move({ x: Math.round((start.x + end.x) / 2), y: start.y }), move(end), { type: "pointerUp", button: 0 },
+            move(start), { type: "pointerDown", button: 0 }, move({ x: Math.round((start.x + end.x) / 2), y: start.y }),
+                move(end), { type: "pointerUp", button: 0 },
         ], { parameters: { pointerType: "mouse" } });
     }
 
@@ -396,5 +403,6 @@ class FirefoxPage extends AnyPage {
 // The browsers that are installed, each started.
 export async function started(kinds = ["chromium", "firefox"]) {
     const found = kinds.map((kind) => [kind, installed(kind)]).filter(([, program]) => program);
-    return Promise.all(found.map(([kind, program]) => (kind === "chromium" ? new Browser(program) : new Firefox(program).start())));
+    return Promise.all(found.map(([kind, program]) => (kind === "chromium" ? new Browser(program)
+            : new Firefox(program).start())));
 }

@@ -13,7 +13,8 @@ import { positions } from "../../web/themes.js";
 import { readLessons } from "../../web/trainer.js";
 import { audit } from "./audit.mjs";
 import { legalFrom } from "./stand_in.mjs";
-import { effectOf, equal as same, isJoined, pagePath, part, programPath, testedFolder, wrong as fault } from "./given.mjs";
+import { effectOf, equal as same, isJoined, pagePath, part, programPath, testedFolder,
+    wrong as fault } from "./given.mjs";
 
 const address = pathToFileURL(pagePath()).href;
 const program = programPath();
@@ -87,7 +88,8 @@ async function compareWatched(page, name, least) {
             const [, mean, , , effective] = ask(`mean ${position}`).split(" ");
             const [above, below] = mean.split("/").map(BigInt);
             const thousandths = (2000n * above + below) / (2n * below);
-            right.push((Number(thousandths) / 1000).toFixed(3), effective, (Number(effective) - pipsOf(position)).toFixed(3));
+            right.push((Number(thousandths) / 1000).toFixed(3), effective,
+                (Number(effective) - pipsOf(position)).toFixed(3));
             told += 1;
         }
         figures.forEach((figure, place) => {
@@ -110,7 +112,8 @@ const SHOWN = `({
 
 // The numbers on the page are those of the program for the position.
 async function compare(page, name, position) {
-    await page.until(`document.getElementById("counts").value === "${position}"`, 5000).catch(() => wrong(`${name}: the board isn't ${position}`));
+    await page.until(`document.getElementById("counts").value === "${position}"`,
+        5000).catch(() => wrong(`${name}: the board isn't ${position}`));
     const [, mean, , epc, rounded] = ask(`mean ${position}`).split(" ");
     await page.until(`document.querySelectorAll(".figure dd")[2].textContent.startsWith("${rounded}")`, 5000)
         .catch(() => wrong(`${name}: no effective pip count of ${rounded}`));
@@ -123,7 +126,8 @@ async function compare(page, name, position) {
     equal(`${name}, said`, shown.said.includes(`effective pip count ${rounded}`), true);
 }
 
-// Every roll's best play is the recorded one with the loss of the next best, and the chosen roll's plays are those of the
+// Every roll's best play is the recorded one with the loss of the next best, and the chosen roll's plays are those of
+// the
 // program.
 async function compareRolls(page, position) {
     await page.until('document.querySelector(".rolls .next")');
@@ -131,26 +135,33 @@ async function compareRolls(page, position) {
         [roll.dataset.key.slice(5), roll.querySelector(".best").textContent, roll.querySelector(".next").textContent])`);
     equal("how many rolls", rolls.length, 21);
     for (const [roll, text, next] of rolls) {
-        equal(`the best play of ${roll}`, effectOf(text), effectOf(ask(`play ${position} ${roll}`).split(" to ")[0].slice(5)));
+        equal(`the best play of ${roll}`, effectOf(text),
+            effectOf(ask(`play ${position} ${roll}`).split(" to ")[0].slice(5)));
         equal(`${text} as players write it`, isJoined(text), true);
-        const losses = ask(`moves ${position} ${roll}`).split(" ").slice(1).map((word) => word.split(":")[1].split("/").map(BigInt))
-            .map(([above, below]) => (2000n * above + below) / (2n * below)).sort((one, other) => (one < other ? -1 : one > other ? 1 : 0));
-        equal(`the next best of ${roll}`, next, losses.length === 1 ? "only play" : `then \u2212${(Number(losses[1]) / 1000).toFixed(3)}`);
+        const losses = ask(`moves ${position} ${roll}`).split(" ").slice(1)
+                .map((word) => word.split(":")[1].split("/").map(BigInt))
+            .map(([above, below]) => (2000n * above + below) / (2n * below)).sort((one,
+                    other) => (one < other ? -1 : one > other ? 1 : 0));
+        equal(`the next best of ${roll}`, next, losses.length === 1 ? "only play"
+                : `then \u2212${(Number(losses[1]) / 1000).toFixed(3)}`);
     }
     await page.click('[data-key="roll 31"]');
     await page.until('document.querySelector(".plays")');
     const costs = await page.value('[...document.querySelectorAll("#plays .cost")].map((cost) => cost.title.split(" ")[0])');
-    equal("what the plays of 31 lose", costs, ask(`moves ${position} 31`).split(" ").slice(1).map((word) => word.split(":")[1]));
+    equal("what the plays of 31 lose", costs,
+        ask(`moves ${position} 31`).split(" ").slice(1).map((word) => word.split(":")[1]));
     equal("arcs on the board", await page.value('document.querySelectorAll("#board .arc").length'), 2);
     await page.click(".plays button:last-child");
     // a long fraction is told as a decimal
     const [loss] = (await page.value('document.querySelector(".plays button:last-child .cost").title')).split(" ");
-    const toldLoss = (await page.value('document.querySelector(".loss").textContent')).match(/ loses (\S+) of a roll/)?.[1];
+    const toldLoss = (await page.value('document.querySelector(".loss").textContent'))
+            .match(/ loses (\S+) of a roll/)?.[1];
     equal("exactly", loss.length <= 24 ? toldLoss : /^\d\.\d{3}$/.test(toldLoss) && loss, loss);
     await page.until('!document.querySelector(".loss").textContent.includes("\u2026")');
     const [above, below] = costs.at(-1).split("/").map(BigInt);
     const lost = (Number((2n * 49000n * above + 6n * below) / (12n * below)) / 1000).toFixed(3);
-    equal("in EPC", (await page.value('document.querySelector(".loss").textContent')).split(", ")[1] ?? "nothing", above === 0n ? "nothing" : `${lost} pips of EPC.`);
+    equal("in EPC", (await page.value('document.querySelector(".loss").textContent')).split(", ")[1] ?? "nothing",
+        above === 0n ? "nothing" : `${lost} pips of EPC.`);
 }
 
 // The bars are as long as the chances beside them.
@@ -167,7 +178,8 @@ async function compareBars(page) {
 async function driveBoard(browser) {
     const page = await browser.open(address, { before: WATCH });
     await page.until(READY);
-    const [isMouse, how] = await page.value('[matchMedia("(hover: hover)").matches, document.getElementById("how").innerText]');
+    const [isMouse,
+        how] = await page.value('[matchMedia("(hover: hover)").matches, document.getElementById("how").innerText]');
     equal("how a point is set", how.startsWith(isMouse ? "Click" : "Tap"), true);
     if (browser.name === "Chromium") equal("with a mouse", isMouse, true);
     await compare(page, "the first position", "2,2,2,2,2,2");
@@ -194,7 +206,8 @@ async function driveBoard(browser) {
     await page.value('document.getElementById("counts").select()');
     for (const key of ["9", " ", "9", "Enter"]) await page.key(key);
     await page.until('!document.getElementById("why").hidden');
-    equal("why not", await page.value('document.getElementById("why").textContent'), "Six counts are wanted, and here are 2.");
+    equal("why not", await page.value('document.getElementById("why").textContent'),
+        "Six counts are wanted, and here are 2.");
     await page.value('document.getElementById("counts").select()');
     for (const key of ["0", " ", "0", " ", "0", " ", "4", " ", "4", " ", "1", "Enter"]) await page.key(key);
     await compare(page, "nine checkers", "0,0,0,4,4,1");
@@ -207,7 +220,8 @@ async function driveBoard(browser) {
 async function driveTimes(page) {
     const { ready, bar } = await page.value("watched");
     console.log(`page: ready after ${ready.toFixed(0)} ms, with a bar that moved ${new Set(bar).size} times`);
-    (new Set(bar).size > 5 && bar.every((part, place) => place === 0 || part >= bar[place - 1])) || wrong(`the bar moved on so: ${bar.join(" ")}`);
+    (new Set(bar).size > 5 && bar.every((part, place) => place === 0 || part >= bar[place - 1]))
+        || wrong(`the bar moved on so: ${bar.join(" ")}`);
     const times = await page.value(`(async () => {
         const times = [];
         for (const [key, pips] of [["Add 2", 44], ["Remove 2", 42], ["Add 1", 43], ["Remove 1", 42], ["Add 2", 44]]) {
@@ -237,14 +251,17 @@ async function driveKeyboard(browser) {
         return path;
     };
     const plays = ask("moves 0,0,0,1,0,1 21").split(" ").length - 1;
-    const path = await go("#guess", ["Tab", "ArrowRight", "ArrowRight", "ArrowLeft", "Enter", "Tab", "End", "Tab", "Enter"]);
+    const path = await go("#guess", ["Tab", "ArrowRight", "ArrowRight", "ArrowLeft", "Enter", "Tab", "End", "Tab",
+            "Enter"]);
     const texts = path.map((key) => (key.startsWith("play ") ? "play" : key));
-    equal("where keys lead", texts, ["roll 11", "roll 21", "roll 22", "roll 21", "roll 21", "play", "play", "onward", "roll 21"]);
+    equal("where keys lead", texts, ["roll 11", "roll 21", "roll 22", "roll 21", "roll 21", "play", "play", "onward",
+            "roll 21"]);
     equal("to the first and the last play", path[5] !== path[6], plays > 1);
     await page.until(`document.getElementById("counts").value === "${ask("play 0,0,0,1,0,1 21").split(" to ")[1]}"`);
     equal("Keep", await go("#keep", ["Enter"]), ["keep"]);
     equal("kept", await page.value('document.querySelectorAll(".kept tbody tr").length'), 3);
-    equal("Escape", (await go('[data-key="roll 31"]', ["Enter", "Tab", "Escape"])).map((key) => key.split(" ")[0]), ["roll", "play", "roll"]);
+    equal("Escape", (await go('[data-key="roll 31"]', ["Enter", "Tab", "Escape"])).map((key) => key.split(" ")[0]),
+        ["roll", "play", "roll"]);
     await page.until('![...document.querySelectorAll(".kept td[data-head]")].some((cell) => cell.textContent === "\u2026")');
     const rows = await page.value('[...document.querySelectorAll(".kept .remove")].map((button) => button.dataset.key)');
     equal("Remove", await go(`[data-key="${rows[0]}"]`, ["Enter", "Enter", "Enter"]), [rows[1], rows[2], "keep"]);
@@ -262,13 +279,17 @@ async function drivePasted(browser) {
         await page.key("Enter");
     };
     const told = JSON.parse(readFileSync(new URL("../callers/notation_texts.json", import.meta.url), "utf8"));
-    const dice = told.read.filter(([text, points, , roll]) => roll && pipsOf(points.join()) > 0 && pipsOf(points.join()) <= 44 && /^(XGID|Position|GNU|[A-Za-z0-9+/]{14}:)/.test(text));
+    const dice = told.read.filter(([text, points, , roll]) => roll && pipsOf(points.join()) > 0
+            && pipsOf(points.join()) <= 44 && /^(XGID|Position|GNU|[A-Za-z0-9+/]{14}:)/.test(text));
     for (const [text, points, , roll] of [...dice.slice(0, 3), ...dice.slice(-3)]) {
         await give(text);
         await compare(page, text, points.join());
         await page.until('document.querySelector(".plays")');
-        equal(`the roll of ${text}`, await page.value('document.querySelector(".rolls [aria-pressed=true]").dataset.key'), `roll ${roll.join("")}`);
-        equal(`its plays`, await page.value('[...document.querySelectorAll("#plays .cost")].map((cost) => cost.title.split(" ")[0])'),
+        equal(`the roll of ${text}`,
+            await page.value('document.querySelector(".rolls [aria-pressed=true]").dataset.key'),
+            `roll ${roll.join("")}`);
+        equal(`its plays`,
+            await page.value('[...document.querySelectorAll("#plays .cost")].map((cost) => cost.title.split(" ")[0])'),
             ask(`moves ${points.join()} ${roll.join("")}`).split(" ").slice(1).map((word) => word.split(":")[1]));
     }
     const at = await page.value('document.getElementById("counts").value');
@@ -277,7 +298,8 @@ async function drivePasted(browser) {
             || told.refused.find(([given, is]) => is === code && /[A-Za-z]{3}/.test(given));
         await give(text);
         await page.until('!document.getElementById("why").hidden');
-        equal(`${code}, in words`, await page.value('document.getElementById("why").textContent'), `This is no bearoff race: ${line}`);
+        equal(`${code}, in words`, await page.value('document.getElementById("why").textContent'),
+            `This is no bearoff race: ${line}`);
         equal(`${code}: the board stays`, (await page.value(SHOWN)).values, at);
         await page.value('document.getElementById("counts").select()');
         await give(at);
@@ -290,7 +312,8 @@ async function driveGuess(page) {
     await page.click("#guess");
     await page.click('[data-key="roll 21"]');
     await page.until('document.querySelector(".plays")');
-    equal("a guess hides the best play", await page.value('document.querySelector("#grid").textContent.includes("/")'), false);
+    equal("a guess hides the best play", await page.value('document.querySelector("#grid").textContent.includes("/")'),
+        false);
     equal("a guess shows no arc", await page.value('document.querySelectorAll(".arc").length'), 0);
     equal("a guess tells no loss", await page.value('document.querySelectorAll("#plays .cost").length'), 0);
     await page.click(".plays button:last-child");
@@ -308,7 +331,8 @@ async function driveGuess(page) {
 async function driveSum(browser) {
     const page = await browser.open(`${address}#at=0,0,0,1,0,1&guess=1&p=0,0,0,1,0,0&p=1,1,0,0,0,0`);
     await page.until(`${READY} && document.querySelector(".rolls button")`);
-    equal("the kept numbers are hidden", await page.value('[...new Set([...document.querySelectorAll(".kept td[data-head]")].map((cell) => cell.textContent))]'), ["\u2026"]);
+    equal("the kept numbers are hidden",
+        await page.value('[...new Set([...document.querySelectorAll(".kept td[data-head]")].map((cell) => cell.textContent))]'), ["\u2026"]);
     let sum = [0n, 1n];
     for (const roll of ["52", "61", "41"]) {
         await page.click(`[data-key="roll ${roll}"]`);
@@ -316,16 +340,20 @@ async function driveSum(browser) {
         const text = await page.value('document.querySelector(".plays button:last-child .moves").textContent');
         await page.click(".plays button:last-child");
         await page.until('document.querySelector(".verdict") && !document.querySelector(".verdict").textContent.includes("\u2026")');
-        const [above, below] = (await page.value(`document.querySelector('[data-key="play ${text}"] .cost').title`)).split(" ")[0].split("/").map(BigInt);
+        const [above, below] = (await page.value(`document.querySelector('[data-key="play ${text}"] .cost').title`))
+                .split(" ")[0].split("/").map(BigInt);
         sum = [sum[0] * below + above * sum[1], sum[1] * below];
     }
     const told = (await page.value('document.querySelector(".verdict p").textContent')).match(/Exactly: (\d+)\/(\d+)/);
-    equal("the sum of three losses", told ? BigInt(told[1]) * sum[1] === BigInt(told[2]) * sum[0] : sum[0] === 0n, true);
-    equal("then the kept numbers are there", await page.value('document.querySelector(".kept").textContent.includes("\u2026")'), false);
+    equal("the sum of three losses", told ? BigInt(told[1]) * sum[1] === BigInt(told[2]) * sum[0] : sum[0] === 0n,
+        true);
+    equal("then the kept numbers are there",
+        await page.value('document.querySelector(".kept").textContent.includes("\u2026")'), false);
 }
 
 // A machine on which the first build takes so many milliseconds, as the page is told. The second worker begins `late`
-// milliseconds after it was asked; before the scripts of the first `bad` of such workers stands `prefix`. What the page asks
+// milliseconds after it was asked; before the scripts of the first `bad` of such workers stands `prefix`. What the page
+// asks
 // of the workers is kept.
 const machine = (took, { late = 0, bad = 0, prefix = "" } = {}) => `(() => {
     const Real = window.Worker;
@@ -371,10 +399,12 @@ async function giveCounts(page, position) {
 async function driveWider(browser) {
     const [near, far] = ["2,2,2,2,2,1", "0,0,0,3,5,7"];
     const SHOWS = '[document.getElementById("open").textContent, document.getElementById("bar").hidden, document.getElementById("trouble").hidden, document.getElementById("wider").hidden]';
-    const isOpen = (page, bound) => page.until(`document.getElementById("open").textContent === "${bound} pips"`, 60000);
+    const isOpen = (page, bound) => page.until(`document.getElementById("open").textContent === "${bound} pips"`,
+        60000);
 
     // a fast machine, whose second build takes its time so that it is met
-    const fast = await browser.open(`${address}#at=2,2,2,2,2,2&roll=31`, { before: machine(500, { late: 1200 }) + WATCH });
+    const fast = await browser.open(`${address}#at=2,2,2,2,2,2&roll=31`,
+        { before: machine(500, { late: 1200 }) + WATCH });
     await fast.until(`${READY} && ${KNOWN} && document.querySelector(".plays")`);
     equal("fast: the first number comes of 44 pips", await fast.value(SHOWS), ["44 pips", true, true, true]);
     await fast.until("workers.length === 2", 5000);
@@ -384,7 +414,8 @@ async function driveWider(browser) {
     equal("fast: nothing is said of it", await fast.value(SHOWS), ["44 pips", true, true, true]);
     await fast.value('window.before = document.querySelector("main").innerHTML');
     await isOpen(fast, 90);
-    equal("fast: nothing changes with it", await fast.value('document.querySelector("main").innerHTML === before'), true);
+    equal("fast: nothing changes with it", await fast.value('document.querySelector("main").innerHTML === before'),
+        true);
     equal("fast: one worker is left", (await fast.value(WORKERS)).map(([, isEnded]) => isEnded), [true, false]);
     await giveCounts(fast, far);
     await compare(fast, "fast: 79 pips", far);
@@ -399,8 +430,10 @@ async function driveWider(browser) {
     equal("slow: not unasked", await slow.value(WORKERS), [["start 44", false]]);
     await giveCounts(slow, far);
     await slow.until("workers.length === 2 && !document.getElementById('bar').hidden");
-    equal("slow: it says so", await slow.value(`[document.querySelector("#numbers .hint").textContent, document.getElementById("said").textContent, ${SHOWS}].flat()`),
-        ["The database of 90 pips is being built for it.", "79 pips: the database of 90 pips is being built.", "44 pips", false, true, true]);
+    equal("slow: it says so",
+        await slow.value(`[document.querySelector("#numbers .hint").textContent, document.getElementById("said").textContent, ${SHOWS}].flat()`),
+        ["The database of 90 pips is being built for it.", "79 pips: the database of 90 pips is being built.",
+            "44 pips", false, true, true]);
     equal("slow: nothing is known yet", (await slow.value(SHOWN)).figures, ["79", "\u2026", "\u2026", "\u2026"]);
     await giveCounts(slow, near);
     await compare(slow, "slow: the first answers meanwhile", near);
@@ -421,17 +454,22 @@ async function driveWider(browser) {
     equal("a link to 79 pips builds once", await linked.value(WORKERS), [["start 90", false]]);
 
     // no memory for it: unasked it is silent, and where it is needed it is said; then it is tried again by its button
-    for (const [what, prefix] of [["no memory", NO_MEMORY], ["a worker that dies", "setTimeout(() => { throw new Error('gone'); }, 0); self.onmessage = () => {}; Object.defineProperty(self, 'onmessage', { set() {} });"]]) {
+    for (const [what, prefix] of [["no memory", NO_MEMORY],
+            ["a worker that dies",
+        "setTimeout(() => { throw new Error('gone'); }, 0); self.onmessage = () => {}; Object.defineProperty(self, 'onmessage', { set() {} });"]]) {
         const page = await browser.open(address, { before: machine(500, { bad: 2, prefix }) + WATCH });
         await page.until(`${READY} && ${KNOWN} && document.querySelector(".rolls .next")`);
-        await page.until("workers.length === 2 && workers[1].isEnded", 5000).catch(() => wrong(`${what}: the second worker isn't let go`));
-        equal(`${what}: in silence`, [await page.value(SHOWS), await page.value(WORKERS)], [["44 pips", true, true, true], [["start 44", false], ["start 90", true]]]);
+        await page.until("workers.length === 2 && workers[1].isEnded",
+            5000).catch(() => wrong(`${what}: the second worker isn't let go`));
+        equal(`${what}: in silence`, [await page.value(SHOWS), await page.value(WORKERS)],
+            [["44 pips", true, true, true], [["start 44", false], ["start 90", true]]]);
         await giveCounts(page, near);
         await compare(page, `${what}: the first answers`, near);
         await giveCounts(page, far);
         await page.until("!document.getElementById('trouble').hidden");
         const told = await page.value('document.getElementById("trouble").textContent');
-        (told.startsWith("The database of 90 pips couldn\u2019t be built: ") && told.endsWith(" That of 44 pips goes on.")) || wrong(`${what}: it says ${told}`);
+        (told.startsWith("The database of 90 pips couldn\u2019t be built: ")
+                && told.endsWith(" That of 44 pips goes on.")) || wrong(`${what}: it says ${told}`);
         equal(`${what}: where it is needed`, await page.value(SHOWS), ["44 pips", true, false, false]);
         await giveCounts(page, near);
         await compare(page, `${what}: the first still answers`, near);
@@ -446,21 +484,25 @@ async function driveWider(browser) {
     }
 }
 
-// On the free board a roll is guessed by moving checkers, by mouse, by dragging, by keys and by touch: what it loses is the
+// On the free board a roll is guessed by moving checkers, by mouse, by dragging, by keys and by touch: what it loses is
+// the
 // program's.
 async function driveGuessed(browser) {
     const isChromium = browser.name === "Chromium";
     const position = "0,1,0,1,0,1";
     for (const way of ["mouse", "drag", "keys", ...(isChromium ? ["touch"] : [])]) {
         const isSmall = way === "touch";
-        const page = await browser.open(`${address}#at=${position}&guess=1`, isSmall ? { width: 360, height: 780, mobile: true } : {});
+        const page = await browser.open(`${address}#at=${position}&guess=1`,
+            isSmall ? { width: 360, height: 780, mobile: true } : {});
         await page.until(`${READY} && document.querySelector(".rolls button")`);
         if (isSmall) {
             // with few plays, and with more than the sheet has room for
             for (const [at, roll] of [[position, "52"], ["2,2,2,2,2,2", "31"]]) {
-                const linked = await browser.open(`${address}#at=${at}&guess=1&roll=${roll}`, { width: 360, height: 780, mobile: true });
+                const linked = await browser.open(`${address}#at=${at}&guess=1&roll=${roll}`,
+                    { width: 360, height: 780, mobile: true });
                 await linked.until('document.querySelector("#board .source") && document.querySelector(".plays")');
-                equal(`a link to a guess of ${roll}: in sight`, await linked.value(OUT_OF_SIGHT(["#board svg", "#board .guessing button", "#plays h3"])), []);
+                equal(`a link to a guess of ${roll}: in sight`,
+                    await linked.value(OUT_OF_SIGHT(["#board svg", "#board .guessing button", "#plays h3"])), []);
                 await linked.close();
             }
         }
@@ -472,17 +514,22 @@ async function driveGuessed(browser) {
                 await page.tap(tile);
             } else await page.click(tile);
             await page.until('document.querySelector("#board .source") && document.querySelector(".plays")');
-            if (isSmall) equal(`${way} ${roll}: in sight`, await page.value(OUT_OF_SIGHT(["#board svg", "#board .guessing button", "#plays h3"])), []);
+            if (isSmall) equal(`${way} ${roll}: in sight`,
+                await page.value(OUT_OF_SIGHT(["#board svg", "#board .guessing button", "#plays h3"])), []);
             const plays = ask(`moves ${position} ${roll}`).split(" ").slice(1).map((word) => word.split(":"));
             const [to, loss] = plays[(place + 1) % plays.length];
             if (way === "keys") await page.value('document.querySelector(\'#board [tabindex="0"].to-play\').focus()');
             else await page.aim("#board svg");
             await WAYS[way](page, movesTo(position, roll, to));
             await page.until('document.querySelector("#plays .verdict") && !document.querySelector("#plays .verdict").textContent.includes("\u2026")');
-            equal(`${way} ${roll}: what it loses`, await page.value('document.querySelector(".plays [aria-pressed=true] .cost").title'), `${loss} of a roll`);
+            equal(`${way} ${roll}: what it loses`,
+                await page.value('document.querySelector(".plays [aria-pressed=true] .cost").title'),
+                `${loss} of a roll`);
             equal(`${way} ${roll}: the focus`, (await page.value(FOCUS)).split(" ")[0], "play");
-            equal(`${way} ${roll}: the board`, [(await page.value(SHOWN)).values, await page.value('document.querySelectorAll("#board [role=spinbutton]").length')], [position, 6]);
-            if (isSmall) equal(`${way} ${roll}: its verdict is in sight`, await page.value(OUT_OF_SIGHT(["#plays .verdict p"])), []);
+            equal(`${way} ${roll}: the board`, [(await page.value(SHOWN)).values,
+                    await page.value('document.querySelectorAll("#board [role=spinbutton]").length')], [position, 6]);
+            if (isSmall) equal(`${way} ${roll}: its verdict is in sight`,
+                await page.value(OUT_OF_SIGHT(["#plays .verdict p"])), []);
             const [above, below] = loss.split("/").map(BigInt);
             sum = [sum[0] * below + above * sum[1], sum[1] * below];
             if (isSmall) await page.tap('[data-key="close"]');
@@ -524,7 +571,8 @@ async function driveFiles(page) {
     } catch (error) {
         line = error.stderr.toString().replace("bearoff: refused ", "").trim();
     }
-    (line && trouble.includes(`First fault: ${line}.`)) || wrong(`the refusal says "${trouble}", and the program "${line}"`);
+    (line && trouble.includes(`First fault: ${line}.`))
+        || wrong(`the refusal says "${trouble}", and the program "${line}"`);
     equal("the former database stays", await page.value('document.getElementById("open").textContent'), "44 pips");
     await put(page, eight, "choose");
     await page.until('document.getElementById("open").textContent === "8 pips"');
@@ -554,7 +602,9 @@ async function driveMoments(browser) {
         document.querySelector('[data-key="Remove 5"]').click();
         document.querySelector('[data-key="Remove 5"]').click();
     })()`);
-    equal("a board that changes while a file is checked", await page.value(`({ board: ${SHOWN}.values, bar: document.getElementById("bar").hidden })`), { board: "2,2,2,2,0,1", bar: false });
+    equal("a board that changes while a file is checked",
+        await page.value(`({ board: ${SHOWN}.values, bar: document.getElementById("bar").hidden })`),
+        { board: "2,2,2,2,0,1", bar: false });
     await page.until('!document.getElementById("trouble").hidden');
     await compare(page, "after the refusal", "2,2,2,2,0,1");
     await page.until('![...document.querySelectorAll(".kept td[data-head]")].some((cell) => cell.textContent === "\u2026")');
@@ -581,25 +631,35 @@ async function driveMoments(browser) {
 
 // Each of three kept positions has its numbers.
 const SORTED = `${READY} && document.querySelectorAll(".kept [data-head=EPC]").length === 3 && !document.querySelector(".kept").textContent.includes("\\u2026")`;
-const LESSON = new URLSearchParams([["t", "<b>A lesson</b>"], ["p", "0,0,0,4,4,1"], ["c", '<img src=x onerror="document.title=1"> & "quotes"'], ["p", "15,0,0,0,0,0"], ["c", "'fifteen'"], ["p", "2,2,2,2,2,2"]]);
+const LESSON = new URLSearchParams([["t", "<b>A lesson</b>"], ["p", "0,0,0,4,4,1"],
+        ["c", '<img src=x onerror="document.title=1"> & "quotes"'], ["p", "15,0,0,0,0,0"], ["c", "'fifteen'"],
+    ["p", "2,2,2,2,2,2"]]);
 
 async function driveLesson(browser) {
     const caption = LESSON.get("c");
     const page = await browser.open(`${address}#${LESSON}`);
     await page.until(SORTED);
-    equal("captions are text", await page.value('[...document.querySelectorAll(".kept input")].map((input) => input.value)'), [caption, "", "'fifteen'"]);
-    equal("no markup was read", await page.value('document.querySelectorAll("img, b:not(dialog b, [data-key=today] b)").length'), 0);
+    equal("captions are text",
+        await page.value('[...document.querySelectorAll(".kept input")].map((input) => input.value)'),
+        [caption, "", "'fifteen'"]);
+    equal("no markup was read",
+        await page.value('document.querySelectorAll("img, b:not(dialog b, [data-key=today] b)").length'), 0);
     equal("the title is text", await page.value('document.getElementById("lesson").textContent'), "<b>A lesson</b>");
     equal("the title of the page", await page.value("document.title"), "<b>A lesson</b> \u2013 Bearing off");
-    equal("sorted", await page.value('[...document.querySelectorAll(".kept [data-head=EPC]")].map((cell) => cell.textContent)'),
+    equal("sorted",
+        await page.value('[...document.querySelectorAll(".kept [data-head=EPC]")].map((cell) => cell.textContent)'),
         ["0,0,0,4,4,1", "2,2,2,2,2,2", "15,0,0,0,0,0"].map((position) => ask(`mean ${position}`).split(" ").pop()));
-    equal("wastage", await page.value('[...document.querySelectorAll(".kept [data-head=Wastage]")].map((cell) => cell.textContent)'),
-        ["0,0,0,4,4,1", "2,2,2,2,2,2", "15,0,0,0,0,0"].map((position) => (Number(ask(`mean ${position}`).split(" ").pop()) - pipsOf(position)).toFixed(3)));
+    equal("wastage",
+        await page.value('[...document.querySelectorAll(".kept [data-head=Wastage]")].map((cell) => cell.textContent)'),
+        ["0,0,0,4,4,1", "2,2,2,2,2,2", "15,0,0,0,0,0"].map((position) =>
+                (Number(ask(`mean ${position}`).split(" ").pop()) - pipsOf(position)).toFixed(3)));
     await page.until('location.hash.includes("at=")', 3000);
     const kept = await page.value("location.hash");
     const again = await browser.open(address + kept);
     await again.until(SORTED);
-    equal("the address keeps all", await again.value('[...document.querySelectorAll(".kept input")].map((input) => input.value)'), [caption, "", "'fifteen'"]);
+    equal("the address keeps all",
+        await again.value('[...document.querySelectorAll(".kept input")].map((input) => input.value)'),
+        [caption, "", "'fifteen'"]);
     equal("nothing went wrong", [...page.troubles(), ...again.troubles()], []);
 }
 
@@ -615,14 +675,17 @@ async function driveHistory(browser) {
     await wait(400);
     const state = '[document.getElementById("counts").value, document.querySelectorAll(".kept tbody tr").length, document.querySelectorAll(".rolls [aria-pressed=true]").length].join(" ")';
     equal("before Back", await page.value(state), "1,0,0,1,0,0 1 1");
-    for (const [move, wanted] of [["back", "1,0,0,1,0,0 1 0"], ["back", "1,0,0,1,0,0 0 0"], ["back", "1,0,0,0,0,0 0 0"], ["forward", "1,0,0,1,0,0 0 0"], ["forward", "1,0,0,1,0,0 1 0"], ["forward", "1,0,0,1,0,0 1 1"]]) {
+    for (const [move, wanted] of [["back", "1,0,0,1,0,0 1 0"], ["back", "1,0,0,1,0,0 0 0"], ["back", "1,0,0,0,0,0 0 0"],
+            ["forward", "1,0,0,1,0,0 0 0"], ["forward", "1,0,0,1,0,0 1 0"], ["forward", "1,0,0,1,0,0 1 1"]]) {
         await page[move]();
-        await page.until(`${state} === "${wanted}"`, 3000).catch(async () => wrong(`${move}: ${await page.value(state)}, and not ${wanted}`));
+        await page.until(`${state} === "${wanted}"`,
+            3000).catch(async () => wrong(`${move}: ${await page.value(state)}, and not ${wanted}`));
     }
     await compare(page, "after Forward", "1,0,0,1,0,0");
     // as a link of an older page has it
     await page.value('location.hash = "#at=0,0,0,3,5,3&pips=58"');
-    await page.until('document.getElementById("open").textContent === "90 pips" && document.querySelector(".figures")', 60000);
+    await page.until('document.getElementById("open").textContent === "90 pips" && document.querySelector(".figures")',
+        60000);
     await page.until('document.querySelector(".figure dd").textContent.trim() === "55"');
 }
 
@@ -632,7 +695,8 @@ async function driveCopy(browser) {
     await page.click('[data-key="Add 4"]');
     await page.click("#copy");
     await page.until('document.getElementById("copied").textContent');
-    equal("on a disk it says so", await page.value('document.getElementById("copied").textContent.includes("opens only here")'), true);
+    equal("on a disk it says so",
+        await page.value('document.getElementById("copied").textContent.includes("opens only here")'), true);
     equal("the address is as it is now", await page.value('location.hash'), "#at=1,0,0,1,0,0");
     const field = await page.value('[document.getElementById("link").hidden, document.getElementById("link").value === location.href, document.getElementById("copy").textContent]');
     (field[0] && field[2] === "Copied") || (!field[0] && field[1]) || wrong(`the link: ${field.join(" ")}`);
@@ -670,7 +734,8 @@ async function driveSaved(browser) {
         const counts = [550, 450, 350, 250, 150, 50].map((x) => [300, 240, 180].filter((y) => isChecker(x, y)).length);
         return [picture.width, picture.height, counts.join(), saved[1].file.type, saved.map(({ name }) => name)];
     })`);
-    equal("a PNG file", png, [1400, 914, "1,0,0,2,0,0", "image/png", ["bearoff-1-0-0-2-0-0.svg", "bearoff-1-0-0-2-0-0.png"]]);
+    equal("a PNG file", png, [1400, 914, "1,0,0,2,0,0", "image/png",
+            ["bearoff-1-0-0-2-0-0.svg", "bearoff-1-0-0-2-0-0.png"]]);
     equal("nothing went wrong", page.troubles(), []);
 }
 
@@ -685,7 +750,8 @@ async function driveOlder(browser) {
     for (const [what, words] of [["WebAssembly", "runs no WebAssembly"], ["Worker", "runs no workers"]]) {
         const poor = await browser.open(address, { before: `delete window.${what};` });
         await poor.until('!document.getElementById("trouble").hidden && document.querySelector("[role=spinbutton]")');
-        equal(`no ${what}`, await poor.value(`document.getElementById("trouble").textContent.startsWith("Nothing can be computed here: this browser ${words}")`), true);
+        equal(`no ${what}`,
+            await poor.value(`document.getElementById("trouble").textContent.startsWith("Nothing can be computed here: this browser ${words}")`), true);
         equal(`no wait without ${what}`, await poor.value('document.getElementById("bar").hidden'), true);
     }
     const still = await browser.open(address, { scripts: false });
@@ -715,7 +781,8 @@ async function driveHosted(browser) {
         await compare(page, "on a server", "7,4,2,0,0,0");
         await page.click("#copy");
         await page.until('document.getElementById("copied").textContent');
-        equal("on a server the link opens elsewhere too", await page.value('document.getElementById("copied").textContent.includes("only here")'), false);
+        equal("on a server the link opens elsewhere too",
+            await page.value('document.getElementById("copied").textContent.includes("only here")'), false);
         await compareWatched(page, "on a server", 1);
         equal("nothing went wrong", page.troubles(), []);
         const tried = await page.value(`Promise.all([
@@ -734,7 +801,8 @@ async function driveHosted(browser) {
 
 const point = (place) => (place === 0 ? '[data-key="off"]' : `[data-key="point ${place}"]`);
 
-// How a play is made on the board: by clicks, by dragging, by taps, or by keys alone. Each is given single moves; what is
+// How a play is made on the board: by clicks, by dragging, by taps, or by keys alone. Each is given single moves; what
+// is
 // made is played by its button, or by Enter.
 const WAYS = {
     mouse: async (page, moves) => {
@@ -760,7 +828,8 @@ const WAYS = {
             const order = [6, 5, 4, 3, 2, 1, 0];
             const at = await page.value("Number(document.activeElement.dataset.point)");
             const away = order.indexOf(place) - order.indexOf(at);
-            for (let count = Math.abs(away); count > 0; count -= 1) await page.key(away > 0 ? "ArrowRight" : "ArrowLeft");
+            for (let count = Math.abs(away); count > 0; count -= 1) await page.key(away > 0 ? "ArrowRight"
+                    : "ArrowLeft");
             await page.key("Enter");
         };
         for (const [from, to] of moves) {
@@ -777,7 +846,8 @@ const movesTo = (position, roll, to) => legalFrom(position.split(",").map(Number
 
 const NEXT = '[data-key="next question"]';
 
-// A drill of twenty by its seed, each play made in the way of its place: each verdict, what it loses and the score are the program's.
+// A drill of twenty by its seed, each play made in the way of its place: each verdict, what it loses and the score are
+// the program's.
 // What was missed is asked once more, and then counts for nothing.
 async function playDrill(page, hash, way, next) {
     await page.until(`${READY} && document.querySelector('${NEXT}')`);
@@ -791,20 +861,26 @@ async function playDrill(page, hash, way, next) {
             [...document.querySelectorAll(".plays .moves")].map((node) => node.textContent)]`);
         const plays = ask(`moves ${position} ${roll}`).split(" ").slice(1).map((word) => word.split(":"));
         const losses = plays.map(([, loss]) => loss);
-        if (losses.length < 2 || losses.filter((loss) => loss.startsWith("0/")).length !== 1) wrong(`${position} ${roll} has nothing to decide`);
-        equal(`${words} tells no loss`, await page.value('document.querySelectorAll("#plays .cost, #board .arc").length'), 0);
-        const [to, loss] = place < 20 || place % 2 === 0 ? plays[(7 * place) % plays.length] : plays.find(([, lost]) => lost.startsWith("0/"));
+        if (losses.length < 2 || losses.filter((loss) => loss.startsWith("0/"))
+                .length !== 1) wrong(`${position} ${roll} has nothing to decide`);
+        equal(`${words} tells no loss`,
+            await page.value('document.querySelectorAll("#plays .cost, #board .arc").length'), 0);
+        const [to, loss] = place < 20 || place % 2 === 0 ? plays[(7 * place) % plays.length]
+            : plays.find(([, lost]) => lost.startsWith("0/"));
         const moves = movesTo(position, roll, to);
         await way(place)(page, moves, texts);
         await page.until(`document.querySelector("#steering .verdict") && !document.querySelector("#steering .verdict").textContent.includes("\u2026")`);
         const [verdict, shown, costs] = await page.value(`[document.querySelector("#steering .verdict").textContent, document.querySelector(".plays [aria-pressed=true] .moves").textContent,
             document.querySelector(".plays [aria-pressed=true] .cost").title]`);
-        equal(`${words} what was played`, effectOf(shown), effectOf(moves.map(([from, end]) => `${from}/${end || "off"}`).join(" ")));
+        equal(`${words} what was played`, effectOf(shown),
+            effectOf(moves.map(([from, end]) => `${from}/${end || "off"}`).join(" ")));
         equal(`${words} what it loses`, costs, `${loss} of a roll`);
         const [above, below] = loss.split("/").map(BigInt);
         const best = verdict.match(/best is ([^.]*)\./)?.[1] || verdict.match(/^(.*) is best\./)?.[1] || "";
-        equal(`${words} what is best`, effectOf(best), effectOf(ask(`play ${position} ${roll}`).split(" to ")[0].slice(5)));
-        equal(`${words} the verdict`, verdict, above === 0n ? `${shown} is best.` : `${shown} loses ${nearest([above, below])} of a roll; best is ${best}. In EPC: ${nearest([49n * above, 6n * below])} pips.`);
+        equal(`${words} what is best`, effectOf(best),
+            effectOf(ask(`play ${position} ${roll}`).split(" to ")[0].slice(5)));
+        equal(`${words} the verdict`, verdict, above === 0n ? `${shown} is best.`
+                : `${shown} loses ${nearest([above, below])} of a roll; best is ${best}. In EPC: ${nearest([49n * above, 6n * below])} pips.`);
         if (place < 20) {
             sum = [sum[0] * below + above * sum[1], sum[1] * below];
             if (above > 0n) missed += 1;
@@ -816,8 +892,10 @@ async function playDrill(page, hash, way, next) {
     // a fraction that is too long to be read is left out
     const divisor = (one, other) => (other === 0n ? one : divisor(other, one % other));
     const lowest = sum.map((part) => part / divisor(...sum)).join("/");
-    equal(`${hash}: the score, exactly`, told.match(/Exactly: (.*) of a roll/)?.[1] ?? null, lowest.length <= 24 ? lowest : null);
-    equal(`${hash}: the score`, told.split(" Exactly")[0], `20 of 20 were played. They lost ${nearest(sum)} rolls, or ${nearest([49n * sum[0], 6n * sum[1]])} pips of EPC.`);
+    equal(`${hash}: the score, exactly`, told.match(/Exactly: (.*) of a roll/)?.[1] ?? null,
+        lowest.length <= 24 ? lowest : null);
+    equal(`${hash}: the score`, told.split(" Exactly")[0],
+        `20 of 20 were played. They lost ${nearest(sum)} rolls, or ${nearest([49n * sum[0], 6n * sum[1]])} pips of EPC.`);
     equal(`${hash}: what was missed`, await page.value('document.querySelector(".score + p").textContent'),
         `${missed === 1 ? "One was missed" : `${missed} were missed`}; asked once more, ${right} ${right === 1 ? "was" : "were"} right.`);
     equal(`${hash}: nothing went wrong`, page.troubles(), []);
@@ -828,7 +906,8 @@ async function driveDrill(browser) {
     const drill = "#drill=middle&seed=2026&ask=play";
     const page = await browser.open(address + drill);
     const byList = async (used, moves, texts) => {
-        const text = texts.find((one) => effectOf(one) === effectOf(moves.map(([from, to]) => `${from}/${to || "off"}`).join(" ")));
+        const text = texts.find((one) => effectOf(one) === effectOf(moves.map(([from, to]) => `${from}/${to || "off"}`)
+                .join(" ")));
         await used.click(`[data-key="play ${text}"]`);
     };
     await playDrill(page, drill, (place) => [byList, WAYS.drag, WAYS.mouse][place % 3], (used) => used.click(NEXT));
@@ -841,18 +920,21 @@ async function driveDrill(browser) {
     equal("nothing went wrong", page.troubles(), []);
 
     const touch = "#drill=all&seed=31&ask=play&level=hard";
-    await playDrill(await browser.open(address + touch, { width: 360, height: 780, mobile: true }), touch, () => WAYS.touch, (used) => used.tap(NEXT));
+    await playDrill(await browser.open(address + touch, { width: 360, height: 780, mobile: true }), touch,
+        () => WAYS.touch, (used) => used.tap(NEXT));
 
     const keys = "#drill=high&seed=5&ask=play&level=easy";
     const typed = await browser.open(address + keys);
     await typed.until(`${READY} && document.querySelector("#board .source")`);
     let tabs = 0;
-    for (; tabs < 10 && !(await typed.value('document.activeElement.classList.contains("to-play")')); tabs += 1) await typed.key("Tab");
+    for (; tabs < 10
+            && !(await typed.value('document.activeElement.classList.contains("to-play")')); tabs += 1) await typed.key("Tab");
     equal("Tabs to the board", tabs < 6, true);
     await playDrill(typed, keys, () => WAYS.keys, (used) => used.key("Enter"));
 }
 
-// What of some parts of the page isn't in sight whole, nothing being scrolled: its top, middle and bottom are what a click
+// What of some parts of the page isn't in sight whole, nothing being scrolled: its top, middle and bottom are what a
+// click
 // there meets.
 const OUT_OF_SIGHT = (selectors) => `${JSON.stringify(selectors)}.flatMap((selector) => {
     const all = [...document.querySelectorAll(selector)];
@@ -869,7 +951,8 @@ const OUT_OF_SIGHT = (selectors) => `${JSON.stringify(selectors)}.flatMap((selec
 const EDITING = `[...document.querySelectorAll("[role=spinbutton], #counts, #keep, .steps button, #how, #guess, .rolls button")]
     .filter((element) => element.getBoundingClientRect().width > 0).map((element) => element.id || element.className || element.dataset.key)`;
 
-// One trains at four sizes: what begins is in sight with its question, board and buttons, and what is said of it with the
+// One trains at four sizes: what begins is in sight with its question, board and buttons, and what is said of it with
+// the
 // way on; nothing edits a position; and the focus is never lost.
 async function driveSight(browser) {
     let [measured, actions] = [0, 0];
@@ -887,7 +970,8 @@ async function driveSight(browser) {
             const hasLong = height < 500 && await page.value('Boolean(document.querySelector("#coach .says"))');
             // the long text of a lesson is scrolled within its box where a telephone lies on its side
             const isSeen = (part) => !hasLong || !part.startsWith("#coach");
-            equal(`${size}: out of sight`, await page.value(OUT_OF_SIGHT(["#coach h2", "#board svg", "#steering button, #steering a", ...parts].filter(isSeen))), []);
+            equal(`${size}: out of sight`, await page.value(OUT_OF_SIGHT(["#coach h2", "#board svg",
+                    "#steering button, #steering a", ...parts].filter(isSeen))), []);
             equal(`${size}: what edits`, await page.value(EDITING), []);
             equal(`${size}: how wide`, await page.value("document.documentElement.scrollWidth"), width);
         };
@@ -908,14 +992,18 @@ async function driveSight(browser) {
             })()`);
             await page.until(`document.querySelector("#coach h2")?.textContent === ${JSON.stringify(title)} && ${KNOWN.replace("!", 'document.querySelector(".figures") === null || !')}`);
             equal(`${title} begins where one goes on`, await acted(title), "coach");
-            const count = Number((await page.value('document.querySelector("#coach .how").textContent')).match(/of (\d+)/)[1]);
+            const count = Number((await page.value('document.querySelector("#coach .how").textContent'))
+                    .match(/of (\d+)/)[1]);
             for (let step = 1; step <= count; step += 1) {
                 const name = `${title}, step ${step}`;
-                const [hasText, hasQuestion, hasRoll, hasAnswer] = await page.value(`[".says", ".asks", ".asks .die", '[data-key="answer"]'].map((part) => Boolean(document.querySelector((part.startsWith(".") ? "#coach " : "") + part)))`);
+                const [hasText, hasQuestion, hasRoll,
+                    hasAnswer] = await page.value(`[".says", ".asks", ".asks .die", '[data-key="answer"]'].map((part) => Boolean(document.querySelector((part.startsWith(".") ? "#coach " : "") + part)))`);
                 if (hasRoll) await page.until('document.querySelector("#board .source")');
                 const hasField = await page.value('Boolean(document.querySelector(".estimate input"))');
-                await look(name, ...(hasText ? ["#coach .says"] : []), ...(hasQuestion ? ["#coach .asks"] : []), ...(hasField ? [".estimate input", '[data-key="tell"]'] : []));
-                equal(`${name}: dice where a roll is asked`, await page.value('document.querySelectorAll("#coach .die").length'), hasRoll ? 2 : 0);
+                await look(name, ...(hasText ? ["#coach .says"] : []), ...(hasQuestion ? ["#coach .asks"] : []),
+                    ...(hasField ? [".estimate input", '[data-key="tell"]'] : []));
+                equal(`${name}: dice where a roll is asked`,
+                    await page.value('document.querySelectorAll("#coach .die").length'), hasRoll ? 2 : 0);
                 if (hasRoll) {
                     await press(".plays button:last-child");
                     await page.until('document.querySelector("#steering .verdict") && !document.querySelector("#steering .verdict").textContent.includes("\u2026")');
@@ -948,16 +1036,20 @@ async function driveSight(browser) {
                 button.focus();
                 button.click();
             })()`);
-            await page.until(asked === "play" ? 'document.querySelector("#board .source") && document.querySelector(".plays")' : 'document.querySelector(".estimate input") && document.querySelector("#coach .asks")');
+            await page.until(asked === "play"
+                    ? 'document.querySelector("#board .source") && document.querySelector(".plays")'
+                : 'document.querySelector(".estimate input") && document.querySelector("#coach .asks")');
             equal("a drill begins where one goes on", await acted("a drill"), "coach");
             if (asked === "play") {
                 let tabs = 0;
-                for (; tabs < 30 && !(await page.value('(document.activeElement.dataset.key || "").startsWith("play ")')); tabs += 1) await page.key("Tab");
+                for (; tabs < 30
+                        && !(await page.value('(document.activeElement.dataset.key || "").startsWith("play ")')); tabs += 1) await page.key("Tab");
                 equal(`${width} x ${height}: Tabs to the first play`, tabs < 10, true);
             }
             for (let place = 0; place < 4; place += 1) {
                 const name = `${asked}, question ${place + 1}`;
-                await look(name, "#coach .asks", ...(asked === "play" ? [] : ["#numbers .estimate input", '[data-key="tell"]']));
+                await look(name, "#coach .asks", ...(asked === "play" ? [] : ["#numbers .estimate input",
+                        '[data-key="tell"]']));
                 if (asked === "play") {
                     // the first by the board, with its undo, and the others by the list
                     if (place === 0) {
@@ -981,7 +1073,8 @@ async function driveSight(browser) {
                     await look(`${name}, a word`, "#estimate-why p");
                     await page.value('document.querySelector(".estimate input").value = "40"');
                     // a number that is still being computed is compared in a moment
-                    for (let tried = 0; tried < 40 && await page.value('document.querySelector("#numbers .verdict") === null'); tried += 1) {
+                    for (let tried = 0; tried < 40
+                            && await page.value('document.querySelector("#numbers .verdict") === null'); tried += 1) {
                         if (tried > 0) await wait(100);
                         await press('[data-key="tell"]');
                     }
@@ -991,7 +1084,9 @@ async function driveSight(browser) {
                 }
                 await press(NEXT);
                 await acted(`${name}, next`);
-                await page.until(asked === "play" ? 'document.querySelector("#board .source") && document.querySelector(".plays")' : 'document.querySelector(".estimate input")');
+                await page.until(asked === "play"
+                        ? 'document.querySelector("#board .source") && document.querySelector(".plays")'
+                    : 'document.querySelector(".estimate input")');
             }
             await press('[data-key="previous question"]');
             await acted(`${asked}, previous`);
@@ -1012,7 +1107,8 @@ async function drivePlayed(browser) {
     const board = async () => (await page.value(SHOWN)).values;
     await page.drag(point(6), point(5));
     equal("a place where nothing goes", await board(), "0,0,0,1,0,1");
-    equal("a checker that was dropped there is back", await page.value('document.querySelectorAll("#board .picked").length'), 0);
+    equal("a checker that was dropped there is back",
+        await page.value('document.querySelectorAll("#board .picked").length'), 0);
     await page.drag(point(6), point(1));
     equal("dragged", await board(), "1,0,0,1,0,0");
     await page.drag(point(4), point(2));
@@ -1021,10 +1117,12 @@ async function drivePlayed(browser) {
     await page.click('[data-key="undo"]');
     equal("undone", await board(), "0,0,0,1,0,1");
     await page.drag(point(6), point(0));
-    equal("with both dice", await page.value('document.querySelector(\'[data-key="made"]\').textContent'), "Play 6/off");
+    equal("with both dice", await page.value('document.querySelector(\'[data-key="made"]\').textContent'),
+        "Play 6/off");
     await page.click('[data-key="made"]');
     await page.until('document.querySelector("#steering .verdict") && !document.querySelector("#steering .verdict").textContent.includes("\u2026")');
-    equal("its verdict", await page.value('document.querySelector("#steering .verdict").textContent'), "6/off loses 0.056 of a roll; best is 6/1 4/2. In EPC: 0.454 pips.");
+    equal("its verdict", await page.value('document.querySelector("#steering .verdict").textContent'),
+        "6/off loses 0.056 of a roll; best is 6/1 4/2. In EPC: 0.454 pips.");
     for (const [way, to] of [["mouse", 0], ["keys", 1]]) {
         await page.click('[data-key="next step"]');
         await page.until(PLAYS);
@@ -1033,16 +1131,19 @@ async function drivePlayed(browser) {
         const [end, loss] = words[to];
         if (way === "mouse") {
             await page.drag(point(5), point(4));
-            equal("dropped on a point that it can't reach", [await board(), await page.value('document.querySelectorAll("#board .picked").length')], [position, 0]);
+            equal("dropped on a point that it can't reach",
+                [await board(), await page.value('document.querySelectorAll("#board .picked").length')], [position, 0]);
         }
         await WAYS[way](page, movesTo(position, roll, end));
         await page.until('document.querySelector("#plays .cost")');
-        equal(`by ${way}`, await page.value('document.querySelector(".plays [aria-pressed=true] .cost").title'), `${loss} of a roll`);
+        equal(`by ${way}`, await page.value('document.querySelector(".plays [aria-pressed=true] .cost").title'),
+            `${loss} of a roll`);
     }
     equal("nothing went wrong", page.troubles(), []);
 }
 
-// Each lesson that comes with the page, step by step: its text, its board, and its answer, which opens; and an estimate.
+// Each lesson that comes with the page, step by step: its text, its board, and its answer, which opens; and an
+// estimate.
 async function driveLessons(browser) {
     const page = await browser.open(address);
     await page.until(READY);
@@ -1058,11 +1159,13 @@ async function driveLessons(browser) {
             equal(`${title}, step ${step}`, (await page.value(SHOWN)).values, position);
             const isNumber = await page.value(`document.querySelectorAll(".figure").length === 0`);
             if (await page.value('Boolean(document.querySelector(\'[data-key="answer"]\'))')) {
-                equal(`${title}, step ${step}: closed`, await page.value('Boolean(document.querySelector(".answers"))'), false);
+                equal(`${title}, step ${step}: closed`, await page.value('Boolean(document.querySelector(".answers"))'),
+                    false);
                 await page.click('[data-key="answer"]');
                 await page.until('document.querySelector(".answers").textContent.length > 0');
                 await page.until(`document.querySelector(".figure") && ${KNOWN}`);
-                if (isNumber) equal(`${title}, step ${step}: its number`, (await page.value(SHOWN)).figures[2], ask(`mean ${position}`).split(" ")[4]);
+                if (isNumber) equal(`${title}, step ${step}: its number`, (await page.value(SHOWN)).figures[2],
+                    ask(`mean ${position}`).split(" ")[4]);
             }
             last = !(await page.value('Boolean(document.querySelector(\'[data-key="next step"]\'))'));
             if (!last) await page.click('[data-key="next step"]');
@@ -1070,23 +1173,29 @@ async function driveLessons(browser) {
     }
     const guess = await browser.open(`${address}#at=7,4,2,0,0,0&estimate=effective`);
     await guess.until('document.body.dataset.ready && document.querySelector(".estimate input")');
-    equal("no number before the estimate", await guess.value('document.querySelectorAll("#numbers .figure").length + document.querySelectorAll(".chances").length'), 0);
+    equal("no number before the estimate",
+        await guess.value('document.querySelectorAll("#numbers .figure").length + document.querySelectorAll(".chances").length'), 0);
     await guess.click(".estimate input");
     for (const key of ["5", "1", "Enter"]) await guess.key(key);
     await guess.until('document.querySelector("#numbers .verdict")');
     const off = Math.abs(51 - Number(ask("mean 7,4,2,0,0,0").split(" ")[4])).toFixed(3);
-    equal("how far off", await guess.value('document.querySelector("#numbers .verdict").textContent'), `You said 51.000: ${off} pips off. The mean error so far is ${off} pips.`);
+    equal("how far off", await guess.value('document.querySelector("#numbers .verdict").textContent'),
+        `You said 51.000: ${off} pips off. The mean error so far is ${off} pips.`);
     for (const hash of ["#view=board&at=7,4,2,0,0,0", "#view=board&at=2,2,2,2,2,2&roll=31"]) {
         const small = await browser.open(address + hash, { width: 480, height: 320 });
         await small.until(`${READY} && ${KNOWN}`);
-        equal(`${hash} fits`, await small.value("[document.documentElement.scrollWidth <= 480, document.documentElement.scrollHeight <= 320]"), [true, true]);
-        equal(`${hash} leads to the whole page`, await small.value('[document.getElementById("whole").getAttribute("href"), document.getElementById("whole").offsetHeight > 0]'), [hash.replace("view=board&", ""), true]);
+        equal(`${hash} fits`,
+            await small.value("[document.documentElement.scrollWidth <= 480, document.documentElement.scrollHeight <= 320]"), [true, true]);
+        equal(`${hash} leads to the whole page`,
+            await small.value('[document.getElementById("whole").getAttribute("href"), document.getElementById("whole").offsetHeight > 0]'), [hash.replace("view=board&", ""), true]);
         const entries = await small.value("history.length");
         for (const place of [1, 1, 3]) {
             await small.click(point(place));
             await wait(300);
         }
-        equal(`${hash}: what is set up there is no entry of the page around`, [await small.value("history.length"), await small.value('location.hash.includes("view=board&at=")')], [entries, true]);
+        equal(`${hash}: what is set up there is no entry of the page around`,
+            [await small.value("history.length"), await small.value('location.hash.includes("view=board&at=")')],
+            [entries, true]);
         await small.close();
     }
     equal("elsewhere there is no such link", await guess.value('document.getElementById("whole").offsetHeight'), 0);
@@ -1127,7 +1236,8 @@ async function driveStill(browser) {
         if (mobile) continue;
         await page.value('document.querySelector(\'[data-key="Remove 6"]\').click()');
         await page.until(`document.getElementById("said").textContent.startsWith("36 pips") && document.querySelector(".rolls .next")`);
-        equal(`${width} x ${height}: what moved with another position`, await page.value("places.moved.slice(0, 3)"), []);
+        equal(`${width} x ${height}: what moved with another position`, await page.value("places.moved.slice(0, 3)"),
+            []);
     }
 }
 
@@ -1157,8 +1267,10 @@ async function driveOpened(browser) {
 // Keeps a processor busy, until the test has ended at the latest.
 const BUSY = "const parent = process.ppid; while (process.ppid === parent);";
 
-// A click on a lesson opens it, whenever it comes: what is aimed at before the database is open is clicked at each tenth
-// millisecond from when the page is ready to half a second later, and another lesson as soon as that one is open; at each
+// A click on a lesson opens it, whenever it comes: what is aimed at before the database is open is clicked at each
+// tenth
+// millisecond from when the page is ready to half a second later, and another lesson as soon as that one is open; at
+// each
 // other of these times on a busy machine.
 async function driveClicks(browser) {
     const lost = [];
@@ -1203,11 +1315,13 @@ async function driveClicks(browser) {
 
 const TEACHING = encodeURI("#t=What wastage is&at=0,0,0,4,4,1&roll=31&p=0,0,0,4,4,1&c=Nine on the high points&p=2,2,2,2,2,2&c=Two on each point&p=15,0,0,0,0,0&c=Fifteen on the ace point");
 
-// A finger drags a checker in a drill, a lesson and a guess, and the page stays where it is; a finger on a board that isn't
+// A finger drags a checker in a drill, a lesson and a guess, and the page stays where it is; a finger on a board that
+// isn't
 // played on scrolls.
 async function driveFinger(browser) {
     for (const [width, height] of [[360, 780], [780, 360]]) {
-        for (const [what, hash] of [["a drill", "#drill=fifteen&seed=5&ask=play&level=hard"], ["a lesson", "#lesson=3"], ["a guess", "#at=2,3,0,2,2,6&guess=1&roll=22"]]) {
+        for (const [what, hash] of [["a drill", "#drill=fifteen&seed=5&ask=play&level=hard"], ["a lesson", "#lesson=3"],
+                ["a guess", "#at=2,3,0,2,2,6&guess=1&roll=22"]]) {
             const page = await browser.open(address + hash, { width, height, mobile: true });
             await page.until('document.querySelector("#board .source") && document.querySelector(".plays")');
             await page.value('document.getElementById("board").scrollIntoView({ block: "nearest", behavior: "instant" })');
@@ -1221,12 +1335,14 @@ async function driveFinger(browser) {
                     if (to) return [from, to];
                 }
             })()`);
-            const counts = () => page.value('[1, 2, 3, 4, 5, 6].map((point) => Number(document.querySelector(\'#board [data-point="\' + point + \'"]\').dataset.count))');
+            const counts = () =>
+                    page.value('[1, 2, 3, 4, 5, 6].map((point) => Number(document.querySelector(\'#board [data-point="\' + point + \'"]\').dataset.count))');
             const [before, top] = [await counts(), await page.value("scrollY")];
             await page.swipe(`#board [data-point="${from}"] .ground`, `#board [data-point="${to}"] .ground`);
             await wait(100);
             const after = await counts();
-            equal(`${width} x ${height}, ${what}: a finger drags from ${from} to ${to}`, [after[from - 1] - before[from - 1], after[to - 1] - before[to - 1]], [-1, 1]);
+            equal(`${width} x ${height}, ${what}: a finger drags from ${from} to ${to}`,
+                [after[from - 1] - before[from - 1], after[to - 1] - before[to - 1]], [-1, 1]);
             equal(`${width} x ${height}, ${what}: the page stays`, await page.value("scrollY"), top);
             await page.close();
         }
@@ -1258,7 +1374,8 @@ async function driveTouch(browser) {
         await page.value('document.querySelector(\'[data-key="roll 53"]\').scrollIntoView({ block: "center" })');
         await page.tap('[data-key="roll 53"]');
         await page.until('document.querySelector(".plays")');
-        for (const selector of [".small", ".plays button", '[data-key="close"]', '[data-key="onward"]', ".shown .loss"]) {
+        for (const selector of [".small", ".plays button", '[data-key="close"]', '[data-key="onward"]',
+                ".shown .loss"]) {
             equal(`${name}: ${selector} is in sight`, await page.value(seen(selector)), true);
         }
         equal(`${name}: so is the tile`, await page.value(`document.querySelector('[data-key="roll 53"]').getBoundingClientRect().bottom
@@ -1266,8 +1383,10 @@ async function driveTouch(browser) {
         await page.tap(".plays button:nth-child(2)");
         await page.until('document.querySelector(".plays button:nth-child(2)").getAttribute("aria-pressed") === "true"');
         const [loss, title] = await page.value('[document.querySelector(".loss").textContent, document.querySelector(".plays button:nth-child(2) .cost").title]');
-        equal(`${name}: the exact loss`, loss.includes(title.startsWith("0/") ? "loses nothing" : `loses ${title}`), true);
-        equal(`${name}: the small board shows it`, await page.value('document.querySelectorAll(".small .arc").length'), 2);
+        equal(`${name}: the exact loss`, loss.includes(title.startsWith("0/") ? "loses nothing" : `loses ${title}`),
+            true);
+        equal(`${name}: the small board shows it`, await page.value('document.querySelectorAll(".small .arc").length'),
+            2);
         await page.tap('[data-key="close"]');
         await page.until('document.getElementById("plays").offsetHeight === 0');
         equal(`${name}: what one taps is big enough`, await page.value(`[...document.querySelectorAll("button:not(.plain)")]
@@ -1284,7 +1403,9 @@ async function driveTouch(browser) {
 
 // One page of A4, and one of US Letter.
 async function drivePrint(browser) {
-    for (const [what, hash] of [["a lesson", TEACHING], ["ten positions", `#at=2,2,2,2,2,2&roll=11&t=Ten&${Array.from({ length: 10 }, (_, count) => `p=${count},1,0,0,0,1&c=number ${count}`).join("&")}`], ["a guess", `${TEACHING}&guess=1`]]) {
+    for (const [what, hash] of [["a lesson", TEACHING],
+            ["ten positions",
+        `#at=2,2,2,2,2,2&roll=11&t=Ten&${Array.from({ length: 10 }, (_, count) => `p=${count},1,0,0,0,1&c=number ${count}`).join("&")}`], ["a guess", `${TEACHING}&guess=1`]]) {
         const page = await browser.open(address + encodeURI(decodeURI(hash)));
         await page.until(`${READY} && document.querySelector(".plays")`);
         for (const [paper, width, height] of [["A4", 8.27, 11.69], ["US Letter", 8.5, 11]]) {
@@ -1296,33 +1417,42 @@ async function drivePrint(browser) {
     }
     // a drill, what was answered of it, and its score
     for (const [hash, act, boards, dice, words] of [
-        ["#drill=fifteen&seed=5&ask=play&level=hard", 'document.querySelector(".plays button:last-child").click()', 20, 40, ["Drill: All fifteen checkers, Play, hard", "loses", "best is"]],
-        ["#drill=few&seed=5&ask=play", 'for (let place = 0; place < 20; place += 1) document.querySelector(\'[data-key="next question"]\').click()', 20, 40, ["Drill: Two to four checkers, Play", "Seed 5"]],
-        ["#drill=all&seed=5&ask=effective", `document.querySelector('[data-key="estimate"]').value = "60"; document.querySelector('[data-key="tell"]').click()`, 20, 0, ["What is the EPC?", "You said 60.000", "It is"]],
+        ["#drill=fifteen&seed=5&ask=play&level=hard", 'document.querySelector(".plays button:last-child").click()', 20,
+            40, ["Drill: All fifteen checkers, Play, hard", "loses", "best is"]],
+        ["#drill=few&seed=5&ask=play",
+            'for (let place = 0; place < 20; place += 1) document.querySelector(\'[data-key="next question"]\').click()', 20, 40, ["Drill: Two to four checkers, Play", "Seed 5"]],
+        ["#drill=all&seed=5&ask=effective",
+            `document.querySelector('[data-key="estimate"]').value = "60"; document.querySelector('[data-key="tell"]').click()`, 20, 0, ["What is the EPC?", "You said 60.000", "It is"]],
     ]) {
         const page = await browser.open(address + hash);
-        await page.until(dice ? 'document.querySelector("#board .source") && document.querySelector(".plays button")' : 'document.querySelector("[data-key=estimate]") && document.querySelector(".drill-printed li")');
+        await page.until(dice ? 'document.querySelector("#board .source") && document.querySelector(".plays button")'
+                : 'document.querySelector("[data-key=estimate]") && document.querySelector(".drill-printed li")');
         await page.value(act);
         await wait(100);
         await page.send("Emulation.setEmulatedMedia", { media: "print" });
         const [text, wide, thrown, others] = await page.value(`[document.getElementById("printed").innerText.replace(/\\s+/g, " "),
             [...document.querySelectorAll(".drill-printed .small")].filter((board) => board.getBoundingClientRect().width > 100).length,
             document.querySelectorAll("#printed .die").length, [".top", "#rolls", "#coach", "#steering", "#train"].filter((part) => document.querySelector(part).offsetHeight > 0)]`);
-        equal(`${hash} on paper`, [wide, thrown, others, words.filter((word) => !text.includes(word))], [boards, dice, [], []]);
+        equal(`${hash} on paper`, [wide, thrown, others, words.filter((word) => !text.includes(word))],
+            [boards, dice, [], []]);
         for (const [paper, width, height] of [["A4", 8.27, 11.69], ["US Letter", 8.5, 11]]) {
             const bytes = await page.pdf(width, height);
-            equal(`pages of ${paper} for ${hash}`, (bytes.toString("latin1").match(/\/Type\s*\/Page\b(?!s)/g) || []).length, text.includes("Answers") ? 2 : 1);
+            equal(`pages of ${paper} for ${hash}`,
+                (bytes.toString("latin1").match(/\/Type\s*\/Page\b(?!s)/g) || []).length,
+                text.includes("Answers") ? 2 : 1);
         }
         await page.close();
     }
-    // each lesson of the page, whole: its title, and of each step the board, the text, the question, the dice and the answer
+    // each lesson of the page, whole: its title, and of each step the board, the text, the question, the dice and the
+    // answer
     const { lessons } = readLessons(readFileSync(new URL("../../web/lessons.txt", import.meta.url), "utf8"));
     for (const [number, { title, steps }] of lessons.entries()) {
         const page = await browser.open(`${address}#lesson=${number + 1}`);
         await page.until('document.body.dataset.ready && document.querySelector("#printed h2")');
         for (const [paper, width, height] of [["A4", 8.27, 11.69], ["US Letter", 8.5, 11]]) {
             const bytes = await page.pdf(width, height);
-            equal(`pages of ${paper} for ${title}`, (bytes.toString("latin1").match(/\/Type\s*\/Page\b(?!s)/g) || []).length, 1);
+            equal(`pages of ${paper} for ${title}`,
+                (bytes.toString("latin1").match(/\/Type\s*\/Page\b(?!s)/g) || []).length, 1);
         }
         await page.send("Emulation.setEmulatedMedia", { media: "print" });
         const [text, boards, dice, others] = await page.value(`[document.getElementById("printed").innerText.replace(/\\s+/g, " "),
@@ -1331,7 +1461,8 @@ async function drivePrint(browser) {
         for (const part of [title, ...steps.flatMap((step) => [step.text, step.ask, step.answer])]) {
             if (!text.includes(part)) wrong(`${title} on paper is without "${part}"`);
         }
-        equal(`${title} on paper: its boards`, boards, steps.map(({ points }) => points.reduce((sum, count) => sum + count, 0)));
+        equal(`${title} on paper: its boards`, boards,
+            steps.map(({ points }) => points.reduce((sum, count) => sum + count, 0)));
         equal(`${title} on paper: its dice`, dice, 2 * steps.filter(({ roll }) => roll).length);
         equal(`${title} on paper: nothing else`, others, []);
         await page.close();
@@ -1342,12 +1473,16 @@ async function drivePrint(browser) {
 const OPENED = [
     ["a lesson", "#lesson=3", '#board .source', ""],
     ["an answer", "#lesson=1", '[data-key="answer"]', `document.querySelector('[data-key="answer"]').click()`],
-    ["a drill", "#drill=all&seed=31&ask=play&level=hard", "#board .source", 'document.querySelector("#board .source").dispatchEvent(new MouseEvent("click", { bubbles: true }))'],
-    ["a verdict", "#drill=all&seed=31&ask=play", "#board .source", 'document.querySelector(".plays button:last-child").click()'],
-    ["an estimate", "#drill=all&seed=31&ask=wastage", ".estimate input", `document.querySelector('[data-key="tell"]').click()`],
+    ["a drill", "#drill=all&seed=31&ask=play&level=hard", "#board .source",
+        'document.querySelector("#board .source").dispatchEvent(new MouseEvent("click", { bubbles: true }))'],
+    ["a verdict", "#drill=all&seed=31&ask=play", "#board .source",
+        'document.querySelector(".plays button:last-child").click()'],
+    ["an estimate", "#drill=all&seed=31&ask=wastage", ".estimate input",
+        `document.querySelector('[data-key="tell"]').click()`],
     ["a refusal", "#at=1,0,0,0,0,0", ".figures", 'location.hash = "#at=0,0,0,0,0,15&lesson=99"',
         { before: machine(500, { bad: 9, prefix: NO_MEMORY }), then: ".refusal" }],
-    ["a lesson that is made", "#at=0,0,0,1,0,1&p=0,0,0,1,0,1&c=First&p=3,0,0,0,0,0", '[data-key="draft begin"]', `document.querySelector('[data-key="draft begin"]').click()`],
+    ["a lesson that is made", "#at=0,0,0,1,0,1&p=0,0,0,1,0,1&c=First&p=3,0,0,0,0,0", '[data-key="draft begin"]',
+        `document.querySelector('[data-key="draft begin"]').click()`],
     ["the embedded view", "#view=board&at=7,4,2,0,0,0", ".figures", ""],
 ];
 
@@ -1383,7 +1518,8 @@ async function driveAudit(browser) {
 }
 
 // What is wrong in what an open page draws, read back from it: texts that are cut off, lie over each other or under
-// something else, things to press that do, and shapes of a board that leave it or its points. What is fixed to the window
+// something else, things to press that do, and shapes of a board that leave it or its points. What is fixed to the
+// window
 // may lie over what is scrolled under it.
 const LAID_OUT = `(() => {
     const [faults, counts] = [[], { texts: 0, things: 0, shapes: 0 }];
@@ -1498,20 +1634,33 @@ const PICTURED = [
     ["start", TEACHING, ".plays .cost", ""],
     ["lesson", "#lesson=3", "#board .source", ""],
     ["beginning", "#at=0,0,0,3,5,7&roll=22", ".plays .cost", ""],
-    ["beginning lesson", "#lesson=16", '[data-key="answer"]', `document.querySelector('[data-key="answer"]').click()`, ".figures"],
-    ["beginning play", "#lesson=16&step=4", "#board .source", `document.querySelector("#board .source").dispatchEvent(new MouseEvent("click", { bubbles: true }))`, "#board .target"],
-    ["drill", "#drill=all&seed=31&ask=play&level=hard", "#board .source", `document.querySelector(".plays button:last-child").click()`, "#reasons li"],
-    ["estimate", "#drill=all&seed=31&ask=effective", ".estimate input", `document.querySelector(".estimate input").value = "40"; document.querySelector('[data-key="tell"]').click()`, "#numbers .verdict"],
-    ["estimating", "#lesson=17&step=4", ".worth .now", `document.querySelector(".estimate input").value = "57"; document.querySelector('[data-key="tell"]').click()`, "#steering .verdict"],
+    ["beginning lesson", "#lesson=16", '[data-key="answer"]', `document.querySelector('[data-key="answer"]').click()`,
+        ".figures"],
+    ["beginning play", "#lesson=16&step=4", "#board .source",
+        `document.querySelector("#board .source").dispatchEvent(new MouseEvent("click", { bubbles: true }))`,
+        "#board .target"],
+    ["drill", "#drill=all&seed=31&ask=play&level=hard", "#board .source",
+        `document.querySelector(".plays button:last-child").click()`, "#reasons li"],
+    ["estimate", "#drill=all&seed=31&ask=effective", ".estimate input",
+        `document.querySelector(".estimate input").value = "40"; document.querySelector('[data-key="tell"]').click()`,
+        "#numbers .verdict"],
+    ["estimating", "#lesson=17&step=4", ".worth .now",
+        `document.querySelector(".estimate input").value = "57"; document.querySelector('[data-key="tell"]').click()`,
+        "#steering .verdict"],
     ["own rule", "#lesson=17&step=6", ".worth .now", "scrollTo(0, 400)"],
-    ["both sides", "#at=1,0,0,0,0,0", ".figures", `document.getElementById("counts").value = "XGID=-ABC--D------------a-b--c-:0:0:-1:12:0:0:0:0:10"; document.getElementById("counts").dispatchEvent(new Event("change"))`, ".sides"],
-    ["guess", "#at=2,2,2,2,2,2&roll=31&guess=1", "#board .source", `document.querySelector("#board .source").dispatchEvent(new MouseEvent("click", { bubbles: true }))`, "#board .target"],
-    ["editor", "#at=0,0,0,1,0,1&t=Two checkers&p=0,0,0,1,0,1&c=Four and six&p=3,0,0,0,0,0&c=Three on the ace point", '[data-key="draft begin"]', `document.querySelector('[data-key="draft begin"]').click()`, "#draft label"],
+    ["both sides", "#at=1,0,0,0,0,0", ".figures",
+        `document.getElementById("counts").value = "XGID=-ABC--D------------a-b--c-:0:0:-1:12:0:0:0:0:10"; document.getElementById("counts").dispatchEvent(new Event("change"))`, ".sides"],
+    ["guess", "#at=2,2,2,2,2,2&roll=31&guess=1", "#board .source",
+        `document.querySelector("#board .source").dispatchEvent(new MouseEvent("click", { bubbles: true }))`,
+        "#board .target"],
+    ["editor", "#at=0,0,0,1,0,1&t=Two checkers&p=0,0,0,1,0,1&c=Four and six&p=3,0,0,0,0,0&c=Three on the ace point",
+        '[data-key="draft begin"]', `document.querySelector('[data-key="draft begin"]').click()`, "#draft label"],
     ["print", "#lesson=3", "#printed h2", "print"],
     ["embedded", "#view=board&at=7,4,2,0,0,0", ".figures", ""],
 ];
 
-// Pictures of what the page is used for, on a telephone and on a desk: nothing in them is cut off, lies over something else,
+// Pictures of what the page is used for, on a telephone and on a desk: nothing in them is cut off, lies over something
+// else,
 // or is too faint to read. The start is looked at in more widths and colours.
 async function takePictures(browser) {
     const all = { texts: 0, things: 0, shapes: 0, contrasts: 0 };
@@ -1524,7 +1673,8 @@ async function takePictures(browser) {
     for (const [what, hash, there, act, then = "body"] of PICTURED) {
         for (const [width, height] of [[360, 780], [1180, 800]]) {
             const name = `${what} ${width}`;
-            const page = await browser.open(address + encodeURI(decodeURI(hash)), { width, height, mobile: width < 900 });
+            const page = await browser.open(address + encodeURI(decodeURI(hash)),
+                { width, height, mobile: width < 900 });
             await page.until(`document.body.dataset.ready && document.querySelector(${JSON.stringify(there)})`);
             if (act === "print") await page.send("Emulation.setEmulatedMedia", { media: "print" });
             else if (act) await page.value(act);
@@ -1542,7 +1692,8 @@ async function takePictures(browser) {
         for (const colours of ["light", "dark", "forced"]) {
             const page = await browser.open(address + TEACHING, { width, height, colours, mobile: width < 900 });
             await page.until(`${READY} && document.querySelector(".plays") && ${KNOWN}`);
-            equal(`nothing stands out at ${width}, ${colours}`, await page.value("document.documentElement.scrollWidth"), width);
+            equal(`nothing stands out at ${width}, ${colours}`,
+                await page.value("document.documentElement.scrollWidth"), width);
             if (pictures) writeFileSync(join(pictures, `${width}-${colours}.png`), await page.picture(false));
             if (pictures) writeFileSync(join(pictures, `${width}-${colours}-whole.png`), await page.picture(true));
             await page.close();
@@ -1560,13 +1711,16 @@ const OWN = {
         await driveGuess(page);
         await driveFiles(page);
     },
-    wider: driveWider, moments: driveMoments, older: driveOlder, hosted: driveHosted, touch: driveTouch, finger: driveFinger, print: drivePrint,
-    audit: driveAudit, pictures: takePictures, drill: driveDrill, sight: driveSight, lessons: driveLessons, still: driveStill, opened: driveOpened, clicks: driveClicks,
+    wider: driveWider, moments: driveMoments, older: driveOlder, hosted: driveHosted, touch: driveTouch,
+        finger: driveFinger, print: drivePrint,
+    audit: driveAudit, pictures: takePictures, drill: driveDrill, sight: driveSight, lessons: driveLessons,
+        still: driveStill, opened: driveOpened, clicks: driveClicks,
 };
 
 // Those in which each browser is.
 const ALL = {
-    board: driveBoard, pasted: drivePasted, played: drivePlayed, guessed: driveGuessed, keyboard: driveKeyboard, sum: driveSum, lesson: driveLesson, history: driveHistory, copy: driveCopy, saved: driveSaved,
+    board: driveBoard, pasted: drivePasted, played: drivePlayed, guessed: driveGuessed, keyboard: driveKeyboard,
+        sum: driveSum, lesson: driveLesson, history: driveHistory, copy: driveCopy, saved: driveSaved,
 };
 
 function drive(browser) {

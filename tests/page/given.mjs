@@ -25,13 +25,16 @@ export const testedFolder = () => made("TESTED", "out/tested", "make tested");
 export const linesOf = (name) =>
     readFileSync(join(testedFolder(), name), "utf8").trimEnd().split("\n");
 
-// What a play does, by its text: how many more checkers each place has after it, "off" among them. One in the notation of
+// What a play does, by its text: how many more checkers each place has after it, "off" among them. One in the notation
+// of
 // players, where a move can stand for several, does the same as one in that of the program, which has each by itself.
 export function effectOf(text) {
     const effect = new Map();
     for (const word of text.split(" ")) {
-        const [, from, to, times = "1"] = /^([1-6])\/([1-5]|off)(?:\(([2-4])\))?$/.exec(word) || wrong(`${text} is no play`) || [];
-        for (const [place, more] of [[from, -Number(times)], [to, Number(times)]]) effect.set(place, (effect.get(place) || 0) + more);
+        const [, from, to, times = "1"] = /^([1-6])\/([1-5]|off)(?:\(([2-4])\))?$/.exec(word)
+            || wrong(`${text} is no play`) || [];
+        for (const [place, more] of [[from, -Number(times)], [to, Number(times)]]) effect.set(place,
+            (effect.get(place) || 0) + more);
     }
     return [...effect].filter(([, more]) => more !== 0).map(([place, more]) => `${place}:${more}`).sort().join(" ");
 }

@@ -42,7 +42,8 @@ part("each dialog has a name and closes", () => {
         const forms = [...dialog.querySelectorAll('form[method="dialog"]')];
         equal(`${dialog.id}: a form that closes it`, forms.length, 1);
         const buttons = forms.flatMap((form) => [...form.querySelectorAll("button")]);
-        equal(`${dialog.id}: by one button`, buttons.map((button) => [button.textContent, button.type]), [["Close", "submit"]]);
+        equal(`${dialog.id}: by one button`, buttons.map((button) => [button.textContent, button.type]),
+            [["Close", "submit"]]);
         equal(`${dialog.id}: it isn't open`, dialog.hasAttribute("open"), false);
     }
 });
@@ -60,7 +61,8 @@ const PROMISED = [
     "These are contracts of the functions that this page calls, proved for the code before it was compiled",
 ];
 const NOT_PROMISED = [
-    "Not proved are the definitions themselves", "the prover, the compiler", "the tool that narrows the module's addresses",
+    "Not proved are the definitions themselves", "the prover, the compiler",
+        "the tool that narrows the module's addresses",
     "the browser, and this page's script, which keeps the bytes",
     "Each of the 36 throws counts equally",
     "The least mean is not always the best chance to be off within so many rolls",
@@ -74,7 +76,8 @@ part("what is promised, and what isn't", () => {
     for (const words of [...PROMISED, ...NOT_PROMISED]) equal(words, said.includes(words), true);
     const [first, ...parts] = said.split("Not proved are");
     equal("what isn't promised stands behind what is", [
-        parts.length, PROMISED.every((words) => first.includes(words)), NOT_PROMISED.some((words) => first.includes(words)),
+        parts.length, PROMISED.every((words) => first.includes(words)),
+            NOT_PROMISED.some((words) => first.includes(words)),
     ], [1, true, false]);
 });
 
@@ -102,7 +105,8 @@ function schemesOf(style) {
 }
 
 function lightOf(colour) {
-    const digits = colour.length === 4 ? [...colour.slice(1)].map((digit) => digit + digit) : colour.slice(1).match(/../g);
+    const digits = colour.length === 4 ? [...colour.slice(1)].map((digit) => digit + digit)
+        : colour.slice(1).match(/../g);
     const [red, green, blue] = digits.map((digit) => parseInt(digit, 16) / 255)
         .map((share) => (share <= 0.04045 ? share / 12.92 : ((share + 0.055) / 1.055) ** 2.4));
     return 0.2126 * red + 0.7152 * green + 0.0722 * blue;
@@ -116,9 +120,11 @@ function contrast(one, other) {
 // What stands on what, and how much it has to stand out: texts, shapes that say something, and the
 // points of the board, which are told by their numbers too.
 const STANDS_OUT = [
-    [4.5, ["ink on paper", "ink on card", "soft on paper", "soft on card", "ink on accent-soft", "bad on card", "bad on paper", "good on card", "good on paper", "accent on card", "card on accent", "disc-edge on disc"]],
+    [4.5, ["ink on paper", "ink on card", "soft on paper", "soft on card", "ink on accent-soft", "bad on card",
+            "bad on paper", "good on card", "good on paper", "accent on card", "card on accent", "disc-edge on disc"]],
     [3, [
-        "disc on felt", "disc on wedge-odd", "disc on wedge-even", "disc on ground", "disc on card", "ring on halo", "ring on felt", "line on card", "line on paper",
+        "disc on felt", "disc on wedge-odd", "disc on wedge-even", "disc on ground", "disc on card", "ring on halo",
+            "ring on felt", "line on card", "line on paper",
         "soft on felt", "accent on felt", "accent on accent-soft",
     ]],
     [1.2, ["wedge-odd on felt", "wedge-even on felt", "ground on disc"]],

@@ -3,7 +3,8 @@
 import assert from "node:assert/strict";
 import { test } from "node:test";
 import {
-    answered, askedOn, BOXES, DAILY, dayOf, dueOn, EMPTY, isKnown, MOST_CARDS, MOST_DAYS, MOST_LETTERS, ratingOf, readMemory, Store, streak, todays, todaysEstimates, VERSION, weakest, written,
+    answered, askedOn, BOXES, DAILY, dayOf, dueOn, EMPTY, isKnown, MOST_CARDS, MOST_DAYS, MOST_LETTERS, ratingOf,
+        readMemory, Store, streak, todays, todaysEstimates, VERSION, weakest, written,
 } from "../../web/memory.js";
 import { drawQuestions, drillOf, mostOf, readDue, TEN, writeDue } from "../../web/questions.js";
 import { themeOf, THEMES } from "../../web/themes.js";
@@ -11,10 +12,15 @@ import { readLink, writeLink } from "../../web/link.js";
 import { ROLLS } from "../../web/rolls.js";
 import { drawFrom } from "./stand_in.mjs";
 
-const question = (number = 0, theme = "all") => ({ points: [number % 6, 2, Math.floor(number / 6) % 6, 0, 1, Math.floor(number / 36) % 4], roll: [3, 1], theme });
-const missed = (number, lost = 56, theme = "all") => ({ ...question(number, theme), lost, natural: 20, isMissed: true, isLast: false });
-const right = (number, theme = "all") => ({ ...question(number, theme), lost: 0, natural: 20, isMissed: false, isLast: false });
-const estimate = (lost, isMissed, kind = "effective") => ({ points: [1, 2, 3, 0, 0, 0], roll: null, theme: kind, lost, isMissed, isLast: false });
+const question = (number = 0, theme = "all") =>
+        ({ points: [number % 6, 2, Math.floor(number / 6) % 6, 0, 1, Math.floor(number / 36) % 4], roll: [3, 1],
+        theme });
+const missed = (number, lost = 56, theme = "all") => ({ ...question(number, theme), lost, natural: 20, isMissed: true,
+        isLast: false });
+const right = (number, theme = "all") => ({ ...question(number, theme), lost: 0, natural: 20, isMissed: false,
+        isLast: false });
+const estimate = (lost, isMissed, kind = "effective") => ({ points: [1, 2, 3, 0, 0, 0], roll: null, theme: kind, lost,
+        isMissed, isLast: false });
 const faultOf = (...lines) => readMemory(["bearoff memory 1", ...lines].join("\n")).fault;
 
 test("a miss comes back after 1, 3, 7, 21 and 60 days, and is learnt then", () => {
@@ -46,7 +52,8 @@ test("what comes back counts for the theme of its own, and an estimate for what 
     memory = answered(answered(memory, right(1, "low"), 101), { ...estimate(2100, true), isLast: true }, 101);
     assert.deepEqual(memory.themes, [["gaps", 2, 1, 56], ["low", 1, 0, 0], ["effective", 1, 1, 2100]]);
     assert.deepEqual(memory.days, [[100, 1, 1, 0], [101, 3, 1, 1]]);
-    assert.deepEqual([memory.cards.length, memory.sizes, askedOn(memory, 101), askedOn(memory, 99)], [2, [0, 1, 0], 3, 0]);
+    assert.deepEqual([memory.cards.length, memory.sizes, askedOn(memory, 101), askedOn(memory, 99)],
+        [2, [0, 1, 0], 3, 0]);
     assert.equal(answered(EMPTY, right(0), 1).cards.length, 0);
 });
 
@@ -57,11 +64,14 @@ test("misses by their size", () => {
 });
 
 test("a rating: of what natural plays lose, the part that was not lost, of the last plays most", () => {
-    const after = (memory, count, lost, natural) => Array.from({ length: count }).reduce((so) => answered(so, { ...right(0), lost, natural, isMissed: lost > 0 }, 7), memory);
+    const after = (memory, count, lost, natural) => Array.from({ length: count }).reduce((so) => answered(so,
+            { ...right(0), lost, natural, isMissed: lost > 0 }, 7), memory);
     assert.deepEqual([0, 19, 20].map((count) => ratingOf(after(EMPTY, count, 30, 40))), [null, null, 25]);
-    assert.deepEqual([[0, 40], [40, 40], [60, 40], [400, 40], [0, 0]].map(([lost, natural]) => ratingOf(after(EMPTY, 30, lost, natural))), [100, 0, -50, -100, null]);
+    assert.deepEqual([[0, 40], [40, 40], [60, 40], [400, 40],
+            [0, 0]].map(([lost, natural]) => ratingOf(after(EMPTY, 30, lost, natural))), [100, 0, -50, -100, null]);
     // where natural plays are right too they say nothing, and a play of theirs that loses does
-    assert.deepEqual([ratingOf(after(after(EMPTY, 20, 10, 20), 5, 0, 0)), ratingOf(after(after(EMPTY, 20, 10, 20), 5, 20, 0)) < 30], [50, true]);
+    assert.deepEqual([ratingOf(after(after(EMPTY, 20, 10, 20), 5, 0, 0)),
+            ratingOf(after(after(EMPTY, 20, 10, 20), 5, 20, 0)) < 30], [50, true]);
     // a play counts a fiftieth less with each further one
     assert.deepEqual(after(EMPTY, 1, 30, 40).rating, [30000, 40000, 1]);
     assert.deepEqual(after(EMPTY, 2, 30, 40).rating, [59400, 79200, 2]);
@@ -76,15 +86,20 @@ test("bounds: the best known and cheapest are forgotten, and the oldest days", (
     let memory = answered(answered(EMPTY, missed(0, 999), 998), right(0), 999);
     for (let number = 0; number < 500; number += 1) {
         const points = [number % 15, 0, 0, 0, 0, 1];
-        memory = answered(memory, { ...missed(0, number + 1), points, roll: ROLLS[Math.floor(number / 15) % 21] }, 1000 + number);
+        memory = answered(memory, { ...missed(0, number + 1), points, roll: ROLLS[Math.floor(number / 15) % 21] },
+            1000 + number);
     }
-    assert.deepEqual([memory.cards.length, memory.days.length, memory.days[0][0]], [MOST_CARDS, MOST_DAYS, 1500 - MOST_DAYS]);
+    assert.deepEqual([memory.cards.length, memory.days.length, memory.days[0][0]],
+        [MOST_CARDS, MOST_DAYS, 1500 - MOST_DAYS]);
     assert.ok(memory.cards.every(({ lost, box }) => lost > 150 && box === 0));
     assert.ok(written(memory).length < 40000);
-    const cards = Array.from({ length: 301 }, (_, place) => `card ${place % 15},1,0,0,0,0 ${ROLLS[Math.floor(place / 15)].join("")} all 0 7 ${1 + place}`);
-    assert.deepEqual([faultOf(...cards), readMemory(["bearoff memory 1", ...cards].join("\n")).memory.cards.length], ["", MOST_CARDS]);
+    const cards = Array.from({ length: 301 },
+        (_, place) => `card ${place % 15},1,0,0,0,0 ${ROLLS[Math.floor(place / 15)].join("")} all 0 7 ${1 + place}`);
+    assert.deepEqual([faultOf(...cards), readMemory(["bearoff memory 1", ...cards].join("\n")).memory.cards.length],
+        ["", MOST_CARDS]);
     const days = Array.from({ length: 401 }, (_, place) => `day ${900 - place} 1 0 0`);
-    assert.deepEqual(readMemory(["bearoff memory 1", ...days].join("\n")).memory.days.map(([day]) => day), Array.from({ length: 400 }, (_, place) => 501 + place));
+    assert.deepEqual(readMemory(["bearoff memory 1", ...days].join("\n")).memory.days.map(([day]) => day),
+        Array.from({ length: 400 }, (_, place) => 501 + place));
 });
 
 // A question that came back so often that one like it is asked from then on, in its third box.
@@ -99,7 +114,8 @@ test("from its third time on a question like it is asked, of its theme, and anot
     assert.deepEqual([memory.cards[0].box, memory.cards[0].due], [2, 107]);
     const drill = todays(memory, 107);
     assert.deepEqual(drill.due, [{ ...question(0), theme: "low" }]);
-    assert.deepEqual(todays({ ...memory, cards: [{ ...memory.cards[0], box: 1 }] }, 107).due, [{ points: question(0).points, roll: [3, 1] }]);
+    assert.deepEqual(todays({ ...memory, cards: [{ ...memory.cards[0], box: 1 }] }, 107).due,
+        [{ points: question(0).points, roll: [3, 1] }]);
     const firsts = [drill, drill, { ...drill, seed: 108 }].map((one) => drawFrom(drillOf(one))[0]);
     const [first, same, next] = firsts;
     assert.deepEqual(first, same);
@@ -113,15 +129,18 @@ test("from its third time on a question like it is asked, of its theme, and anot
     const drawn = drawFrom(drillOf({ ...drill, due: both })).map(({ points }) => points.join());
     assert.equal(new Set([...drawn, ...both.map(({ points }) => points.join())]).size, 12);
     // where its theme has no other one it is that one
-    const alone = drawQuestions(drillOf({ ...drill, due: [{ ...question(0), theme: "few" }] }), ROLLS, (points) => (points.join() === question(0).points.join() ? drawnPlays : [{ isBest: true }]));
+    const alone = drawQuestions(drillOf({ ...drill, due: [{ ...question(0), theme: "few" }] }), ROLLS,
+        (points) => (points.join() === question(0).points.join() ? drawnPlays : [{ isBest: true }]));
     assert.deepEqual(alone, [{ points: question(0).points, roll: [3, 1] }]);
     assert.deepEqual([mostOf(drill), mostOf({ ...drill, due: [{ ...question(0), theme: "fifteen" }] })], [44, 90]);
 });
 
-const drawnPlays = [{ isBest: true, to: [1, 0, 0, 0, 0, 0], loss: 0n }, { isBest: false, to: [2, 0, 0, 0, 0, 0], loss: 5n }];
+const drawnPlays = [{ isBest: true, to: [1, 0, 0, 0, 0, 0], loss: 0n },
+    { isBest: false, to: [2, 0, 0, 0, 0, 0], loss: 5n }];
 
 test("an answer to a question like it counts for the one that comes back", () => {
-    const [memory, like] = [known(100), { points: [9, 0, 0, 0, 0, 0], roll: [6, 5], theme: "all", natural: 0, card: { points: question(0).points, roll: [3, 1] }, isLast: false }];
+    const [memory, like] = [known(100), { points: [9, 0, 0, 0, 0, 0], roll: [6, 5], theme: "all", natural: 0,
+            card: { points: question(0).points, roll: [3, 1] }, isLast: false }];
     const rightly = answered(memory, { ...like, lost: 0, isMissed: false }, 107);
     assert.deepEqual(rightly.cards, [{ ...question(0), theme: "low", box: 3, due: 128, lost: 56 }]);
     assert.deepEqual(rightly.themes, [["low", 4, 1, 56]]);
@@ -129,26 +148,37 @@ test("an answer to a question like it counts for the one that comes back", () =>
     const wrongly = answered(memory, { ...like, lost: 30, isMissed: true }, 107);
     assert.deepEqual(wrongly.cards, [{ points: like.points, roll: [6, 5], theme: "low", box: 0, due: 108, lost: 30 }]);
     // once, where it came back already
-    const twice = answered(answered(memory, { ...missed(7), points: like.points, roll: [6, 5] }, 106), { ...like, lost: 30, isMissed: true }, 107);
+    const twice = answered(answered(memory, { ...missed(7), points: like.points, roll: [6, 5] }, 106),
+        { ...like, lost: 30, isMissed: true }, 107);
     assert.deepEqual(twice.cards, wrongly.cards);
     assert.equal(readMemory(written(twice)).fault, "");
 });
 
 test("estimates that were far off come back, ten at a time, and none among today's ten", () => {
     let memory = answered(answered(EMPTY, estimate(2100, true), 100), estimate(900, false, "pips"), 100);
-    assert.deepEqual(memory.cards, [{ points: [1, 2, 3, 0, 0, 0], roll: null, theme: "effective", box: 0, due: 101, lost: 2100 }]);
-    assert.deepEqual([todays(memory, 101).due, todaysEstimates(memory, 100), todaysEstimates(EMPTY, 101)], [[], null, null]);
-    assert.deepEqual(todaysEstimates(memory, 101), { theme: "all", seed: 101, ask: "effective", due: [{ points: [1, 2, 3, 0, 0, 0], roll: null }] });
+    assert.deepEqual(memory.cards, [{ points: [1, 2, 3, 0, 0, 0], roll: null, theme: "effective", box: 0, due: 101,
+            lost: 2100 }]);
+    assert.deepEqual([todays(memory, 101).due, todaysEstimates(memory, 100), todaysEstimates(EMPTY, 101)],
+        [[], null, null]);
+    assert.deepEqual(todaysEstimates(memory, 101),
+        { theme: "all", seed: 101, ask: "effective", due: [{ points: [1, 2, 3, 0, 0, 0], roll: null }] });
     const questions = drawFrom(drillOf(todaysEstimates(memory, 101)));
-    assert.deepEqual([questions.length, questions[0], questions.every(({ roll }) => roll === null), new Set(questions.map(({ points }) => points.join())).size], [TEN, { points: [1, 2, 3, 0, 0, 0], roll: null }, true, TEN]);
+    assert.deepEqual([questions.length, questions[0], questions.every(({ roll }) => roll === null),
+            new Set(questions.map(({ points }) => points.join())).size],
+        [TEN, { points: [1, 2, 3, 0, 0, 0], roll: null }, true, TEN]);
     // two numbers of one position are two questions, and the one that most are due of is asked
-    for (const [points, kind] of [[[1, 2, 3, 0, 0, 0], "wastage"], [[1, 2, 0, 0, 0, 0], "wastage"]]) memory = answered(memory, { ...estimate(1500, true, kind), points }, 100);
-    assert.deepEqual([memory.cards.length, todaysEstimates(memory, 101).ask, todaysEstimates(memory, 101).due.length], [3, "wastage", 2]);
+    for (const [points, kind] of [[[1, 2, 3, 0, 0, 0], "wastage"],
+            [[1, 2, 0, 0, 0, 0], "wastage"]]) memory = answered(memory, { ...estimate(1500, true, kind), points }, 100);
+    assert.deepEqual([memory.cards.length, todaysEstimates(memory, 101).ask, todaysEstimates(memory, 101).due.length],
+        [3, "wastage", 2]);
     memory = answered(memory, estimate(0, false), 101);
-    assert.deepEqual(memory.cards.find(({ theme }) => theme === "effective"), { points: [1, 2, 3, 0, 0, 0], roll: null, theme: "effective", box: 1, due: 104, lost: 2100 });
+    assert.deepEqual(memory.cards.find(({ theme }) => theme === "effective"),
+        { points: [1, 2, 3, 0, 0, 0], roll: null, theme: "effective", box: 1, due: 104, lost: 2100 });
     // it is the same question each time, and of ten at most
-    const many = Array.from({ length: 14 }, (_, place) => ({ points: [place, 1, 0, 0, 0, 0], roll: null, theme: "pips", box: 3, due: 90, lost: 1000 }));
-    assert.deepEqual(todaysEstimates({ ...EMPTY, cards: many }, 101).due, many.slice(0, TEN).map(({ points }) => ({ points, roll: null })));
+    const many = Array.from({ length: 14 }, (_,
+            place) => ({ points: [place, 1, 0, 0, 0, 0], roll: null, theme: "pips", box: 3, due: 90, lost: 1000 }));
+    assert.deepEqual(todaysEstimates({ ...EMPTY, cards: many }, 101).due,
+        many.slice(0, TEN).map(({ points }) => ({ points, roll: null })));
 });
 
 test("days in a row, up to today or yesterday", () => {
@@ -167,7 +197,8 @@ test("a day begins at local midnight", () => {
 
 test("today's ten: at most six that come back, the longest due first, and then the dearest", () => {
     let memory = EMPTY;
-    for (let number = 0; number < 8; number += 1) memory = answered(memory, missed(number, number + 1), number < 4 ? 10 : 9);
+    for (let number = 0; number < 8; number += 1) memory = answered(memory, missed(number, number + 1),
+        number < 4 ? 10 : 9);
     const { due, seed, ask, level } = todays(memory, 12);
     assert.deepEqual([seed, ask, level], [12, "play", "mixed"]);
     assert.deepEqual(due, [7, 6, 5, 4, 3, 2].map((number) => ({ points: question(number).points, roll: [3, 1] })));
@@ -179,10 +210,13 @@ test("today's ten: at most six that come back, the longest due first, and then t
 
 test("the theme that loses most for each answer, once each is known", () => {
     const rows = DAILY.map((name) => [name, 5, 1, 10]);
-    const of = (...more) => ({ ...EMPTY, themes: [...rows.filter(([name]) => !more.some(([other]) => other === name)), ...more] });
+    const of = (...more) => ({ ...EMPTY, themes: [...rows.filter(([name]) => !more.some(([other]) => other === name)),
+            ...more] });
     assert.equal(weakest(of(["gaps", 10, 1, 30], ["low", 5, 1, 16]), 3), "low");
-    assert.equal(weakest(of(["gaps", 10, 1, 40], ["low", 5, 1, 16], ["effective", 5, 5, 99999], ["board", 5, 5, 9999]), 3), "gaps");
-    assert.deepEqual([weakest(of(["gaps", 4, 4, 999]), 3), isKnown(of(["gaps", 4, 4, 999])), isKnown(of())], ["gaps", false, true]);
+    assert.equal(weakest(of(["gaps", 10, 1, 40], ["low", 5, 1, 16], ["effective", 5, 5, 99999], ["board", 5, 5, 9999]),
+            3), "gaps");
+    assert.deepEqual([weakest(of(["gaps", 4, 4, 999]), 3), isKnown(of(["gaps", 4, 4, 999])), isKnown(of())],
+        ["gaps", false, true]);
     assert.deepEqual(DAILY.map((_, day) => weakest(EMPTY, day)), DAILY);
     assert.deepEqual(DAILY, ["all", "low", "gaps", "middle", "high", "few", "fewer"]);
     // where the natural play is never best, or the next loses little, it is called hard
@@ -201,12 +235,14 @@ test("the questions: first those that come back, and then new ones, the same by 
     assert.equal(drawFrom({ ...drill, due: undefined }).length, 20);
     // what is asked with a roll that is new isn't asked twice
     const [, , , fresh] = questions;
-    assert.equal(drawFrom({ ...drill, due: [fresh] }).filter(({ points }) => points.join() === fresh.points.join()).length, 1);
+    assert.equal(drawFrom({ ...drill, due: [fresh] }).filter(({ points }) => points.join() === fresh.points.join())
+            .length, 1);
     // two rolls of one position are two questions
     const both = [[3, 1], [6, 6]].map((roll) => ({ points: question(3).points, roll }));
     assert.deepEqual(drawFrom({ ...drill, due: both }).slice(0, 2), both);
     // and what has nothing to decide isn't asked
-    assert.equal(drawQuestions({ ...drill, theme: "high", due: due.slice(0, 1) }, ROLLS, () => [{ isBest: true }]).length, 0);
+    assert.equal(drawQuestions({ ...drill, theme: "high", due: due.slice(0, 1) }, ROLLS,
+            () => [{ isBest: true }]).length, 0);
     assert.deepEqual([mostOf(drill), mostOf({ theme: "all", due: [{ points: [0, 0, 0, 0, 0, 15] }] })], [44, 90]);
 });
 
@@ -217,21 +253,26 @@ test("a link has what comes back, and what can't be taken is said", () => {
         assert.deepEqual([readLink(link).drill, readLink(link).faults], [drill, []]);
         assert.deepEqual(readDue(writeDue(due)), due);
     }
-    for (const text of ["x", "1,2,3,0,0,0", "1,2,3,0,0,0,13", "0,0,0,0,0,0,31", "9,9,0,0,0,0,31", "1,2,3,0,0,0,71", Array(11).fill("1,2,3,0,0,0,31").join(".")]) {
+    for (const text of ["x", "1,2,3,0,0,0", "1,2,3,0,0,0,13", "0,0,0,0,0,0,31", "9,9,0,0,0,0,31", "1,2,3,0,0,0,71",
+            Array(11).fill("1,2,3,0,0,0,31").join(".")]) {
         assert.equal(readDue(text), null, text);
-        assert.match(readLink(`#drill=all&seed=1&ten=${text}`).faults[0], /what comes back are six counts of each, and a roll where plays are asked/);
+        assert.match(readLink(`#drill=all&seed=1&ten=${text}`).faults[0],
+            /what comes back are six counts of each, and a roll where plays are asked/);
     }
     assert.deepEqual(readLink("#drill=all&seed=1").drill, { theme: "all", seed: 1, ask: "play" });
-    assert.deepEqual(readLink("#drill=all&seed=1&ask=effective&ten=").drill, { theme: "all", seed: 1, ask: "effective", due: [] });
+    assert.deepEqual(readLink("#drill=all&seed=1&ask=effective&ten=").drill,
+        { theme: "all", seed: 1, ask: "effective", due: [] });
     // where a question like it is asked its theme stands before it, and an estimate has no roll
-    const like = { theme: "gaps", seed: 7, ask: "play", level: "mixed", due: [{ ...question(3), theme: "low" }, { points: [1, 2, 0, 0, 0, 0], roll: [2, 1] }] };
+    const like = { theme: "gaps", seed: 7, ask: "play", level: "mixed",
+        due: [{ ...question(3), theme: "low" }, { points: [1, 2, 0, 0, 0, 0], roll: [2, 1] }] };
     const told = { theme: "all", seed: 7, ask: "wastage", due: [{ points: [1, 2, 0, 0, 0, 0], roll: null }] };
     for (const drill of [like, told]) {
         const link = writeLink({ ...readLink(""), drill });
         assert.deepEqual([readLink(link).drill, readLink(link).faults], [drill, []]);
     }
     assert.match(writeLink({ ...readLink(""), drill: like }), /ten=low-3,2,0,0,1,0,31\.1,2,0,0,0,0,21&/);
-    for (const [ask, text] of [["play", "nowhere-1,2,0,0,0,0,21"], ["play", "ace-1,2,0,0,0,0,21"], ["play", "low-1,2,0,0,0,0"], ["effective", "1,2,0,0,0,0,21"], ["effective", "low-1,2,0,0,0,0"]]) {
+    for (const [ask, text] of [["play", "nowhere-1,2,0,0,0,0,21"], ["play", "ace-1,2,0,0,0,0,21"],
+            ["play", "low-1,2,0,0,0,0"], ["effective", "1,2,0,0,0,0,21"], ["effective", "low-1,2,0,0,0,0"]]) {
         assert.equal(readDue(text, ask), null, text);
         assert.equal(readLink(`#drill=all&seed=1&ask=${ask}&ten=${text}`).faults.length, 1, text);
     }
@@ -241,15 +282,19 @@ test("the text comes back", () => {
     let memory = answered(answered(EMPTY, missed(3, 56, "gaps"), 20000), estimate(2100, true), 20001);
     memory = { ...answered(memory, { ...right(3), isLast: true }, 20001), learnt: 4 };
     assert.equal(written(memory), [
-        "bearoff memory 3", "learnt 4", "sizes 0 1 0", "rating 54880 39600 2", "theme gaps 2 1 56", "theme effective 1 1 2100", "day 20000 1 1 0", "day 20001 2 1 1",
+        "bearoff memory 3", "learnt 4", "sizes 0 1 0", "rating 54880 39600 2", "theme gaps 2 1 56",
+            "theme effective 1 1 2100", "day 20000 1 1 0", "day 20001 2 1 1",
         "card 1,2,3,0,0,0 - effective 0 20002 2100", "card 3,2,0,0,1,0 31 gaps 1 20004 56",
     ].join("\n"));
     assert.deepEqual(readMemory(written(memory)), { memory, fault: "" });
     assert.deepEqual(readMemory(`\ufeff${written(memory).replaceAll("\n", "\r\n")}\r\n`).memory, memory);
     assert.deepEqual(readMemory(written(EMPTY)).memory, EMPTY);
-    // a text of the first version, which had no estimates that come back, or of the second, which had no rating, is read as it is
-    const [first, second] = [/ - |^rating/, /^rating/].map((none, place) => written(memory).replace("memory 3", `memory ${place + 1}`).split("\n").filter((line) => !none.test(line)).join("\n"));
-    assert.deepEqual(readMemory(first).memory, { ...memory, rating: EMPTY.rating, cards: memory.cards.filter(({ roll }) => roll) });
+    // a text of the first version, which had no estimates that come back, or of the second, which had no rating, is
+    // read as it is
+    const [first, second] = [/ - |^rating/, /^rating/].map((none, place) => written(memory).replace("memory 3",
+            `memory ${place + 1}`).split("\n").filter((line) => !none.test(line)).join("\n"));
+    assert.deepEqual(readMemory(first).memory,
+        { ...memory, rating: EMPTY.rating, cards: memory.cards.filter(({ roll }) => roll) });
     assert.deepEqual(readMemory(second).memory, { ...memory, rating: EMPTY.rating });
     for (const { name } of THEMES) assert.equal(faultOf(`theme ${name} 1 1 1`), "");
 });
@@ -258,18 +303,24 @@ test("a text with a fault is refused whole, by the number of its line", () => {
     const good = "card 1,2,3,0,0,0 31 all 0 7 8";
     assert.equal(faultOf(good), "");
     for (const line of [
-        "", "day x", "day 1 1 1", "day 1 1 1 1 1", "day 1234567 1 1 1", "card 16,0,0,0,0,0 31 all 0 1 1", "card 0,0,0,0,0,0 31 all 0 1 1", "card 1,0,0,0,0,0 71 all 0 1 1", "card 1,0,0,0,0,0 13 all 0 1 1",
-        "card 1,0,0,0,0,0 31 all 5 1 1", "card 1,0,0,0,0,0 31 none 0 1 1", "card 1,0,0,0,0,0 31 effective 0 1 1", "card 1,0,0,0,0,0 - all 0 1 1", "card 1,0,0,0,0,0 - effective 5 1 1", "constructor 1", "toString 1", "theme nowhere 1 1 1", "theme all -1 1 1", "theme all 1.5 1 1",
+        "", "day x", "day 1 1 1", "day 1 1 1 1 1", "day 1234567 1 1 1", "card 16,0,0,0,0,0 31 all 0 1 1",
+            "card 0,0,0,0,0,0 31 all 0 1 1", "card 1,0,0,0,0,0 71 all 0 1 1", "card 1,0,0,0,0,0 13 all 0 1 1",
+        "card 1,0,0,0,0,0 31 all 5 1 1", "card 1,0,0,0,0,0 31 none 0 1 1", "card 1,0,0,0,0,0 31 effective 0 1 1",
+            "card 1,0,0,0,0,0 - all 0 1 1", "card 1,0,0,0,0,0 - effective 5 1 1", "constructor 1", "toString 1",
+            "theme nowhere 1 1 1", "theme all -1 1 1", "theme all 1.5 1 1",
         "sizes 1 2", "learnt", "rating 1000 1", "rating 1 -1 1", "rating 1234567890 1 1", "Day 1 1 1 1", good,
     ]) assert.equal(faultOf(good, line, "day 1 1 1 1"), "Line 3 can't be read.", line);
     assert.equal(faultOf("theme all 1 1 1", "theme all 1 1 1"), "Line 3 can't be read.");
     assert.equal(faultOf("day 5 1 1 1", "day 5 2 1 1"), "Line 3 can't be read.");
     const [pips, wastage] = ["pips", "wastage"].map((kind) => `card 1,0,0,0,0,0 - ${kind} 0 1 1`);
     assert.deepEqual([faultOf(pips, wastage), faultOf(pips, wastage, pips)], ["", "Line 4 can't be read."]);
-    for (const text of ["", "x", "bearoff memory", "bearoff memory 0", "bearoff memory x", "Bearoff memory 1", "bearoff memory 1 2"]) {
-        assert.deepEqual(readMemory(text), { memory: null, fault: "Line 1: it doesn't begin with \"bearoff memory\" and a version." }, text);
+    for (const text of ["", "x", "bearoff memory", "bearoff memory 0", "bearoff memory x", "Bearoff memory 1",
+            "bearoff memory 1 2"]) {
+        assert.deepEqual(readMemory(text), { memory: null,
+                fault: "Line 1: it doesn't begin with \"bearoff memory\" and a version." }, text);
     }
-    assert.equal(readMemory(`bearoff memory ${VERSION + 1}\nfuture 1`).fault, `It is of version ${VERSION + 1}, and this page knows ${VERSION}.`);
+    assert.equal(readMemory(`bearoff memory ${VERSION + 1}\nfuture 1`).fault,
+        `It is of version ${VERSION + 1}, and this page knows ${VERSION}.`);
     assert.equal(readMemory("x".repeat(MOST_LETTERS + 1)).fault, `It has more than ${MOST_LETTERS} characters.`);
 });
 
@@ -311,7 +362,8 @@ test("without a store the page has a memory of its own", () => {
     let memory = store.change(EMPTY, (own) => answered(own, missed(1), 10));
     localStorage.isFull = true;
     for (const number of [2, 3]) memory = store.change(memory, (own) => answered(own, missed(number), 10));
-    assert.deepEqual([memory.cards.length, readMemory(localStorage.kept.get("bearoff memory")).memory.cards.length], [3, 1]);
+    assert.deepEqual([memory.cards.length, readMemory(localStorage.kept.get("bearoff memory")).memory.cards.length],
+        [3, 1]);
 });
 
 test("what a newer page has kept stays as it is", () => {
@@ -320,7 +372,8 @@ test("what a newer page has kept stays as it is", () => {
         const store = new Store({ localStorage });
         const memory = store.change(EMPTY, (own) => answered(own, missed(1), 10));
         assert.deepEqual([memory.cards.length, localStorage.kept.get("bearoff memory")], [1, text]);
-        assert.match(store.why, /^What is kept here can't be read, and stays as it is\. (It is of version 4|Line 2 can't)/);
+        assert.match(store.why,
+            /^What is kept here can't be read, and stays as it is\. (It is of version 4|Line 2 can't)/);
         // until all is forgotten
         assert.deepEqual([store.forget(), store.why, localStorage.kept.size], [EMPTY, "", 0]);
         assert.equal(store.change(EMPTY, (own) => answered(own, missed(1), 10)).cards.length, 1);

@@ -30,13 +30,15 @@ const over = (fraction) => fraction.split("/").map(BigInt);
 
 function comparePlays(name, plays, reply) {
     const listed = reply.split(" ").slice(1);
-    equal(`${name}, as the program lists them`, plays.map((play) => `${play.to}:${play.exact}`).join(" "), listed.join(" "));
+    equal(`${name}, as the program lists them`, plays.map((play) => `${play.to}:${play.exact}`).join(" "),
+        listed.join(" "));
     for (const play of plays) {
         equal(`${name}, the loss of ${play.text}`, play.loss, nearest(...over(play.exact)));
         equal(`${name}, its text`, play.lossText, decimal(play.loss));
         equal(`${name}, best`, play.isBest, play.exact === "0/1");
         equal(`${name}, the moves`, notation(play.moves), play.text);
-        equal(`${name}, what ${play.text} does`, effectOf(play.text), effectOf(play.moves.map(([from, to]) => `${from}/${to || "off"}`).join(" ")));
+        equal(`${name}, what ${play.text} does`, effectOf(play.text),
+            effectOf(play.moves.map(([from, to]) => `${from}/${to || "off"}`).join(" ")));
         equal(`${name}, ${play.text} as players write it`, isJoined(play.text), true);
     }
     equal(`${name}, recorded`, plays.filter(({ isRecorded }) => isRecorded).length, 1);
@@ -69,7 +71,8 @@ function compareMean(name, shown, points, reply) {
 }
 
 // What is shown of a position that was refused.
-const REFUSED = { "error too-many": [3, "A position has at most 15 checkers."], "error over-bound": [4, "The position has more pips than the database."] };
+const REFUSED = { "error too-many": [3, "A position has at most 15 checkers."],
+    "error over-bound": [4, "The position has more pips than the database."] };
 
 function compareLines(database, bound) {
     const replies = linesOf(`replies_${bound}`);
@@ -104,7 +107,8 @@ function compareLines(database, bound) {
         equal(`${line}, over ${bound} pips`, [effectOf(recorded.text), recorded.to.join()], [effectOf(moves), to]);
         seen.play = true;
     });
-    for (const kind of ["mean", "dist", "play", "moves", "error"]) seen[kind] || wrong(`no reply ${kind} over ${bound} pips`);
+    for (const kind of ["mean", "dist", "play", "moves", "error"]) seen[kind]
+        || wrong(`no reply ${kind} over ${bound} pips`);
     const rolls = rollsOf(database, [1, 0, 0, 0, 0, 1]);
     equal("how many rolls", rolls.map(({ dice }) => dice.join("")).join(), ROLLS.map((dice) => dice.join("")).join());
     equal("the plays of a roll", rolls[1].plays.map(({ to }) => `${to}`).sort().join(" "), "0,0,0,1,0,0 1,0,1,0,0,0");
@@ -118,7 +122,8 @@ async function compareBuilt(bound, positions) {
     const opened = await desk.build(bound);
     equal(`the database of ${bound} pips`, [opened.bound, opened.positions].join(), [bound, positions].join());
     const megabytes = { 8: "0", 44: "11", 90: "15" }[bound];
-    equal("the steps of the bar", told.join("; "), `0.1 to 0.55 Building the database of ${bound} pips\u2026; 0.55 to 1 Checking all of its ${megabytes} MB\u2026`);
+    equal("the steps of the bar", told.join("; "),
+        `0.1 to 0.55 Building the database of ${bound} pips\u2026; 0.55 to 1 Checking all of its ${megabytes} MB\u2026`);
     compareLines(desk.database, bound);
     return desk;
 }
@@ -126,18 +131,22 @@ async function compareBuilt(bound, positions) {
 // A refused file leaves the open database as it was; each fault has its words.
 async function compareDamaged(desk) {
     const file = new Uint8Array(readFileSync(join(folder, "eight")));
-    const before = JSON.stringify(await desk.take({ kind: "ask", points: [0, 1, 0, 0, 0, 0] }), (_, value) => (typeof value === "bigint" ? String(value) : value));
+    const before = JSON.stringify(await desk.take({ kind: "ask", points: [0, 1, 0, 0, 0, 0] }),
+        (_, value) => (typeof value === "bigint" ? String(value) : value));
     const own = mkdtempSync(join(tmpdir(), "damaged-"));
-    const places = [0, 8, 9, 12, 16, 20, 28, 32 + 426 * 3, 32 + 426 * 5 + 16, 32 + 426 * 7 + 30, 32 + 426 * 9 + 100, -1];
+    const places = [0, 8, 9, 12, 16, 20, 28, 32 + 426 * 3, 32 + 426 * 5 + 16, 32 + 426 * 7 + 30, 32 + 426 * 9 + 100,
+        -1];
     for (const [place, mask] of places.map((each) => [each, 1])) {
         const other = place < 0 ? file.slice(0, -1) : file.slice();
         if (place >= 0) other[place] ^= mask;
         writeFileSync(join(own, "file"), other);
         const { stderr } = spawnSync(program, ["check", join(own, "file")], { encoding: "utf8" });
-        const why = await desk.take({ kind: "open", file: other }).then(() => ({ line: "accepted" }), (failure) => failure);
+        const why = await desk.take({ kind: "open", file: other }).then(() => ({ line: "accepted" }),
+            (failure) => failure);
         equal(`the damage at ${place}`, `bearoff: refused ${why.line}\n`, stderr);
         FAULTS[why.status] || wrong(`no words for the status ${why.status}`);
-        const after = JSON.stringify(await desk.take({ kind: "ask", points: [0, 1, 0, 0, 0, 0] }), (_, value) => (typeof value === "bigint" ? String(value) : value));
+        const after = JSON.stringify(await desk.take({ kind: "ask", points: [0, 1, 0, 0, 0, 0] }),
+            (_, value) => (typeof value === "bigint" ? String(value) : value));
         equal(`after the damage at ${place}`, after, before);
     }
     rmSync(own, { recursive: true });
@@ -159,7 +168,8 @@ async function compareBoards(desk) {
     equal("the former database stays", desk.database.bound, 8);
     const opened = await desk.take({ kind: "open", file });
     equal("a right one", [opened.bound, opened.positions], [90, 54264]);
-    equal("what it answers", [(await desk.take({ kind: "ask", points: [0, 0, 0, 0, 0, 15] })).effective.text], ["100.174"]);
+    equal("what it answers", [(await desk.take({ kind: "ask", points: [0, 0, 0, 0, 0, 15] })).effective.text],
+        ["100.174"]);
     await desk.take({ kind: "open", file: new Uint8Array(readFileSync(join(folder, "eight"))) });
 }
 
@@ -175,13 +185,16 @@ async function compareDrawn(desk) {
     equal("the same drill", JSON.stringify(await desk.take({ kind: "draw", drill })), JSON.stringify(questions));
 }
 
-// Three rules that players go by, each with the plays that it chooses: the most borne off, and then the most points filled;
+// Three rules that players go by, each with the plays that it chooses: the most borne off, and then the most points
+// filled;
 // the most borne off, and then the fewest on the ace point; and the fewest pips with Tom Keith's additions.
 const RULES_OF_THUMB = [
     ({ to }) => 20 * sumOf(to) - to.filter((count) => count > 0).length,
     ({ to }) => 20 * sumOf(to) + to[0],
-    ({ to: [ace, deuce, three, ...high] }) => [ace, deuce, three, ...high].reduce((sum, count, place) => sum + count * (place + 1), 0)
-        + 2 * Math.max(0, ace - 1) + Math.max(0, deuce - 1) + Math.max(0, three - 3) + high.filter((count) => count === 0).length,
+    ({ to: [ace, deuce, three, ...high] }) => [ace, deuce, three,
+        ...high].reduce((sum, count, place) => sum + count * (place + 1), 0)
+        + 2 * Math.max(0, ace - 1) + Math.max(0, deuce - 1) + Math.max(0, three - 3)
+            + high.filter((count) => count === 0).length,
 ];
 function chosenBy(rule, plays) {
     const least = Math.min(...plays.map(rule));
@@ -190,16 +203,20 @@ function chosenBy(rule, plays) {
 
 // What the names of two themes say of a play: whether it fills a gap, and whether it bears off fewer than another.
 const NAMED = {
-    gaps: ({ to }, points) => points.some((on, place) => on === 0 && to[place] > 0 && points.slice(0, place).some(Boolean) && points.slice(place).some(Boolean)),
+    gaps: ({ to }, points) => points.some((on, place) => on === 0 && to[place] > 0 && points.slice(0,
+            place).some(Boolean) && points.slice(place).some(Boolean)),
     fewer: ({ to }, points, plays) => sumOf(to) > Math.min(...plays.map((play) => sumOf(play.to))),
 };
 
-// By its level: whoever goes by a rule of thumb is right in all of the easy questions, whose next best play loses a good
-// deal; in a half of the mixed ones; and in the hard ones two rules of three fail. Where a theme's name says what to play,
+// By its level: whoever goes by a rule of thumb is right in all of the easy questions, whose next best play loses a
+// good
+// deal; in a half of the mixed ones; and in the hard ones two rules of three fail. Where a theme's name says what to
+// play,
 // it is wrong in a half.
 function compareLevels(database) {
     const isRight = (plays, rule = RULES_OF_THUMB[0]) => chosenBy(rule, plays).some(({ exact }) => exact === "0/1");
-    for (const { name } of THEMES.filter(({ isPlayed, most = 44 }) => isPlayed && (most > 44) === (database.bound > 44))) {
+    for (const { name } of THEMES.filter(({ isPlayed, most = 44 }) => isPlayed
+            && (most > 44) === (database.bound > 44))) {
         for (const level of levelsOf({ theme: name, ask: "play" }).map((one) => one.name)) {
             let [count, close, slowest] = [0, 0, 0];
             const right = [0, 0, 0];
@@ -207,48 +224,63 @@ function compareLevels(database) {
                 const begun = performance.now();
                 const questions = drawn(database, drillOf({ theme: name, seed, ask: "play", level }));
                 slowest = Math.max(slowest, performance.now() - begun);
-                const all = questions.map(({ points, roll }) => ({ points, roll, plays: playsOf(database, points, roll) }));
-                // where it tempts, and where the best play is as the theme's name says, the seed tells; a position that is
+                const all = questions.map(({ points, roll }) => ({ points, roll,
+                        plays: playsOf(database, points, roll) }));
+                // where it tempts, and where the best play is as the theme's name says, the seed tells; a position that
+                // is
                 // drawn again changes its question
                 const tempts = temptingOf(seed);
                 const asSaid = all.filter(({ plays }, place) => isRight(plays) !== tempts[place]).length;
-                if (level === "mixed") equal(`${name}: mixed ones of ${seed} tempt where the seed says`, asSaid >= 15, true);
+                if (level === "mixed") equal(`${name}: mixed ones of ${seed} tempt where the seed says`, asSaid >= 15,
+                    true);
                 const does = NAMED[name];
                 if (does) {
                     const follows = followingOf(seed);
                     const named = all.map(({ points, plays }) => does(plays[0], points, plays));
-                    equal(`${name}, ${level}: a half of ${seed} is as its name says`, Math.abs(named.filter(Boolean).length - 10) <= 2, true);
-                    equal(`${name}, ${level}: where the seed says`, named.filter((is, place) => is === follows[place]).length >= 15, true);
+                    equal(`${name}, ${level}: a half of ${seed} is as its name says`,
+                        Math.abs(named.filter(Boolean).length - 10) <= 2, true);
+                    equal(`${name}, ${level}: where the seed says`,
+                        named.filter((is, place) => is === follows[place]).length >= 15, true);
                     for (const { points, roll, plays } of all) {
                         const kinds = [true, false].map((is) => plays.find((play) => does(play, points, plays) === is));
                         if (!kinds.every(Boolean)) wrong(`${name}, ${level}: ${points} ${roll} has plays of one kind`);
-                        else if (!kinds[0].isBest && ["any", "mixed"].includes(level) && kinds[0].loss > 40n) wrong(`${name}, ${level}: ${points} ${roll} is no decoy`);
+                        else if (!kinds[0].isBest && ["any", "mixed"].includes(level)
+                                && kinds[0].loss > 40n) wrong(`${name}, ${level}: ${points} ${roll} is no decoy`);
                     }
                 }
                 for (const { points, roll, plays } of all) {
                     const [best, next] = plays;
-                    if (!best.isBest || next.isBest) wrong(`${name}, ${level}: ${points} ${roll} has nothing to decide`);
+                    if (!best.isBest
+                            || next.isBest) wrong(`${name}, ${level}: ${points} ${roll} has nothing to decide`);
                     if (!themeOf(name).has(points)) wrong(`${name}, ${level}: ${points} is of another theme`);
                     count += 1;
                     RULES_OF_THUMB.forEach((rule, place) => { right[place] += isRight(plays, rule) ? 1 : 0; });
                     if (next.loss <= 20n) close += 1;
-                    if (level === "easy" && next.loss < 80n) wrong(`${name}, easy: ${points} ${roll} loses ${next.loss} thousandths`);
-                    if (level === "mixed" && isRight(plays) && next.loss > 20n) wrong(`${name}, mixed: ${points} ${roll} is neither`);
-                    const failing = RULES_OF_THUMB.filter((rule) => chosenBy(rule, plays).every(({ loss }) => loss > 0n)).length;
-                    if (level === "hard" && (name === "fewer" ? next.loss > 40n || next.loss === 0n : failing < 2)) wrong(`${name}, hard: ${points} ${roll} isn't`);
+                    if (level === "easy"
+                            && next.loss < 80n) wrong(`${name}, easy: ${points} ${roll} loses ${next.loss} thousandths`);
+                    if (level === "mixed" && isRight(plays)
+                            && next.loss > 20n) wrong(`${name}, mixed: ${points} ${roll} is neither`);
+                    const failing = RULES_OF_THUMB.filter((rule) => chosenBy(rule,
+                            plays).every(({ loss }) => loss > 0n)).length;
+                    if (level === "hard" && (name === "fewer" ? next.loss > 40n || next.loss === 0n
+                            : failing < 2)) wrong(`${name}, hard: ${points} ${roll} isn't`);
                 }
             }
             equal(`${name}, ${level}: questions`, count, 60);
-            if (level === "mixed") equal(`${name}: the novice in the mixed ones`, 100 * right[0] >= 40 * count && 100 * right[0] <= 60 * count, true);
-            if (level === "hard" && name !== "fewer") equal(`${name}: the novice in the hard ones`, 100 * right[0] < 40 * count, true);
+            if (level === "mixed") equal(`${name}: the novice in the mixed ones`,
+                100 * right[0] >= 40 * count && 100 * right[0] <= 60 * count, true);
+            if (level === "hard" && name !== "fewer") equal(`${name}: the novice in the hard ones`,
+                100 * right[0] < 40 * count, true);
             if (level === "easy") equal(`${name}: each rule in the easy ones`, right, [count, count, count]);
             console.log(`page: ${name}, ${level}: three rules are right in ${right.join(", ")} of ${count}, ${close} of which are close; drawn in ${slowest.toFixed(0)} ms at most`);
         }
     }
-    equal("no drill of plays where there are none", THEMES.filter(({ isPlayed }) => !isPlayed).map(({ name }) => name), ["ace"]);
+    equal("no drill of plays where there are none", THEMES.filter(({ isPlayed }) => !isPlayed).map(({ name }) => name),
+        ["ace"]);
 }
 
-// How far the rules of thumb for the effective pip count are off, by the answers for each position; over the whole board as an
+// How far the rules of thumb for the effective pip count are off, by the answers for each position; over the whole
+// board as an
 // independent table of it has them, in thousandths of a pip.
 async function compareMeasured(desk) {
     const sevens = (points) => 7000 * Math.ceil(sumOf(points) / 2) + 1000;
@@ -256,49 +288,60 @@ async function compareMeasured(desk) {
     const added = (points) => 1000 * RULES_OF_THUMB[2]({ to: points }) + 8500;
     const rules = [sevens, (points) => pips(points) + 8000, added, (points) => Math.max(sevens(points), added(points))];
     const known = {
-        90: [[11309, 43937, 15, 27], [6401, 34000, 7371, 1206], [1021, 7333, 54263, 1021], [986, 7333, 54263, 986], [1021, 7333, 54263, 1021]],
+        90: [[11309, 43937, 15, 27], [6401, 34000, 7371, 1206], [1021, 7333, 54263, 1021], [986, 7333, 54263, 986],
+            [1021, 7333, 54263, 1021]],
     };
-    const all = positions(desk.database.bound).slice(1).map((points) => ({ points, exact: Number(answer(desk.database, points).effective.thousandths) }));
+    const all = positions(desk.database.bound).slice(1)
+            .map((points) => ({ points, exact: Number(answer(desk.database, points).effective.thousandths) }));
     const begun = performance.now();
     const { count, rows } = await desk.take({ kind: "measure", weights: ADDITIONS });
     const took = performance.now() - begun;
     console.log(`page: the rules of thumb are measured over ${count} positions in ${took.toFixed(0)} ms`);
     equal("over all positions", count, desk.database.positionCount - 1);
     equal("which rules", rows.map(({ name }) => name), ["rolls", "eight", "additions", "greater", "own"]);
-    equal("one's own begins as the additions do", { ...rows[4], name: "", words: "" }, { ...rows[2], name: "", words: "" });
-    if (known[desk.database.bound]) equal("as another table has them", rows.map(({ mean, worst, countFor, meanFor }) => [mean, worst, countFor, meanFor]), known[desk.database.bound]);
+    equal("one's own begins as the additions do", { ...rows[4], name: "", words: "" },
+        { ...rows[2], name: "", words: "" });
+    if (known[desk.database.bound]) equal("as another table has them",
+        rows.map(({ mean, worst, countFor, meanFor }) => [mean, worst, countFor, meanFor]), known[desk.database.bound]);
     rules.forEach((rule, place) => {
         const errors = all.map(({ points, exact }) => Math.abs(rule(points) - exact));
-        equal(`the mean error of ${rows[place].name}`, rows[place].mean, Math.round(errors.reduce((sum, error) => sum + error, 0) / errors.length));
+        equal(`the mean error of ${rows[place].name}`, rows[place].mean,
+            Math.round(errors.reduce((sum, error) => sum + error, 0) / errors.length));
         equal(`the greatest of ${rows[place].name}`, rows[place].worst, Math.max(...errors));
     });
     // each weight of one's own rule counts what it says, and one is less than a pip off on average
     const [, , , , own] = (await desk.take({ kind: "measure", weights: [16, 4, 2, 2, 3, 0] })).rows;
     if (desk.database.bound === 90) equal("less than a pip", own.mean < 1000, true);
     for (const [weight, counted] of [
-        () => 1, ([ace]) => Math.max(0, ace - 1), ([, deuce]) => Math.max(0, deuce - 1), ([, , three]) => Math.max(0, three - 3),
+        () => 1, ([ace]) => Math.max(0, ace - 1), ([, deuce]) => Math.max(0, deuce - 1),
+            ([, , three]) => Math.max(0, three - 3),
         ([, , , ...high]) => high.filter((on) => on === 0).length, sumOf,
     ].entries()) {
         const weights = ADDITIONS.map((halves, place) => halves + (place === weight ? 3 : 0));
         const { rows: [, , , , mine] } = await desk.take({ kind: "measure", weights });
         const errors = all.map(({ points, exact }) => Math.abs(added(points) + 1500 * counted(points) - exact));
-        equal(`another weight ${weight}`, [mine.mean, mine.worst], [Math.round(errors.reduce((sum, error) => sum + error, 0) / errors.length), Math.max(...errors)]);
+        equal(`another weight ${weight}`, [mine.mean, mine.worst],
+            [Math.round(errors.reduce((sum, error) => sum + error, 0) / errors.length), Math.max(...errors)]);
     }
 }
 
 // The values of a lesson's steps are those of its positions, and of the recorded plays.
 async function compareFilled(desk) {
-    const steps = [{ points: [0, 0, 0, 1, 0, 1], roll: [5, 2] }, { points: [0, 0, 0, 0, 0, 1], roll: null }, { points: [0, 0, 0, 0, 0, 15], roll: null }, { points: [0, 0, 0, 0, 0, 0], roll: [2, 1] }];
+    const steps = [{ points: [0, 0, 0, 1, 0, 1], roll: [5, 2] }, { points: [0, 0, 0, 0, 0, 1], roll: null },
+        { points: [0, 0, 0, 0, 0, 15], roll: null }, { points: [0, 0, 0, 0, 0, 0], roll: [2, 1] }];
     const { mean, effective, wastage } = answer(desk.database, steps[0].points);
     equal("of each step", await desk.take({ kind: "fill", steps }), [
-        { pips: "10", mean: mean.text, EPC: effective.text, wastage: wastage.text, best: "6/1 4/2" }, { pips: "6", mean: "1.250", EPC: "10.208", wastage: "4.208" },
-        desk.database.bound < 90 ? {} : { pips: "90", mean: "12.266", EPC: "100.174", wastage: "10.174" }, { pips: "0", mean: "0.000", EPC: "0.000", wastage: "0.000" },
+        { pips: "10", mean: mean.text, EPC: effective.text, wastage: wastage.text, best: "6/1 4/2" },
+            { pips: "6", mean: "1.250", EPC: "10.208", wastage: "4.208" },
+        desk.database.bound < 90 ? {} : { pips: "90", mean: "12.266", EPC: "100.174", wastage: "10.174" },
+            { pips: "0", mean: "0.000", EPC: "0.000", wastage: "0.000" },
     ]);
 }
 
 // What was chosen before the page was loaded anew is told again by the module.
 async function compareAgain(desk) {
-    const picks = { guesses: [[[0, 0, 0, 1, 0, 1], [5, 2], "6/off"]], again: [[[1, 1, 1, 1, 0, 0], [4, 1], "x"]], estimates: [[[0, 0, 0, 0, 0, 1], "pips", "6000"]], estimatesAgain: [[[1, 0, 0, 0, 0, 0], "pips", "1000"]] };
+    const picks = { guesses: [[[0, 0, 0, 1, 0, 1], [5, 2], "6/off"]], again: [[[1, 1, 1, 1, 0, 0], [4, 1], "x"]],
+        estimates: [[[0, 0, 0, 0, 0, 1], "pips", "6000"]], estimatesAgain: [[[1, 0, 0, 0, 0, 0], "pips", "1000"]] };
     const { plays, answers } = await desk.take({ kind: "again", picks });
     equal("plays", plays.map((list) => list.length > 1), [true, true]);
     equal("of the first", plays[0].find(({ text }) => text === "6/off").exact, "1/18");
@@ -306,7 +349,8 @@ async function compareAgain(desk) {
 }
 
 function compareRounded() {
-    for (const fraction of ["0/1", "1/6", "1/2000", "999/2000000", "31/2", `${7n ** 40n}/${36n ** 22n}`, `${7n ** 43n}/${36n ** 22n}`, `${7n ** 65n}/${6n * 36n ** 33n}`, "180/1", "181/1"]) {
+    for (const fraction of ["0/1", "1/6", "1/2000", "999/2000000", "31/2", `${7n ** 40n}/${36n ** 22n}`,
+            `${7n ** 43n}/${36n ** 22n}`, `${7n ** 65n}/${6n * 36n ** 33n}`, "180/1", "181/1"]) {
         equal(`${fraction} in decimals`, decimalOf(fraction), decimal(nearest(...over(fraction))));
     }
     equal("a negative number", signedOf({ thousandths: -5 }).text, "\u22120.005");
@@ -319,12 +363,14 @@ async function compareServed() {
     const scope = { postMessage: (message) => posted.push(message) };
     serve(scope, gunzipSync);
     const questions = [
-        { kind: "ask", points: [0, 0, 0, 0, 0, 1] }, { kind: "start", module: gzipSync(bytes).toString("base64"), bound: 8 },
+        { kind: "ask", points: [0, 0, 0, 0, 0, 1] },
+            { kind: "start", module: gzipSync(bytes).toString("base64"), bound: 8 },
         { kind: "ask", points: [0, 0, 0, 0, 0, 1] }, { kind: "open", file: new Uint8Array(3) }, { kind: "nothing" },
         { kind: "ask", points: [1, 0, 0, 0, 0, 0] },
     ];
     questions.forEach((question, number) => scope.onmessage({ data: { number, question } }));
-    while (!posted.some(({ number }) => number === questions.length - 1)) await new Promise((keep) => setTimeout(keep, 5));
+    while (!posted.some(({ number }) => number === questions.length - 1)) await new Promise((keep) => setTimeout(keep,
+            5));
     const replies = posted.filter(({ number }) => number !== undefined);
     equal("the order of replies", replies.map(({ number }) => number).join(), "0,1,2,3,4,5");
     equal("a question before the start", replies[0].failure.message, "the module didn't start");
@@ -351,8 +397,11 @@ part("drills", async () => {
     await compareDrawn(large);
     const drill = { theme: "gaps", seed: 7, ask: "play" };
     equal("a small database has no drill", drawn(small.database, drill).length, 0);
-    equal("nor has one of 44 pips those of the whole board", THEMES.filter(({ name }) => drawn(large.database, { theme: name, seed: 7, ask: "pips" }).length === 0).map(({ name }) => name), ["board", "fifteen", "stacks"]);
-    equal("a drill is the same in both", JSON.stringify(drawn(whole.database, drill)), JSON.stringify(drawn(large.database, drill)));
+    equal("nor has one of 44 pips those of the whole board",
+        THEMES.filter(({ name }) => drawn(large.database, { theme: name, seed: 7, ask: "pips" }).length === 0)
+        .map(({ name }) => name), ["board", "fifteen", "stacks"]);
+    equal("a drill is the same in both", JSON.stringify(drawn(whole.database, drill)),
+        JSON.stringify(drawn(large.database, drill)));
 });
 part("drills of each level", () => compareLevels(large.database));
 part("drills of each level, of the whole board", () => compareLevels(whole.database));
@@ -363,7 +412,8 @@ part("rules of thumb, measured", async () => {
     const { count } = await small.take({ kind: "measure", weights: ADDITIONS });
     equal("of a small one", count, 63);
     await small.build(9);
-    equal("of the one that took its place", (await small.take({ kind: "measure", weights: ADDITIONS })).count, small.database.positionCount - 1);
+    equal("of the one that took its place", (await small.take({ kind: "measure", weights: ADDITIONS })).count,
+        small.database.positionCount - 1);
     await small.build(8);
 });
 part("values of a lesson", async () => {

@@ -150,7 +150,8 @@ test("the example of docs/embedding.md", () => {
 
 test("the examples of js/README.md", () => {
     // one behind the other: a line that tells its answer has it
-    const told = blocks("js/README.md").replace(/^(?!const )(.*); \/\/ (.*)$/gm, "assert.deepStrictEqual(structuredClone($1), $2);");
+    const told = blocks("js/README.md").replace(/^(?!const )(.*); \/\/ (.*)$/gm,
+        "assert.deepStrictEqual(structuredClone($1), $2);");
     const tables = "assert.deepStrictEqual([means, points, shares].map((table) => table.length / 26314), [1, 6, 23]);";
     const text = `import assert from "node:assert";\n${told}${tables}\n`;
     assert.equal(text.match(/^assert/gm).length, 14, "js/README.md has no examples that tell thirteen answers");

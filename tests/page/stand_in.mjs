@@ -89,7 +89,9 @@ export class Window {
         this.date = new Date(2026, 10, 27, 12); // a local time, which a test moves
         const date = () => this.date;
         this.Date = class { constructor() { return date(); } };
-        this.sessionStorage = { getItem: (name) => this.stored.get(name) ?? null, setItem: (name, text) => { this.stored.set(name, text); } };
+        this.sessionStorage = { getItem: (name) => this.stored.get(name) ?? null, setItem: (name, text) => {
+            this.stored.set(name, text);
+        } };
         this.navigator = { clipboard: { writeText: async (text) => { this.copied = text; } } };
         const self = this;
         this.location = {
@@ -226,7 +228,8 @@ export function rollsFrom(points) {
             const moves = [[one, 0], [other, place]];
             return {
                 exact, loss, lossText: decimal(loss), moves, to: [place, ...points.slice(1)],
-                text: place < 2 ? `${one}/off ${other}/${place}` : `${one}/1 ${other}/${place}`, isBest: place < 2, isRecorded: place === 0,
+                text: place < 2 ? `${one}/off ${other}/${place}` : `${one}/1 ${other}/${place}`, isBest: place < 2,
+                    isRecorded: place === 0,
             };
         }),
     }));
@@ -259,7 +262,8 @@ export function legalFrom(points) {
             dice: [one, other],
             plays: plays.map((play, place) => {
                 const loss = nearest(BigInt(place), 18n);
-                return { ...play, loss, lossText: decimal(loss), exact: place === 0 ? "0/1" : `${place}/18`, isBest: place === 0, isRecorded: place === 0 };
+                return { ...play, loss, lossText: decimal(loss), exact: place === 0 ? "0/1" : `${place}/18`,
+                    isBest: place === 0, isRecorded: place === 0 };
             }),
         };
     });
@@ -272,7 +276,8 @@ export const whyFrom = (points, roll, to) => [`Why ${points} with ${roll} to ${t
 function valuesFrom({ points, roll }, bound) {
     const { standing, mean, effective, wastage, refusal } = answerTo(points, bound);
     if (refusal) return {};
-    return { pips: String(standing.pips), mean: mean.text, EPC: effective.text, wastage: wastage.text, ...(roll ? { best: `best of ${roll.join("")}` } : {}) };
+    return { pips: String(standing.pips), mean: mean.text, EPC: effective.text, wastage: wastage.text,
+        ...(roll ? { best: `best of ${roll.join("")}` } : {}) };
 }
 
 // How far rules of thumb are off: one's own by the sum of its weights.
@@ -286,12 +291,15 @@ export const measuredFrom = (weights) => ({
 
 // What was chosen before the page was loaded anew.
 export const playedBefore = ({ guesses, again, estimates, estimatesAgain }, plays) => ({
-    plays: [...guesses, ...again].map(([points, roll]) => plays(points).find(({ dice }) => dice.join() === roll.join()).plays),
+    plays: [...guesses, ...again].map(([points, roll]) => plays(points).find(({ dice }) => dice.join() === roll.join())
+            .plays),
     answers: [...estimates, ...estimatesAgain].map(([points]) => answerTo(points)),
 });
 
-// A drill whose rolls all have a play that loses something, and none as good as the best, which fills a point and bears off
+// A drill whose rolls all have a play that loses something, and none as good as the best, which fills a point and bears
+// off
 // fewer.
 export const drawFrom = (drill) => drawQuestions(drill, ROLLS, (points) => [
-    { isBest: true, to: points.map((count) => Math.max(1, count)), loss: 0n }, { isBest: false, to: [1, 0, 0, 0, 0, 0], loss: 50n },
+    { isBest: true, to: points.map((count) => Math.max(1, count)), loss: 0n },
+        { isBest: false, to: [1, 0, 0, 0, 0, 0], loss: 50n },
 ]);

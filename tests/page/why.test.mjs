@@ -88,32 +88,39 @@ const FORMS = [
         pips(made) - pips(top) === Number(fewer) && near(wastageOf(made) - wastageOf(top), wasted, HALF)],
     ["saved", /^Yours moves (\d+) pips? fewer; its shape saves ([\d.]+) of that\.$/, (made, top, [fewer, saved]) =>
         pips(made) - pips(top) === Number(fewer) && near(wastageOf(top) - wastageOf(made), saved, HALF)],
-    ["same rolls", /^Yours bears off (\d+) more, but (\d+) and (\d+) checkers both take (\d+) rolls? without a double\.$/,
+    ["same rolls",
+        /^Yours bears off (\d+) more, but (\d+) and (\d+) checkers both take (\d+) rolls? without a double\.$/,
         (made, top, [more, left, other, rolls]) => sum(top) - sum(made) === Number(more) && sum(made) === Number(left)
-            && sum(top) === Number(other) && [made, top].every((at) => Math.floor((sum(at) + 1) / 2) === Number(rolls))],
+            && sum(top) === Number(other) && [made,
+                top].every((at) => Math.floor((sum(at) + 1) / 2) === Number(rolls))],
     ["fewer off", /^Yours leaves (\d+) checkers?, the best (\w+)\.$/, (made, top, [left, other]) =>
         sum(made) === Number(left) && sum(top) === number(other) && sum(made) > sum(top)],
-    ["gap", /^Yours leaves the (.*) points? empty; the best has a checker (?:there|on each)\.$/, (made, top, [points]) =>
+    ["gap", /^Yours leaves the (.*) points? empty; the best has a checker (?:there|on each)\.$/,
+        (made, top, [points]) =>
         points.match(/\d/g).every((point) =>
             made[point - 1] === 0 && top[point - 1] > 0 && sum(made.slice(Number(point))) > 0)],
     ["ace", /^Yours has (\d+) on the ace point, the best (\w+)\.$/, (made, top, [mine, other]) =>
         made[0] === Number(mine) && top[0] === number(other) && made[0] > top[0]],
     ["stack", /^The tallest stack has (\d+) in yours, (\d+) in the best\.$/, (made, top, [mine, other]) =>
         Math.max(...made) === Number(mine) && Math.max(...top) === Number(other) && Number(mine) > Number(other)],
-    ["pairs", /^After yours (\d+) of 36 throws bear off two checkers or more, after the best (\d+)\.$/, (made, top, [mine, other]) =>
+    ["pairs", /^After yours (\d+) of 36 throws bear off two checkers or more, after the best (\d+)\.$/,
+        (made, top, [mine, other]) =>
         pairsOf(made) === Number(mine) && pairsOf(top) === Number(other) && Number(mine) < Number(other)],
-    ["within", /^Within (\d+) rolls? yours is off in ([\d.]+) %, the best in ([\d.]+) %\.$/, (made, top, [rolls, mine, other]) =>
+    ["within", /^Within (\d+) rolls? yours is off in ([\d.]+) %, the best in ([\d.]+) %\.$/,
+        (made, top, [rolls, mine, other]) =>
         near(withinOf(made, Number(rolls)), mine, 0.0501) && near(withinOf(top, Number(rolls)), other, 0.0501)
             && Number(other) > Number(mine)],
     ["throws", /^Of the 36 next throws yours is worse after (\d+), better after (\w+)\.(?: (.*) \((\d+) of the 36\) makes? at least half of what these (\d+) cost\.)?$/,
         (made, top, [worse, better, named, weighs, these]) => {
-            const costs = ROLLS.map((roll) => ({ name: roll.join("-"), weight: weight(roll), lost: afterOf(made, roll) - afterOf(top, roll) }));
+            const costs = ROLLS.map((roll) => ({ name: roll.join("-"), weight: weight(roll),
+                    lost: afterOf(made, roll) - afterOf(top, roll) }));
             const all = (is, of) => costs.filter(is).reduce((total, one) => total + of(one), 0);
             const isNamed = ({ name }) => named.match(/\d-\d/g).includes(name);
             return all(({ lost }) => lost > 1e-12, (one) => one.weight) === Number(worse)
                 && all(({ lost }) => lost < -1e-12, (one) => one.weight) === number(better)
                 && (named === undefined || (these === worse && all(isNamed, (one) => one.weight) === Number(weighs)
-                    && 2 * all(isNamed, (one) => one.weight * one.lost) >= all(({ lost }) => lost > 0, (one) => one.weight * one.lost) - 1e-9));
+                    && 2 * all(isNamed, (one) => one.weight * one.lost) >= all(({ lost }) => lost > 0,
+                        (one) => one.weight * one.lost) - 1e-9));
         }],
 ];
 
@@ -123,7 +130,8 @@ part("each sentence of a play that loses", () => {
     for (let seed = 1; questions < QUESTIONS; seed += 1) {
         for (const { name } of THEMES.filter(({ isPlayed }) => isPlayed)) {
             const drill = { theme: name, seed, ask: "play", level: "any" };
-            for (const { points, roll } of drawQuestions(drill, ROLLS, (at, dice) => choicesOf(database, at, dice)).slice(0, 6)) {
+            for (const { points, roll } of drawQuestions(drill, ROLLS,
+                    (at, dice) => choicesOf(database, at, dice)).slice(0, 6)) {
                 const losing = choicesOf(database, points, roll).filter(({ loss }) => loss > 0n);
                 if (losing.length === 0) continue;
                 const made = losing[(7 * seed + questions) % losing.length].to;
@@ -144,7 +152,8 @@ part("each sentence of a play that loses", () => {
                     const recorded = database.play(points, roll).to;
                     if (meanOf(recorded) !== meanOf(top)) wrong(`${points} ${roll}: another is best`);
                     const found = words.exec(sentence).slice(1);
-                    if (!isSo(made, recorded, found)) wrong(`${points} with ${roll} to ${made}, best ${recorded}: ${sentence}`);
+                    if (!isSo(made, recorded,
+                            found)) wrong(`${points} with ${roll} to ${made}, best ${recorded}: ${sentence}`);
                 }
             }
         }
