@@ -1,39 +1,28 @@
 // The page: draws what the state says, and hands on what is clicked, typed, dropped, and where Back
 // and Forward lead.
 import { abilities } from "../js/abilities.js";
+import { boardActions } from "./actions/board.js";
+import { draftActions } from "./actions/draft.js";
+import { focusing } from "./actions/focus.js";
+import { shelfActions } from "./actions/shelf.js";
+import { studentActions } from "./actions/student.js";
+import { trainingActions } from "./actions/training.js";
 import { Client } from "./client.js";
-import { Dragging } from "./dragging.js";
 import { Past } from "./history.js";
+import { readDraft, readPicks, writeDraft, writePicks } from "./kept.js";
 import { readLink, writeLink } from "./link.js";
-import { asPng, asSvg } from "./picture.js";
+import { answered, dayOf, Store } from "./memory.js";
 import { Bar } from "./progress.js";
+import { savePicture } from "./saving.js";
 import { Session } from "./session.js";
-import { answered, dayOf, readMemory, Store, written } from "./memory.js";
-import { readDraft, readPicks, writeDraft as keepDraft, writePicks } from "./kept.js";
-import { writeResult } from "./results.js";
+import { needsMore } from "./state/database.js";
+import { captionOf } from "./state/reads.js";
+import { picksOf, visit, withMemory, withPicks } from "./state.js";
 import { asText, MOST_LESSONS, readLessons } from "./trainer.js";
-import {
-    addCheckers, choosePlay, chooseRoll, playOn, pressed, setPoints, stopAt, touch, typePosition,
-    undo,
-} from "./state/board.js";
-import { needsMore, triedAgain } from "./state/database.js";
-import {
-    addDraft, beginDraft, closeDraft, draftText, moveDraft, removeDraft, tellDraft, titleDraft,
-    writeDraft,
-} from "./state/draft.js";
-import { captionOf, hasBegun, isTraining, lostInEach, makingOf, orderOf } from "./state/reads.js";
-import { keep, remove, setCaption } from "./state/shelf.js";
-import { openMemory, picksOf, refuseMemory, visit, withMemory, withPicks } from "./state.js";
-import {
-    askNext, beginEstimates, beginToday, chooseDrill, endTraining, giveEstimate, giveLesson,
-    giveResults, goToStep, openAnswer, resetGuesses, setEstimate, setGuess, tellResult, weigh,
-} from "./state/training.js";
 import { draw } from "./tree.js";
 import { view } from "./view.js";
 
 const LONG = 1500; // milliseconds that a button says what it did
-const SAVING = 60000; // milliseconds that a picture is there for the browser to save
-const MOST_SEED = 999999999;
 
 // Puts what is shown into the page.
 export function put(document, shown) {
@@ -70,246 +59,14 @@ export function put(document, shown) {
 const today = (window) => dayOf(new window.Date());
 
 // What the parts of the page do with a session.
-export function actionsOf(session, document, window, store) {
-    const change = (how, ...words) => session.change(how, ...words);
-    const focus = (key) => {
-        const element = document.querySelector(`[data-key="${key}"]`);
-        if (element) element.focus();
+function actionsOf(session, document, window, store) {
+    const given = {
+        session, document, window, store, ...focusing(document),
+        change: (how, ...words) => session.change(how, ...words), today: () => today(window),
     };
-    // the first of some keys that is there, or else a part of the page
-    const focusOn = (keys, name) => {
-        const found = keys.map((key) => document.querySelector(`[data-key="${key}"]`))
-            .find(Boolean);
-        (found || document.getElementById(name)).focus({ preventScroll: true });
-    };
-    const withDraft = (use) => {
-        const { text, fault } = draftText(session.state);
-        if (fault) change(tellDraft, fault);
-        else use(text);
-    };
-    const anySeed = () => 1 + Math.floor(Math.random() * MOST_SEED);
-    const onBoard = () => document.querySelector('#board [tabindex="0"].to-play');
-    // where a checker that is dragged is taken, and then where it is dropped
-    const pick = (place, isFirst) => {
-        if (isFirst) change((state) => touch({ ...state, picked: null }, place));
-        else change((state) =>
-            touch(state, makingOf(state)?.ways.get(state.picked)?.has(place) ? place : null));
-        return session.state.picked !== null;
-    };
-    const dragging = new Dragging(document, pick);
-    const isWithin = (name) => document.getElementById(name).contains(document.activeElement);
     return {
-        add: (point, count) => change(addCheckers, point, count),
-        clear: () => change(setPoints, [0, 0, 0, 0, 0, 0]),
-        press(point, key) {
-            const next = pressed(session.state, point, key, window.performance.now());
-            if (next === null) return false;
-            change(() => next);
-            return true;
-        },
-        type(text) {
-            change(typePosition, text);
-            // an ID of the position that was there already gives way to its counts
-            if (!session.state.typed) {
-                document.getElementById("counts").value = session.state.points.join();
-            }
-        },
-        // a play that is to be guessed can be made on the board, and so that comes into sight
-        roll(roll, button) {
-            change(chooseRoll, roll);
-            if (roll && button) {
-                (makingOf(session.state) ? document.getElementById("board") : button)
-                    .scrollIntoView({ block: "nearest" });
-            }
-        },
-        // a play that is asked where one trains leads on to what comes next, and a guess to what it
-        // lost
-        play(text) {
-            const isAsked = makingOf(session.state) !== null;
-            change(choosePlay, text);
-            if (!isAsked) return;
-            if (isTraining(session.state)) {
-                document.body.scrollIntoView({ block: "start" });
-                focusOn(["next question", "next step", "next lesson", "finish"], "steering");
-            } else {
-                document.getElementById("plays").scrollIntoView({ block: "nearest" });
-                focusOn([`play ${text}`], "plays");
-            }
-        },
-        touch: (place) => change(touch, place),
-        undo() {
-            change(undo);
-            focusOn(["undo"], "coach");
-            if (!document.querySelector('[data-key="undo"]')) {
-                onBoard()?.focus({ preventScroll: true });
-            }
-        },
-        // takes back what was begun on the board, and else leaves it
-        leave() {
-            if (hasBegun(session.state)) this.undo();
-            else this.close();
-        },
-        retry() {
-            change(triedAgain);
-            focusOn([], "numbers");
-        },
-        grab: (event) => dragging.grab(event),
-        close() {
-            if (isTraining(session.state)) return;
-            const { roll } = session.state;
-            change(chooseRoll, null);
-            if (roll) focus(`roll ${roll.join("")}`);
-        },
-        onward() {
-            const { roll } = session.state;
-            const wasWithin = isWithin("plays");
-            change(playOn);
-            if (wasWithin && roll) focus(`roll ${roll.join("")}`);
-        },
-        guess: (isOn) => change(setGuess, isOn),
-        answer() {
-            change(openAnswer);
-            document.querySelector(".answers")?.scrollIntoView({ block: "nearest" });
-            focusOn(["next step", "next lesson", "finish"], "coach");
-        },
-        step(step) {
-            change(goToStep, step);
-            const asked = onBoard() || document.querySelector('[data-key="estimate"]');
-            if (asked) asked.focus({ preventScroll: true });
-            else if (!isWithin("steering")) focusOn([], "coach");
-        },
-        question(place) {
-            change(askNext, place);
-            const asked = onBoard() || document.querySelector('[data-key="estimate"]');
-            if (asked) asked.focus({ preventScroll: true });
-            else focusOn([], "coach");
-        },
-        estimate: (kind) => change(setEstimate, kind),
-        guessNumber(text = document.querySelector('[data-key="estimate"]').value) {
-            change(giveEstimate, text);
-            if (session.state.estimateFault) focusOn(["estimate"], "numbers");
-            else focusOn(["next question", "next step", "next lesson", "finish"], "numbers");
-        },
-        weigh: (place, text) => change(weigh, place, text),
-        end() {
-            change(endTraining);
-            document.getElementById("train").scrollIntoView({ block: "start" });
-            document.getElementById("train").focus({ preventScroll: true });
-        },
-        give: (text) => change(giveLesson, text),
-        drill() {
-            const [theme, ask, level, seed] = ["theme", "asked", "level", "seed"].map((key) =>
-                document.querySelector(`[data-key="${key}"]`).value);
-            change(chooseDrill, { theme, ask, level, seed }, anySeed());
-        },
-        // today's ten, or ten estimates, of what is kept by now
-        today() { this.remembered(beginToday); },
-        estimates() { this.remembered(beginEstimates); },
-        remembered(begin) {
-            const memory = store.read(session.state.memory);
-            change(withMemory, memory, today(window), store.why);
-            change(begin);
-        },
-        openMemory: () => change(openMemory),
-        async copyMemory() {
-            const { memory, day, unkept } = session.state;
-            const told = await window.navigator.clipboard.writeText(written(memory))
-                .then(() => "The text is copied.",
-                () => "The browser lets this page copy nothing: copy the text from the field.");
-            change(withMemory, memory, day, unkept, told);
-        },
-        // a text that was taken along takes the place of what is kept
-        takeMemory() {
-            const { value } = document.querySelector('[data-key="memory text"]');
-            const { memory, fault } = readMemory(value);
-            if (fault) {
-                change(refuseMemory, `Nothing of the text is taken. ${fault}`);
-                focusOn(["memory text"], "today");
-                return;
-            }
-            const next = store.change(session.state.memory, () => memory);
-            change(withMemory, next, today(window), store.why, "The text is taken.");
-        },
-        forget() {
-            change(withMemory, store.forget(), today(window), store.why, "All is forgotten.");
-        },
-        results(text = document.querySelector('[data-key="results"]').value) {
-            change(giveResults, text);
-        },
-        async copyResult() {
-            const { drill } = session.state;
-            const name = document.querySelector('[data-key="result name"]').value;
-            if (name.trim() === "") {
-                change(tellResult, "A result has a name.");
-                focusOn(["result name"], "coach");
-                return;
-            }
-            const text = writeResult(drill, name, lostInEach(session.state));
-            const told = await window.navigator.clipboard.writeText(text)
-                .then(() => "The result is copied: send it back.",
-                () => `The browser lets this page copy nothing. The result: ${text}`);
-            change(tellResult, told);
-        },
-        beginDraft() {
-            change(beginDraft);
-            document.getElementById("editing").scrollIntoView({ block: "start" });
-            focusOn(["draft title"], "editing");
-        },
-        titleDraft: (title) => change(titleDraft, title),
-        addDraft: () => change(addDraft),
-        writeDraft: (place, word, text) => change(writeDraft, place, word, text),
-        moveDraft(from, to) {
-            const { key } = session.state.draft.steps[from];
-            change(moveDraft, from, to);
-            focusOn([`draft up ${key}`, `draft remove ${key}`], "editing");
-        },
-        removeDraft(place) {
-            const { steps } = session.state.draft;
-            const next = steps[place + 1] || steps[place - 1];
-            change(removeDraft, place);
-            focusOn(next ? [`draft remove ${next.key}`] : ["draft add"], "editing");
-        },
-        closeDraft() {
-            change(closeDraft);
-            focusOn(["draft begin"], "train");
-        },
-        // the lesson that is made, opened, as a link, or as a file; or why it is none yet
-        tryDraft: () => withDraft((text) => change(giveLesson, text)),
-        copyDraft: () => withDraft(async (text) => {
-            const href = `${window.location.href.replace(/#.*/, "")}#${new URLSearchParams({ text })}`;
-            const told = await window.navigator.clipboard.writeText(href)
-                .then(() => "The link of the lesson is copied.",
-                () => "The browser lets this page copy nothing: try the lesson, and copy its address.");
-            change(tellDraft, told);
-        }),
-        saveDraft: () => withDraft((text) => {
-            saveAs(document, window, new window.Blob([text], { type: "text/plain" }), "lesson.txt");
-            change(tellDraft, "The lesson is saved as lesson.txt.");
-        }),
-        // another drill like the one that is over
-        another: () =>
-            change(chooseDrill, { level: "any", ...session.state.drill, seed: "" }, anySeed()),
-        reset() {
-            const { roll } = session.state;
-            change(resetGuesses);
-            if (roll) focus(`roll ${roll.join("")}`);
-        },
-        stop: (group, key) => change(stopAt, group, key),
-        keep: () => change(keep),
-        show(points) {
-            change(setPoints, points);
-            document.getElementById("board").scrollIntoView({ block: "nearest" });
-        },
-        caption: (key, caption) => change(setCaption, key, caption),
-        // the focus goes to the row that takes the place of the one that was removed
-        remove(key) {
-            const keys = orderOf(session.state).map(({ points }) => points.join());
-            const place = keys.indexOf(key);
-            change(remove, key);
-            const next = keys[place + 1] || keys[place - 1];
-            if (next) focus(`remove ${next}`);
-            else document.getElementById("keep").focus();
-        },
+        ...boardActions(given), ...trainingActions(given), ...studentActions(given),
+        ...draftActions(given), ...shelfActions(given),
     };
 }
 
@@ -346,29 +103,6 @@ export async function copyPosition(document, window, points) {
     }
 }
 
-// Saves a file by a name, which it answers.
-function saveAs(document, window, file, name) {
-    const link = document.createElement("a");
-    link.href = window.URL.createObjectURL(file);
-    link.download = name;
-    link.click();
-    window.setTimeout(() => window.URL.revokeObjectURL(link.href), SAVING);
-    return name;
-}
-
-// Saves a picture of a position as a file, or says why it can't be.
-export async function savePicture(document, window, kind, points, caption) {
-    const told = document.getElementById("copied");
-    try {
-        const picture = kind === "png" ? await asPng(document, window, points, caption)
-            : new window.Blob([asSvg(points, caption)], { type: "image/svg+xml" });
-        const name = saveAs(document, window, picture, `bearoff-${points.join("-")}.${kind}`);
-        told.textContent = `The picture is saved as ${name}.`;
-    } catch (error) {
-        told.textContent = `The browser makes no such picture: ${error.message}.`;
-    }
-}
-
 // Starts the page: `parts` are the worker's script and the two modules in base 64.
 export function start(document, window, parts) {
     const at = (name) => document.getElementById(name);
@@ -395,7 +129,7 @@ export function start(document, window, parts) {
         tellBar();
         past.remember(writeLink(state), isStep && !state.isCompact);
         writePicks(window, picksOf(state));
-        keepDraft(window, state.draft);
+        writeDraft(window, state.draft);
     }, readLessons(parts.lessons || "").lessons);
     const store = new Store(window);
     session.remember = (state, answer) => {

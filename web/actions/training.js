@@ -1,0 +1,78 @@
+// What is done where one trains: in a lesson, a drill and an estimate, and with a class's results.
+import { writeResult } from "../results.js";
+import { lostInEach } from "../state/reads.js";
+import {
+    askNext, chooseDrill, endTraining, giveEstimate, giveLesson, giveResults, goToStep, openAnswer,
+    resetGuesses, setEstimate, setGuess, tellResult, weigh,
+} from "../state/training.js";
+
+const MOST_SEED = 999999999;
+
+export function trainingActions({
+    session, change, document, window, focus, focusOn, onBoard, isWithin,
+}) {
+    const anySeed = () => 1 + Math.floor(Math.random() * MOST_SEED);
+    return {
+        guess: (isOn) => change(setGuess, isOn),
+        answer() {
+            change(openAnswer);
+            document.querySelector(".answers")?.scrollIntoView({ block: "nearest" });
+            focusOn(["next step", "next lesson", "finish"], "coach");
+        },
+        step(step) {
+            change(goToStep, step);
+            const asked = onBoard() || document.querySelector('[data-key="estimate"]');
+            if (asked) asked.focus({ preventScroll: true });
+            else if (!isWithin("steering")) focusOn([], "coach");
+        },
+        question(place) {
+            change(askNext, place);
+            const asked = onBoard() || document.querySelector('[data-key="estimate"]');
+            if (asked) asked.focus({ preventScroll: true });
+            else focusOn([], "coach");
+        },
+        estimate: (kind) => change(setEstimate, kind),
+        guessNumber(text = document.querySelector('[data-key="estimate"]').value) {
+            change(giveEstimate, text);
+            if (session.state.estimateFault) focusOn(["estimate"], "numbers");
+            else focusOn(["next question", "next step", "next lesson", "finish"], "numbers");
+        },
+        weigh: (place, text) => change(weigh, place, text),
+        end() {
+            change(endTraining);
+            document.getElementById("train").scrollIntoView({ block: "start" });
+            document.getElementById("train").focus({ preventScroll: true });
+        },
+        give: (text) => change(giveLesson, text),
+        drill() {
+            const [theme, ask, level, seed] = ["theme", "asked", "level", "seed"].map((key) =>
+                document.querySelector(`[data-key="${key}"]`).value);
+            change(chooseDrill, { theme, ask, level, seed }, anySeed());
+        },
+        // another drill like the one that is over
+        another: () =>
+            change(chooseDrill, { level: "any", ...session.state.drill, seed: "" }, anySeed()),
+        reset() {
+            const { roll } = session.state;
+            change(resetGuesses);
+            if (roll) focus(`roll ${roll.join("")}`);
+        },
+        results(text = document.querySelector('[data-key="results"]').value) {
+            change(giveResults, text);
+        },
+        async copyResult() {
+            const { drill } = session.state;
+            const name = document.querySelector('[data-key="result name"]').value;
+            if (name.trim() === "") {
+                change(tellResult, "A result has a name.");
+                focusOn(["result name"], "coach");
+                return;
+            }
+            const text = writeResult(drill, name, lostInEach(session.state));
+            const told = await window.navigator.clipboard.writeText(text)
+                .then(() => "The result is copied: send it back.",
+                () => `The browser lets this page copy nothing. The result: ${text}`);
+            change(tellResult, told);
+        },
+    };
+}
