@@ -1,33 +1,10 @@
--- The counts of a record, written by rising numbers of throws; and the ranks of the records by
--- which they are made.
-use Rattle.std.proofs.Common.{◌≡◌, ⊎_elim, ℕ, suc, ◌+◌, ◌*◌, ◌^◌, ◌<◌, ◌≤◌, List, map, ap}
+-- The counts of a record, written by rising numbers of throws.
+use Rattle.std.proofs.Common.{◌≡◌, ⊎_elim, ℕ, suc, ◌+◌, ◌*◌, ◌^◌, ◌<◌, ◌≤◌, List, ap}
 use Rattle.std.proofs.Common.{sym, subst, ◌∙◌, arith}
-use Rattle.std.specs.Prelude.{slice_index}
-use Rattle.std.proofs.Math.ListN.{get_or-map}
 use Rattle.std.proofs.lemmas.Bool.{cases_lt}
 use Rattle.race_model.specs.BoardFiles.{Parts, value_of_parts, count_place, count_parts}
 use Rattle.board_layout.specs.Stored.{KeepsBefore}
 use Rattle.board_layout.proofs.Prefixes.{parts_of, count-agree}
-use Rattle.board_records.specs.Lower.{ArePlaced}
-use Rattle.board_records.specs.declared.lower.RankedPlace.{RankedPlace}
-
--- the ranks of some places
-abbrev pub ranks_of : List RankedPlace → List ℕ
-ranks_of places = map (λ (placed : RankedPlace). placed.rank) places
-
--- .. are those of the plays
-module _ (count : ℕ) (plays : List ℕ) (places : List RankedPlace)
-    (placed : ArePlaced count (slice_index plays) places) where
-  pub ranks-are : (i : ℕ) → i < 21 → slice_index (ranks_of places) i ≡ slice_index plays i
-  ranks-are i inside =
-      get_or-map (λ (placed : RankedPlace). placed.rank) places i none ∙ (placed i none inside).1
-    where
-      none : RankedPlace
-      none = record { rank = 0; offset = 0; rolls = 0 }
-
-  pub ranks-placed : ArePlaced count (slice_index (ranks_of places)) places
-  ranks-placed i other inside =
-      ((placed i other inside).0, (placed i other inside).1 ∙ sym (ranks-are i inside))
 
 -- one count more
 module _ (old new : List ℕ) (k upper lower : ℕ) (kept : KeepsBefore (count_place (k + 1)) old new)

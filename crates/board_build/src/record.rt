@@ -44,9 +44,8 @@ fn put_counts(bytes: &mut [u8], lower: &LowerRecords<'_>, pips: u8, plays: &[u16
     ensures before { KeepsBefore 66 bytes.old bytes.new }
     ensures counts { AreCountsBy lower.now.bytes pips plays.now bytes.new }
 {
-    let places = lower.places(plays);
-    let words = word_sums(lower, &places);
+    let words = word_sums(lower, plays);
     for k in 0..most_rolls(pips) {
-        put_count(bytes, k + 1, count_of(lower, &places, &words, k));
+        put_count(bytes, k + 1, count_of(lower, plays, &words, k));
     }
 }

@@ -4,14 +4,14 @@ ghost use Rattle.race_model.specs.Positions.{IsPosition, IsFinished, pips};
 ghost use Rattle.race_model.specs.Ranks.{rank as rank_of};
 ghost use Rattle.race_model.specs.Horizon.{most_rolls};
 ghost use Rattle.race_model.specs.BoardFiles.{board_record, board_play_of};
-ghost use Rattle.board_records.specs.Lower.{AreBelow, AreResults, ArePlaced};
+ghost use Rattle.board_records.specs.Lower.{AreBelow, AreResults};
 ghost use Rattle.board_records.specs.Words.{AreWordSums};
 ghost use Rattle.board_check.specs.Tested.{IsMeanOf, IsCountOf, Holds, MeanHolds, CountHolds};
 ghost use Rattle.board_check.specs.Faults.{IsNumberFault};
 
 use crate::fault::RecordFault;
 use board_layout::{BoardRecord, Parts};
-use board_records::{LowerRecords, RankedPlace, WORDS, count_of, mean_of, word_sums};
+use board_records::{LowerRecords, WORDS, count_of, mean_of, word_sums};
 use db_layout::most_rolls;
 use home_board::Position;
 use legal_plays::Roll;
@@ -50,19 +50,18 @@ fn has_mean(
 fn has_count(
     lower: &LowerRecords<'_>,
     stored: &BoardRecord<'_>,
-    places: &[RankedPlace; 21],
+    plays: &[u16; 21],
     words: &[u64; WORDS],
     k: u8,
 ) -> bool
-    ghost plays: { ℕ → ℕ }
     requires some { 1 ≤ k }
     requires few { k ≤ most_rolls stored.now.pips }
     requires most { k ≤ 33 }
-    requires places { ArePlaced lower.now.count plays places.now }
-    requires words { AreWordSums lower.now.bytes plays words.now }
-    ensures { IsTrue result ↔ IsCountOf lower.now.bytes plays stored.now.bytes k }
+    requires below { AreBelow (slice_index plays.now) lower.now.count }
+    requires words { AreWordSums lower.now.bytes (slice_index plays.now) words.now }
+    ensures { IsTrue result ↔ IsCountOf lower.now.bytes (slice_index plays.now) stored.now.bytes k }
 {
-    are_equal(&stored.count(k), &count_of(lower, places, words, k - 1))
+    are_equal(&stored.count(k), &count_of(lower, plays, words, k - 1))
 }
 
 /// Whether two numbers have the same parts.
@@ -79,25 +78,24 @@ fn are_equal(one: &Parts, other: &Parts) -> bool
 fn wrong_count(
     lower: &LowerRecords<'_>,
     stored: &BoardRecord<'_>,
-    places: &[RankedPlace; 21],
+    plays: &[u16; 21],
     rolls: u8,
 ) -> Option<u8>
-    ghost plays: { ℕ → ℕ }
     requires rolls { rolls ≡ most_rolls stored.now.pips }
     requires most { rolls ≤ 33 }
-    requires places { ArePlaced lower.now.count plays places.now }
+    requires below { AreBelow (slice_index plays.now) lower.now.count }
     ensures right { IfNone result ((k : ℕ) → 1 ≤ k → k ≤ rolls →
-        IsCountOf lower.now.bytes plays stored.now.bytes k) }
+        IsCountOf lower.now.bytes (slice_index plays.now) stored.now.bytes k) }
     ensures some { IfSome result (λ k. 1 ≤ k) }
     ensures few { IfSome result (λ k. k ≤ rolls) }
     ensures wrong { IfSome result
-        (λ k. ¬ IsCountOf lower.now.bytes plays stored.now.bytes k) }
+        (λ k. ¬ IsCountOf lower.now.bytes (slice_index plays.now) stored.now.bytes k) }
     ensures earlier { IfSome result (λ k. (j : ℕ) → 1 ≤ j → j < k →
-        IsCountOf lower.now.bytes plays stored.now.bytes j) }
+        IsCountOf lower.now.bytes (slice_index plays.now) stored.now.bytes j) }
 {
-    let words = word_sums(lower, places);
+    let words = word_sums(lower, plays);
     for below in 0..rolls {
-        if !has_count(lower, stored, places, &words, below + 1) {
+        if !has_count(lower, stored, plays, &words, below + 1) {
             return Some(below + 1);
         }
     }
@@ -133,8 +131,7 @@ pub fn check_numbers(
     if !has_mean(lower, stored, position, plays) {
         return Err(RecordFault::Mean);
     }
-    let places = lower.places(plays);
-    match wrong_count(lower, stored, &places, most_rolls(position.pips())) {
+    match wrong_count(lower, stored, plays, most_rolls(position.pips())) {
         Some(k) => Err(RecordFault::Spread { k }),
         None => Ok(()),
     }

@@ -20,8 +20,7 @@ use Rattle.race_model.proofs.Strategies.Horizons.{ends_in_33, most_rolls-board}
 use Rattle.race_model.proofs.Books.Bounded.{MeetsTo, mean-at_most, count-at_most}
 use Rattle.board_layout.proofs.BoardPlaces.{board_place-rises}
 use Rattle.board_layout.proofs.Prefixes.{count-short}
-use Rattle.board_records.specs.Lower.{AreLocalTo, AreRecords, IsPlaced, board_mean}
-use Rattle.board_records.specs.declared.lower.RankedPlace.{RankedPlace}
+use Rattle.board_records.specs.Lower.{AreLocalTo, AreRecords, board_mean}
 
 -- what holds of something where there is one holds of what is taken in its place
 pub of_some : {T : Type 0} (P : T → Type 0) (found : Option T) (other : T) → IsSome found →
@@ -136,31 +135,6 @@ module _ (bytes : List ℕ) (offset r : ℕ) (begins : offset ≡ board_place r)
           bytes_at (bytes_at bytes offset 24) b m ≡ bytes_at (board_record bytes r) b m
       alone b m within =
           bytes_at-inner bytes offset 24 b m within ∙ front b m (omega (arith, within))
-
--- a part of the record of a rank, where it stands
-module _ (bytes : List ℕ) (count : ℕ) (placed : RankedPlace) (at : IsPlaced count placed) (b m : ℕ)
-    (within : b + m ≤ count_place (placed.rolls + 1)) where
-  -- .. is within the record
-  part-within : b + m ≤ board_length (pips (at_rank placed.rank))
-  part-within = subst (λ n. b + m ≤ count_place (n + 1)) at.rolls within
-
-  pub part-of_record : bytes_at bytes (placed.offset + b) m
-      ≡ bytes_at (board_record bytes placed.rank) b m
-  part-of_record =
-      ap (λ n. bytes_at bytes (n + b) m) at.offset
-      ∙ sym (bytes_at-inner bytes (board_place placed.rank)
-      (board_length (pips (at_rank placed.rank))) b m part-within)
-
-  -- .. and within the bytes
-  pub part-inside : (offsets : List ℕ) → AreRecords bytes offsets → length offsets ≡ count →
-      placed.offset + b + m ≤ length bytes
-  part-inside offsets are counted =
-      omega (
-        arith,
-        at.offset,
-        part-within,
-        record-inside bytes offsets are placed.rank (omega (arith, at.below, counted)),
-      )
 
 -- a position that needs no roll has no pip
 pub most_rolls-none : (p : ℕ) → most_rolls p ≡ 0 → p ≡ 0

@@ -13,7 +13,7 @@ use Rattle.race_model.specs.BoardFiles.{Parts, board_length, board_record, count
 use Rattle.board_layout.proofs.Prefixes.{count-middle}
 use Rattle.board_records.specs.Lower.{AreLocalTo}
 use Rattle.board_records.specs.Words.{word_at, words_length}
-use Rattle.board_records.proofs.Known.{bytes_at-inner, count-most, count-written, told-beyond, told-short, told-within}
+use Rattle.board_records.proofs.Known.{bytes_at-inner, count-most, count-written, most_rolls-none, told-beyond, told-short, told-within}
 use Rattle.board_records.proofs.Weighted.{weighted-by_index, weighted-parts}
 
 -- one of two orders
@@ -98,21 +98,28 @@ module _ (f : List ℕ) (r : ℕ) where
         (split (12 + j) (most_rolls (pips (at_rank r))))
 
   -- the words that stand in the bytes of the counts, and none beyond them
-  module _ (rolls : ℕ) (most : rolls ≡ most_rolls (pips (at_rank r))) where
-    long : board_length (pips (at_rank r)) ≡ count_place (rolls + 1)
-    long = ap (λ n. count_place (n + 1)) (sym most)
+  pub word-of_bytes : (ws : List ℕ) →
+      ws ≡ bytes_at (board_record f r) 66 (words_length (board_length (pips (at_rank r)))) →
+      (i : ℕ) → 8 * i + 8 ≤ words_length (board_length (pips (at_rank r))) →
+      from_be_bytes w64 (bytes_at ws (8 * i) 8) ≡ word_at f r (suc i)
+  word-of_bytes ws are i within =
+      ap (λ bs. from_be_bytes w64 (bytes_at bs (8 * i) 8)) are
+      ∙ ap (from_be_bytes w64)
+      (bytes_at-inner (board_record f r) 66 (words_length (board_length (pips (at_rank r))))
+      (8 * i) 8 within)
+      ∙ sym (word-within i (omega (arith, within)))
 
-    pub word-of_bytes : (ws : List ℕ) → ws ≡ bytes_at (board_record f r) 66 (words_length rolls) →
-        (i : ℕ) → 8 * i + 8 ≤ words_length rolls →
-        from_be_bytes w64 (bytes_at ws (8 * i) 8) ≡ word_at f r (suc i)
-    word-of_bytes ws are i within =
-        ap (λ bs. from_be_bytes w64 (bytes_at bs (8 * i) 8)) are
-        ∙ ap (from_be_bytes w64)
-        (bytes_at-inner (board_record f r) 66 (words_length rolls) (8 * i) 8 within)
-        ∙ sym (word-within i (omega (arith, long, within)))
+  pub word-past : (i : ℕ) → i < 33 → words_length (board_length (pips (at_rank r))) < 8 * i + 8 →
+      word_at f r (suc i) ≡ 0
+  word-past i lt beyond = word-beyond i (omega (arith, lt, beyond))
 
-    pub word-past : (i : ℕ) → i < 33 → words_length rolls < 8 * i + 8 → word_at f r (suc i) ≡ 0
-    word-past i lt beyond = word-beyond i (omega (arith, long, lt, beyond))
+  -- .. of which there are some where the position needs a roll
+  pub words-none : words_length (board_length (pips (at_rank r))) ≡ 0 → pips (at_rank r) ≡ 0
+  words-none none = most_rolls-none (pips (at_rank r)) (omega (arith, none))
+
+  pub words-some : ¬ (words_length (board_length (pips (at_rank r))) ≡ 0) →
+      ¬ (pips (at_rank r) ≡ 0)
+  words-some some end = some (ap (λ p. words_length (board_length p)) end)
 
 -- of an accepted record each word is at most 36 ^ 11
 module _ (f : List ℕ) (n : ℕ) (few : n ≤ 54264) (local : AreLocalTo f n) (r : ℕ) (lt : r < n) where

@@ -1,13 +1,11 @@
 -- The records of a board file below a rank. Source: this project's profile.
-use Rattle.std.specs.Prelude.{◌≡◌, ℕ, ◌<◌, ◌≤◌, List, length, slice_index, slice_index_or}
-use Rattle.race_model.specs.Positions.{Board, IsPosition, pips}
+use Rattle.std.specs.Prelude.{◌≡◌, ℕ, ◌<◌, ◌≤◌, List, length, slice_index}
+use Rattle.race_model.specs.Positions.{Board, IsPosition}
 use Rattle.race_model.specs.Dice.{roll_at}
 use Rattle.race_model.specs.Plays.{Legal}
-use Rattle.race_model.specs.Ranks.{rank, at_rank}
-use Rattle.race_model.specs.Horizon.{most_rolls}
+use Rattle.race_model.specs.Ranks.{rank}
 use Rattle.race_model.specs.BoardFiles.{board_place, board_record, mean_parts, value_of_parts}
 use Rattle.race_model.specs.BoardEquations.{IsLocalOnBoard}
-use Rattle.board_records.specs.declared.lower.RankedPlace.{RankedPlace}
 
 -- bytes that begin as a board file does, and how many of its records they hold
 pub record Lower : Type 0 where
@@ -38,15 +36,3 @@ AreBelow plays count = (i : ℕ) → i < 21 → plays i < count
 abbrev pub AreResults : Board → (ℕ → ℕ) → Type 0
 AreResults x plays =
     (i : ℕ) → i < 21 → (y : Board) × Legal x (roll_at i) y × (rank y ≡ plays i)
-
--- where the record of a rank below one begins, and how many rolls its position can need at most
-pub record IsPlaced (count : ℕ) (placed : RankedPlace) : Type 0 where
-  pub below : placed.rank < count
-  pub offset : placed.offset ≡ board_place placed.rank
-  pub rolls : placed.rolls ≡ most_rolls (pips (at_rank placed.rank))
-
--- .. and those of the ranks that 21 rolls lead to
-abbrev pub ArePlaced : ℕ → (ℕ → ℕ) → List RankedPlace → Type 0
-ArePlaced count plays places = (i : ℕ) (other : RankedPlace) → i < 21 →
-    IsPlaced count (slice_index_or places i other)
-    × ((slice_index_or places i other).rank ≡ plays i)

@@ -6,7 +6,7 @@ use Rattle.race_model.specs.Positions.{pips}
 use Rattle.race_model.specs.Dice.{roll_index, weighted}
 use Rattle.race_model.specs.Ranks.{at_rank}
 use Rattle.race_model.specs.Files.{bytes_at}
-use Rattle.race_model.specs.BoardFiles.{board_record, board_length, count_at, count_place}
+use Rattle.race_model.specs.BoardFiles.{board_record, board_length, count_at}
 
 -- a word of the counts of at most 22 throws that are told for a rank: that of no throw, and then
 -- those that stand in its record, or 0 beyond them
@@ -16,9 +16,9 @@ word_at f r (suc i) =
     if nat_le (74 + 8 * i) (board_length (pips (at_rank r)))
     then from_be_bytes w64 (bytes_at (board_record f r) (66 + 8 * i) 8) else 0
 
--- how many bytes the counts of 1 to 22 throws have, of a position that needs at most so many rolls
+-- how many bytes the counts of 1 to 22 throws have in a record of so many
 abbrev pub words_length : ℕ → ℕ
-words_length rolls = count_place (min rolls 22 + 1) - 66
+words_length length = min length 330 - 66
 
 -- the sums of the words of what 21 plays lead to, with the weights of the rolls
 abbrev pub AreWordSums : List ℕ → (ℕ → ℕ) → List ℕ → Type 0

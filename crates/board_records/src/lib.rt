@@ -4,7 +4,7 @@
 //! the crates above may use that the numbers are those of the equations.
 #![tactic(auto)]
 
-pub use lower::{LowerRecords, RankedPlace};
+pub use lower::LowerRecords;
 pub use numbers::{count_of, mean_of};
 pub use stored_mean::StoredMean;
 pub use words::{WORDS, word_sums};

@@ -3,28 +3,17 @@ ghost use Rattle.std.specs.Prelude.{◌≡◌, ℕ, ◌+◌, ◌<◌, ◌≤◌,
 ghost use Rattle.race_model.specs.Positions.{pips};
 ghost use Rattle.race_model.specs.Ranks.{at_rank};
 ghost use Rattle.race_model.specs.Files.{bytes_at};
-ghost use Rattle.race_model.specs.BoardFiles.{board_place, board_record, count_place};
+ghost use Rattle.race_model.specs.BoardFiles.{board_length, board_place, board_record};
 ghost use Rattle.race_model.specs.BoardFiles.{mean_parts, value_of_parts};
-ghost use Rattle.std.specs.Int.{w64, w128, from_be_bytes};
-ghost use Rattle.board_records.specs.Lower.{Lower, AreRecords, AreLocalTo, AreBelow};
-ghost use Rattle.board_records.specs.Lower.{ArePlaced, IsPlaced, board_mean};
-ghost use Rattle.board_records.specs.Words.{words_length};
+ghost use Rattle.board_records.specs.Lower.{Lower, AreRecords, AreLocalTo, board_mean};
 
 use crate::stored_mean::{StoredMean, is_less};
-use board_layout::count_place;
-use db_layout::{most_rolls, read_long, read_wide};
+use board_layout::board_length;
+use db_layout::{read_long, read_wide};
 use fixed_fraction::BoardMean;
 use least_plays::RankedMeans;
 use ranking::pips_of;
 use std::marker::Model;
-
-/// A rank, where its record begins, and how many rolls its position can need at most.
-#[derive(Clone, Copy, Debug, PartialEq, Eq)]
-pub struct RankedPlace {
-    pub rank: u16,
-    pub offset: u32,
-    pub rolls: u8,
-}
 
 /// The records of the lowest ranks of a board file, which meet their equations, and where each
 /// begins. Nothing is copied, so each number is read anew. Where it is none any more, since another
@@ -78,51 +67,28 @@ impl<'a> LowerRecords<'a> {
         }
     }
 
-    /// Where the record of a rank stands.
-    pub fn place(&self, rank: u16) -> RankedPlace
+    /// Where the record of a rank ends.
+    #[inline(always)]
+    fn end_of(&self, rank: u16) -> usize
         requires { rank < self.now.count }
-        ensures rank { result.rank ≡ rank }
-        ensures placed { IsPlaced self.now.count result }
+        ensures { result ≡ board_place (rank + 1) }
     {
-        RankedPlace {
-            rank,
-            offset: self.offsets[usize::from(rank)],
-            rolls: most_rolls(pips_of(rank)),
+        let place = usize::from(rank);
+        if place + 1 < self.offsets.len() {
+            return self.offsets[place + 1] as usize;
         }
+        self.offsets[place] as usize + board_length(pips_of(rank))
     }
 
-    /// The bytes of a record's counts of 1 to 22 throws.
+    /// The bytes of the record of a rank.
     #[inline(always)]
-    pub(crate) fn words(&self, placed: &RankedPlace) -> &'a [u8]
-        requires placed { IsPlaced self.now.count placed.now }
-        ensures bytes { result.now ≡ bytes_at (board_record self.now.bytes placed.now.rank) 66
-            (words_length placed.now.rolls) }
-        ensures len { length result.now ≡ words_length placed.now.rolls }
+    pub(crate) fn record(&self, rank: u16) -> &'a [u8]
+        requires { rank < self.now.count }
+        ensures bytes { result.now ≡ board_record self.now.bytes rank }
+        ensures len { length result.now ≡ board_length (pips (at_rank rank)) }
     {
-        let length = count_place(placed.rolls.min(22) + 1) - 66;
-        part_of(self.bytes, placed.offset as usize + 66, length)
-    }
-
-    /// The number of 64 bits at a place in a record.
-    #[inline(always)]
-    pub(crate) fn word(&self, placed: &RankedPlace, place: usize) -> u64
-        requires placed { IsPlaced self.now.count placed.now }
-        requires within { place + 8 ≤ count_place (placed.now.rolls + 1) }
-        ensures { result ≡ from_be_bytes w64
-            (bytes_at (board_record self.now.bytes placed.now.rank) place 8) }
-    {
-        read_long(self.bytes, placed.offset as usize + place)
-    }
-
-    /// .. of 128 bits.
-    #[inline(always)]
-    pub(crate) fn wide(&self, placed: &RankedPlace, place: usize) -> u128
-        requires placed { IsPlaced self.now.count placed.now }
-        requires within { place + 16 ≤ count_place (placed.now.rolls + 1) }
-        ensures { result ≡ from_be_bytes w128
-            (bytes_at (board_record self.now.bytes placed.now.rank) place 16) }
-    {
-        read_wide(self.bytes, placed.offset as usize + place)
+        let first = self.offsets[usize::from(rank)] as usize;
+        part_of(self.bytes, first, self.end_of(rank) - first)
     }
 
     /// The mean of a rank.
@@ -134,18 +100,6 @@ impl<'a> LowerRecords<'a> {
         let upper = read_wide(self.bytes, offset);
         let lower = read_long(self.bytes, offset + 16);
         BoardMean::new(upper, lower).unwrap_or(BoardMean::ZERO)
-    }
-
-    /// Where the records of the ranks of 21 plays stand.
-    pub fn places(&self, plays: &[u16; 21]) -> [RankedPlace; 21]
-        requires { AreBelow (slice_index plays.now) self.now.count }
-        ensures { ArePlaced self.now.count (slice_index plays.now) result }
-    {
-        let mut places = [self.place(plays[0]); 21];
-        for index in 0..21 {
-            places[index] = self.place(plays[index]);
-        }
-        places
     }
 }
 

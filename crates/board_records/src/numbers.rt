@@ -3,12 +3,13 @@ ghost use Rattle.std.specs.Prelude.{◌≡◌, ℕ, ◌+◌, ◌*◌, ◌^◌, �
 ghost use Rattle.race_model.specs.Positions.{IsPosition, IsFinished};
 ghost use Rattle.race_model.specs.Dice.{roll_index, weighted};
 ghost use Rattle.race_model.specs.BoardFiles.{count_at, count_place};
-ghost use Rattle.board_records.specs.Lower.{AreBelow, AreResults, ArePlaced, IsPlaced, board_mean};
+ghost use Rattle.board_records.specs.Lower.{AreBelow, AreResults, board_mean};
 ghost use Rattle.board_records.specs.Words.{AreWordSums};
 
-use crate::lower::{LowerRecords, RankedPlace};
+use crate::lower::LowerRecords;
 use crate::words::WORDS;
 use board_layout::{Parts, count_place};
+use db_layout::{read_long, read_wide};
 use fixed_fraction::{BoardMean, LongCount, LongSum, PART, sum_of};
 use home_board::Position;
 
@@ -42,18 +43,12 @@ fn sum_of_means(lower: &LowerRecords<'_>, plays: &[u16; 21]) -> LongSum
 /// counts of what they lead to at k throws, added up; to 22 throws these sums are given, word by
 /// word. To 11 throws the upper part is 0, to 22 it has one word, and from 12 throws on the lower
 /// part is less than 36 ^ 11.
-pub fn count_of(
-    lower: &LowerRecords<'_>,
-    places: &[RankedPlace; 21],
-    words: &[u64; WORDS],
-    k: u8,
-) -> Parts
-    ghost plays: { ℕ → ℕ }
+pub fn count_of(lower: &LowerRecords<'_>, plays: &[u16; 21], words: &[u64; WORDS], k: u8) -> Parts
     requires few { k < 33 }
-    requires places { ArePlaced lower.now.count plays places.now }
-    requires words { AreWordSums lower.now.bytes plays words.now }
+    requires below { AreBelow (slice_index plays.now) lower.now.count }
+    requires words { AreWordSums lower.now.bytes (slice_index plays.now) words.now }
     ensures value { result.upper * 36 ^ 11 + result.lower
-        ≡ weighted (λ v. count_at lower.now.bytes (plays (roll_index v)) k) }
+        ≡ weighted (λ v. count_at lower.now.bytes (slice_index plays.now (roll_index v)) k) }
     ensures one { k < 11 → result.upper ≡ 0 }
     ensures word { k < 22 → result.upper < 2 ^ 64 }
     ensures lower { 11 ≤ k → result.lower < 36 ^ 11 }
@@ -73,7 +68,7 @@ pub fn count_of(
         return carried(words[2 * word - 12], words[2 * word - 11]);
     }
     parts_of_long(
-        sum_of_long(lower, places, k)
+        sum_of_long(lower, plays, k)
             .count()
             .unwrap_or(LongCount::NONE),
     )
@@ -103,37 +98,37 @@ fn parts_of_long(count: LongCount) -> Parts
 }
 
 /// The sum of the counts of 23 to 33 throws.
-fn sum_of_long(lower: &LowerRecords<'_>, places: &[RankedPlace; 21], k: u8) -> LongSum
-    ghost plays: { ℕ → ℕ }
+fn sum_of_long(lower: &LowerRecords<'_>, plays: &[u16; 21], k: u8) -> LongSum
     requires many { 23 ≤ k }
     requires few { k ≤ 33 }
-    requires places { ArePlaced lower.now.count plays places.now }
+    requires below { AreBelow (slice_index plays.now) lower.now.count }
     ensures { result.sum
-        ≡ weighted (λ v. count_at lower.now.bytes (plays (roll_index v)) k) }
+        ≡ weighted (λ v. count_at lower.now.bytes (slice_index plays.now (roll_index v)) k) }
 {
     let records = lower.again();
     let place = count_place(k);
     let mut counts = [LongCount::NONE; 21];
     for index in 0..21 {
-        counts[index] = long(&records, &places[index], k, place);
+        counts[index] = long(&records, plays[index], k, place);
     }
     sum_of(&counts)
 }
 
-/// The count of 23 to 33 throws that a record tells, which begins at a place in it, and none of more
-/// throws than a game from there can take.
+/// The count of 23 to 33 throws that the record of a rank tells, which begins at a place in it, and
+/// none of more throws than a game from there can take.
 #[inline(always)]
-fn long(lower: &LowerRecords<'_>, placed: &RankedPlace, k: u8, place: usize) -> LongCount
+fn long(lower: &LowerRecords<'_>, rank: u16, k: u8, place: usize) -> LongCount
     requires many { 23 ≤ k }
     requires few { k ≤ 33 }
     requires place { place ≡ count_place k }
-    requires placed { IsPlaced lower.now.count placed.now }
-    ensures { result ≡ count_at lower.now.bytes placed.now.rank k }
+    requires rank { rank < lower.now.count }
+    ensures { result ≡ count_at lower.now.bytes rank k }
 {
     let _count = lower.count();
-    if k > placed.rolls {
+    let record = lower.record(rank);
+    if record.len() < place + 24 {
         return LongCount::NONE;
     }
-    let upper = lower.wide(placed, place);
-    LongCount::new(k, upper, lower.word(placed, place + 16)).unwrap_or(LongCount::NONE)
+    let upper = read_wide(record, place);
+    LongCount::new(k, upper, read_long(record, place + 16)).unwrap_or(LongCount::NONE)
 }

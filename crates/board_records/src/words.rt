@@ -3,14 +3,12 @@
 //! of all 36 throws have room, and none is tested.
 ghost use Rattle.std.specs.Prelude.{◌≡◌, ℕ, ◌+◌, ◌*◌, ◌^◌, ◌<◌, ◌≤◌, ◌⊎◌, length, slice_index};
 ghost use Rattle.std.specs.Int.{w64, from_be_bytes};
-ghost use Rattle.race_model.specs.Dice.{roll_index, weighted};
 ghost use Rattle.race_model.specs.Files.{bytes_at};
 ghost use Rattle.fixed_fraction.specs.Board.{part};
-ghost use Rattle.board_records.specs.Lower.{ArePlaced, IsPlaced};
-ghost use Rattle.board_records.specs.Words.{word_at, AreWordSums};
+ghost use Rattle.board_records.specs.Lower.{AreBelow};
+ghost use Rattle.board_records.specs.Words.{word_at, words_length, AreWordSums};
 
-use crate::lower::{LowerRecords, RankedPlace};
-use board_layout::count_place;
+use crate::lower::LowerRecords;
 use db_layout::read_long;
 use fixed_fraction::WEIGHTS;
 
@@ -18,41 +16,48 @@ use fixed_fraction::WEIGHTS;
 pub const WORDS: usize = 34;
 
 /// The sums of the words of the counts of what 21 plays lead to, with the weights of the rolls.
-pub fn word_sums(lower: &LowerRecords<'_>, places: &[RankedPlace; 21]) -> [u64; WORDS]
-    ghost plays: { ℕ → ℕ }
-    requires places { ArePlaced lower.now.count plays places.now }
-    ensures sums { AreWordSums lower.now.bytes plays result }
+pub fn word_sums(lower: &LowerRecords<'_>, plays: &[u16; 21]) -> [u64; WORDS]
+    requires { AreBelow (slice_index plays.now) lower.now.count }
+    ensures sums { AreWordSums lower.now.bytes (slice_index plays.now) result }
     ensures len { length result ≡ 34 }
 {
     let _count = lower.count();
     let mut sums = [0; WORDS];
     for index in 0..21 {
-        add_words(&mut sums, lower, &places[index], WEIGHTS[index]);
+        add_words(&mut sums, lower, plays[index], WEIGHTS[index]);
     }
     sums
 }
 
-/// Adds the words of the counts that a record tells, with the weight of a roll.
+/// Adds the words of the counts that the record of a rank tells, with the weight of a roll.
 #[inline(always)]
-fn add_words(sums: &mut [u64; WORDS], lower: &LowerRecords<'_>, placed: &RankedPlace, weight: u8)
-    requires placed { IsPlaced lower.now.count placed.now }
+fn add_words(sums: &mut [u64; WORDS], lower: &LowerRecords<'_>, rank: u16, weight: u8)
+    requires rank { rank < lower.now.count }
     requires weight { (weight ≡ 1) ⊎ (weight ≡ 2) }
     requires room { (i : ℕ) → i < 34 → slice_index sums.old i + weight * part < 2 ^ 64 }
     ensures added { (i : ℕ) → i < 34 → slice_index sums.new i
-        ≡ slice_index sums.old i + weight * word_at lower.now.bytes placed.now.rank i }
+        ≡ slice_index sums.old i + weight * word_at lower.now.bytes rank i }
     ensures len { length sums.new ≡ 34 }
 {
     let _count = lower.count();
-    if placed.rolls == 0 {
+    let words = words_in(lower.record(rank));
+    if words.is_empty() {
         sums[0] += u64::from(weight);
-        return;
-    }
-    let words = lower.words(placed);
-    if weight == 1 {
+    } else if weight == 1 {
         add(sums, words, 1);
     } else {
         add(sums, words, 2);
     }
+}
+
+/// The bytes of the counts of 1 to 22 throws in those of a record.
+#[inline(always)]
+fn words_in(bytes: &[u8]) -> &[u8]
+    requires { 66 ≤ length bytes.now }
+    ensures bytes { result.now ≡ bytes_at bytes.now 66 (words_length (length bytes.now)) }
+    ensures len { length result.now ≡ words_length (length bytes.now) }
+{
+    &bytes[66..bytes.len().min(330)]
 }
 
 /// Adds to all sums but the first the words in some bytes, as often as it says.
@@ -61,9 +66,11 @@ fn add(sums: &mut [u64; WORDS], words: &[u8], times: u64)
     requires few { length words.now ≤ 264 }
     requires room { (i : ℕ) → 8 * i + 8 ≤ length words.now → slice_index sums.old (i + 1)
         + times * from_be_bytes w64 (bytes_at words.now (8 * i) 8) < 2 ^ 64 }
-    ensures added { (i : ℕ) → 8 * i + 8 ≤ length words.now → slice_index sums.new (i + 1)
-        ≡ slice_index sums.old (i + 1) + times * from_be_bytes w64 (bytes_at words.now (8 * i) 8) }
-    ensures kept { (i : ℕ) → length words.now < 8 * i → slice_index sums.new i ≡ slice_index sums.old i }
+    ensures added { (i : ℕ) → 8 * i + 8 ≤ length words.now →
+        slice_index sums.new (i + 1) ≡ slice_index sums.old (i + 1)
+        + times * from_be_bytes w64 (bytes_at words.now (8 * i) 8) }
+    ensures kept { (i : ℕ) → length words.now < 8 * i →
+        slice_index sums.new i ≡ slice_index sums.old i }
     ensures first { slice_index sums.new 0 ≡ slice_index sums.old 0 }
     ensures len { length sums.new ≡ 34 }
 {

@@ -1,32 +1,20 @@
-use Rattle.std.proofs.Common.{◌+◌, ap, ◌∙◌, arith}
+use Rattle.std.proofs.Common.{◌+◌, arith}
 use Rattle.std.specs.Prelude.{slice_index}
 use Rattle.race_model.specs.Dice.{roll_index, weighted}
 use Rattle.race_model.specs.BoardFiles.{count_place, count_at}
 use Rattle.race_model.proofs.Strategies.Horizons.{most_rolls-board}
 use Rattle.board_layout.proofs.Prefixes.{keeps_twice}
-use Rattle.board_records.proofs.Weighted.{weighted-by_index}
-use Rattle.board_build.proofs.Counts.{ranks_of, ranks-are, ranks-placed, written-next, value-next}
+use Rattle.board_build.proofs.Counts.{written-next, value-next}
 use Rattle.board_build.proofs.record.put_counts.Goals as goal
 
-pub word_sums-words-requires : goal.word_sums-words-requires
-word_sums-words-requires c =
-    ranks-placed c.args.lower.now.count c.args.plays.now c.places-places.result
-    c.places-places.ensures
-
-pub count_of-requires : goal.count_of-requires
-count_of-requires c = (
-  omega (
-    arith,
-    c.loop-k-test.true,
-    c.most_rolls-k-end.ensures,
-    most_rolls-board c.args.pips c.requires.low,
-  ),
-  (
-    ranks-placed c.args.lower.now.count c.args.plays.now c.places-places.result
-        c.places-places.ensures,
-    c.word_sums-words.ensures.sums,
-  ),
-)
+pub count_of-requires-clause-few : goal.count_of-requires-clause-few
+count_of-requires-clause-few c =
+    omega (
+      arith,
+      c.loop-k-test.true,
+      c.most_rolls-k-end.ensures,
+      most_rolls-board c.args.pips c.requires.low,
+    )
 
 pub loop-k-preserved : goal.loop-k-preserved
 loop-k-preserved c =
@@ -35,7 +23,6 @@ loop-k-preserved c =
     let new = c.put_count.new.bytes in
     let f = c.args.lower.now.bytes in
     let plays = c.args.plays.now in
-    let ranks = ranks_of c.places-places.result in
     record {
       before =
           keeps_twice 66 (count_place (k + 1)) c.args.bytes.now old new (omega arith)
@@ -49,11 +36,5 @@ loop-k-preserved c =
           c.put_count.ensures.before c.put_count.ensures.count
           (λ j. weighted (λ v. count_at f (slice_index plays (roll_index v)) j))
           c.loop-k.invariant.value
-          (c.count_of.ensures.value
-          ∙ weighted-by_index (λ i. count_at f (slice_index ranks i) k)
-          (λ i. count_at f (slice_index plays i) k)
-          (λ i inside.
-          ap (λ r. count_at f r k)
-          (ranks-are c.args.lower.now.count plays c.places-places.result c.places-places.ensures i
-          inside)));
+          c.count_of.ensures.value;
     }

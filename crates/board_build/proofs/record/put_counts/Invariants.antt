@@ -3,15 +3,7 @@ use Rattle.std.specs.Prelude.{slice_index}
 use Rattle.race_model.specs.Dice.{roll_index, weighted}
 use Rattle.race_model.specs.BoardFiles.{value_of_parts, count_parts, count_at}
 use Rattle.board_layout.specs.Stored.{KeepsBefore}
-use Rattle.board_build.proofs.Counts.{ranks_of}
 use Rattle.board_build.proofs.record.put_counts.Given as goal
-
--- the ranks whose places they are
-abbrev pub ghost-word_sums : goal.ghost-word_sums
-ghost-word_sums a = slice_index (ranks_of a.places.now)
-
-abbrev pub ghost-count_of : goal.ghost-count_of
-ghost-count_of a = slice_index (ranks_of a.places.now)
 
 -- the counts so far
 abbrev pub invariant-loop-k : goal.invariant-loop-k

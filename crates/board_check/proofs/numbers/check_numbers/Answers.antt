@@ -1,10 +1,9 @@
 -- The numbers of the finished position are none, and those of any other are tested by its plays.
-use Rattle.std.proofs.Common.{◌≡◌, ⊎_elim, ℕ, zero, suc, ◌<◌, ◌≤◌, true, false, refl, sym, ap, subst, ◌∙◌, arith, rules}
+use Rattle.std.proofs.Common.{◌≡◌, ⊎_elim, ℕ, zero, suc, ◌<◌, ◌≤◌, true, false, sym, ap, subst, ◌∙◌, arith, rules}
 use Rattle.std.specs.Prelude.{slice_index}
 use Rattle.std.proofs.lemmas.Bool.{false≢true, cases_lt}
 use Rattle.race_model.specs.Positions.{IsFinished, pips}
 use Rattle.race_model.specs.Ranks.{rank}
-use Rattle.race_model.specs.BoardFiles.{board_play_of}
 use Rattle.race_model.specs.Horizon.{most_rolls}
 use Rattle.race_model.proofs.Ranks.RankOrder.{pips-range}
 use Rattle.race_model.proofs.Strategies.Horizons.{most_rolls-board}
@@ -14,7 +13,7 @@ use Rattle.board_check.proofs.PositionTests.{end-counts-hold}
 use Rattle.board_check.proofs.PositionTests.{results-are, below-are, mean-holds, mean-tested, count-holds, count-tested}
 use Rattle.board_check.proofs.PositionTests.{count-at_once, count-later}
 use Rattle.board_check.proofs.numbers.check_numbers.Goals.{After-is_finished, Else-is_finished}
-use Rattle.board_check.proofs.numbers.check_numbers.Goals.{Else-not-has_mean, In-Some, In-None}
+use Rattle.board_check.proofs.numbers.check_numbers.Goals.{After-most_rolls, In-Some, In-None}
 use Rattle.board_check.proofs.numbers.check_numbers.Goals as goal
 
 pub returns-then-are_equal-clause-counts : goal.returns-then-are_equal-clause-counts
@@ -59,13 +58,14 @@ returns-then-not-has_mean-clause-fault c holds =
     c.args.stored.now.bytes c.requires.bytes (unfinished here) (slice_index c.args.plays.now)
     c.requires.plays c.requires.held (local here) holds))
 
-pub places-places-requires : goal.places-places-requires
-places-places-requires c = below (goal.at.places-places-requires c).Else-is_finished
+pub wrong_count-requires-clause-below : goal.wrong_count-requires-clause-below
+wrong_count-requires-clause-below c =
+    below (goal.at.wrong_count-requires-clause-below c).Else-is_finished
 
 -- the mean holds
-module _ (c : Else-not-has_mean) where
+module _ (c : After-most_rolls) where
   abbrev other : Else-is_finished
-  other = (goal.at.places-places-requires c).Else-is_finished
+  other = (goal.at.wrong_count-requires-clause-below c).Else-is_finished
 
   mean-is : MeanHolds c.args.lower.now.bytes c.args.position.now
   mean-is =
@@ -75,14 +75,14 @@ module _ (c : Else-not-has_mean) where
       c.requires.plays c.requires.held (local other) (c.has_mean.ensures.0 yes)
 
   abbrev stored : ℕ → ℕ
-  stored = board_play_of c.args.stored.now.bytes
+  stored = slice_index c.args.plays.now
 
   holds-at : (k : ℕ) → 1 ≤ k → k ≤ most_rolls (pips c.args.position.now) →
       IsCountOf c.args.lower.now.bytes stored c.args.stored.now.bytes k →
       CountHolds c.args.lower.now.bytes c.args.position.now k
   holds-at =
       count-holds c.args.lower.now.bytes c.args.position.now c.requires.position
-      c.args.stored.now.bytes c.requires.bytes (unfinished other) stored (λ i lt. refl)
+      c.args.stored.now.bytes c.requires.bytes (unfinished other) stored c.requires.plays
       c.requires.held (local other)
 
   tested-at : (k : ℕ) → 1 ≤ k → k ≤ most_rolls (pips c.args.position.now) →
@@ -90,20 +90,20 @@ module _ (c : Else-not-has_mean) where
       IsCountOf c.args.lower.now.bytes stored c.args.stored.now.bytes k
   tested-at =
       count-tested c.args.lower.now.bytes c.args.position.now c.requires.position
-      c.args.stored.now.bytes c.requires.bytes (unfinished other) stored (λ i lt. refl)
+      c.args.stored.now.bytes c.requires.bytes (unfinished other) stored c.requires.plays
       c.requires.held (local other)
 
   at-once : CountHolds c.args.lower.now.bytes c.args.position.now 0
   at-once =
       count-at_once c.args.lower.now.bytes c.args.position.now c.requires.position
-      c.args.stored.now.bytes c.requires.bytes (unfinished other) stored (λ i lt. refl)
+      c.args.stored.now.bytes c.requires.bytes (unfinished other) stored c.requires.plays
       c.requires.held (local other)
 
   later-is : (k : ℕ) → most_rolls (pips c.args.position.now) < k → k ≤ 33 →
       CountHolds c.args.lower.now.bytes c.args.position.now k
   later-is =
       count-later c.args.lower.now.bytes c.args.position.now c.requires.position
-      c.args.stored.now.bytes c.requires.bytes (unfinished other) stored (λ i lt. refl)
+      c.args.stored.now.bytes c.requires.bytes (unfinished other) stored c.requires.plays
       c.requires.held (local other)
 
   -- all counts before one that is tested
@@ -122,7 +122,7 @@ module _ (c : Else-not-has_mean) where
 
 pub returns-in-Some-clause-fault : goal.returns-in-Some-clause-fault
 returns-in-Some-clause-fault c =
-    let here = (goal.at.returns-in-Some-clause-fault c).Else-not-has_mean in
+    let here = (goal.at.returns-in-Some-clause-fault c).After-most_rolls in
     let said = c.in-Some.ensures {u = tt} in
     let rolls = c.most_rolls.ensures ∙ ap most_rolls c.pips.ensures.value in
     let few : c.in-Some.k ≤ most_rolls (pips c.args.position.now) =
@@ -134,13 +134,13 @@ returns-in-Some-clause-fault c =
     )
 
 pub returns-in-None-clause-mean : goal.returns-in-None-clause-mean
-returns-in-None-clause-mean c = mean-is (goal.at.returns-in-None-clause-mean c).Else-not-has_mean
+returns-in-None-clause-mean c = mean-is (goal.at.returns-in-None-clause-mean c).After-most_rolls
 
 pub returns-in-None-clause-counts : goal.returns-in-None-clause-counts
 returns-in-None-clause-counts c zero few =
-    at-once (goal.at.returns-in-None-clause-counts c).Else-not-has_mean
+    at-once (goal.at.returns-in-None-clause-counts c).After-most_rolls
 returns-in-None-clause-counts c (suc k) few =
-    let here = (goal.at.returns-in-None-clause-counts c).Else-not-has_mean in
+    let here = (goal.at.returns-in-None-clause-counts c).After-most_rolls in
     let said = c.in-None.ensures {u = tt} in
     let rolls = c.most_rolls.ensures ∙ ap most_rolls c.pips.ensures.value in
     ⊎_elim

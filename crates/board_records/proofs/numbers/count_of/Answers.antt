@@ -1,5 +1,5 @@
 -- The sum of the counts of one throw fewer has room.
-use Rattle.std.proofs.Common.{◌≡◌, ℕ, suc, ◌+◌, ◌-◌, ◌*◌, ◌^◌, ◌<◌, ◌≤◌, ap, subst, arith, ◌∙◌}
+use Rattle.std.proofs.Common.{◌≡◌, ℕ, suc, ◌+◌, ◌-◌, ◌*◌, ◌^◌, ◌<◌, ◌≤◌, ap, arith, ◌∙◌}
 use Rattle.std.proofs.Math.Nat.{pow-le-pow_right}
 use Rattle.std.specs.Prelude.{slice_index}
 use Rattle.race_model.specs.Dice.{roll_index, weighted}
@@ -7,7 +7,6 @@ use Rattle.race_model.specs.BoardFiles.{count_at}
 use Rattle.board_records.proofs.Known.{of_some}
 use Rattle.board_records.proofs.Sums.{counts-most}
 use Rattle.board_records.proofs.WordSums.{sums-middle, sums-short}
-use Rattle.board_records.proofs.numbers.count_of.Given.{Over}
 use Rattle.board_records.proofs.numbers.count_of.Goals.{After-from-word}
 use Rattle.board_records.proofs.numbers.count_of.Goals as goal
 
@@ -15,26 +14,24 @@ use Rattle.board_records.proofs.numbers.count_of.Goals as goal
 rise : (k m : ℕ) → k < m → 36 ^ suc k ≤ 36 ^ m
 rise k m lt = pow-le-pow_right (omega arith) lt
 
-module _ (g : Over) (c : After-from-word g) where
+module _ (c : After-from-word) where
   -- the sum is at most all sequences of one throw more
-  most : weighted (λ v. count_at c.args.lower.now.bytes (g.plays (roll_index v)) c.args.k)
+  most : weighted (λ v. count_at c.args.lower.now.bytes (slice_index c.args.plays.now (roll_index v)) c.args.k)
       ≤ 36 ^ suc c.args.k
   most =
       let known = c.count-count.ensures in
-      counts-most c.args.lower.now.bytes c.args.lower.now.count known.few known.local g.plays
-      (λ i lt.
-      let placed = c.requires.1.0 i (record { rank = 0; offset = 0; rolls = 0 }) lt in
-      subst (λ r. r < c.args.lower.now.count) placed.1 placed.0.below)
-      c.args.k (omega (arith, c.requires.0))
+      counts-most c.args.lower.now.bytes c.args.lower.now.count known.few known.local (slice_index c.args.plays.now)
+      c.requires.below
+      c.args.k (omega (arith, c.requires.few))
 
   -- to 11 throws it is one of the words
   short : c.args.k ≤ 11 → 0 + slice_index c.args.words.now c.from-word.result
-      ≡ weighted (λ v. count_at c.args.lower.now.bytes (g.plays (roll_index v)) c.args.k)
+      ≡ weighted (λ v. count_at c.args.lower.now.bytes (slice_index c.args.plays.now (roll_index v)) c.args.k)
   short few =
       alone (slice_index c.args.words.now c.from-word.result)
       ∙ ap (slice_index c.args.words.now) c.from-word.ensures
-      ∙ c.requires.1.1 c.args.k (omega (arith, few))
-      ∙ sums-short c.args.lower.now.bytes g.plays c.args.k few
+      ∙ c.requires.words c.args.k (omega (arith, few))
+      ∙ sums-short c.args.lower.now.bytes (slice_index c.args.plays.now) c.args.k few
     where
       alone : (n : ℕ) → 0 + n ≡ n
       alone n = omega arith
@@ -43,51 +40,51 @@ module _ (g : Over) (c : After-from-word g) where
   middle : 11 < c.args.k → c.args.k ≤ 22 →
       slice_index c.args.words.now (2 * c.from-word.result - 12) * 36 ^ 11
       + slice_index c.args.words.now (2 * c.from-word.result - 11)
-      ≡ weighted (λ v. count_at c.args.lower.now.bytes (g.plays (roll_index v)) c.args.k)
+      ≡ weighted (λ v. count_at c.args.lower.now.bytes (slice_index c.args.plays.now (roll_index v)) c.args.k)
   middle many few =
-      sums-middle c.args.lower.now.bytes g.plays c.args.k
+      sums-middle c.args.lower.now.bytes (slice_index c.args.plays.now) c.args.k
       (slice_index c.args.words.now (2 * c.from-word.result - 12))
       (slice_index c.args.words.now (2 * c.from-word.result - 11)) many few
       (ap (λ n. slice_index c.args.words.now (2 * n - 12)) c.from-word.ensures
-      ∙ c.requires.1.1 (2 * c.args.k - 12) (omega (arith, few)))
+      ∙ c.requires.words (2 * c.args.k - 12) (omega (arith, few)))
       (ap (λ n. slice_index c.args.words.now (2 * n - 11)) c.from-word.ensures
-      ∙ c.requires.1.1 (2 * c.args.k - 11) (omega (arith, few)))
+      ∙ c.requires.words (2 * c.args.k - 11) (omega (arith, few)))
 
 pub returns-then-k-lt11-clause-value : goal.returns-then-k-lt11-clause-value
-returns-then-k-lt11-clause-value g c =
-    short g (goal.at.returns-then-k-lt11-clause-value g c).After-from-word
+returns-then-k-lt11-clause-value c =
+    short (goal.at.returns-then-k-lt11-clause-value c).After-from-word
     (omega (arith, c.if-k-lt11.true))
 
 pub returns-then-k-eq11-clause-value : goal.returns-then-k-eq11-clause-value
-returns-then-k-eq11-clause-value g c =
+returns-then-k-eq11-clause-value c =
     c.carried.ensures.value
-    ∙ short g (goal.at.returns-then-k-eq11-clause-value g c).After-from-word
+    ∙ short (goal.at.returns-then-k-eq11-clause-value c).After-from-word
     (omega (arith, c.if-k-eq11.true))
 
 pub returns-then-k-le22-clause-value : goal.returns-then-k-le22-clause-value
-returns-then-k-le22-clause-value g c =
+returns-then-k-le22-clause-value c =
     c.carried-then-k-le22.ensures.value
-    ∙ middle g (goal.at.returns-then-k-le22-clause-value g c).After-from-word
+    ∙ middle (goal.at.returns-then-k-le22-clause-value c).After-from-word
     (omega (arith, c.if-k-lt11.false, c.if-k-eq11.false)) c.if-k-le22.true
 
 pub returns-then-k-le22-clause-word : goal.returns-then-k-le22-clause-word
-returns-then-k-le22-clause-word g c few =
-    let here = (goal.at.returns-then-k-le22-clause-word g c).After-from-word in
+returns-then-k-le22-clause-word c few =
+    let here = (goal.at.returns-then-k-le22-clause-word c).After-from-word in
     let power = rise c.args.k 22 few in
     omega (
       arith,
       c.carried-then-k-le22.ensures.value,
-      middle g here (omega (arith, c.if-k-lt11.false, c.if-k-eq11.false)) c.if-k-le22.true,
-      most g here,
+      middle here (omega (arith, c.if-k-lt11.false, c.if-k-eq11.false)) c.if-k-le22.true,
+      most here,
       power,
     )
 
 pub returns-clause-value : goal.returns-clause-value
-returns-clause-value g c =
-    let here = (goal.at.returns-clause-value g c).After-from-word in
-    let power = rise c.args.k 33 (omega (arith, c.requires.0)) in
+returns-clause-value c =
+    let here = (goal.at.returns-clause-value c).After-from-word in
+    let power = rise c.args.k 33 (omega (arith, c.requires.few)) in
     let is_count = c.count.ensures.some.1
-    (omega (arith, c.sum_of_long.ensures, most g here, power)) in
+    (omega (arith, c.sum_of_long.ensures, most here, power)) in
     c.parts_of_long.ensures.value
     ∙ c.unwrap_or.ensures
     ∙ of_some (λ count. count ≡ c.sum_of_long.result.sum) c.count.result 0 is_count

@@ -1,35 +1,32 @@
 -- The count of one play more, and the sum of all.
 use Rattle.std.proofs.Common.{◌≡◌, ap, length-set, refl, ◌∙◌, arith}
-use Rattle.std.specs.Prelude.{slice_index_or}
+use Rattle.std.specs.Prelude.{slice_index}
 use Rattle.race_model.specs.BoardFiles.{count_at}
 use Rattle.race_model.proofs.Numbers.Members.{set_next}
 use Rattle.board_records.specs.Lower.{Lower}
-use Rattle.board_records.specs.declared.lower.RankedPlace.{RankedPlace}
 use Rattle.board_records.proofs.Weighted.{weighted-listed}
 use Rattle.board_records.proofs.numbers.sum_of_long.Goals as goal
 
 pub loop-index-preserved : goal.loop-index-preserved
-loop-index-preserved g c =
+loop-index-preserved c =
     let i = c.loop-index.index in
     let kept = c.loop-index.invariant in
-    let none : RankedPlace = record { rank = 0; offset = 0; rolls = 0 } in
-    let placed = slice_index_or c.args.places.now i none in
+    let rank = slice_index c.args.plays.now i in
     record {
       len = length-set c.loop-index.counts i c.long.result ∙ kept.len;
       are =
           set_next
-          (λ j count. count ≡ count_at c.args.lower.now.bytes (g.plays j) c.args.k)
+          (λ j count. count
+          ≡ count_at c.args.lower.now.bytes (slice_index c.args.plays.now j) c.args.k)
           c.loop-index.counts i i c.long.result 0 refl
           (omega (arith, kept.len, c.loop-index-test.true)) kept.are
           (c.long.ensures
-          ∙ ap (λ (l : Lower). count_at l.bytes placed.rank c.args.k) c.again-records.ensures
-          ∙ ap (λ r. count_at c.args.lower.now.bytes r c.args.k)
-          (c.requires.1.1 i none c.loop-index-test.true).1);
+          ∙ ap (λ (l : Lower). count_at l.bytes rank c.args.k) c.again-records.ensures);
     }
 
 pub returns : goal.returns
-returns g c =
+returns c =
     c.sum_of.ensures.sum
     ∙ weighted-listed c.loop-index.counts
-    (λ i. count_at c.args.lower.now.bytes (g.plays i) c.args.k)
+    (λ i. count_at c.args.lower.now.bytes (slice_index c.args.plays.now i) c.args.k)
     (λ i lt. c.loop-index.invariant.are i (omega (arith, lt, c.loop-index-test.false)))

@@ -5,8 +5,8 @@ use Rattle.board_records.proofs.numbers.sum_of_long.Given as goal
 
 -- the counts of the plays so far
 abbrev pub invariant-loop-index : goal.invariant-loop-index
-invariant-loop-index g l = record {
+invariant-loop-index l = record {
   len : length l.counts ≡ 21;
   are : (i : ℕ) → i < l.index →
-      slice_index l.counts i ≡ count_at l.lower.bytes (g.plays i) l.k;
+      slice_index l.counts i ≡ count_at l.lower.bytes (slice_index l.plays i) l.k;
 }

@@ -1,12 +1,11 @@
 -- The words of one play more.
 use Rattle.std.proofs.Common.{◌≡◌, ◌⊎◌, inl, inr, Bool, true, false, cond, ⊎_elim, ℕ, ◌+◌, ◌*◌, ◌^◌, ◌<◌, ◌≤◌}
-use Rattle.std.proofs.Common.{sum_by, take, refl, sym, ap, subst, ◌∙◌, arith}
-use Rattle.std.specs.Prelude.{◌==◌, slice_index_or}
+use Rattle.std.proofs.Common.{sum_by, take, refl, sym, subst, ◌∙◌, arith}
+use Rattle.std.specs.Prelude.{slice_index, ◌==◌}
 use Rattle.race_model.specs.Dice.{Throw, all_rolls, number, roll_at, weight}
 use Rattle.race_model.proofs.Plays.MostPlays.{get_or-zeros}
 use Rattle.fixed_fraction.proofs.RollSums.{roll-added, roll-bound, rolls-done}
 use Rattle.fixed_fraction.proofs.RollSums.{weights-by_index, weights-within}
-use Rattle.board_records.specs.declared.lower.RankedPlace.{RankedPlace}
 use Rattle.board_records.specs.Words.{word_at}
 use Rattle.board_records.proofs.WordSums.{word-small}
 use Rattle.board_records.proofs.words.word_sums.Goals as goal
@@ -20,20 +19,20 @@ once_or_twice v = by (number v.first == number v.second)
     by false = inr refl
 
 pub loop-index-init : goal.loop-index-init
-loop-index-init g c = record {
+loop-index-init c = record {
   len = refl;
   so_far = λ i lt. get_or-zeros 34 i;
   bound = λ i lt. omega (arith, get_or-zeros 34 i);
 }
 
 pub add_words-requires-clause-weight : goal.add_words-requires-clause-weight
-add_words-requires-clause-weight g c =
+add_words-requires-clause-weight c =
     let weighs = weights-by_index c.loop-index.index c.loop-index-test.true in
     ⊎_elim (λ one. inl (weighs ∙ one)) (λ two. inr (weighs ∙ two))
     (once_or_twice (roll_at c.loop-index.index))
 
 pub add_words-requires-clause-room : goal.add_words-requires-clause-room
-add_words-requires-clause-room g c = λ i lt.
+add_words-requires-clause-room c = λ i lt.
     let under = c.loop-index-test.true in
     omega (
       arith,
@@ -43,37 +42,33 @@ add_words-requires-clause-room g c = λ i lt.
     )
 
 pub loop-index-preserved : goal.loop-index-preserved
-loop-index-preserved g c =
+loop-index-preserved c =
     let f = c.args.lower.now.bytes in
     let index = c.loop-index.index in
     let under = c.loop-index-test.true in
     let kept = c.loop-index.invariant in
-    let none : RankedPlace = record { rank = 0; offset = 0; rolls = 0 } in
-    let placed = slice_index_or c.args.places.now index none in
-    let at = c.requires index none under in
+    let rank = slice_index c.args.plays.now index in
     let known = c.count-count.ensures in
     let weighs = weights-by_index index under in
-    let value = λ (i : ℕ). word_at f placed.rank i in
-    let is = λ (i : ℕ). ap (λ r. word_at f r i) at.1 in
     let small = λ (i : ℕ) (lt : i < 34). word-small f c.args.lower.now.count known.few known.local
-    placed.rank at.0.below i lt in
+    rank (c.requires index under) i lt in
     record {
       len = c.add_words.ensures.len;
       so_far = λ i lt.
           c.add_words.ensures.added i lt
-          ∙ roll-added (λ j. word_at f (g.plays j) i) index (value i) _ _ (36 ^ 11) under (is i)
-          (small i lt) weighs (kept.so_far i lt) (kept.bound i lt);
+          ∙ roll-added (λ j. word_at f (slice_index c.args.plays.now j) i) index (word_at f rank i)
+          _ _ (36 ^ 11) under refl (small i lt) weighs (kept.so_far i lt) (kept.bound i lt);
       bound = λ i lt.
           subst (λ n. n ≤ sum_by weight (take (index + 1) all_rolls) * 36 ^ 11)
           (sym (c.add_words.ensures.added i lt))
-          (roll-bound (λ j. word_at f (g.plays j) i) index (value i) _ _ (36 ^ 11) under (is i)
-          (small i lt) weighs (kept.so_far i lt) (kept.bound i lt));
+          (roll-bound (λ j. word_at f (slice_index c.args.plays.now j) i) index (word_at f rank i)
+          _ _ (36 ^ 11) under refl (small i lt) weighs (kept.so_far i lt) (kept.bound i lt));
     }
 
 pub returns-clause-sums : goal.returns-clause-sums
-returns-clause-sums g c i lt =
+returns-clause-sums c i lt =
     rolls-done _ c.loop-index.index _ (omega (arith, c.loop-index-test.false))
     (c.loop-index.invariant.so_far i lt)
 
 pub returns-clause-len : goal.returns-clause-len
-returns-clause-len g c = c.loop-index.invariant.len
+returns-clause-len c = c.loop-index.invariant.len
