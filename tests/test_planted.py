@@ -43,7 +43,7 @@ DRAFT = "crates/whole_file/src/draft.rt"
 SYSTEM = "crates/whole_file/src/system.rt"
 MAIN = "crates/bearoff_cli/src/main.rt"
 READS = "crates/epc_query/src/reads.rt"
-BOARD_LINES = "crates/board_query/src/lines.rt"
+BOARD_LINES = "crates/book/src/board_lines.rt"
 CHECKED = "crates/certificate/src/checked.rt"
 FILE_SOURCE = "crates/db_reader/src/file_source.rt"
 COUNTDOWN = "crates/db_reader/src/countdown.rt"
@@ -446,9 +446,9 @@ PLANTED = [
     (
         "lines_over_a_board_blame_the_file",
         BOARD_LINES,
-        "        let Some(()) = answer(&self.board, line, &mut self.text) else {",
+        "        let Some(()) = self.board.answer(line, &mut self.text) else {",
         "        if line.len() > 40 { return Err(RunFault::Table); }\n"
-        "        let Some(()) = answer(&self.board, line, &mut self.text) else {",
+        "        let Some(()) = self.board.answer(line, &mut self.text) else {",
         "rows TestBoards::test_query[long]",
     ),
     (

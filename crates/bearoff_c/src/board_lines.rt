@@ -8,7 +8,7 @@ ghost use Rattle.bearoff_c.specs.Refusals.{open_refusal, status_of};
 use crate::kept_board::Board;
 use crate::lines::put_text;
 use crate::statuses::{OK, Refusal, SHORT};
-use board_query::{BoardText, answer};
+use book::BoardText;
 
 /// Answers a line of the query language by a board file. The line is given without its line ending:
 /// `text` has its reply in front, without the line feed, and the rest of it stays as it was;
@@ -37,7 +37,7 @@ pub extern "C" fn bearoff_board_answer_line(
         Err(refusal) => return refusal.status(),
     };
     let mut reply = BoardText::new();
-    if answer(&opened, line, &mut reply).is_none() {
+    if opened.answer(line, &mut reply).is_none() {
         return Refusal::Changed.status();
     }
     match put_text(reply.as_str().as_bytes(), text, needed) {

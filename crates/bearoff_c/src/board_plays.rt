@@ -11,7 +11,7 @@ ghost use Rattle.race_model.specs.Losses.{loss_in, IsLossIn};
 ghost use Rattle.race_model.specs.BoardFiles.{board_book};
 ghost use Rattle.fixed_fraction.specs.Board.{board_whole};
 ghost use Rattle.legal_plays.specs.Faces.{face, roll_of};
-ghost use Rattle.board.specs.Choices.{result_of};
+ghost use Rattle.book.specs.Choices.{result_of};
 ghost use Rattle.bearoff_c.specs.BoardMoves.{long_places, HasLongCost, IsChoiceList, IsChoiceCount};
 ghost use Rattle.bearoff_c.specs.Longs.{long_number_of};
 ghost use Rattle.bearoff_c.specs.PlayLists.{moves_in, AreZerosAfter};
@@ -23,8 +23,8 @@ use crate::long_numbers::LongFraction;
 use crate::plays::{RecordedPlay, listed, read_ends, read_roll};
 use crate::positions::Counts;
 use crate::statuses::{OK, Refusal, SHORT};
-use board::{Board as Opened, BoardChoice};
-use fixed_fraction::board_mean_fraction;
+use book::{Board as Opened, Choice};
+use fixed_fraction::{BoardMean, board_mean_fraction};
 use home_board::Position;
 use legal_plays::{Roll, play_to};
 
@@ -206,7 +206,7 @@ pub extern "C" fn bearoff_board_moves(
 /// Tells how many choices there are, and writes them to the front of a room: the status 0. With
 /// the status 8, exactly where they have no room, only their number is told. It reads no byte of a
 /// board file.
-fn tell_choices(found: &[BoardChoice], room: &mut [LongChoice], count: &mut usize) -> u32
+fn tell_choices(found: &[Choice<BoardMean>], room: &mut [LongChoice], count: &mut usize) -> u32
     ensures status { result ≡ (if nat_le (length found.now) (length room.old) then 0 else 8) }
     ensures told { count.new ≡ length found.now }
     ensures places { result ≡ 0 →

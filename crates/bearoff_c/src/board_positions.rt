@@ -7,7 +7,7 @@ ghost use Rattle.bearoff_c.specs.Refusals.{position_refusal, refusal_in};
 use crate::kept_board::Board;
 use crate::positions::Counts;
 use crate::statuses::Refusal;
-use board::Board as Opened;
+use book::Board as Opened;
 use home_board::Position;
 
 /// A position, and the board file that has a record of it.

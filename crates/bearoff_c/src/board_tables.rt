@@ -15,7 +15,7 @@ use crate::board_distributions::{LongDistribution, shares_by};
 use crate::kept_board::Board;
 use crate::long_numbers::Long;
 use crate::statuses::{OK, Refusal};
-use board::Board as Opened;
+use book::Board as Opened;
 use fixed_fraction::{BoardMean, LongCount};
 use home_board::Position;
 

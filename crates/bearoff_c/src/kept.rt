@@ -2,11 +2,11 @@
 ghost use Rattle.std.specs.Prelude.{◌≡◌, IsTrue, IfOk, OnOk};
 ghost use Rattle.race_model.specs.Files.{IsFile, bound_of};
 ghost use Rattle.ranking.specs.Tables.{IsRankTable};
-ghost use Rattle.database.specs.Opened.{IsOpened};
+ghost use Rattle.book.specs.Opened.{IsOpened};
 ghost use Rattle.bearoff_c.specs.Refusals.{open_refusal, refusal_in};
 
 use crate::statuses::Refusal;
-use database::{Accepted, Database as Opened};
+use book::{Accepted, Database as Opened};
 use ranking::RankTable;
 
 /// A database in bytes that the caller keeps. It is open where `bearoff_open` has opened it, for as

@@ -6,7 +6,7 @@ ghost use Rattle.bearoff_c.specs.OpenedBoards.{IsOpenedBoard};
 ghost use Rattle.bearoff_c.specs.Refusals.{open_refusal, refusal_in};
 
 use crate::statuses::Refusal;
-use board::Board as Opened;
+use book::Board as Opened;
 use board_layout::BoardHeader;
 use ranking::RankTable;
 

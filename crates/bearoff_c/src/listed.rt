@@ -14,7 +14,7 @@ use crate::kept::Database;
 use crate::numbers::{Rounded, Wide};
 use crate::positions::{Counts, counts_of, find_ranks};
 use crate::statuses::{OK, Refusal};
-use database::Database as Opened;
+use book::Database as Opened;
 use fixed_fraction::epc;
 
 /// The positions of as many ranks from one on as `positions` has room for, by rising rank. Refused

@@ -15,7 +15,7 @@ use crate::kept::Database;
 use crate::lines::put_text;
 use crate::statuses::{OK, fault_status};
 use certificate::fault_line;
-use database::accept;
+use book::accept;
 use ranking::RankTable;
 
 /// Checks the bytes of a file and opens a database over them. The status is 0 exactly where they

@@ -13,7 +13,7 @@ ghost use Rattle.bearoff_c.specs.Refusals.{lead_refusal, play_refusal, roll_refu
 use crate::kept::Database;
 use crate::positions::{Counts, Found, find};
 use crate::statuses::{OK, Refusal};
-use database::Database as Opened;
+use book::Database as Opened;
 use home_board::Position;
 use legal_plays::{Die, Play, Roll, play_to};
 

@@ -8,7 +8,7 @@ ghost use Rattle.bearoff_c.specs.Refusals.{many_refusal, position_refusal, rank_
 
 use crate::kept::Database;
 use crate::statuses::{OK, Refusal};
-use database::Database as Opened;
+use book::Database as Opened;
 use home_board::{Position, PositionFault, parse_position};
 
 /// How many checkers stand on the points 1 to 6 of the home board, as the caller says. Each is 0

@@ -20,11 +20,9 @@ ghost use Rattle.bearoff_cli.specs.StoppedRuns.{AreStopped, WritesLevelPart, Wri
 ghost use Rattle.bearoff_cli.specs.Turns.{UsesTurns};
 
 use crate::files::flush;
-use board::Board;
 use board_check::check_board;
 use board_layout::BoardHeader;
-use board_query::{BoardLines, BoardText, board_level, put_board_level};
-use database::{Accepted, Database, accept};
+use book::{Accepted, Board, BoardLines, BoardText, Database, accept, board_level, put_board_level};
 use epc_query::laws::law_level_text;
 use epc_query::{RunFault, run_lines, write_line};
 use exit_status::Fault;

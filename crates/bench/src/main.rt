@@ -21,7 +21,7 @@
 #![tactic(auto)]
 
 use certificate::check;
-use database::Database;
+use book::Database;
 use db_reader::{Paged, SliceSource, Table};
 use epc_query::{Answers, run_lines};
 use home_board::OLD_BOUND;

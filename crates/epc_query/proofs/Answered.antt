@@ -1,7 +1,7 @@
 -- The text of what a line is answered with is the reply to the line.
-use Rattle.std.proofs.Common.{◌≡◌, ℕ, ◌<◌, ◌≤◌, List, [], ◌∷◌, ◌++◌, length, get_or, map, codes}
+use Rattle.std.proofs.Common.{◌≡◌, ℕ, ◌<◌, List, [], ◌∷◌, ◌++◌, length, get_or, map, codes}
 use Rattle.std.proofs.Common.{Contains, refl, ap, sym, subst, ◌∙◌, arith}
-use Rattle.std.specs.Prelude.{decimal, slice_index, slice_index_or, flat_map}
+use Rattle.std.specs.Prelude.{decimal, slice_index, flat_map}
 use Rattle.std.specs.List.{concat}
 use Rattle.std.proofs.lemmas.List.{length-map, get_or-map}
 use Rattle.std.proofs.lemmas.List.Elements.{All-contains_itself}
@@ -12,13 +12,15 @@ use Rattle.race_model.specs.Files.{bound_of, spread}
 use Rattle.race_model.specs.Losses.{loss}
 use Rattle.race_model.specs.Queries.{mean_query, dist_query, play_query, loss_query, moves_query}
 use Rattle.race_model.specs.Queries.{rank_query, IsAccepted}
-use Rattle.race_model.specs.Replies.{IsSharePart, IsDistReply, IsPlayReply, IsChoicePart}
+use Rattle.race_model.specs.LocalEquations.{whole}
+use Rattle.race_model.specs.Replies.{IsPlayReply, IsChoicePart}
 use Rattle.race_model.specs.Replies.{IsMovesReply, IsReply, answered, refused, fraction_text}
 use Rattle.epc_query.specs.declared.reply.Choice.{Choice}
 use Rattle.epc_query.specs.declared.reply.Reply.{Reply}
 use Rattle.epc_query.specs.declared.reply.Reply.TheVariants.{Mean, Dist, Play, Loss, Moves, Rank, Refused}
 use Rattle.epc_query.specs.Texts.{IsTextOf, why, choice_text, list_text, position_text}
 use Rattle.epc_query.specs.Answers.{HasLoss, AreChoices, IsReplyTo}
+use Rattle.epc_query.proofs.Parts.{same_dist}
 use Rattle.epc_query.proofs.Texts.{position_text_states}
 
 -- the position that an accepted query of a play is about
@@ -30,17 +32,6 @@ play_position bound line x v is = record { six = is.query.2.six; few = omega (ar
 moves_position : (bound : ℕ) (line : List ℕ) (x : Board) (v : Throw) → IsAccepted bound line
     (moves_query x v) → IsPosition x
 moves_position bound line x v is = record { six = is.query.2.six; few = omega (arith, is.few) }
-
--- equal shares have the same parts
-same_parts : (share other : ℕ → ℕ) (text : List ℕ) → ((k : ℕ) → k ≤ 22 → share k ≡ other k)
-    → IsDistReply share text → IsDistReply other text
-same_parts share other text same is = record {
-  parts = is.parts;
-  count = is.count;
-  each = λ k low. subst (λ n. IsSharePart n k (slice_index_or is.parts k []))
-      (same k (omega arith)) (is.each k low);
-  written = is.written;
-}
 
 -- the part of a choice
 choice_part : (f : List ℕ) (x : Board) (v : Throw) (choice : Choice) → IsPosition choice.to
@@ -102,7 +93,7 @@ moves_reply f x v choices text legal are e = record {
 module _ (position : (x : Board) (v : Throw) (y : Board) → IsPosition x → Legal x v y
     → IsPosition y) where
   -- the text of every result of a roll by what it costs is the reply to the line that asks so
-  pub list_is_reply : (f line : List ℕ) (x : Board) (v : Throw) (choices : List Choice)
+  list_is_reply : (f line : List ℕ) (x : Board) (v : Throw) (choices : List Choice)
       → IsAccepted (bound_of f) line (moves_query x v) → AreChoices f x v choices
       → IsReply f line (list_text choices ++ 10 ∷ [])
   list_is_reply f line x v choices accepted are =
@@ -127,7 +118,7 @@ module _ (position : (x : Board) (v : Throw) (y : Board) → IsPosition x → Le
         written = is.written;
       }) refl
   reply_text f line (Dist shares) text (x, accepted, same) is =
-      answered (dist_query x) text accepted (same_parts (slice_index shares)
+      answered (dist_query x) text accepted (same_dist whole 22 (slice_index shares)
       (spread f x) text same is) refl
   reply_text f line (Play play to) text (x, v, accepted, same, legal, first) is =
       answered (play_query x v) text accepted (subst (λ y. IsPlayReply x v y text) same (record {

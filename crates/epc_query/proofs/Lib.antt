@@ -1,6 +1,8 @@
 pub mod Words
 pub mod Decimals
 pub mod Texts
+pub mod Parts
+pub mod Thousandths
 pub mod Held
 pub mod Answered
 pub mod Costs

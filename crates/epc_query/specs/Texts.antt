@@ -32,8 +32,12 @@ abbrev pub ratio_text : Ratio → List ℕ
 ratio_text ratio = fraction_text ratio.numerator ratio.denominator
 
 -- a result and its loss, after a space
+abbrev pub result_text : Board → ℕ → ℕ → List ℕ
+result_text y n d = codes " " ++ position_text y ++ codes ":" ++ fraction_text n d
+
+-- .. those of a choice
 abbrev pub choice_text : Choice → List ℕ
-choice_text choice = codes " " ++ position_text choice.to ++ codes ":" ++ ratio_text choice.loss
+choice_text choice = result_text choice.to choice.loss.numerator choice.loss.denominator
 
 -- a list of moves, without its line feed
 abbrev pub list_text : List Choice → List ℕ

@@ -1,18 +1,13 @@
 //! Facts about replies, each on a function with an empty body: a call brings the fact into the
 //! caller's proof, and costs nothing when it runs.
 ghost use Rattle.std.specs.Prelude.{ℕ, List, [], ◌∷◌, ◌++◌};
-ghost use Rattle.race_model.specs.Positions.{Board};
-ghost use Rattle.race_model.specs.Dice.{Throw};
-ghost use Rattle.race_model.specs.Files.{bound_of};
-ghost use Rattle.race_model.specs.Queries.{moves_query, IsAccepted};
 ghost use Rattle.race_model.specs.Levels.{IsLevelLine};
 ghost use Rattle.race_model.specs.Replies.{IsReply};
-ghost use Rattle.epc_query.specs.declared.reply.Choice.{Choice};
 ghost use Rattle.epc_query.specs.declared.reply.Level.{Level};
 ghost use Rattle.epc_query.specs.declared.reply.Reply.{Reply};
 ghost use Rattle.epc_query.specs.LevelMeans.{HasLevel};
-ghost use Rattle.epc_query.specs.Texts.{IsTextOf, list_text, level_text};
-ghost use Rattle.epc_query.specs.Answers.{AreChoices, IsReplyTo};
+ghost use Rattle.epc_query.specs.Texts.{IsTextOf, level_text};
+ghost use Rattle.epc_query.specs.Answers.{IsReplyTo};
 
 use race_model::laws::law_results;
 
@@ -21,16 +16,6 @@ use race_model::laws::law_results;
 pub fn law_reply_text()
     ensures { (f line : List ℕ) (reply : Reply) (text : List ℕ)
         → IsReplyTo f line reply → IsTextOf reply text → IsReply f line (text ++ 10 ∷ []) }
-{
-    law_results();
-}
-
-/// The text of every result of a roll by what it costs, and a line feed, is the reply to the line
-/// that asks for them, as `race_model` defines it.
-pub fn law_list_text()
-    ensures { (f line : List ℕ) (x : Board) (v : Throw) (choices : List Choice)
-        → IsAccepted (bound_of f) line (moves_query x v) → AreChoices f x v choices
-        → IsReply f line (list_text choices ++ 10 ∷ []) }
 {
     law_results();
 }

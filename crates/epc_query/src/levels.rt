@@ -34,24 +34,24 @@ pub fn audit_level<T: Table>(checked: &mut Checked<T>, pips: u8) -> Result<Level
 
 /// The least and the greatest of some means, as numerators over 36 ^ 22.
 #[derive(Clone, Copy, Debug, PartialEq, Eq)]
-pub struct LevelMeans {
+struct LevelMeans {
     /// The least, and 22 rolls where there is none.
-    pub least: u128,
+    least: u128,
 
     /// The greatest, and 0 where there is none.
-    pub greatest: u128,
+    greatest: u128,
 }
 
 impl LevelMeans {
     /// Those of no position.
-    pub const NONE: LevelMeans = LevelMeans {
+    const NONE: LevelMeans = LevelMeans {
         least: MOST,
         greatest: 0,
     };
 }
 
 /// The positions of a pip count of at most 58, by the least and the greatest of their means.
-pub fn level_of(pips: u8, means: LevelMeans) -> Level
+fn level_of(pips: u8, means: LevelMeans) -> Level
     requires low { pips ≤ 58 }
     requires least { means.least ≤ 22 * whole }
     requires greatest { means.greatest ≤ 22 * whole }

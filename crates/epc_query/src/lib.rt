@@ -4,9 +4,9 @@
 //! table that is, and on `race_model` for what a line asks, what its reply is, and how an input
 //! is cut into lines. The crates above may use that a loss is the least mean after a result less
 //! the least such mean among all results, that `moves` has every result once, in order, that
-//! `run` writes the replies to the lines that it read and nothing else, and for a database of
-//! their own what a line asks (`read_query`), the text of each reply, and the order and the price
-//! of the results of a roll.
+//! `run` writes the replies to the lines that it read and nothing else, and for bytes of their own
+//! what a line asks (`read_query`) and the text of each reply, by numbers of either kind of file
+//! (`Number`).
 #![tactic(auto)]
 
 mod answer;
@@ -17,6 +17,7 @@ mod line_buffer;
 mod lines;
 mod losses;
 mod move_list;
+mod numbers;
 mod query;
 mod reads;
 mod refusals;
@@ -28,16 +29,17 @@ mod writing;
 
 pub use answer::{Stop, answer_line};
 pub use answers::Answers;
-pub use levels::{LevelMeans, audit_level, level_of};
+pub use levels::audit_level;
 pub use losses::loss;
-pub use move_list::{Cost, MOST_RESULTS, include_cost, moves, price};
+pub use move_list::{MOST_RESULTS, moves};
+pub use numbers::{Digits, Number};
 pub use query::{LineFault, Query, read_mean, read_query};
 pub use refusals::refusal;
 pub use reply::{Choice, Level, Refusal, Reply};
 pub use run_fault::RunFault;
 pub use running::{run, run_lines};
 pub use text::{
-    Text, push_choice, push_last_digits, push_position, put_dist, put_loss, put_mean, put_moves,
-    put_play, put_rank, put_refusal,
+    Text, push_choice, put_dist, put_level, put_loss, put_mean, put_moves, put_play, put_rank,
+    put_refusal,
 };
 pub use writing::{write_level, write_line, write_reply};

@@ -28,7 +28,7 @@ use ranking::Ranks;
 use std::alloc::Global;
 
 /// A result of a roll as it is put in order: its mean as a numerator over 36 ^ 22, and its rank.
-pub type Cost = (u128, u16);
+type Cost = (u128, u16);
 
 /// How many positions a roll leads to at most.
 pub const MOST_RESULTS: usize = 127;
@@ -99,7 +99,7 @@ fn costs_of<T: Table>(
 
 /// Adds a result to those in order, the smaller mean first and of equal means the lower rank,
 /// unless it is there.
-pub fn include_cost(costs: &mut ArrayVec<Cost, MOST_RESULTS>, cost: Cost)
+fn include_cost(costs: &mut ArrayVec<Cost, MOST_RESULTS>, cost: Cost)
     requires room { array_vec_len costs.old < 127 }
     requires ordered { IsByCost costs.old.items }
     ensures members { (other : ℕ × ℕ)
@@ -130,7 +130,7 @@ fn priced(ranks: &Ranks, choices: Vec<Choice>, costs: &[Cost]) -> Vec<Choice>
 }
 
 /// A result with what it costs against the first of those in order, whose mean is the least.
-pub fn price(to: Position, cost: Cost, first: Cost) -> Choice
+fn price(to: Position, cost: Cost, first: Cost) -> Choice
     requires to { to ≡ at_rank cost.1 }
     requires bounded { IsCost cost }
     requires first { first.0 ≤ cost.0 }

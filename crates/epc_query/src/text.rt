@@ -1,15 +1,16 @@
 //! The texts of replies and levels.
-ghost use Rattle.std.specs.Prelude.{◌≡◌, ℕ, ◌+◌, ◌^◌, ◌≤◌, ◌<◌, List, ◌++◌, drop, flat_map};
-ghost use Rattle.std.specs.Prelude.{decimal, codes, slice_index};
+ghost use Rattle.std.specs.Prelude.{◌≡◌, ℕ, ◌+◌, ◌*◌, ◌^◌, ◌≤◌, ◌<◌, List, [], ◌++◌, drop, flat_map};
+ghost use Rattle.std.specs.Prelude.{decimal, codes};
 ghost use Rattle.arrayvec.specs.ArrayString.{array_string_len};
 ghost use Rattle.race_model.specs.FirstPlays.{move_text};
-ghost use Rattle.race_model.specs.Replies.{fraction_text, thousandths_text, refusal_text, IsSharePart, IsDistReply};
-ghost use Rattle.epc_query.specs.Texts.{position_text, ratio_text, choice_text, level_text, why, IsMeanText};
+ghost use Rattle.race_model.specs.Replies.{fraction_text, thousandths_text, refusal_text};
+ghost use Rattle.race_model.specs.Replies.{IsSharePartOver, IsDistReplyOver};
+ghost use Rattle.epc_query.specs.Texts.{position_text, result_text, why};
 ghost use Rattle.legal_plays.specs.MoveLists.{moves_of};
 
-use crate::reply::{Choice, Level, Refusal};
+use crate::numbers::{Digits, Number};
+use crate::reply::Refusal;
 use arrayvec::ArrayString;
-use fixed_fraction::{Fraction, Spread, share, thousandths};
 use home_board::{Position, write_position};
 use itoa::Buffer;
 use legal_plays::{Play, write_play};
@@ -17,27 +18,31 @@ use legal_plays::{Play, write_play};
 /// Room for the text of any reply but a long list of moves.
 pub type Text = ArrayString<12288>;
 
-/// 10 ^ 18. A number of more than 18 digits is written in two parts, each by divisions of 64 bits.
-const HALF: u128 = 1_000_000_000_000_000_000;
+/// 10 ^ 18.
+const DIGITS: u64 = 1_000_000_000_000_000_000;
 
 /// Adds a number in decimal.
-fn push_number(text: &mut Text, number: u128)
-    requires { array_string_len text.old + 40 ≤ 12288 }
-    ensures bytes { text.new.bytes ≡ text.old.bytes ++ decimal number }
-    ensures len { array_string_len text.new ≤ array_string_len text.old + 40 }
+fn push_number<D: Digits, const ROOM: usize>(text: &mut ArrayString<ROOM>, number: D)
+    requires { array_string_len text.old + D.most ≤ ROOM }
+    ensures bytes { text.new.bytes ≡ text.old.bytes ++ decimal (D.value number) }
+    ensures len { array_string_len text.new ≤ array_string_len text.old + D.most }
 {
-    if number < HALF {
-        text.push_str(Buffer::new().format(number as u64));
-        return;
+    let (first, second, third) = number.digits();
+    if first > 0 {
+        text.push_str(Buffer::new().format(first));
+        push_last_digits(text, DIGITS, second);
+        push_last_digits(text, DIGITS, third);
+    } else if second > 0 {
+        text.push_str(Buffer::new().format(second));
+        push_last_digits(text, DIGITS, third);
+    } else {
+        text.push_str(Buffer::new().format(third));
     }
-    let high = number / HALF;
-    text.push_str(Buffer::new().format(high));
-    push_last_digits(text, HALF as u64, (number - high * HALF) as u64);
 }
 
 /// Adds the last digits of a number, given as their value, with the zeros in front: as many as a
 /// power of ten has zeros, 18 at most.
-pub fn push_last_digits<const ROOM: usize>(text: &mut ArrayString<ROOM>, power: u64, rest: u64)
+fn push_last_digits<const ROOM: usize>(text: &mut ArrayString<ROOM>, power: u64, rest: u64)
     requires short { power ≤ 10 ^ 18 }
     requires few { rest < power }
     requires room { array_string_len text.old + 18 ≤ ROOM }
@@ -50,30 +55,30 @@ pub fn push_last_digits<const ROOM: usize>(text: &mut ArrayString<ROOM>, power: 
 }
 
 /// Adds a fraction, as 5/4.
-fn push_fraction(text: &mut Text, fraction: Fraction)
-    requires { array_string_len text.old + 81 ≤ 12288 }
+fn push_fraction<D: Digits, const ROOM: usize>(text: &mut ArrayString<ROOM>, fraction: (D, D))
+    requires { array_string_len text.old + 2 * D.most + 1 ≤ ROOM }
     ensures bytes { text.new.bytes
-        ≡ text.old.bytes ++ fraction_text fraction.numerator fraction.denominator }
-    ensures len { array_string_len text.new ≤ array_string_len text.old + 81 }
+        ≡ text.old.bytes ++ fraction_text (D.value fraction.0) (D.value fraction.1) }
+    ensures len { array_string_len text.new ≤ array_string_len text.old + 2 * D.most + 1 }
 {
-    push_number(text, fraction.numerator());
+    push_number(text, fraction.0);
     text.push_str("/");
-    push_number(text, fraction.denominator());
+    push_number(text, fraction.1);
 }
 
 /// Adds a number of thousandths, as 10.208.
-fn push_thousandths(text: &mut Text, number: u128)
-    requires { array_string_len text.old + 161 ≤ 12288 }
+fn push_thousandths<const ROOM: usize>(text: &mut ArrayString<ROOM>, number: u64)
+    requires { array_string_len text.old + 39 ≤ ROOM }
     ensures bytes { text.new.bytes ≡ text.old.bytes ++ thousandths_text number }
-    ensures len { array_string_len text.new ≤ array_string_len text.old + 161 }
+    ensures len { array_string_len text.new ≤ array_string_len text.old + 39 }
 {
-    push_number(text, number / 1000);
+    text.push_str(Buffer::new().format(number / 1000));
     text.push_str(".");
-    push_last_digits(text, 1000, (number % 1000) as u64);
+    push_last_digits(text, 1000, number % 1000);
 }
 
 /// Adds the text of a position, at most 12 bytes.
-pub fn push_position<const ROOM: usize>(text: &mut ArrayString<ROOM>, position: &Position)
+fn push_position<const ROOM: usize>(text: &mut ArrayString<ROOM>, position: &Position)
     requires { array_string_len text.old + 12 ≤ ROOM }
     ensures bytes { text.new.bytes ≡ text.old.bytes ++ position_text position.now }
     ensures len { array_string_len text.new ≤ array_string_len text.old + 12 }
@@ -83,19 +88,21 @@ pub fn push_position<const ROOM: usize>(text: &mut ArrayString<ROOM>, position: 
 }
 
 /// Adds the share of exactly `k` rolls, unless it is zero.
-fn push_share(text: &mut Text, spread: &Spread, k: u8)
-    requires { array_string_len text.old + 130 ≤ 12288 }
-    ensures part { (part : List ℕ) × IsSharePart (slice_index spread.now k) k part
+fn push_share<N: Number, const ROOM: usize>(text: &mut ArrayString<ROOM>, shares: &N::Shares, k: u8)
+    requires few { k ≤ N.most }
+    requires are { N.are_shares shares.now }
+    requires room { array_string_len text.old + 2 * N.Part.most + 6 ≤ ROOM }
+    ensures part { (part : List ℕ) × IsSharePartOver N.whole (N.share shares.now k) k part
         × (text.new.bytes ≡ text.old.bytes ++ part) }
-    ensures len { array_string_len text.new ≤ array_string_len text.old + 130 }
+    ensures len { array_string_len text.new ≤ array_string_len text.old + 2 * N.Part.most + 6 }
 {
-    if spread.at(k) == 0 {
+    let Some(share) = N::share(shares, k) else {
         return;
-    }
+    };
     text.push_str(" ");
-    push_number(text, u128::from(k));
+    text.push_str(Buffer::new().format(k));
     text.push_str(":");
-    push_fraction(text, share(spread, k));
+    push_fraction(text, share);
 }
 
 /// Adds the moves of a play, each after a space.
@@ -112,21 +119,27 @@ fn push_play<const ROOM: usize>(text: &mut ArrayString<ROOM>, play: &Play)
     text.push_str(write_play(play).as_str());
 }
 
-/// Adds a result and its loss, as they stand in a list of moves after what is before them: a space,
-/// the position, a colon, and the loss in rolls, at most 95 bytes.
-pub fn push_choice(text: &mut Text, choice: &Choice)
-    requires { array_string_len text.old + 95 ≤ 12288 }
-    ensures bytes { text.new.bytes ≡ text.old.bytes ++ choice_text choice.now }
-    ensures len { array_string_len text.new ≤ array_string_len text.old + 95 }
+/// Adds a result and its loss in rolls, as they stand in a list of moves after what is before them:
+/// a space, the position, a colon, and the loss.
+pub fn push_choice<D: Digits, const ROOM: usize>(
+    text: &mut ArrayString<ROOM>,
+    to: &Position,
+    loss: (D, D),
+)
+    requires { array_string_len text.old + 2 * D.most + 15 ≤ ROOM }
+    ensures bytes { text.new.bytes
+        ≡ text.old.bytes ++ result_text to.now (D.value loss.0) (D.value loss.1) }
+    ensures len { array_string_len text.new ≤ array_string_len text.old + 2 * D.most + 15 }
 {
     text.push_str(" ");
-    push_position(text, &choice.to);
+    push_position(text, to);
     text.push_str(":");
-    push_fraction(text, choice.loss);
+    push_fraction(text, loss);
 }
 
 /// Makes a text the word with which a list of moves begins.
-pub fn put_moves(text: &mut Text)
+pub fn put_moves<const ROOM: usize>(text: &mut ArrayString<ROOM>)
+    requires { 5 ≤ ROOM }
     ensures text { text.new.bytes ≡ codes "moves" }
     ensures len { array_string_len text.new ≤ 5 }
 {
@@ -134,10 +147,18 @@ pub fn put_moves(text: &mut Text)
     text.push_str("moves");
 }
 
-/// Makes a text that of a mean and an effective pip count.
-pub fn put_mean(text: &mut Text, mean: Fraction, epc: Fraction)
-    ensures text { IsMeanText mean epc text.new.bytes }
-    ensures len { array_string_len text.new ≤ 4000 }
+/// Makes a text that of a mean and an effective pip count, which also stands there in thousandths.
+pub fn put_mean<D: Digits, const ROOM: usize>(
+    text: &mut ArrayString<ROOM>,
+    mean: (D, D),
+    epc: (D, D),
+    thousandths: u64,
+)
+    requires { 4 * D.most + 52 ≤ ROOM }
+    ensures text { text.new.bytes ≡ codes "mean " ++ fraction_text (D.value mean.0) (D.value mean.1)
+        ++ codes " epc " ++ fraction_text (D.value epc.0) (D.value epc.1) ++ codes " "
+        ++ thousandths_text thousandths }
+    ensures len { array_string_len text.new ≤ 4 * D.most + 52 }
 {
     text.clear();
     text.push_str("mean ");
@@ -145,18 +166,20 @@ pub fn put_mean(text: &mut Text, mean: Fraction, epc: Fraction)
     text.push_str(" epc ");
     push_fraction(text, epc);
     text.push_str(" ");
-    push_thousandths(text, thousandths(&epc));
+    push_thousandths(text, thousandths);
 }
 
-/// Makes a text that of the shares of 0 to 22 rolls.
-pub fn put_dist(text: &mut Text, spread: &Spread)
-    ensures text { IsDistReply (slice_index spread.now) text.new.bytes }
-    ensures len { array_string_len text.new ≤ 4000 }
+/// Makes a text that of the shares of no roll and of each number of rolls.
+pub fn put_dist<N: Number, const ROOM: usize>(text: &mut ArrayString<ROOM>, shares: &N::Shares)
+    requires are { N.are_shares shares.now }
+    requires room { 68 * N.Part.most + 208 ≤ ROOM }
+    ensures text { IsDistReplyOver N.whole N.most (N.share shares.now) text.new.bytes }
+    ensures len { array_string_len text.new ≤ 68 * N.Part.most + 208 }
 {
     text.clear();
     text.push_str("dist");
-    for k in 0..23 {
-        push_share(text, spread, k);
+    for k in 0..N::share_count() {
+        push_share::<N, ROOM>(text, shares, k);
     }
 }
 
@@ -176,9 +199,11 @@ pub fn put_play<const ROOM: usize>(text: &mut ArrayString<ROOM>, play: &Play, to
 }
 
 /// Makes a text that of a loss.
-pub fn put_loss(text: &mut Text, loss: Fraction)
-    ensures text { text.new.bytes ≡ codes "loss " ++ ratio_text loss }
-    ensures len { array_string_len text.new ≤ 4000 }
+pub fn put_loss<D: Digits, const ROOM: usize>(text: &mut ArrayString<ROOM>, loss: (D, D))
+    requires { 2 * D.most + 6 ≤ ROOM }
+    ensures text { text.new.bytes
+        ≡ codes "loss " ++ fraction_text (D.value loss.0) (D.value loss.1) }
+    ensures len { array_string_len text.new ≤ 2 * D.most + 6 }
 {
     text.clear();
     text.push_str("loss ");
@@ -212,18 +237,28 @@ pub fn put_refusal<const ROOM: usize>(text: &mut ArrayString<ROOM>, refusal: Ref
     });
 }
 
-/// Makes a text the line of a level.
-pub(crate) fn put_level(text: &mut Text, level: &Level)
-    ensures text { text.new.bytes ≡ level_text level.now }
-    ensures len { array_string_len text.new ≤ 4000 }
+/// Makes a text the line of a level, by the least and the greatest mean of its positions.
+pub fn put_level<D: Digits, const ROOM: usize>(
+    text: &mut ArrayString<ROOM>,
+    pips: u8,
+    positions: u16,
+    least: (D, D),
+    greatest: (D, D),
+)
+    requires { 4 * D.most + 50 ≤ ROOM }
+    ensures text { text.new.bytes ≡ codes "pips " ++ decimal pips ++ codes " positions "
+        ++ decimal positions ++ codes " least "
+        ++ fraction_text (D.value least.0) (D.value least.1) ++ codes " greatest "
+        ++ fraction_text (D.value greatest.0) (D.value greatest.1) }
+    ensures len { array_string_len text.new ≤ 4 * D.most + 50 }
 {
     text.clear();
     text.push_str("pips ");
-    push_number(text, u128::from(level.pips));
+    text.push_str(Buffer::new().format(pips));
     text.push_str(" positions ");
-    push_number(text, u128::from(level.positions));
+    text.push_str(Buffer::new().format(positions));
     text.push_str(" least ");
-    push_fraction(text, level.least);
+    push_fraction(text, least);
     text.push_str(" greatest ");
-    push_fraction(text, level.greatest);
+    push_fraction(text, greatest);
 }

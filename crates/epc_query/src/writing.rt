@@ -3,9 +3,10 @@ ghost use Rattle.std.specs.Prelude.{◌≡◌, ℕ, ◌+◌, ◌≤◌, List, []
 ghost use Rattle.std.specs.Io.KnownBytes.{Appends};
 ghost use Rattle.arrayvec.specs.ArrayString.{array_string_len};
 ghost use Rattle.db_layout.specs.Writes.{AppendsPart};
-ghost use Rattle.epc_query.specs.Texts.{choice_text, list_text, level_text, IsTextOf};
+ghost use Rattle.epc_query.specs.Texts.{choice_text, list_text, level_text, IsMeanText, IsTextOf};
 ghost use Rattle.epc_query.specs.Held.{Takes};
 
+use crate::numbers::parts;
 use crate::reply::{Choice, Level, Reply};
 use crate::text::{
     Text, push_choice, put_dist, put_level, put_loss, put_mean, put_moves, put_play, put_rank,
@@ -13,6 +14,7 @@ use crate::text::{
 };
 use arrayvec::ArrayString;
 use db_layout::{WriteFault, write_bytes};
+use fixed_fraction::{Fraction, Scaled, thousandths_of};
 use std::io::Write;
 
 /// Writes a reply and a line feed, in one call of the writer's `write` where it takes all that it
@@ -39,15 +41,24 @@ pub(crate) fn write_reply_by<W: Write>(
         × AppendsPart (W.contents writer.old) (W.contents writer.new) (text ++ 10 ∷ [])) }
 {
     match reply {
-        Reply::Mean { mean, epc } => put_mean(text, *mean, *epc),
-        Reply::Dist(spread) => put_dist(text, spread),
+        Reply::Mean { mean, epc } => put_fractions(text, *mean, *epc),
+        Reply::Dist(spread) => put_dist::<Scaled, 12288>(text, spread),
         Reply::Play { play, to } => put_play(text, play, to),
-        Reply::Loss(loss) => put_loss(text, *loss),
+        Reply::Loss(loss) => put_loss(text, parts(*loss)),
         Reply::Moves(choices) => return write_moves(text, choices.as_slice(), writer),
         Reply::Rank(rank) => put_rank(text, *rank),
         Reply::Refused(refusal) => put_refusal(text, *refusal),
     }
     write_line(text, writer)
+}
+
+/// Makes a text that of a mean and an effective pip count, as fractions.
+fn put_fractions(text: &mut Text, mean: Fraction, epc: Fraction)
+    ensures text { IsMeanText mean epc text.new.bytes }
+    ensures len { array_string_len text.new ≤ 4000 }
+{
+    let told = thousandths_of(epc.numerator(), epc.denominator());
+    put_mean(text, parts(mean), parts(epc), told);
 }
 
 /// Writes the line of a level and a line feed. Refused as `write_reply` is.
@@ -60,7 +71,13 @@ pub fn write_level<W: Write>(level: &Level, writer: &mut W) -> Result<(), WriteF
         (level_text level.now ++ 10 ∷ [])) }
 {
     let mut text = Text::new();
-    put_level(&mut text, level);
+    put_level(
+        &mut text,
+        level.pips,
+        level.positions,
+        parts(level.least),
+        parts(level.greatest),
+    );
     write_line(&mut text, writer)
 }
 
@@ -111,7 +128,7 @@ fn write_choice<W: Write>(
         (W.contents writer.new) text.old.bytes) }
 {
     make_room(text, writer)?;
-    push_choice(text, choice);
+    push_choice(text, &choice.to, parts(choice.loss));
     Ok(())
 }
 

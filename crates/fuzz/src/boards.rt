@@ -6,10 +6,9 @@ use crate::plain_board::{
     number_at,
 };
 use crate::random::{Parts, Random, Takes, add_lines, damage};
-use board::Board;
 use board_build::build_board;
 use board_check::check_board;
-use board_query::BoardLines;
+use book::{Board, BoardLines};
 use certificate::Checked;
 use db_reader::Whole;
 use epc_query::{run, run_lines};

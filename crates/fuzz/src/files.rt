@@ -2,7 +2,7 @@
 use crate::difference::Difference;
 use crate::random::{Parts, Random, Takes, add_lines, damage};
 use certificate::{CheckFault, Checked, check};
-use database::Database;
+use book::Database;
 use db_reader::trial::FailAt;
 use db_reader::{Paged, SliceSource, Table, Whole};
 use epc_query::{RunFault, run, run_lines};

@@ -3,7 +3,7 @@ use Rattle.race_model.specs.Positions.{Board}
 use Rattle.race_model.specs.Strategies.{count_over}
 use Rattle.race_model.specs.Books.{share_in, follow_in}
 use Rattle.race_model.specs.BoardFiles.{board_book}
-use Rattle.board.proofs.Known.{known_right}
+use Rattle.book.proofs.BoardKnown.{known_right}
 use Rattle.bearoff_c.specs.Longs.{long_number_of}
 use Rattle.bearoff_c.proofs.board_distributions.bearoff_board_distribution.Goals as goal
 use Rattle.bearoff_c.proofs.board_distributions.bearoff_board_distribution.Goals.{After-shares_by-distribution}

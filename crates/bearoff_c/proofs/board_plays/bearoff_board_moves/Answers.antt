@@ -5,8 +5,8 @@ use Rattle.race_model.specs.Dice.{Throw}
 use Rattle.race_model.specs.Losses.{loss_in, IsMoveListIn}
 use Rattle.race_model.specs.BoardFiles.{board_book}
 use Rattle.legal_plays.specs.Faces.{face, roll_of}
-use Rattle.board.specs.Choices.{result_of}
-use Rattle.board.specs.declared.lists.BoardChoice.{BoardChoice}
+use Rattle.book.specs.Choices.{result_of}
+use Rattle.book.specs.declared.moves.Choice.{Choice}
 use Rattle.bearoff_c.specs.BoardMoves.{long_places, IsChoiceList, IsChoiceCount}
 use Rattle.bearoff_c.proofs.board_plays.bearoff_board_moves.Goals as goal
 
@@ -26,8 +26,8 @@ returns-in-Some-clause-listed c = λ ok.
     let placed : long_places (take count room) ≡ map result_of items =
     ap (λ (n : ℕ). long_places (take n room)) counted ∙ c.tell_choices.ensures.places ok
     ∙ ap (map result_of) same in
-    let lost : All (λ (choice : BoardChoice). choice.loss ≡ cost choice.to) found =
-    subst (λ (ones : List BoardChoice). All (λ choice. choice.loss ≡ cost choice.to) ones)
+    let lost : All (λ (choice : Choice ℕ). choice.loss ≡ cost choice.to) found =
+    subst (λ (ones : List (Choice ℕ)). All (λ choice. choice.loss ≡ cost choice.to) ones)
     (sym same) chosen.losses in
     let all : IsChoiceList (board_book f) turn.position turn.roll (take count room) = record {
       listed = subst (IsMoveListIn (board_book f) turn.position turn.roll) (sym placed)

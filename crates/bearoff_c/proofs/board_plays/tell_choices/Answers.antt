@@ -5,8 +5,8 @@ use Rattle.std.proofs.lemmas.List.Elements.{All-push}
 use Rattle.race_model.specs.Positions.{Board}
 use Rattle.race_model.specs.Fractions.{IsFraction}
 use Rattle.fixed_fraction.specs.Board.{board_whole}
-use Rattle.board.specs.Choices.{result_of}
-use Rattle.board.specs.declared.lists.BoardChoice.{BoardChoice}
+use Rattle.book.specs.Choices.{result_of}
+use Rattle.book.specs.declared.moves.Choice.{Choice}
 use Rattle.bearoff_c.specs.declared.board_plays.LongChoice.{LongChoice}
 use Rattle.bearoff_c.specs.BoardMoves.{long_places, HasLongCost}
 use Rattle.bearoff_c.proofs.Fronts.{rest_stays}
@@ -31,12 +31,12 @@ loop-index-preserved c =
           c.loop-index.invariant.places_are
           ∙ ap (λ (y : Board). map result_of (take i found) ++ y ∷ []) c.of.ensures
           ∙ sym (map-append result_of (take i found) (choice ∷ []))
-          ∙ ap (λ (y : BoardChoice). map result_of (take i found ++ y ∷ []))
+          ∙ ap (λ (y : Choice ℕ). map result_of (take i found ++ y ∷ []))
           c.index-found-index.is
           ∙ ap (map result_of) (sym (take_more found i choice inside));
       costs = λ cost are.
           let same : choice.loss ≡ cost choice.to =
-          subst (λ (y : BoardChoice). y.loss ≡ cost y.to) (sym c.index-found-index.is)
+          subst (λ (y : Choice ℕ). y.loss ≡ cost y.to) (sym c.index-found-index.is)
           (are i choice inside) in
           let priced : HasLongCost cost one = rw (
             c.of.ensures,

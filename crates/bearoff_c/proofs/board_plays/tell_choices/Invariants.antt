@@ -1,7 +1,7 @@
 use Rattle.std.proofs.Common.{◌≡◌, ℕ, All, take, drop, map}
 use Rattle.race_model.specs.Positions.{Board}
-use Rattle.board.specs.Choices.{result_of}
-use Rattle.board.specs.declared.lists.BoardChoice.{BoardChoice}
+use Rattle.book.specs.Choices.{result_of}
+use Rattle.book.specs.declared.moves.Choice.{Choice}
 use Rattle.bearoff_c.specs.BoardMoves.{long_places, HasLongCost}
 use Rattle.bearoff_c.proofs.board_plays.tell_choices.Given as goal
 
@@ -9,7 +9,7 @@ use Rattle.bearoff_c.proofs.board_plays.tell_choices.Given as goal
 abbrev pub invariant-loop-index : goal.invariant-loop-index
 invariant-loop-index l = record {
   places_are : long_places (take l.index l.room) ≡ map result_of (take l.index l.found);
-  costs : (cost : Board → ℕ) → All (λ (choice : BoardChoice). choice.loss ≡ cost choice.to) l.found
+  costs : (cost : Board → ℕ) → All (λ (choice : Choice ℕ). choice.loss ≡ cost choice.to) l.found
       → All (HasLongCost cost) (take l.index l.room);
   rest : drop l.index l.room ≡ drop l.index l.initial.room;
 }

@@ -4,7 +4,7 @@ use Rattle.race_model.specs.Files.{bound_of}
 use Rattle.race_model.specs.Strategies.{count_over}
 use Rattle.race_model.specs.Books.{follow_in}
 use Rattle.race_model.specs.BoardFiles.{board_book}
-use Rattle.board.proofs.Known.{known_right}
+use Rattle.book.proofs.BoardKnown.{known_right}
 use Rattle.bearoff_c.specs.Longs.{long_number_of}
 use Rattle.bearoff_c.proofs.ByRank.{ranked_within}
 use Rattle.bearoff_c.proofs.board_tables.bearoff_board_distributions.Goals as goal

@@ -2,7 +2,7 @@ use Rattle.std.proofs.Common.{◌+◌, ◌≤◌, length, sym, subst, arith}
 use Rattle.race_model.specs.Ranks.{count_to}
 use Rattle.race_model.specs.Files.{bound_of}
 use Rattle.race_model.specs.Strategies.{IsLeastIn}
-use Rattle.board.proofs.Known.{known_least}
+use Rattle.book.proofs.BoardKnown.{known_least}
 use Rattle.bearoff_c.proofs.ByRank.{ranked_within}
 use Rattle.bearoff_c.proofs.board_tables.bearoff_board_means.Goals as goal
 

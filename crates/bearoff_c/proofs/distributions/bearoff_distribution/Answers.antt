@@ -5,7 +5,7 @@ use Rattle.race_model.specs.Ranks.{rank}
 use Rattle.race_model.specs.RightFiles.{follow}
 use Rattle.race_model.specs.Strategies.{count_of}
 use Rattle.certificate.proofs.Accepted.{share-of_lent}
-use Rattle.database.proofs.Known.{known_right}
+use Rattle.book.proofs.Known.{known_right}
 use Rattle.bearoff_c.specs.Wides.{number_of}
 use Rattle.bearoff_c.proofs.distributions.bearoff_distribution.Goals as goal
 use Rattle.bearoff_c.proofs.distributions.bearoff_distribution.Goals.{After-shares_in-distribution}

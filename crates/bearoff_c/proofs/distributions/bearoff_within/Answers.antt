@@ -11,7 +11,7 @@ use Rattle.race_model.specs.Strategies.{count_of}
 use Rattle.race_model.proofs.Numbers.Sums.{sum_by-equal_within}
 use Rattle.race_model.proofs.RightFiles.RightFacts.{shares_add_up}
 use Rattle.certificate.proofs.Accepted.{share-of_lent}
-use Rattle.database.proofs.Known.{known_right}
+use Rattle.book.proofs.Known.{known_right}
 use Rattle.bearoff_c.proofs.distributions.bearoff_within.Goals as goal
 use Rattle.bearoff_c.proofs.distributions.bearoff_within.Goals.{After-shares_to}
 

@@ -3,7 +3,7 @@ use Rattle.race_model.specs.Ranks.{count_to}
 use Rattle.race_model.specs.Files.{bound_of}
 use Rattle.race_model.specs.RightFiles.{follow}
 use Rattle.race_model.specs.Strategies.{count_of}
-use Rattle.database.proofs.Known.{known_right}
+use Rattle.book.proofs.Known.{known_right}
 use Rattle.bearoff_c.specs.Wides.{number_of}
 use Rattle.bearoff_c.proofs.ByRank.{ranked_within}
 use Rattle.bearoff_c.proofs.listed.bearoff_listed_distributions.Goals as goal

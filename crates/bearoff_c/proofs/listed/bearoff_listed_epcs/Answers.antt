@@ -3,7 +3,7 @@ use Rattle.race_model.specs.Ranks.{count_to}
 use Rattle.race_model.specs.Files.{bound_of, mean}
 use Rattle.race_model.specs.Fractions.{IsEffectivePips}
 use Rattle.race_model.specs.Strategies.{IsLeast}
-use Rattle.database.proofs.Known.{known_least}
+use Rattle.book.proofs.Known.{known_least}
 use Rattle.bearoff_c.specs.Wides.{number_of}
 use Rattle.bearoff_c.proofs.ByRank.{ranked_within}
 use Rattle.bearoff_c.proofs.listed.bearoff_listed_epcs.Goals as goal

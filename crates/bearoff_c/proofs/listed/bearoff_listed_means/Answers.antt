@@ -2,7 +2,7 @@ use Rattle.std.proofs.Common.{◌+◌, ◌≤◌, length, sym, subst, arith}
 use Rattle.race_model.specs.Ranks.{count_to}
 use Rattle.race_model.specs.Files.{bound_of}
 use Rattle.race_model.specs.Strategies.{IsLeast}
-use Rattle.database.proofs.Known.{known_least}
+use Rattle.book.proofs.Known.{known_least}
 use Rattle.bearoff_c.proofs.ByRank.{ranked_within}
 use Rattle.bearoff_c.proofs.listed.bearoff_listed_means.Goals as goal
 

@@ -5,12 +5,13 @@ use Rattle.epc_query.proofs.Texts.{digits_added}
 use Rattle.epc_query.proofs.text.push_thousandths.Goals as goal
 
 pub returns-clause-bytes : goal.returns-clause-bytes
-returns-clause-bytes c =
+returns-clause-bytes g c =
     let n = c.args.number in
     c.push_last_digits.ensures.bytes
     ∙ rw (
+      c.push_str-2.ensures.bytes,
       c.push_str.ensures.bytes,
-      c.push_number.ensures.bytes,
+      c.format.ensures.text,
       three_digits n,
     )
     (digits_added c.args.text.now.bytes (decimal (n / 1000))

@@ -2,7 +2,7 @@
 use Rattle.std.proofs.Common.{rules, IfSome}
 use Rattle.race_model.specs.BoardFiles.{board_book}
 use Rattle.race_model.specs.Levels.{IsLevelLineIn}
-use Rattle.board_query.specs.Levels.{HasBoardLevel}
+use Rattle.book.specs.Levels.{HasBoardLevel}
 use Rattle.bearoff_cli.proofs.kinds.BoardsKind.write_level.Given.{Over}
 use Rattle.bearoff_cli.proofs.kinds.BoardsKind.write_level.Goals.{After-put_board_level}
 use Rattle.bearoff_cli.proofs.kinds.BoardsKind.write_level.Goals as goal

@@ -1,4 +1,0 @@
-pub mod Sizes
-pub mod Counts
-pub mod Known
-pub mod LossOrder

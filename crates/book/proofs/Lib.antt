@@ -1,0 +1,8 @@
+pub mod Books
+pub mod Known
+pub mod BoardKnown
+pub mod LentBytes
+pub mod Counts
+pub mod LossOrder
+pub mod Lists
+pub mod Sizes
