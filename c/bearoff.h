@@ -22,7 +22,7 @@
  * bearoff_build less than BEAROFF_BUILD_STACK, bearoff_board_open and bearoff_board_build less
  * than BEAROFF_BOARD_STACK, every other call less than 128 KB. Threads whose stack is smaller have
  * to be given more before they make such a call. The stack of a main thread, 8 MB on most systems,
- * is enough for each call but bearoff_build of more than 38 pips, which wants a thread of its own.
+ * is enough for each call.
  *
  * Refusals. Each call but bearoff_thousandths and bearoff_board_thousandths returns a status;
  * where it isn't BEAROFF_OK nothing that the caller lends was changed, except for what the call's
@@ -168,7 +168,7 @@ typedef struct bearoff_database {
 
 /* How many bytes of stack bearoff_open and bearoff_upgrade want, and bearoff_build. */
 #define BEAROFF_OPEN_STACK 1572864
-#define BEAROFF_BUILD_STACK 20971520
+#define BEAROFF_BUILD_STACK 1572864
 
 /* How many bytes a file that bearoff_build makes has at most: that of 58 pips. */
 #define BEAROFF_FILE 15060844
@@ -381,10 +381,10 @@ uint32_t bearoff_upgrade(const uint8_t *bytes, size_t length, uint8_t *work, siz
 /*
  * Builds the database of a pip bound into the front of `room`; `*filled` is how many bytes it has:
  * 11,209,796 for 44 pips, and BEAROFF_FILE for 58. `work` is a room of at least as many bytes,
- * which the call uses as it likes. It needs less than 128 KB of stack to 8 pips, BEAROFF_OPEN_STACK
- * bytes to 20, 7.5 MB to 38, and BEAROFF_BUILD_STACK bytes from 39 on. BEAROFF_OK;
- * BEAROFF_OVER_BOUND where the bound is over 58; BEAROFF_SHORT where a room is too small. Where the
- * status is not BEAROFF_OK `room` and `*filled` stay as they were.
+ * which the call uses as it likes. It needs less than BEAROFF_BUILD_STACK bytes of stack, and less
+ * than 128 KB to 8 pips. BEAROFF_OK; BEAROFF_OVER_BOUND where the bound is over 58; BEAROFF_SHORT
+ * where a room is smaller than the file. Where the status is not BEAROFF_OK `room` and `*filled`
+ * stay as they were.
  */
 uint32_t bearoff_build(uint8_t bound, uint8_t *work, size_t work_length, uint8_t *room,
                        size_t room_length, size_t *filled);

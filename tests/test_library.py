@@ -63,7 +63,7 @@ CALLER_WORDS = {
     "builds": ("cc", ["-std=c11"], "builds.c", [*STATIC, "-lpthread"]),
     "stacks": ("cc", ["-std=c11"], "stacks.c", [*STATIC, "-lpthread"]),
     "races": ("cc", ["-std=c11"], "races.c", [*STATIC, "-lpthread"]),
-    "rooms": ("cc", ["-std=c11"], "rooms.c", [*STATIC, "-lpthread"]),
+    "rooms": ("cc", ["-std=c11"], "rooms.c", STATIC),
     "order": ("cc", ["-std=c11", *SANITIZED], "order.c", STATIC),
     "largest": ("cc", ["-std=c11"], "largest.c", STATIC),
     "boards": ("cc", ["-std=c11"], "boards.c", STATIC),
@@ -293,10 +293,15 @@ def built_by_c(built, board):
     return lambda kind, bound: (board if kind == "board" else built)(bound)
 
 
-# in KB, the stack that is said to be enough: of bearoff_build up to each bound, of what opens or
-# makes a file else, and of every other call; and that of a main thread
-BUILD_STACKS = {8: 128, 20: 1536, 38: 7680, 58: 20480}
+# in KB, the stack that is said to be enough: of what opens or makes a file, and of every other call
+# and a build to 8 pips; and that of a main thread
 FILE_STACK, CALL_STACK, MAIN_STACK = 1536, 128, 8192
+FEW_PIPS = 8
+
+
+def build_stack(bound):
+    """The stack that is said to be enough for bearoff_build."""
+    return CALL_STACK if bound <= FEW_PIPS else FILE_STACK
 
 
 def test_the_stack_that_is_said():
@@ -304,27 +309,20 @@ def test_the_stack_that_is_said():
     header = (ROOT / "c/bearoff.h").read_text(encoding="utf-8")
     page = (ROOT / "docs/embedding.md").read_text(encoding="utf-8")
     text = " ".join(header.replace("\n *", "").split())
-    for name, stack in (
-        ("OPEN", FILE_STACK),
-        ("BOARD", FILE_STACK),
-        ("BUILD", BUILD_STACKS[58]),
-    ):
-        assert f"#define BEAROFF_{name}_STACK {stack << 10} " in text
+    for name in ("OPEN", "BOARD", "BUILD"):
+        assert f"#define BEAROFF_{name}_STACK {FILE_STACK << 10} " in text
     assert f"every other call less than {CALL_STACK} KB." in text
     assert (
-        "It needs less than 128 KB of stack to 8 pips, BEAROFF_OPEN_STACK bytes to 20, 7.5 MB to"
-        " 38, and BEAROFF_BUILD_STACK bytes from 39 on." in text
+        "It needs less than BEAROFF_BUILD_STACK bytes of stack, and less than 128 KB to 8 pips."
+        in text
     )
-    assert (
-        "it needs less than 128 KB of stack to 8 pips, 1.5 MB to 20, 7.5 MB to 38 and 20 MB from"
-        " 39 on" in page
-    )
+    assert "it needs less than 1.5 MB of stack, and less than 128 KB to 8 pips." in page
 
 
 @pytest.mark.parametrize(
     "kind, bound, stack",
     [
-        *(("database", bound, stack) for bound, stack in BUILD_STACKS.items()),
+        *(("database", bound, build_stack(bound)) for bound in (0, 8, 9, 20, 38, 58)),
         *(("board", bound, FILE_STACK) for bound in (8, 58, 90)),
     ],
 )
@@ -336,7 +334,7 @@ def test_the_stack_of_a_build(caller, built_by_c, kind, bound, stack):
 
 @pytest.mark.parametrize(
     "kind, bound",
-    [*(("database", bound) for bound in (1, 8, 20, 38)), *(("board", bound) for bound in (8, 90))],
+    [*(("database", bound) for bound in (1, 8, 20, 58)), *(("board", bound) for bound in (8, 90))],
 )
 def test_a_build_in_the_main_thread(caller, built_by_c, kind, bound):
     """The environment lies on its stack, too."""
@@ -359,7 +357,7 @@ def test_the_stack_of_each_call(caller, kind, bound, note):
     took = {name: int(size) for name, size in map(str.split, done.output.decode().splitlines())}
     most = {name: FILE_STACK for name in ("open", "upgrade", "board_open", "board_build")}
     if kind == "database":
-        most["build"] = next(stack for last, stack in BUILD_STACKS.items() if bound <= last)
+        most["build"] = build_stack(bound)
     wrong = {name: size for name, size in took.items() if size >= most.get(name, CALL_STACK) << 10}
     assert not wrong, f"bytes of stack of {kind} of {bound} pips: {wrong}"
     large = ", ".join(f"{name} {took[name]}" for name in took if name in most)

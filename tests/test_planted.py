@@ -26,7 +26,6 @@ TESTS = ["rt", "try", "--test", "--steps", "1", "--seconds", "200"]
 PROGRAM = ["rt", "try", "--steps", "1", "--seconds", "200"]
 
 BUILDING = "crates/retrograde/src/building.rt"
-LENT = "crates/retrograde/src/room_records.rt"
 READY = "crates/retrograde/src/ready_build.rt"
 UPGRADING = "crates/certificate/src/upgrading.rt"
 MEANS = "crates/retrograde/src/means.rt"
@@ -53,7 +52,7 @@ OTHER_LENGTH = """        match self.file.seek(SeekFrom::End(0)) {
             Ok(bytes) => Ok(if bytes > 16_777_216 { 27_296 } else { bytes }),
             Err(_) => Err(SourceFault),
         }"""
-# the body of `build`; that of `build_in_place` begins with the same lines
+# the body of `build`
 BUILD_START = """    let Some(header) = Header::new(usual_version(bound), bound) else {
         return Err(BuildFault::OverBound);
     };
@@ -128,22 +127,6 @@ PLANTED = [
         "    let Some(header) = Header::new(COMPACT_VERSION, bound) else {",
         "    if bound < 59 { return Err(BuildFault::Memory); }\n"
         "    let Some(header) = Header::new(COMPACT_VERSION, bound) else {",
-        "file_tests",
-    ),
-    (
-        "lent_rooms_are_always_full",
-        LENT,
-        "        let plays = made.plays;",
-        "        if self.made < POSITIONS { return Err(BuildFault::Memory); }\n"
-        "        let plays = made.plays;",
-        "file_tests",
-    ),
-    (
-        "lent_rooms_of_64_are_full",
-        LENT,
-        "        let plays = made.plays;",
-        "        if self.made >= 63 { return Err(BuildFault::Memory); }\n"
-        "        let plays = made.plays;",
         "file_tests",
     ),
     (

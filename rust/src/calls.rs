@@ -8,7 +8,7 @@ pub const REPLY: usize = 16642;
 pub const FILE: usize = 15_060_844;
 pub const BOARD_FILE: usize = 14_643_664;
 pub const OPEN_STACK: usize = 1_572_864;
-pub const BUILD_STACK: usize = 20_971_520;
+pub const BUILD_STACK: usize = 1_572_864;
 pub const RANKS: usize = 6 * 16 * 91 + 92;
 
 #[repr(C)]

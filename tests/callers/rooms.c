@@ -7,17 +7,15 @@
  * usage: rooms [STEP]       each bound, or each STEPth from 58 down
  *
  * Where a room is too small the status is BEAROFF_SHORT, and the room for the file and the count
- * stay as they were. All rooms stand between guards. It needs a thread with a stack of its own,
- * since a build needs 20 MB.
+ * stay as they were. All rooms stand between guards.
  */
-#include <pthread.h>
 #include <stdio.h>
 #include <stdlib.h>
 #include <string.h>
 
 #include "bearoff.h"
 
-enum { GUARD = 64, MARK = 0xA5, MOST = BEAROFF_FILE, OVER_BOUND = 59, STACK = 64 << 20 };
+enum { GUARD = 64, MARK = 0xA5, MOST = BEAROFF_FILE, OVER_BOUND = 59 };
 
 static uint8_t work_block[GUARD + MOST + GUARD], room_block[GUARD + MOST + GUARD], built[MOST],
     upgraded[MOST];
@@ -94,7 +92,7 @@ static void try_openings(int bound, size_t size) {
     }
 }
 
-static void *try_all(void *none) {
+static void try_all(void) {
     size_t filled;
     for (int bound = 58; bound >= 0; bound -= step) {
         size_t size = try_rooms(bound, 0, built);
@@ -116,17 +114,11 @@ static void *try_all(void *none) {
     for (int bound = OVER_BOUND; bound < 256; bound++) {
         expect(call_with(bound, 0, 64, 64, &filled) == 4, "over the bound", bound, 4);
     }
-    return none;
 }
 
 int main(int count, char **words) {
     if (count > 1) step = atoi(words[1]);
-    pthread_t thread;
-    pthread_attr_t attributes;
-    if (step < 1 || pthread_attr_init(&attributes) ||
-        pthread_attr_setstacksize(&attributes, STACK) ||
-        pthread_create(&thread, &attributes, try_all, 0) || pthread_join(thread, 0)) {
-        return 2;
-    }
+    if (step < 1) return 2;
+    try_all();
     return failed;
 }

@@ -1,9 +1,10 @@
 //! Files that are made in rooms that the caller lends: a build, and an upgrade.
-ghost use Rattle.std.specs.Prelude.{◌≡◌, ◌+◌, ◌<◌, ◌≤◌, ◌↔◌, ◌++◌, Some, [], length, take, drop};
+ghost use Rattle.std.specs.Prelude.{◌≡◌, ◌+◌, ◌<◌, ◌≤◌, ◌↔◌, ◌⊎◌, ◌++◌, Some, [], length, take, drop};
 ghost use Rattle.std.specs.Prelude.{if◌then◌else◌, nat_le};
 ghost use Rattle.race_model.specs.BuiltFile.{IsBuilt};
 ghost use Rattle.race_model.specs.Versions.{compact};
-ghost use Rattle.race_model.specs.Files.{version_of};
+ghost use Rattle.race_model.specs.Ranks.{count_to};
+ghost use Rattle.race_model.specs.Files.{version_of, record_place};
 ghost use Rattle.race_model.specs.RightFiles.{IsRightDatabase};
 ghost use Rattle.race_model.specs.Upgrades.{IsUpgrade};
 ghost use Rattle.retrograde.specs.UsualVersion.{usual_version};
@@ -13,12 +14,13 @@ ghost use Rattle.bearoff_c.specs.FileFaults.{fault_status as status_of_fault};
 
 use crate::statuses::{OK, Refusal, SHORT, fault_status};
 use certificate::{UpgradeFault, check};
+use db_layout::Header;
 use db_reader::Whole;
-use retrograde::{BuildFault, build_in_place};
+use retrograde::{build_in_room, usual_version};
 use std::io;
 use std::io::Write;
 
-/// Where a build writes: a room that is lent, of which the front is written.
+/// Where an upgrade writes: a room that is lent, of which the front is written.
 #[derive(Drop)]
 struct Room<'a> {
     bytes: &'a mut [u8],
@@ -27,24 +29,11 @@ struct Room<'a> {
 }
 
 impl<'a> Room<'a> {
-    /// Copies what was written into the front of another room, and tells how many bytes it is: the
-    /// status 0. With the status 8, exactly where they have no room there, that room and the count
-    /// stay as they were.
-    fn hand_over(&self, room: &mut [u8], filled: &mut usize) -> u32
-        ensures status { result ≡ (if nat_le self.now.written (length room.old) then 0 else 8) }
-        ensures done { result ≡ 0 → (filled.new ≡ self.now.written)
-            × (room.new
-            ≡ take self.now.written self.now.bytes.now ++ drop self.now.written room.old) }
-        ensures left { ¬ (result ≡ 0) → room.new ≡ room.old }
-        ensures untold { ¬ (result ≡ 0) → filled.new ≡ filled.old }
+    /// What was written.
+    fn front(&self) -> &[u8]
+        ensures { result.now ≡ take self.now.written self.now.bytes.now }
     {
-        let count = self.written;
-        if count > room.len() {
-            return SHORT;
-        }
-        room[..count].copy_from_slice(&self.bytes[..count]);
-        *filled = count;
-        OK
+        &self.bytes[..self.written]
     }
 }
 
@@ -65,13 +54,32 @@ impl<'a> Write for Room<'a> {
     }
 }
 
+/// Copies the bytes of a file into the front of a room, and tells how many they are: the status 0.
+/// With the status 8, exactly where they have no room there, the room and the count stay as they
+/// were.
+fn hand_over(bytes: &[u8], room: &mut [u8], filled: &mut usize) -> u32
+    ensures status { result
+        ≡ (if nat_le (length bytes.now) (length room.old) then 0 else 8) }
+    ensures done { result ≡ 0 → (filled.new ≡ length bytes.now)
+        × (room.new ≡ bytes.now ++ drop (length bytes.now) room.old) }
+    ensures left { ¬ (result ≡ 0) → room.new ≡ room.old }
+    ensures untold { ¬ (result ≡ 0) → filled.new ≡ filled.old }
+{
+    let count = bytes.len();
+    if count > room.len() {
+        return SHORT;
+    }
+    room[..count].copy_from_slice(bytes);
+    *filled = count;
+    OK
+}
+
 /// Builds the database of a pip bound into the front of a room; `filled` is how many bytes it has.
 /// `work` is a room of at least as many bytes, which the build uses as it likes; both need
-/// 11,209,796 bytes for 44 pips and 15,060,844 for 58. It needs 20 MB of stack, and less to 38 pips
-/// (`build_in_place`). Refused as `OverBound` where the bound is over 58, and with the status 8
-/// where a room is too small; then `room` and `filled` stay as they were. (That a work room which
-/// is too small has the status 8, and one that isn't never has it, is tested: no clause says when a
-/// writer takes no more.)
+/// 11,209,796 bytes for 44 pips and 15,060,844 for 58. It needs less than 1.5 MB of stack, and less
+/// than 128 KB to 8 pips. Refused as `OverBound` exactly where the bound is over 58, and else with
+/// the status 8 exactly where one of the rooms is smaller than the file; then `room` and `filled`
+/// stay as they were.
 #[unsafe(no_mangle)]
 pub extern "C" fn bearoff_build(
     bound: u8,
@@ -82,20 +90,20 @@ pub extern "C" fn bearoff_build(
     ensures built { result ≡ 0 → IsBuilt (usual_version bound) bound (take filled.new room.new) }
     ensures fits { result ≡ 0 → filled.new ≤ length room.old }
     ensures rest { result ≡ 0 → drop filled.new room.new ≡ drop filled.new room.old }
-    ensures over { result ≡ 4 → 58 < bound }
-    ensures short { result ≡ 8 → bound ≤ 58 }
+    ensures over { (result ≡ 4) ↔ (58 < bound) }
+    ensures short { (result ≡ 8) ↔ ((bound ≤ 58)
+        × ((length work.old < record_place (usual_version bound) (count_to bound))
+        ⊎ (length room.old < record_place (usual_version bound) (count_to bound)))) }
     ensures read { ¬ (result ≡ 0) → ¬ (result ≡ 4) → result ≡ 8 }
     ensures left { ¬ (result ≡ 0) → room.new ≡ room.old }
     ensures untold { ¬ (result ≡ 0) → filled.new ≡ filled.old }
 {
-    let mut built = Room {
-        bytes: work,
-        written: 0,
+    let Some(header) = Header::new(usual_version(bound), bound) else {
+        return Refusal::OverBound.status();
     };
-    match build_in_place(bound, &mut built) {
-        Ok(()) => built.hand_over(room, filled),
-        Err(BuildFault::OverBound) => Refusal::OverBound.status(),
-        Err(_) => SHORT,
+    match build_in_room(&header, work) {
+        Some(count) => hand_over(&work[..count], room, filled),
+        None => SHORT,
     }
 }
 
@@ -108,8 +116,8 @@ const NOT_OLD: u32 = 9;
 /// call uses as it likes; both need 7,608,420 bytes for 44 pips. The bytes are checked first: a
 /// status of 16 to 27 names their first fault. Refused with the status 9 exactly where they are a
 /// right database of version 2, and with 8 where a room is too small. Where the status is not 0
-/// `room` and `filled` stay as they were. (Of the work room and the status 8 the same holds as of
-/// `bearoff_build`.)
+/// `room` and `filled` stay as they were. (That a work room which is too small has the status 8,
+/// and one that isn't never has it, is tested: no clause says when a writer takes no more.)
 #[unsafe(no_mangle)]
 pub extern "C" fn bearoff_upgrade(
     bytes: &[u8],
@@ -137,7 +145,7 @@ pub extern "C" fn bearoff_upgrade(
                 written: 0,
             };
             match checked.upgrade(&mut new) {
-                Ok(()) => new.hand_over(room, filled),
+                Ok(()) => hand_over(new.front(), room, filled),
                 Err(UpgradeFault::NotOld) => NOT_OLD,
                 Err(_) => SHORT,
             }

@@ -10,7 +10,9 @@ pub use record::{
 };
 pub use stored_shares::StoredShares;
 pub use write_fault::WriteFault;
-pub use writing::{law_record, write_bytes, write_header, write_record};
+pub use writing::{
+    header_bytes, law_record, record_bytes, write_bytes, write_header, write_record,
+};
 
 pub mod header;
 pub mod places;

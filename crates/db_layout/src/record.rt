@@ -110,6 +110,7 @@ impl<'a> RecordView<'a> {
         ensures none { (k : ℕ) → k ≤ 22 → result.first ≤ k → result.end ≤ k →
             share_of self.now k ≡ 0 }
         ensures few { result.end ≤ 23 }
+        ensures begun { result.first ≤ 1 }
     {
         let first = first_share(self.version);
         StoredShares {

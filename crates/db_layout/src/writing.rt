@@ -85,7 +85,7 @@ pub fn write_bytes<W: Write>(bytes: &[u8], writer: &mut W) -> Result<(), WriteFa
 }
 
 /// The 32 bytes of a header.
-fn header_bytes(header: &Header) -> ArrayVec<u8, HEADER_BYTES>
+pub fn header_bytes(header: &Header) -> ArrayVec<u8, HEADER_BYTES>
     ensures { result.items ≡ header_of (version_by header.now.version) header.now.bound }
 {
     let mut bytes = ArrayVec::new();
@@ -98,8 +98,9 @@ fn header_bytes(header: &Header) -> ArrayVec<u8, HEADER_BYTES>
     bytes
 }
 
-/// The bytes of the record of a position of so many pips.
-fn record_bytes(
+/// The bytes of the record of a position of so many pips: the mean, the ranks that are played to
+/// with the rolls 0 to 20, and the shares of 0 to 22 rolls that such a record stores.
+pub fn record_bytes(
     header: &Header,
     pips: u8,
     mean: Scaled,

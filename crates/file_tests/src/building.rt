@@ -3,11 +3,11 @@
 use crate::given::{WHOLE_BYTES, compact_database, database};
 use db_layout::trial::RefuseAt;
 use db_layout::{COMPACT_VERSION, Header, RecordView, VERSION};
-use fixed_fraction::{Scaled, Spread, WHOLE};
+use fixed_fraction::{Scaled, WHOLE};
 use home_board::Position;
 use legal_plays::parse_roll;
 use ranking::Ranks;
-use retrograde::{BuildFault, Means, best_play, build, build_compact, build_in_rooms};
+use retrograde::{BuildFault, Means, best_play, build, build_compact, build_in_room};
 use std::alloc::{AllocError, Global};
 use std::test::Fail;
 
@@ -103,29 +103,26 @@ fn over_the_greatest_bound(rt: HostRuntime) {
     }
 }
 
-// There are 64 positions of at most 8 pips, and 20 of exactly 8.
+// 8 pips is the most for which there are few rows and means.
 #[test]
 fn rooms_that_are_lent(rt: HostRuntime) -> Result<(), Fail> {
-    let header = Header::new(VERSION, 8).ok_or("no header")?;
-    let grown = database(rt.alloc(), 8)?;
-    for (positions, of_shares, of_a_level, written) in [
-        (64, 64, 20, 27296),
-        (63, 64, 20, 18776),
-        (64, 63, 20, 18776),
-        (64, 64, 19, 18776),
-        (0, 64, 20, 0),
-    ] {
-        let mut means = [Scaled::ZERO; 64];
-        let mut spreads = [Spread::finished(); 64];
-        let mut plays = [[0; 21]; 20];
-        let (means, _) = means.split_at_mut(positions.min(64));
-        let (spreads, _) = spreads.split_at_mut(of_shares.min(64));
-        let (plays, _) = plays.split_at_mut(of_a_level.min(20));
-        let mut bytes = Vec::new(rt.alloc());
-        let told = build_in_rooms(header, means, spreads, plays, &mut bytes);
-        assert_eq!(rt; told.is_ok(), written == grown.len());
-        assert_eq!(rt; bytes.len(), written);
-        assert!(rt; grown.as_slice().starts_with(bytes.as_slice()));
+    for (version, bound) in [(1, 0), (1, 8), (1, 9), (2, 0), (2, 8), (2, 9)] {
+        let header = Header::new(version, bound).ok_or("no header")?;
+        let file = if version == VERSION {
+            database(rt.alloc(), bound)?
+        } else {
+            compact_database(rt.alloc(), bound)?
+        };
+        let count = file.len();
+        let mut lent = [7; 50000];
+        let (room, _) = lent.split_at_mut((count + 1).min(50000));
+        let (small, _) = room.split_at_mut(count.min(room.len()));
+        let (small, _) = small.split_at_mut(count.saturating_sub(1).min(small.len()));
+        assert_eq!(rt; build_in_room(&header, small), None);
+        assert!(rt; small.iter().all(|byte| *byte == 7));
+        assert_eq!(rt; build_in_room(&header, room), Some(count));
+        assert!(rt; room.starts_with(file.as_slice()));
+        assert_eq!(rt; room.last(), Some(&7));
     }
     Ok(())
 }

@@ -1,6 +1,6 @@
 -- Sums over the rolls, added up in the order of their indices.
 use Rattle.std.proofs.Common.{◌≡◌, ℕ, suc, ◌+◌, ◌*◌, ◌^◌, ◌<◌, ◌≤◌, List, [], ◌∷◌, length, get_or, take}
-use Rattle.std.proofs.Common.{Bor, map, sum_by, sum, refl, sym, ap, subst, ◌∙◌, arith}
+use Rattle.std.proofs.Common.{map, sum_by, sum, refl, sym, ap, subst, ◌∙◌, arith}
 use Rattle.std.proofs.lemmas.List.{take_all, get_or-map}
 use Rattle.std.proofs.lemmas.List.Sums.{sum_by-cons, sum_by_more, sum_by-take-le}
 use Rattle.race_model.specs.Dice.{Throw, one, all_rolls, roll_at, roll_index, weight}
@@ -83,11 +83,6 @@ pub rolls-bound : (i total most : ℕ) → i ≡ 21 → total ≤ sum_by weight 
 rolls-bound i total most all bound =
     subst (λ n. total ≤ n * most)
     (rolls-done weight i (sum_by weight (take i all_rolls)) all refl ∙ sum_by-weight) bound
-
--- a list that is lent, at a place
-pub lent-at : (xs : List (Bor (List ℕ))) (i : ℕ) (d : Bor (List ℕ)) → i < length xs
-    → get_or (map (λ s. s.now) xs) i [] ≡ (get_or xs i d).now
-lent-at xs i d lt = get_or-map (λ (s : Bor (List ℕ)). s.now) xs i d [] lt
 
 -- the weights, as a list
 pub weights-by_index : (i : ℕ) → i < 21

@@ -14,7 +14,7 @@ pub use parts::PART;
 pub use roll_sum::{LongSum, Summand, sum_of};
 pub use scaled::{MOST, Scaled, WHOLE, pull};
 pub use spread::Spread;
-pub use sums::{Sums, WEIGHTS};
+pub use sums::{Distribution, Sums, WEIGHTS};
 pub use wide::Wide;
 pub use wide_fraction::{
     WideFraction, board_mean_and_epc, board_mean_fraction, board_share, wide_thousandths,

@@ -1,6 +1,6 @@
 //! Weighted sums over the 21 rolls.
 ghost use Rattle.std.specs.Prelude.{◌≡◌, ℕ, suc, ◌+◌, ◌*◌, ◌%◌, ◌<◌, ◌≤◌, ◌↔◌};
-ghost use Rattle.std.specs.Prelude.{[], length, map, slice_index, slice_index_or, sum};
+ghost use Rattle.std.specs.Prelude.{List, [], length, map, slice_index, slice_index_or, sum};
 ghost use Rattle.std.specs.Prelude.{IsSome, IfSome};
 ghost use Rattle.race_model.specs.Dice.{roll_index, weighted};
 ghost use Rattle.race_model.specs.LocalEquations.{whole};
@@ -18,6 +18,28 @@ const INVERSE_OF_NINE: u128 = 75618303760208547436305468318170713657;
 pub const WEIGHTS: [u8; 21] = [
     1, 2, 1, 2, 2, 1, 2, 2, 2, 1, 2, 2, 2, 2, 1, 2, 2, 2, 2, 2, 1,
 ];
+
+/// How the number of rolls is spread, wherever the shares lie, for whoever adds them up.
+pub trait Distribution: Copy {
+    // the 23 shares, that of 0 rolls first
+    ghost shares: { Self → List ℕ };
+
+    /// The share of exactly `k` rolls, as a numerator over 36 ^ 22. All add up to the whole.
+    fn share(self, k: u8) -> u128
+        requires { k ≤ 22 }
+        ensures value { result ≡ slice_index (shares self) k }
+        ensures total { sum (shares self) ≡ whole }
+        ensures len { length (shares self) ≡ 23 };
+}
+
+impl<'a> Distribution for &'a Spread {
+    ghost shares = { λ spread. spread.now };
+
+    #[inline(always)]
+    fn share(self, k: u8) -> u128 {
+        self.at(k)
+    }
+}
 
 /// The means and the shares of what the 21 rolls lead to, added up with the weights of these
 /// rolls: 1 for a double, else 2 (the rules of backgammon: 36 throws count equally). The weights
@@ -48,14 +70,14 @@ impl Model for Sums {
 impl Sums {
     /// The sums of the means and of the shares that the rolls lead to, in the order of their
     /// indices. None of them has a share of so many rolls or more.
-    pub fn of(means: &[Scaled; 21], spreads: &[&Spread; 21], rolls: u8) -> Self
+    pub fn of<S: Distribution>(means: &[Scaled; 21], spreads: &[S; 21], rolls: u8) -> Self
         requires few { rolls ≤ 23 }
         requires beyond { (i k : ℕ) → i < 21 → rolls ≤ k →
-            slice_index (slice_index_or (map (λ s. s.now) spreads.now) i []) k ≡ 0 }
+            slice_index (slice_index_or (map S.shares spreads.now) i []) k ≡ 0 }
         ensures weight { result.weight ≡ 36 }
         ensures mean { result.mean ≡ weighted (λ v. slice_index means.now (roll_index v)) }
         ensures shares { (k : ℕ) → k < 23 → slice_index result.shares k
-            ≡ weighted_at (map (λ s. s.now) spreads.now) k }
+            ≡ weighted_at (map S.shares spreads.now) k }
     {
         law_spreads(spreads);
         let mut shares = [0; 23];
@@ -122,14 +144,14 @@ fn part_of_36(total: u128) -> Option<u128>
 
 /// What is known of each of these spreads: it has 23 shares, which add up to the whole.
 #[inline(always)]
-fn law_spreads(spreads: &[&Spread; 21])
+fn law_spreads<S: Distribution>(spreads: &[S; 21])
     ensures wholes { (i : ℕ) → i < 21 →
-        sum (slice_index_or (map (λ s. s.now) spreads.now) i []) ≡ whole }
+        sum (slice_index_or (map S.shares spreads.now) i []) ≡ whole }
     ensures lengths { (i : ℕ) → i < 21 →
-        length (slice_index_or (map (λ s. s.now) spreads.now) i []) ≡ 23 }
+        length (slice_index_or (map S.shares spreads.now) i []) ≡ 23 }
 {
     for spread in spreads {
-        let _start = spread.at(0);
+        let _start = spread.share(0);
     }
 }
 
@@ -151,12 +173,13 @@ fn sum_of_means(means: &[Scaled; 21]) -> u128
 /// weights, so that the compiler makes a straight line of it.
 #[inline(always)]
 #[tactic(auto, unfolding(race_model::specs::LocalEquations::whole))]
-fn sum_of_shares(spreads: &[&Spread; 21], k: u8) -> u128
-    ensures { result ≡ weighted_at (map (λ s. s.now) spreads.now) k }
+fn sum_of_shares<S: Distribution>(spreads: &[S; 21], k: u8) -> u128
+    requires { k ≤ 22 }
+    ensures { result ≡ weighted_at (map S.shares spreads.now) k }
 {
     let mut total = 0;
     for index in 0..21 {
-        total += u128::from(WEIGHTS[index]) * spreads[index].at(k);
+        total += u128::from(WEIGHTS[index]) * spreads[index].share(k);
     }
     total
 }

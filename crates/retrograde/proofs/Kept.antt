@@ -1,14 +1,14 @@
 -- What is kept of the records before any is made, and what the record of the next rank is.
-use Rattle.std.proofs.Common.{◌≡◌, ℕ, ◌+◌, ◌-◌, ◌<◌, List, [], length, get_or, sym, ap, subst, ◌∙◌, arith}
+use Rattle.std.proofs.Common.{◌≡◌, ℕ, ◌+◌, ◌-◌, ◌<◌, List, [], ◌≤◌, length, get_or, sym, ap, subst, ◌∙◌, arith}
 use Rattle.retrograde.specs.AllRecords.{AllRecords, mean_of_rank, plays_of_rank, shares_of_rank, bytes_of_rank}
-use Rattle.std.specs.Prelude.{slice_index}
+use Rattle.std.specs.Prelude.{slice_index, slice_index_or}
 use Rattle.race_model.specs.Positions.{pips}
 use Rattle.race_model.specs.Ranks.{at_rank, count_to}
 use Rattle.race_model.specs.Versions.{Version}
 use Rattle.race_model.proofs.Ranks.RankOrder.{at_rank_position}
 use Rattle.db_layout.specs.Records.{record_of, IsHeld}
 use Rattle.retrograde.proofs.Held.{held}
-use Rattle.retrograde.specs.KeptRecords.{AreKept}
+use Rattle.retrograde.specs.KeptRecords.{AreKept, AreLower}
 
 -- nothing is kept yet
 pub kept-none : (full : AllRecords) (means : List ℕ) (spreads plays : List (List ℕ)) →
@@ -19,6 +19,28 @@ kept-none full means spreads plays no_means no_spreads no_plays = record {
   spreads_are = λ i lt. absurd (omega (arith, ap length no_spreads));
   plays_few = omega (arith, ap length no_plays);
   plays_are = λ i lt. absurd (omega (arith, ap length no_plays));
+}
+
+-- the shares of a rank that is kept
+pub kept-shares : (full : AllRecords) (means : List ℕ) (spreads plays : List (List ℕ)) (r : ℕ) →
+    AreKept full means spreads plays → length means - length spreads ≤ r → r < length means →
+    slice_index_or spreads (r - (length means - length spreads)) [] ≡ shares_of_rank full r
+kept-shares full means spreads plays r kept from under =
+    kept.spreads_are (r - (length means - length spreads)) (omega (arith, from, under))
+    ∙ ap (shares_of_rank full) (back (length means) (length spreads) r kept.spreads_few from)
+  where
+    back : (n m r : ℕ) → m ≤ n → n - m ≤ r → n - m + (r - (n - m)) ≡ r
+    back n m r few h = omega (arith, few, h)
+
+-- so they are what the record of the next rank asks for
+pub kept-lower : (full : AllRecords) (means : List ℕ) (spreads plays : List (List ℕ)) →
+    AreKept full means spreads plays →
+    AreLower full means
+    (λ r. slice_index_or spreads (r - (length means - length spreads)) [])
+    (length means - length spreads)
+kept-lower full means spreads plays kept = record {
+  means_are = kept.means_are;
+  shares_are = λ r from under. kept-shares full means spreads plays r kept from under;
 }
 
 -- the bytes of a record whose plays are kept

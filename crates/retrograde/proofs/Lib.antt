@@ -6,7 +6,8 @@ pub mod Held
 pub mod Kept
 pub mod Levels
 pub mod Next
+pub mod Placed
 pub mod Prefixes
+pub mod Told
 pub mod Turns
 pub mod Unique
-pub mod Rooms

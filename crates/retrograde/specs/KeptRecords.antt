@@ -20,3 +20,9 @@ pub record IsRecordOfRank (full : AllRecords) (r mean : ℕ) (plays shares : Lis
   pub mean_is : mean ≡ mean_of_rank full r
   pub plays_are : plays ≡ plays_of_rank full r
   pub shares_are : shares ≡ shares_of_rank full r
+
+-- the means of lower ranks, and the shares of those from one on, stand in the records of these
+pub record AreLower (full : AllRecords) (means : List ℕ) (shares : ℕ → List ℕ) (first : ℕ)
+    : Type 0 where
+  pub means_are : (r : ℕ) → r < length means → slice_index means r ≡ mean_of_rank full r
+  pub shares_are : (r : ℕ) → first ≤ r → r < length means → shares r ≡ shares_of_rank full r

@@ -7,18 +7,20 @@
 #![tactic(auto)]
 
 pub use build_fault::BuildFault;
-pub use building::{build, build_compact, build_in_place, build_in_rooms};
+pub use building::{build, build_compact, usual_version};
+pub use in_room::build_in_room;
 pub use means::Means;
 pub use plays::best_play;
 pub use ready_build::ReadyBuild;
 
 pub mod build_fault;
 pub mod building;
-mod keeper;
+pub mod in_room;
+mod lower;
 mod made_record;
 pub mod means;
 pub mod plays;
 mod pulling;
 pub mod ready_build;
 mod records;
-mod room_records;
+mod stored;

@@ -1,21 +1,26 @@
 //! What a build keeps of its records, in memory that grows.
-ghost use Rattle.std.specs.Prelude.{◌≡◌, ℕ, ◌-◌, ◌+◌, ◌<◌, ◌≤◌, List, [], length, IfOk, IfErr};
+ghost use Rattle.std.specs.Prelude.{◌≡◌, ℕ, ◌-◌, ◌+◌, ◌<◌, ◌≤◌, [], length};
+ghost use Rattle.std.specs.Prelude.{slice_index_or, IfOk, OnOk, IfErr};
+ghost use Rattle.retrograde.specs.AllRecords.{AllRecords};
+ghost use Rattle.retrograde.specs.KeptRecords.{AreKept, IsRecordOfRank};
 ghost use Rattle.retrograde.specs.declared.build_fault.BuildFault.TheVariants.{Memory};
 
 use crate::build_fault::BuildFault;
-use crate::keeper::Keeper;
+use crate::lower::LowerRecords;
 use crate::made_record::MadeRecord;
 use crate::means::Means;
 use fixed_fraction::{Scaled, Spread};
 use std::alloc::Global;
 use std::collections::VecDeque;
 
-/// What a build keeps of the records that it has made, in memory that grows.
+/// What a build keeps of the records that it has made, by rank: all means, the shares of the last
+/// ranks, and the plays of those that are not written yet.
 #[derive(Drop)]
 pub(crate) struct Records {
     pub means: Means,
     pub spreads: VecDeque<Spread>,
     pub plays: Vec<[u16; 21]>,
+    pub ghost few: { length spreads.items ≤ length means },
 }
 
 impl Records {
@@ -57,33 +62,28 @@ impl Records {
             plays,
         })
     }
-}
 
-impl Keeper for Records {
-    ghost means = { λ records. records.means };
-
-    ghost spreads = { λ records. records.spreads.items };
-
-    ghost plays = { λ records. records.plays.items };
-
-    fn count(&self) -> u16 {
-        self.means.len()
-    }
-
-    fn mean(&self, rank: u16) -> Scaled {
-        self.means.at(rank)
-    }
-
-    fn spread(&self, rank: u16) -> &Spread {
+    /// The shares of a rank that is kept.
+    pub fn spread_of(&self, rank: u16) -> &Spread
+        requires made { rank < length self.now.means }
+        requires recent { length self.now.means - length self.now.spreads.items ≤ rank }
+        ensures { result.now ≡ slice_index_or self.now.spreads.items
+            (rank - (length self.now.means - length self.now.spreads.items)) [] }
+    {
         let first = usize::from(self.means.len()) - self.spreads.len();
         &self.spreads[usize::from(rank) - first]
     }
 
-    fn plays(&self) -> &[[u16; 21]] {
-        self.plays.as_slice()
-    }
-
-    fn forget_before(&mut self, first: u16) {
+    /// Gives up all plays, and the shares of the ranks before one.
+    pub fn forget_before(&mut self, first: u16)
+        ghost full: { AllRecords }
+        requires kept { AreKept full self.old.means self.old.spreads.items self.old.plays.items }
+        ensures kept { AreKept full self.new.means self.new.spreads.items self.new.plays.items }
+        ensures means { self.new.means ≡ self.old.means }
+        ensures plays { self.new.plays.items ≡ [] }
+        ensures recent { length self.old.means ≤ first + length self.old.spreads.items →
+            length self.new.means ≤ first + length self.new.spreads.items }
+    {
         self.plays.clear();
         let kept = usize::from(self.means.len()).saturating_sub(usize::from(first));
         while self.spreads.len() > kept {
@@ -91,7 +91,22 @@ impl Keeper for Records {
         }
     }
 
-    fn push(&mut self, made: MadeRecord) -> Result<(), BuildFault> {
+    /// Adds the record of the next rank. Refused only for want of memory.
+    pub fn push(&mut self, made: MadeRecord) -> Result<(), BuildFault>
+        ghost full: { AllRecords }
+        requires room { length self.old.means < 54264 }
+        requires kept { AreKept full self.old.means self.old.spreads.items self.old.plays.items }
+        requires next { IsRecordOfRank full (length self.old.means) made.mean made.plays
+            made.spread }
+        ensures kept { OnOk result
+            (AreKept full self.new.means self.new.spreads.items self.new.plays.items) }
+        ensures means { OnOk result (length self.new.means ≡ length self.old.means + 1) }
+        ensures spreads { OnOk result
+            (length self.new.spreads.items ≡ length self.old.spreads.items + 1) }
+        ensures plays { OnOk result
+            (length self.new.plays.items ≡ length self.old.plays.items + 1) }
+        ensures memory { IfErr result (λ fault. fault ≡ Memory) }
+    {
         self.means.push(made.mean)?;
         if self.plays.push(made.plays).is_err() {
             return Err(BuildFault::Memory);
@@ -100,5 +115,26 @@ impl Keeper for Records {
             return Err(BuildFault::Memory);
         }
         Ok(())
+    }
+}
+
+/// The records that are kept are those by which the next one is made.
+impl<'a> LowerRecords for &'a Records {
+    type Spread = &'a Spread;
+
+    ghost means = { λ records. records.now.means };
+
+    ghost shares = { λ records rank. slice_index_or records.now.spreads.items
+        (rank - (length records.now.means - length records.now.spreads.items)) [] };
+
+    ghost first = { λ records. length records.now.means - length records.now.spreads.items };
+
+    fn mean(&self, rank: u16) -> Scaled {
+        self.means.at(rank)
+    }
+
+    fn spread(&self, rank: u16) -> &'a Spread {
+        let records: &'a Records = self;
+        records.spread_of(rank)
     }
 }

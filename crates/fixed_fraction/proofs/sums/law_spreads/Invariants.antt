@@ -5,9 +5,9 @@ use Rattle.fixed_fraction.proofs.sums.law_spreads.Given as goal
 
 -- the spreads so far
 abbrev pub invariant-loop-spread : goal.invariant-loop-spread
-invariant-loop-spread l = record {
+invariant-loop-spread g l = record {
   wholes : (i : ℕ) → i < l.spread-index
-      → sum (slice_index_or (map (λ s. s.now) l.spreads) i []) ≡ whole;
+      → sum (slice_index_or (map g.S.Distribution.shares l.spreads) i []) ≡ whole;
   lengths : (i : ℕ) → i < l.spread-index
-      → length (slice_index_or (map (λ s. s.now) l.spreads) i []) ≡ 23;
+      → length (slice_index_or (map g.S.Distribution.shares l.spreads) i []) ≡ 23;
 }

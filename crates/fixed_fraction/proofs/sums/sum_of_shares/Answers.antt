@@ -1,66 +1,73 @@
-use Rattle.std.proofs.Common.{◌≡◌, ℕ, ◌+◌, ◌*◌, ◌≤◌, List, [], Bor, map, get_or, sum_by, take, sym, ap}
+use Rattle.std.proofs.Common.{◌≡◌, ℕ, ◌+◌, ◌*◌, ◌≤◌, List, [], map, get_or, sum_by, take, sym, ap}
 use Rattle.std.proofs.Common.{◌∙◌, arith}
+use Rattle.std.proofs.lemmas.List.{get_or-map}
 use Rattle.race_model.specs.Dice.{all_rolls, roll_index, weight}
 use Rattle.race_model.specs.LocalEquations.{whole}
 use Rattle.fixed_fraction.proofs.Shares.{share_at_most_sum}
 use Rattle.fixed_fraction.proofs.RollSums.{roll-added, roll-bound, rolls-fit, rolls-done}
-use Rattle.fixed_fraction.proofs.RollSums.{weights-by_index, lent-at}
+use Rattle.fixed_fraction.proofs.RollSums.{weights-by_index}
+use Rattle.fixed_fraction.proofs.sums.sum_of_shares.Given.{Over}
 use Rattle.fixed_fraction.proofs.sums.sum_of_shares.Goals as goal
 
 -- the share that a roll leads to, by its index
-share : List (Bor (List ℕ)) → ℕ → ℕ → ℕ
-share spreads k r = get_or (get_or (map (λ s. s.now) spreads) r []) k 0
+share : List (List ℕ) → ℕ → ℕ → ℕ
+share spreads k r = get_or (get_or spreads r []) k 0
 
 -- that of the next roll
-next : (c : goal.After-at) → c.at.result ≡ share c.args.spreads.now c.args.k c.loop-index.index
+next : (g : Over) (c : goal.After-share g) → c.share.result
+    ≡ share (map g.S.Distribution.shares c.args.spreads.now) c.args.k c.loop-index.index
 unfolding share
-next c =
-    c.at.ensures.value
+next g c =
+    c.share.ensures.value
     ∙ ap (λ (xs : List ℕ). get_or xs c.args.k 0)
-    (sym (lent-at c.args.spreads.now c.loop-index.index c.index-spreads-index.result
+    (sym (get_or-map g.S.Distribution.shares c.args.spreads.now c.loop-index.index
+    c.index-spreads-index.result []
     (omega (arith, c.told-spreads, c.loop-index-test.true))))
 
 -- .. is no more than 22 wholes
-small : (c : goal.After-at) → c.at.result ≤ 22 * whole
-small c =
+small : (g : Over) (c : goal.After-share g) → c.share.result ≤ 22 * whole
+small g c =
     let most =
     share_at_most_sum
-    (get_or c.args.spreads.now c.loop-index.index c.index-spreads-index.result).now c.args.k in
-    omega (arith, most, c.at.ensures.value, c.at.ensures.total)
+    (g.S.Distribution.shares
+    (get_or c.args.spreads.now c.loop-index.index c.index-spreads-index.result)) c.args.k in
+    omega (arith, most, c.share.ensures.value, c.share.ensures.total)
 
 -- the sum with the next roll is within the bound by the weights
-bounded : (c : goal.After-at) →
-    c.loop-index.total + c.from.result * c.at.result
+bounded : (g : Over) (c : goal.After-share g) →
+    c.loop-index.total + c.from.result * c.share.result
     ≤ sum_by weight (take (c.loop-index.index + 1) all_rolls) * (22 * whole)
 unfolding share
-bounded c =
-    roll-bound (share c.args.spreads.now c.args.k) c.loop-index.index c.at.result c.from.result
-    c.loop-index.total (22 * whole) c.loop-index-test.true (next c) (small c)
+bounded g c =
+    roll-bound (share (map g.S.Distribution.shares c.args.spreads.now) c.args.k)
+    c.loop-index.index c.share.result c.from.result c.loop-index.total (22 * whole) c.loop-index-test.true (next g c) (small g c)
     (c.from.ensures ∙ weights-by_index c.loop-index.index c.loop-index-test.true)
     c.loop-index.invariant.total c.loop-index.invariant.small
 
 pub overflow_mul-total : goal.overflow_mul-total
-overflow_mul-total c =
-    let fits = rolls-fit c.loop-index.index _ c.loop-index-test.true (bounded c) in omega arith
+overflow_mul-total g c =
+    let fits = rolls-fit c.loop-index.index _ c.loop-index-test.true (bounded g c) in omega arith
 
 pub overflow_add-total : goal.overflow_add-total
-overflow_add-total c =
-    let fits = rolls-fit c.loop-index.index _ c.loop-index-test.true (bounded c) in omega arith
+overflow_add-total g c =
+    let fits = rolls-fit c.loop-index.index _ c.loop-index-test.true (bounded g c) in omega arith
 
 pub loop-index-preserved : goal.loop-index-preserved
 unfolding share
-loop-index-preserved c = record {
+loop-index-preserved g c = record {
   total =
-      roll-added (share c.args.spreads.now c.args.k) c.loop-index.index c.at.result c.from.result
-      c.loop-index.total (22 * whole) c.loop-index-test.true (next c) (small c)
+      roll-added (share (map g.S.Distribution.shares c.args.spreads.now) c.args.k)
+      c.loop-index.index c.share.result c.from.result c.loop-index.total (22 * whole) c.loop-index-test.true (next g c) (small g c)
       (c.from.ensures ∙ weights-by_index c.loop-index.index c.loop-index-test.true)
       c.loop-index.invariant.total c.loop-index.invariant.small;
-  small = bounded c;
+  small = bounded g c;
 }
 
 pub returns : goal.returns
 unfolding share
-returns c =
-    rolls-done (λ v. weight v * share c.args.spreads.now c.args.k (roll_index v))
+returns g c =
+    rolls-done
+    (λ v.
+    weight v * share (map g.S.Distribution.shares c.args.spreads.now) c.args.k (roll_index v))
     c.loop-index.index c.loop-index.total (omega (arith, c.loop-index-test.false))
     c.loop-index.invariant.total

@@ -1,10 +1,12 @@
 use Rattle.std.proofs.Common.{◌≡◌, inl, inr, ⊎_elim, ◌-◌, ◌<◌, ◌≤◌, sym, ap, subst, ◌∙◌, arith, rules}
+use Rattle.std.proofs.lemmas.List.{append-nil}
 use Rattle.race_model.specs.Positions.{pips}
 use Rattle.race_model.specs.Ranks.{first_of, count_to}
 use Rattle.race_model.proofs.Ranks.RankOrder.{first_of-rises}
 use Rattle.race_model.proofs.Ranks.PositionTotals.{count_to-most}
 use Rattle.least_plays.specs.Known.{HasRows, Knows}
 use Rattle.retrograde.specs.AllRecords.{mean_of_rank}
+use Rattle.retrograde.proofs.Kept.{kept-lower}
 use Rattle.retrograde.proofs.Levels.{pips-at_rank, level-end}
 use Rattle.retrograde.proofs.building.add_level.Goals as goal
 
@@ -23,32 +25,41 @@ next_record-made-requires g c =
     omega (arith, c.loop-rank.invariant.level) in
     let level : pips c.unwrap-position.result ≡ c.args.pips =
     ap pips is ∙ pips-at_rank c.args.pips c.loop-rank.rank from under in
-    let rows = c.requires.1.1.1.1.1.1.1.1 in
     let has : HasRows g.row.ROWS c.loop-rank.rank = record {
-      few = rows.0;
-      own = ⊎_elim (λ all. inl (omega (arith, all, under))) (λ usual. inr usual) rows.1;
-    } in λ κs within. (
-      within,
+      few = c.requires.1.1.1.1.1.1.1.1.0;
+      own = ⊎_elim (λ all. inl (omega (arith, all, under))) (λ usual. inr usual)
+          c.requires.1.1.1.1.1.1.1.1.1;
+    } in
+    let records = c.loop-rank.records in
+    let kept = c.loop-rank.invariant.kept in λ κs within. (
+      search rules,
       (
         search rules,
         (
-          search rules,
+          λ a m. within a (rw append-nil at m),
           (
-            position,
+            search rules,
             (
-              omega (arith, level, c.requires.1.1.1.0),
+              omega arith,
               (
-                c.loop-rank.invariant.kept,
+                position,
                 (
-                  ranked ∙ sym c.loop-rank.invariant.made,
+                  omega (arith, level, c.requires.1.1.1.0),
                   (
-                    rw level
-                        (omega (
-                          arith,
-                          c.loop-rank.invariant.recent,
-                          c.loop-rank.invariant.made,
-                        )),
-                    (rw ranked c.loop-rank.invariant.known, rw ranked has),
+                    kept-lower g.full records.means records.spreads.items records.plays.items kept,
+                    (
+                      ranked ∙ sym c.loop-rank.invariant.made,
+                      (
+                        rw level
+                            (omega (
+                              arith,
+                              c.loop-rank.invariant.recent,
+                              c.loop-rank.invariant.made,
+                              kept.spreads_few,
+                            )),
+                        (rw ranked c.loop-rank.invariant.known, rw ranked has),
+                      ),
+                    ),
                   ),
                 ),
               ),

@@ -11,16 +11,16 @@ ghost-forget_before g a = g.full
 abbrev pub ghost-next_record : goal.ghost-next_record
 ghost-next_record g a = g.full
 
-abbrev pub ghost-add_record : goal.ghost-add_record
-ghost-add_record g a = g.full
+abbrev pub ghost-push : goal.ghost-push
+ghost-push g a = g.full
 
 -- the records of the level so far
 abbrev pub invariant-loop-rank : goal.invariant-loop-rank
 invariant-loop-rank g l = record {
-  kept : AreKept g.full (g.K.Keeper.means l.records) (g.K.Keeper.spreads l.records)
-      (g.K.Keeper.plays l.records);
-  made : length (g.K.Keeper.means l.records) ≡ l.rank;
-  recent : l.rank ≤ first_of (l.pips - 24) + length (g.K.Keeper.spreads l.records);
+  kept : AreKept g.full l.records.means l.records.spreads.items
+      l.records.plays.items;
+  made : length l.records.means ≡ l.rank;
+  recent : l.rank ≤ first_of (l.pips - 24) + length l.records.spreads.items;
   known : Knows (mean_of_rank g.full) l.least l.rank;
-  level : first_of l.pips + length (g.K.Keeper.plays l.records) ≡ l.rank;
+  level : first_of l.pips + length l.records.plays.items ≡ l.rank;
 }

@@ -30,7 +30,7 @@ rows_for header rows has p low = ⊎_elim
 
 pub add_level-requires : goal.add_level-requires
 add_level-requires g c =
-    let means = g.K.Keeper.means c.args.records.now in
+    let means = c.args.records.now.means in
     let none : length means ≡ 0 = ap length c.requires.means in
     λ κs within. (
       within,
@@ -41,8 +41,8 @@ add_level-requires g c =
           (
             omega arith,
             (
-              kept-none all-records means (g.K.Keeper.spreads c.args.records.now)
-                  (g.K.Keeper.plays c.args.records.now) c.requires.means c.requires.spreads
+              kept-none all-records means c.args.records.now.spreads.items
+                  c.args.records.now.plays.items c.requires.means c.requires.spreads
                   c.requires.plays,
               (
                 none ∙ sym first_of-zero,
@@ -110,7 +110,7 @@ returns-in_err-write_level g c =
           c.from_residual-in_err-write_level.ensures.1 (
             bound-most c.args.header,
             level-part version all-records bound c.args.header.bounded old mid new 0 0
-                (length (g.K.Keeper.means records)) (length (g.K.Keeper.plays records))
+                (length records.means) (length records.plays.items)
                 (omega arith) (omega (arith, level.level, first_of-zero)) level.made
                 (header-first version bound (bytes_of_rank version all-records) old mid
                 c.in_ok-write_header.ensures.all)
@@ -134,7 +134,7 @@ loop-below-init g c =
       recent = level.recent;
       written =
           level-written version all-records bound c.args.header.bounded old mid new 0
-          (length (g.K.Keeper.means records)) (length (g.K.Keeper.plays records))
+          (length records.means) (length records.plays.items)
           (omega (arith, level.level, first_of-zero))
           (header-first version bound (bytes_of_rank version all-records) old mid
           c.in_ok-write_header.ensures.all)
@@ -186,12 +186,12 @@ returns-in_err-add_level-2 g c =
     let below = c.loop-below.below in
     let is = c.loop-below.invariant in
     let low = c.args.header.bounded in
-    let few : length (g.K.Keeper.means c.loop-below.records) ≤ count_to bound =
+    let few : length c.loop-below.records.means ≤ count_to bound =
     omega (arith, is.made, first_of-one below, count_to-rises below bound (omega arith)) in
     let refused : IsRefusedBy version bound old new Memory = (
       bound-most c.args.header,
       ranks-written version all-records bound low old new
-          (length (g.K.Keeper.means c.loop-below.records)) few
+          (length c.loop-below.records.means) few
           is.written,
     ) in
     record {
@@ -217,8 +217,8 @@ returns-in_err-write_level-2 g c =
           c.from_residual-in_err-write_level-2.ensures.1 (
             bound-most c.args.header,
             level-part version all-records bound c.args.header.bounded old mid new
-                (c.loop-below.below + 1) (length (g.K.Keeper.means c.loop-below.records))
-                (length (g.K.Keeper.means records)) (length (g.K.Keeper.plays records))
+                (c.loop-below.below + 1) (length c.loop-below.records.means)
+                (length records.means) (length records.plays.items)
                 (omega arith) (omega (arith, level.level, is.made)) level.made is.written
                 c.in_err-write_level-2.ensures.part,
           );
@@ -241,8 +241,8 @@ loop-below-preserved g c =
       recent = level.recent;
       written =
           level-written version all-records c.args.header.bound c.args.header.bounded old mid new
-          (length (g.K.Keeper.means c.loop-below.records))
-          (length (g.K.Keeper.means records)) (length (g.K.Keeper.plays records))
+          (length c.loop-below.records.means)
+          (length records.means) (length records.plays.items)
           (omega (arith, level.level, is.made)) is.written
           c.in_ok-write_level-2.ensures.all;
     }
@@ -258,6 +258,6 @@ returns g c =
     let last : c.loop-below.below ≡ bound = omega arith in
     record {
       built = all-written version all-records bound low old new
-          (length (g.K.Keeper.means c.loop-below.records))
+          (length c.loop-below.records.means)
           (is.made ∙ (first_of-one c.loop-below.below ∙ ap count_to last)) is.written;
     }

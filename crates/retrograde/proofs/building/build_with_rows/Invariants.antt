@@ -18,13 +18,13 @@ ghost-write_level g a = all-records
 -- the levels so far are made and written
 abbrev pub invariant-loop-below : goal.invariant-loop-below
 invariant-loop-below g l = record {
-  kept : AreKept all-records (g.K.Keeper.means l.records) (g.K.Keeper.spreads l.records)
-      (g.K.Keeper.plays l.records);
+  kept : AreKept all-records l.records.means l.records.spreads.items
+      l.records.plays.items;
   known : Knows (mean_of_rank all-records) l.least (first_of (l.below + 1));
-  made : length (g.K.Keeper.means l.records) ≡ first_of (l.below + 1);
-  recent : length (g.K.Keeper.means l.records) ≤ first_of (l.below - 24) + length
-      (g.K.Keeper.spreads l.records);
+  made : length l.records.means ≡ first_of (l.below + 1);
+  recent : length l.records.means ≤ first_of (l.below - 24) + length
+      l.records.spreads.items;
   written : Appends (g.W.Write.contents l.fn.writer) (g.W.Write.contents l.writer)
       (built_to (version_by l.header.version) all-records l.header.bound
-      (length (g.K.Keeper.means l.records)));
+      (length l.records.means));
 }

@@ -5,12 +5,9 @@ use Rattle.retrograde.specs.AllRecords.{bytes_of_rank}
 use Rattle.db_layout.specs.WholeFiles.{records_from}
 use Rattle.retrograde.proofs.building.write_level.Given as goal
 
-abbrev pub ghost-spread_of : goal.ghost-spread_of
-ghost-spread_of g a = g.full
-
 -- the records so far are written
 abbrev pub invariant-loop-index : goal.invariant-loop-index
 invariant-loop-index g l =
     Appends (g.W.Write.contents l.initial.writer) (g.W.Write.contents l.writer)
     (records_from (bytes_of_rank (version_by l.header.version) g.full)
-    (length (g.K.Keeper.means l.records) - length (g.K.Keeper.plays l.records)) l.index)
+    (length l.records.means - length l.records.plays.items) l.index)

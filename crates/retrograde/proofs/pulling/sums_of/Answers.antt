@@ -1,5 +1,8 @@
-use Rattle.std.proofs.Common.{◌≡◌, ◌⊎◌, ⊎_elim, ℕ, ◌+◌, ◌*◌, ◌<◌, List, [], Bor, map, get_or}
+use Rattle.std.proofs.Common.{◌≡◌, ◌⊎◌, ⊎_elim, ℕ, ◌+◌, ◌*◌, ◌<◌, List, [], map, get_or}
 use Rattle.std.proofs.Common.{sym, ap, ◌∙◌, arith}
+use Rattle.std.proofs.Common.{w64}
+use Rattle.std.proofs.Math.Facts.{Fits-of_lt}
+use Rattle.std.proofs.Math.Nat.{mul-le-mul_left}
 use Rattle.std.proofs.lemmas.List.{get_or-set_other, length-set, map-set, length-map}
 use Rattle.std.proofs.lemmas.Grind.{get_or-set_at}
 use Rattle.race_model.specs.Dice.{all_rolls, roll_index, weight}
@@ -16,16 +19,21 @@ loop-index-preserved g c =
     let i = c.loop-index.index in
     let plays = c.args.plays.now in
     let kept = c.loop-index.invariant in
-    let spreads = map (λ (s : Bor (List ℕ)). s.now) c.loop-index.spreads in
-    let spread = c.spread_of.result.now in
+    let spreads = map g.L.Spread.Distribution.shares c.loop-index.spreads in
+    let spread = g.L.Spread.Distribution.shares c.spread.result in
     let play = get_or plays i 0 in
     let mean : c.mean.result ≡ mean_of_rank g.full play =
-    c.mean.ensures ∙ c.requires.1.0.means_are play (c.requires.1.1.0 i c.loop-index-test.true) in
-    let set = map-set (λ (s : Bor (List ℕ)). s.now) c.loop-index.spreads i c.spread_of.result in
-    let long = length-map c.loop-index.spreads (λ (s : Bor (List ℕ)). s.now) in
+    c.mean.ensures
+    ∙ c.requires.1.1.0.means_are play (c.requires.1.1.1.1.0 i c.loop-index-test.true) in
+    let held = c.requires.1.1.1.1.0 i c.loop-index-test.true in
+    let told : spread ≡ shares_of_rank g.full play =
+    c.spread.ensures
+    ∙ c.requires.1.1.0.shares_are play (c.requires.1.1.1.1.1.0 i c.loop-index-test.true) held in
+    let set = map-set g.L.Spread.Distribution.shares c.loop-index.spreads i c.spread.result in
+    let long = length-map c.loop-index.spreads g.L.Spread.Distribution.shares in
     record {
       means_len = length-set c.loop-index.means i c.mean.result ∙ kept.means_len;
-      spreads_len = length-set c.loop-index.spreads i c.spread_of.result ∙ kept.spreads_len;
+      spreads_len = length-set c.loop-index.spreads i c.spread.result ∙ kept.spreads_len;
       means_are = λ j lt. ⊎_elim
           (λ less.
           get_or-set_other c.loop-index.means i j c.mean.result 0 (λ e. absurd (omega arith))
@@ -42,7 +50,7 @@ loop-index-preserved g c =
           (λ same.
           get_or-set_at spreads i j spread [] same
           (omega (arith, kept.spreads_len, long, c.loop-index-test.true))
-          ∙ (c.spread_of.ensures
+          ∙ (told
           ∙ ap (λ n. shares_of_rank g.full (get_or plays n 0)) (sym same)))
           (split j i lt);
     }
@@ -65,10 +73,30 @@ returns-clause-shares g c = λ k few.
     (λ v.
     weight v
     * get_or
-    (get_or (map (λ (s : Bor (List ℕ)). s.now) c.loop-index.spreads) (roll_index v) []) k 0)
+    (get_or (map g.L.Spread.Distribution.shares c.loop-index.spreads) (roll_index v) []) k 0)
     (λ v. weight v * get_or (shares_of_rank g.full (get_or c.args.plays.now (roll_index v) 0)) k 0)
     all_rolls
     (λ v.
     ap (λ (xs : List ℕ). weight v * get_or xs k 0)
     (c.loop-index.invariant.spreads_are (roll_index v)
     (omega (arith, roll_index-range v, c.loop-index-test.false))))
+
+-- the spreads have room in memory
+pub offset_bounds-spreads-index : goal.offset_bounds-spreads-index
+offset_bounds-spreads-index g c =
+    let small = c.requires.1.1.1.0 in
+    let most = mul-le-mul_left c.loop-index.index small in
+    Fits-of_lt {w = w64} (omega (arith, most, c.loop-index-test.true))
+
+pub of-requires : goal.of-requires
+of-requires g c =
+    let small = c.requires.1.1.1.0 in (
+      omega (arith, small),
+      (
+        c.requires.1.1.1.1.1.1.0,
+        λ i k lt le.
+            ap (λ (xs : List ℕ). get_or xs k 0)
+            (c.loop-index.invariant.spreads_are i (omega (arith, lt, c.loop-index-test.false)))
+            ∙ c.requires.1.1.1.1.1.1.1 i k lt le,
+      ),
+    )

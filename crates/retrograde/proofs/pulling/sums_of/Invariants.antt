@@ -3,9 +3,6 @@ use Rattle.std.specs.Prelude.{slice_index, slice_index_or}
 use Rattle.retrograde.specs.AllRecords.{mean_of_rank, shares_of_rank}
 use Rattle.retrograde.proofs.pulling.sums_of.Given as goal
 
-abbrev pub ghost-spread_of : goal.ghost-spread_of
-ghost-spread_of g a = g.full
-
 -- what the rolls so far play to
 abbrev pub invariant-loop-index : goal.invariant-loop-index
 invariant-loop-index g l = record {
@@ -14,6 +11,6 @@ invariant-loop-index g l = record {
   means_are : (j : ℕ) → j < l.index
       → get_or l.means j 0 ≡ mean_of_rank g.full (slice_index l.plays j);
   spreads_are : (j : ℕ) → j < l.index
-      → slice_index_or (map (λ s. s.now) l.spreads) j []
+      → slice_index_or (map g.L.Spread.Distribution.shares l.spreads) j []
       ≡ shares_of_rank g.full (slice_index l.plays j);
 }

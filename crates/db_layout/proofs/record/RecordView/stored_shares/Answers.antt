@@ -96,3 +96,12 @@ returns-clause-none c k few from past =
     (most_rolls-most inside.pips c.self.invariant.1) c.self.invariant.0 few
     ∙ told-none version inside.pips (λ n. share_of inside.bytes.now (n - first_share version)) k
     few (omega (arith, first, from)) (omega (arith, first, c.share_count.ensures, past))
+
+-- no record begins after the share of one roll
+first-most : (version : Version) → first_share version ≤ 1
+first-most full = omega arith
+first-most compact = omega arith
+
+pub returns-clause-begun : goal.returns-clause-begun
+returns-clause-begun c =
+    omega (arith, c.first_share-first.ensures, first-most (version_by c.self.inside.version))

@@ -4,8 +4,9 @@ use Rattle.fixed_fraction.proofs.sums.Sums.of.Given as goal
 
 -- the sums of at most k rolls are there, and the others are none
 abbrev pub invariant-loop-k : goal.invariant-loop-k
-invariant-loop-k l = record {
+invariant-loop-k g l = record {
   len : length l.shares ≡ 23;
-  summed : (j : ℕ) → j < l.k → get_or l.shares j 0 ≡ weighted_at (map (λ s. s.now) l.spreads) j;
+  summed : (j : ℕ) → j < l.k →
+      get_or l.shares j 0 ≡ weighted_at (map g.S.Distribution.shares l.spreads) j;
   left : (j : ℕ) → l.k ≤ j → get_or l.shares j 0 ≡ 0;
 }

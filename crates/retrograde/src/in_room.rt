@@ -1,0 +1,97 @@
+//! The database of a header, built in bytes that are lent: each record is written in its place, by
+//! those that stand before it.
+ghost use Rattle.std.specs.Prelude.{◌≡◌, ℕ, ◌+◌, ◌<◌, ◌≤◌, ◌↔◌, ◌⊎◌, ◌++◌, length, take, drop};
+ghost use Rattle.std.specs.Prelude.{IsSome, IfSome, IfNone};
+ghost use Rattle.race_model.specs.Versions.{version_by};
+ghost use Rattle.race_model.specs.Files.{record_place};
+ghost use Rattle.race_model.specs.BuiltFile.{IsBuilt};
+ghost use Rattle.retrograde.specs.RecordBytes.{record_by};
+
+use crate::made_record::MadeRecord;
+use crate::pulling::next_record;
+use crate::stored::StoredRecords;
+use db_layout::{HEADER_BYTES, Header, header_bytes, record_bytes};
+use fixed_fraction::Scaled;
+use least_plays::{LeastPlays, ROWS_TO_8, ROWS_TO_90};
+use ranking::Ranks;
+
+/// How many positions have at most 58 pips.
+const POSITIONS: usize = 46062;
+
+/// Builds the database of the version and the bound of a header in the first bytes of a room, and
+/// says how many they are; none exactly where the room is smaller than the file, and then it is as
+/// it was. It takes no memory but the stack, of which it needs less than 1.5 MB, and less than
+/// 128 KB to 8 pips.
+pub fn build_in_room(header: &Header, room: &mut [u8]) -> Option<usize>
+    ensures some { IsSome result
+        ↔ (record_place (version_by header.now.version) header.now.count ≤ length room.old) }
+    ensures count { IfSome result
+        (λ count. count ≡ record_place (version_by header.now.version) header.now.count) }
+    ensures built { IfSome result (λ count.
+        IsBuilt (version_by header.now.version) header.now.bound (take count room.new)) }
+    ensures rest { IfSome result (λ count. drop count room.new ≡ drop count room.old) }
+    ensures len { length room.new ≡ length room.old }
+    ensures kept { IfNone result (room.new ≡ room.old) }
+{
+    let count = header.end() as usize;
+    if room.len() < count {
+        return None;
+    }
+    if usize::from(header.count) <= ROWS_TO_8 {
+        fill::<ROWS_TO_8, ROWS_TO_8>(header, room);
+    } else {
+        fill::<ROWS_TO_90, POSITIONS>(header, room);
+    }
+    Some(count)
+}
+
+/// Builds the file with this header in a room that is no smaller, with so many rows for the best
+/// plays and so many means.
+// so that no more of them are on the stack than are needed
+#[inline(never)]
+fn fill<const ROWS: usize, const COUNT: usize>(header: &Header, room: &mut [u8])
+    requires few { ROWS ≤ 11452 }
+    requires rows { (header.now.count ≤ ROWS) ⊎ (ROWS ≡ 11452) }
+    requires means { header.now.count ≤ COUNT }
+    requires positions { COUNT ≤ 46062 }
+    requires room { record_place (version_by header.now.version) header.now.count
+        ≤ length room.old }
+    ensures len { length room.new ≡ length room.old }
+    ensures built { IsBuilt (version_by header.now.version) header.now.bound
+        (take (record_place (version_by header.now.version) header.now.count) room.new) }
+    ensures rest { drop (record_place (version_by header.now.version) header.now.count) room.new
+        ≡ drop (record_place (version_by header.now.version) header.now.count) room.old }
+{
+    room[..HEADER_BYTES].copy_from_slice(header_bytes(header).as_slice());
+    let ranks = Ranks::new();
+    let mut least: LeastPlays<ROWS> = LeastPlays::new();
+    let mut means = [Scaled::ZERO; COUNT];
+    for rank in 0..header.count {
+        let index = usize::from(rank);
+        let position = ranks.unrank(rank).unwrap();
+        let lower = StoredRecords {
+            header,
+            means: &means[..index],
+            bytes: room,
+        };
+        let made = next_record(&ranks, &position, &lower, &mut least);
+        means[index] = made.mean;
+        put_record(header, rank, &made, room);
+    }
+}
+
+/// Writes the record of a rank where it stands.
+fn put_record(header: &Header, rank: u16, made: &MadeRecord, room: &mut [u8])
+    requires rank { rank < header.now.count }
+    requires room { record_place (version_by header.now.version) rank
+        + length (record_by (version_by header.now.version) rank made.now) ≤ length room.old }
+    ensures { room.new ≡ take (record_place (version_by header.now.version) rank) room.old
+        ++ (record_by (version_by header.now.version) rank made.now
+        ++ drop (record_place (version_by header.now.version) rank
+        + length (record_by (version_by header.now.version) rank made.now)) room.old) }
+{
+    let place = header.find(rank);
+    let start = place.offset as usize;
+    let bytes = record_bytes(header, place.pips, made.mean, &made.plays, &made.spread);
+    room[start..start + bytes.len()].copy_from_slice(bytes.as_slice());
+}
