@@ -1,5 +1,5 @@
 //! Weighted sums over the 21 rolls.
-ghost use Rattle.std.specs.Prelude.{◌≡◌, ℕ, suc, ◌+◌, ◌*◌, ◌%◌, ◌<◌, ◌≤◌, ◌↔◌};
+ghost use Rattle.std.specs.Prelude.{◌≡◌, ℕ, suc, ◌+◌, ◌*◌, ◌%◌, ◌^◌, ◌<◌, ◌≤◌, ◌↔◌};
 ghost use Rattle.std.specs.Prelude.{List, [], length, map, slice_index, slice_index_or, sum};
 ghost use Rattle.std.specs.Prelude.{IsSome, IfSome};
 ghost use Rattle.race_model.specs.Dice.{roll_index, weighted};
@@ -24,20 +24,57 @@ pub trait Distribution: Copy {
     // the 23 shares, that of 0 rolls first
     ghost shares: { Self → List ℕ };
 
+    // there is none of so many rolls or more, but that of 0 rolls
+    ghost end: { Self → ℕ };
+
     /// The share of exactly `k` rolls, as a numerator over 36 ^ 22. All add up to the whole.
     fn share(self, k: u8) -> u128
         requires { k ≤ 22 }
         ensures value { result ≡ slice_index (shares self) k }
         ensures total { sum (shares self) ≡ whole }
         ensures len { length (shares self) ≡ 23 };
+
+    /// A number of rolls from which on there is no share, and before which each but that of 0 rolls
+    /// is read without a test.
+    fn end(self) -> u8
+        ensures end { result ≡ end self }
+        ensures none { (k : ℕ) → 1 ≤ k → end self ≤ k → slice_index (shares self) k ≡ 0 };
+
+    /// The share of exactly `k` rolls, without a test.
+    fn stored(self, k: u8) -> u128
+        requires some { 1 ≤ k }
+        requires few { k ≤ 22 }
+        requires stored { k < end self }
+        ensures { result ≡ slice_index (shares self) k };
+
+    /// Whether shares lie ready as numbers. What is told is the same, in another order.
+    fn are_ready() -> bool;
 }
 
 impl<'a> Distribution for &'a Spread {
     ghost shares = { λ spread. spread.now };
 
+    ghost end = { λ _. 23 };
+
     #[inline(always)]
     fn share(self, k: u8) -> u128 {
         self.at(k)
+    }
+
+    #[inline(always)]
+    fn end(self) -> u8 {
+        let _start = self.at(0);
+        23
+    }
+
+    #[inline(always)]
+    fn stored(self, k: u8) -> u128 {
+        self.at(k)
+    }
+
+    #[inline(always)]
+    fn are_ready() -> bool {
+        true
     }
 }
 
@@ -80,10 +117,7 @@ impl Sums {
             ≡ weighted_at (map S.shares spreads.now) k }
     {
         law_spreads(spreads);
-        let mut shares = [0; 23];
-        for k in 0..rolls.min(23) {
-            shares[usize::from(k)] = sum_of_shares(spreads, k);
-        }
+        let shares = sums_of_shares(spreads, rolls);
         Sums {
             mean: sum_of_means(means),
             shares,
@@ -169,8 +203,82 @@ fn sum_of_means(means: &[Scaled; 21]) -> u128
     total
 }
 
-/// The same of their shares of exactly `k` rolls. The loop has no test and no number but the
-/// weights, so that the compiler makes a straight line of it.
+/// The sums of their shares. None of them has a share of so many rolls or more.
+#[inline(always)]
+fn sums_of_shares<S: Distribution>(spreads: &[S; 21], rolls: u8) -> [u128; 23]
+    requires few { rolls ≤ 23 }
+    requires beyond { (i k : ℕ) → i < 21 → rolls ≤ k →
+        slice_index (slice_index_or (map S.shares spreads.now) i []) k ≡ 0 }
+    ensures len { length result ≡ 23 }
+    ensures sums { (k : ℕ) → k < 23 → slice_index result k
+        ≡ weighted_at (map S.shares spreads.now) k }
+    ensures none { (k : ℕ) → rolls ≤ k → slice_index result k ≡ 0 }
+{
+    if S::are_ready() {
+        sums_by_rolls(spreads, rolls)
+    } else {
+        sums_by_plays(spreads, rolls)
+    }
+}
+
+/// The same, of one number of rolls after the other.
+#[inline(always)]
+fn sums_by_rolls<S: Distribution>(spreads: &[S; 21], rolls: u8) -> [u128; 23]
+    requires few { rolls ≤ 23 }
+    requires beyond { (i k : ℕ) → i < 21 → rolls ≤ k →
+        slice_index (slice_index_or (map S.shares spreads.now) i []) k ≡ 0 }
+    ensures len { length result ≡ 23 }
+    ensures sums { (k : ℕ) → k < 23 → slice_index result k
+        ≡ weighted_at (map S.shares spreads.now) k }
+    ensures none { (k : ℕ) → rolls ≤ k → slice_index result k ≡ 0 }
+{
+    let mut shares = [0; 23];
+    for k in 0..rolls.min(23) {
+        shares[usize::from(k)] = sum_of_shares(spreads, k);
+    }
+    shares
+}
+
+/// The same, of one play after the other, so that a place is found once for all of its shares.
+#[inline(always)]
+fn sums_by_plays<S: Distribution>(spreads: &[S; 21], rolls: u8) -> [u128; 23]
+    requires few { rolls ≤ 23 }
+    requires beyond { (i k : ℕ) → i < 21 → rolls ≤ k →
+        slice_index (slice_index_or (map S.shares spreads.now) i []) k ≡ 0 }
+    ensures len { length result ≡ 23 }
+    ensures sums { (k : ℕ) → k < 23 → slice_index result k
+        ≡ weighted_at (map S.shares spreads.now) k }
+    ensures none { (k : ℕ) → rolls ≤ k → slice_index result k ≡ 0 }
+{
+    law_spreads(spreads);
+    let mut shares = [0; 23];
+    for index in 0..21 {
+        add_shares(&mut shares, spreads[index], WEIGHTS[index], rolls);
+    }
+    shares
+}
+
+/// Adds the shares of one play with its weight. It has none of so many rolls or more.
+#[inline(always)]
+fn add_shares<S: Distribution>(shares: &mut [u128; 23], spread: S, weight: u8, rolls: u8)
+    requires len { length shares.old ≡ 23 }
+    requires few { rolls ≤ 23 }
+    requires none { (k : ℕ) → rolls ≤ k → slice_index (S.shares spread) k ≡ 0 }
+    requires room { (k : ℕ) → k < 23 →
+        slice_index shares.old k + weight * slice_index (S.shares spread) k < 2 ^ 128 }
+    ensures len { length shares.new ≡ 23 }
+    ensures added { (k : ℕ) → k < 23 → slice_index shares.new k
+        ≡ slice_index shares.old k + weight * slice_index (S.shares spread) k }
+{
+    shares[0] += u128::from(weight) * spread.share(0);
+    for k in 1..spread.end().min(rolls) {
+        shares[usize::from(k)] += u128::from(weight) * spread.stored(k);
+    }
+}
+
+/// The sum of the shares of exactly `k` rolls that the rolls lead to, with the weights of these.
+/// The loop has no test and no number but the weights, so that the compiler makes a straight line
+/// of it.
 #[inline(always)]
 #[tactic(auto, unfolding(race_model::specs::LocalEquations::whole))]
 fn sum_of_shares<S: Distribution>(spreads: &[S; 21], k: u8) -> u128

@@ -16,12 +16,14 @@ use fixed_fraction::{Distribution, Scaled};
 pub(crate) struct StoredSpread<'a> {
     stored: StoredShares<'a>,
     start: u128,
-    ghost few: { stored.end ≤ 23 },
+    ghost begun: { stored.first ≤ 1 },
     ghost all: { sum (told_shares stored start) ≡ whole },
 }
 
 impl<'a> Distribution for StoredSpread<'a> {
     ghost shares = { λ spread. told_shares spread.stored spread.start };
+
+    ghost end = { λ spread. spread.stored.end };
 
     #[inline(always)]
     fn share(self, k: u8) -> u128 {
@@ -33,6 +35,21 @@ impl<'a> Distribution for StoredSpread<'a> {
         } else {
             0
         }
+    }
+
+    #[inline(always)]
+    fn end(self) -> u8 {
+        self.stored.end
+    }
+
+    #[inline(always)]
+    fn stored(self, k: u8) -> u128 {
+        self.stored.at(k)
+    }
+
+    #[inline(always)]
+    fn are_ready() -> bool {
+        false
     }
 }
 

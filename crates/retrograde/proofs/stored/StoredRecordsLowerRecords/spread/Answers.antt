@@ -19,7 +19,7 @@ same c =
 
 pub invariant_of-result : goal.invariant_of-result
 invariant_of-result c = record {
-  few = c.stored_shares.ensures.few;
+  begun = c.stored_shares.ensures.begun;
   all = ap sum (same c) ∙ c.args.self.now.wholes c.args.rank c.requires.made;
 }
 

@@ -1,6 +1,6 @@
 use Rattle.std.proofs.Common.{◌≡◌, ℕ, ◌<◌, ◌≤◌, length, map, get_or}
 use Rattle.fixed_fraction.specs.Totals.{weighted_at}
-use Rattle.fixed_fraction.proofs.sums.Sums.of.Given as goal
+use Rattle.fixed_fraction.proofs.sums.sums_by_rolls.Given as goal
 
 -- the sums of at most k rolls are there, and the others are none
 abbrev pub invariant-loop-k : goal.invariant-loop-k
