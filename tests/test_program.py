@@ -36,6 +36,9 @@ AUDIT = """pips 0 positions 1 least 0/1 greatest 0/1
 pips 1 positions 1 least 1/1 greatest 1/1
 pips 2 positions 2 least 1/1 greatest 1/1
 pips 3 positions 3 least 1/1 greatest 11/6"""
+BUILD_USAGE = (
+    "Usage: bearoff build --pips <N> <FILE>\n       bearoff build --board <FILE>"
+)
 READERS = ("check", "query", "query --cache 1", "audit")
 
 
@@ -255,32 +258,38 @@ class TestCommands:
         [
             ("build --pips 8 --board large", "--pips"),
             ("build --board --pips=8 large", "--pips"),
-            ("build large --board --pips x", "--pips"),
+            ("build large --board --pips 0", "--pips"),
             ("query --cache 5 --board eight", "--cache"),
             ("query --board eight --cache=5", "--cache"),
         ],
     )
     def test_options_beside_board(self, files, ask, words, option):
-        name = words.split()[0]
+        usage = {"--pips": BUILD_USAGE, "--cache": "Usage: bearoff query [OPTIONS] <FILE>"}[option]
         expect(
             ask(words),
             2,
             "",
             f"error: the argument '{option} <N>' cannot be used with '--board'\n\n"
-            f"Usage: bearoff {name} --board <FILE>\n\nFor more information, try '--help'.",
+            f"{usage}\n\nFor more information, try '--help'.",
         )
         assert is_gone("large"), "a file was opened for wrong words"
 
-    # a command has a help of its own for a board file, and its help says so
+    def test_a_build_without_a_bound(self, files, ask):
+        expect(
+            ask("build large"),
+            2,
+            "",
+            f"error: --pips is missing\n\n{BUILD_USAGE}\n\nFor more information, try '--help'.",
+        )
+        assert is_gone("large"), "a file was opened for wrong words"
+
+    # the help of a command tells of board files, and of what refuses one
     @pytest.mark.parametrize("name", ["build", "check", "query", "audit"])
     def test_helps_of_board(self, files, ask, name):
-        for words in (f"{name} --board --help", f"{name} --board -h", f"{name} --help --board"):
-            done = ask(words)
-            usage = f"Usage: bearoff {name} --board <FILE>\n".encode()
-            is_so = done.status == 0 and usage in done.output and done.errors == b""
-            expect_that(is_so, done, "status 0, and the usage with --board on standard output")
-        done = ask(f"{name} --help")
-        expect_that(b"--board FILE" in done.output, done, "a help that tells of --board FILE")
+        helps = {ask(f"{name} {it}").output for it in ("--help", "--board --help", "--help --board")}
+        (text,) = helps
+        assert b"FILE is a board file: the whole home board, to 90 pips" in text
+        assert name == "build" or b"`header bad-version` where `--board` is missing" in text
 
     # a word that is no UTF-8 text names no file; X stands for it
     @pytest.mark.parametrize(

@@ -1,7 +1,6 @@
 mod CommandFaults
 mod Levels
 mod OpenedFiles
-mod PutFiles
 mod Requests
 mod StoppedRuns
 mod ToldFaults

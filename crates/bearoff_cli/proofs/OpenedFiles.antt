@@ -11,6 +11,8 @@ use Rattle.race_model.specs.RightFiles.{IsRightDatabase}
 use Rattle.epc_query.specs.AnyFiles.{AnyFile, bound_by, IsRightBy}
 use Rattle.db_reader.specs.Telling.{WhereTold}
 use Rattle.certificate.specs.Upgrades.{WritesUpgrade}
+use Rattle.race_model.specs.InputLines.{lines_of}
+use Rattle.epc_query.specs.Runs.{HasReplies}
 use Rattle.epc_query.proofs.Runs.{read_all, read_front}
 use Rattle.bearoff_cli.proofs.Requests.{IsNot}
 use Rattle.bearoff_cli.specs.InputAnswers.{AreAnswered}
@@ -56,6 +58,22 @@ pub levels_read : {A E F : Type 0} (kind : List ℕ → AnyFile) (remaining : F 
 levels_read kind remaining file old new (Ok x) read right levels =
     record { file = file; read = read; right = right; levels = levels }
 levels_read kind remaining file old new (Err e) read right levels = tt
+
+-- the replies over a right file
+pub are_answered : {E : Type 0} (file : AnyFile) (given : List ℕ) (left old new : Option (List ℕ))
+    (r : Result ℕ E) → IsRightBy file
+    → IfOk r (λ n. IsAtEnd left × (n ≡ length (lines_of given))
+    × HasReplies file (lines_of given) old new)
+    → IfOk r (λ _. AreAnswered file given left old new)
+are_answered file given left old new (Ok n) right is =
+    record { right = right; end = is.0; replies = is.2 }
+are_answered file given left old new (Err e) right is = tt
+
+-- three things that hold at Ok
+pub all_ok : {A E : Type 0} (r : Result A E) (P Q R : Type 0) → OnOk r P → OnOk r Q → OnOk r R
+    → OnOk r (P × Q × R)
+all_ok (Ok x) P Q R p q r = (p, q, r)
+all_ok (Err e) P Q R p q r = tt
 
 -- the replies over what was read
 pub over_read : {A E F : Type 0} (kind : List ℕ → AnyFile) (remaining : F → Option (List ℕ))

@@ -1,7 +1,7 @@
 -- What the faults of the parts say of a file.
 use Rattle.std.proofs.Common.{◌≡◌, ℕ, List, Option, Result, Ok, Err, IfOk, IfErr, Some, None, inl, inr}
 use Rattle.std.proofs.Common.{refl, subst, sym, ◌∙◌, ◌<◌, arith}
-use Rattle.std.specs.Prelude.{◌↔◌, ◌⊎◌, OnOk}
+use Rattle.std.specs.Prelude.{◌↔◌, OnOk}
 use Rattle.race_model.specs.Versions.{Version, full, compact}
 use Rattle.certificate.specs.declared.upgrade_fault.UpgradeFault.{UpgradeFault}
 use Rattle.certificate.specs.declared.upgrade_fault.UpgradeFault.TheVariants.{NotOld as IsNotOld, Read as OldRead}
@@ -26,19 +26,13 @@ use Rattle.exit_status.specs.declared.fault.Fault.{Fault}
 use Rattle.exit_status.specs.declared.fault.Fault.TheVariants.{Open, File, Read, Write, Memory, Turns, OverBound}
 use Rattle.exit_status.specs.declared.fault.Fault.TheVariants.{Refused, NotOld}
 use Rattle.bearoff_cli.specs.FileAnswers.{IsReadFrom}
-use Rattle.command_line.specs.declared.words.Request.{Request}
-use Rattle.command_line.specs.declared.words.Request.TheVariants.{Default, Build, Check, Query, Audit}
-use Rattle.command_line.specs.declared.words.Request.TheVariants.{Upgrade, Board}
-use Rattle.command_line.specs.declared.words.BoardCommand.{BoardCommand}
-use Rattle.command_line.specs.declared.words.BoardCommand.TheVariants.{Build as BuildBoard, Check as CheckBoard}
-use Rattle.command_line.specs.declared.words.BoardCommand.TheVariants.{Query as QueryBoard, Audit as AuditBoard}
+use Rattle.command_line.specs.Asked.{Asked, default, build, check, query, audit, upgrade}
 use Rattle.bearoff_cli.specs.Faults.{CanEnd, IsFaultIn, IsFirstBy, IsOwnFault, IsFaultOf}
 use Rattle.bearoff_cli.specs.StoppedRuns.{IsEndOf, IsRefusalOf, Leaves}
 use Rattle.bearoff_cli.specs.Turns.{UsesTurns}
 use Rattle.bearoff_cli.specs.Tellings.{IsToldBy}
 use Rattle.bearoff_cli.specs.declared.act.ProgramFault.{ProgramFault}
 use Rattle.bearoff_cli.specs.declared.act.ProgramFault.TheVariants.{Words, Failed}
-use Rattle.bearoff_cli.proofs.Requests.{IsSame, of_same}
 
 -- the first fault that a check found
 pub check_in : (file : AnyFile) (cause : CheckFault) → IsFirstBy file cause
@@ -106,97 +100,59 @@ old_status OldRead version r is says old = refl
 old_status NewWrite version r is says old = refl
 
 -- want of memory may come to each request
-pub memory_of : {F : Type 0} (remaining : F → Option (List ℕ)) (request : Request)
-    → IsFaultOf remaining request Memory
-memory_of remaining Default = tt
-memory_of remaining (Build pips path) = tt
-memory_of remaining (Check path) = inl refl
-memory_of remaining (Query path None) = inl refl
-memory_of remaining (Query path (Some records)) = tt
-memory_of remaining (Audit path) = inl refl
-memory_of remaining (Upgrade before after) = inl refl
-memory_of remaining (Board BuildBoard path) = tt
-memory_of remaining (Board CheckBoard path) = inl refl
-memory_of remaining (Board QueryBoard path) = inl refl
-memory_of remaining (Board AuditBoard path) = inl refl
+pub memory_of : {F : Type 0} (remaining : F → Option (List ℕ)) (asked : Asked)
+    → IsFaultOf remaining asked Memory
+memory_of remaining default = tt
+memory_of remaining (build kind pips path) = tt
+memory_of remaining (check kind path) = inl refl
+memory_of remaining (query kind path None) = inl refl
+memory_of remaining (query kind path (Some records)) = tt
+memory_of remaining (audit kind path) = inl refl
+memory_of remaining (upgrade before after) = inl refl
 
 -- .. before anything was written
-pub nothing_of : {F : Type 0} (remaining : F → Option (List ℕ)) (request : Request)
+pub nothing_of : {F : Type 0} (remaining : F → Option (List ℕ)) (asked : Asked)
     (input left old : Option (List ℕ)) (fault : Fault)
-    → Leaves remaining request input left old old fault
-nothing_of remaining Default input left old fault = λ given told. inl refl
-nothing_of remaining (Build pips path) input left old fault = (0, appends_none old)
-nothing_of remaining (Check path) input left old fault = inl refl
-nothing_of remaining (Query path None) input left old fault = λ given told. inl refl
-nothing_of remaining (Query path (Some records)) input left old fault = tt
-nothing_of remaining (Audit path) input left old fault = inl refl
-nothing_of remaining (Upgrade before after) input left old fault = inl refl
-nothing_of remaining (Board BuildBoard path) input left old fault = (0, appends_none old)
-nothing_of remaining (Board CheckBoard path) input left old fault = inl refl
-nothing_of remaining (Board QueryBoard path) input left old fault = λ given told. inl refl
-nothing_of remaining (Board AuditBoard path) input left old fault = inl refl
+    → Leaves remaining asked input left old old fault
+nothing_of remaining default input left old fault = λ given told. inl refl
+nothing_of remaining (build kind pips path) input left old fault = (0, appends_none old)
+nothing_of remaining (check kind path) input left old fault = inl refl
+nothing_of remaining (query kind path None) input left old fault = λ given told. inl refl
+nothing_of remaining (query kind path (Some records)) input left old fault = tt
+nothing_of remaining (audit kind path) input left old fault = inl refl
+nothing_of remaining (upgrade before after) input left old fault = inl refl
 
 -- .. so it may be the end of each
-pub memory_end : {F : Type 0} (remaining : F → Option (List ℕ)) (request : Request)
-    (input left old : Option (List ℕ)) → IsEndOf remaining request input left old old Memory
-memory_end remaining request input left old = (
-  can_want request,
-  memory_of remaining request,
+pub memory_end : {F : Type 0} (remaining : F → Option (List ℕ)) (asked : Asked)
+    (input left old : Option (List ℕ)) → IsEndOf remaining asked input left old old Memory
+memory_end remaining asked input left old = (
+  can_want asked,
+  memory_of remaining asked,
   λ given told. tt,
-  nothing_of remaining request input left old Memory,
+  nothing_of remaining asked input left old Memory,
 )
   where
-    can_want : (request : Request) → CanEnd request Memory
-    can_want Default = tt
-    can_want (Build pips path) = record { within = λ low. tt; over = λ over. inr refl }
-    can_want (Check path) = tt
-    can_want (Query path records) = tt
-    can_want (Audit path) = tt
-    can_want (Upgrade before after) = tt
-    can_want (Board BuildBoard path) = tt
-    can_want (Board CheckBoard path) = tt
-    can_want (Board QueryBoard path) = tt
-    can_want (Board AuditBoard path) = tt
+    can_want : (asked : Asked) → CanEnd asked Memory
+    can_want default = tt
+    can_want (build kind pips path) = record { within = λ low. tt; over = λ over. inr refl }
+    can_want (check kind path) = tt
+    can_want (query kind path records) = tt
+    can_want (audit kind path) = tt
+    can_want (upgrade before after) = tt
 
--- the end of the request that was read is that of this one
-pub same_end : {F : Type 0} (remaining : F → Option (List ℕ)) (request given : Request)
-    (input left old new : Option (List ℕ)) (fault : Fault) → IsSame request given
-    → IsEndOf remaining given input left old new fault
-    → IsEndOf remaining request input left old new fault
-same_end remaining request given input left old new fault =
-    of_same (λ r. IsEndOf remaining r input left old new fault)
-    (λ n p q h. h) (λ p q h. h) of_query (λ p q h. h) (λ p q r s h. h) of_command request given
-  where
-    of_query : (p q : _) (r : Option ℕ)
-        → IsEndOf remaining (Query p r) input left old new fault
-        → IsEndOf remaining (Query q r) input left old new fault
-    of_query p q None h = h
-    of_query p q (Some n) h = h
-
-    of_command : (command : BoardCommand) (p q : _)
-        → IsEndOf remaining (Board command p) input left old new fault
-        → IsEndOf remaining (Board command q) input left old new fault
-    of_command BuildBoard p q h = h
-    of_command CheckBoard p q h = h
-    of_command QueryBoard p q h = h
-    of_command AuditBoard p q h = h
-
--- .. where that fault is the refusal
-pub same_refusal : {A F : Type 0} (remaining : F → Option (List ℕ)) (request given : Request)
+-- the fault of a request is the refusal
+pub ended_refusal : {A F : Type 0} (remaining : F → Option (List ℕ)) (asked : Asked)
     (input left old new : Option (List ℕ)) (ended : Result A Fault) (r : Result A ProgramFault)
-    → IsSame request given → IfErr ended (λ fault. CanEnd given fault)
-    → IfErr ended (λ fault. IsFaultOf remaining given fault)
+    → IfErr ended (λ fault. CanEnd asked fault)
+    → IfErr ended (λ fault. IsFaultOf remaining asked fault)
     → IfErr ended (λ fault. UsesTurns input left fault)
-    → IfErr ended (λ fault. Leaves remaining given input left old new fault)
+    → IfErr ended (λ fault. Leaves remaining asked input left old new fault)
     → IfOk ended (λ done. r ≡ Ok done) → IfErr ended (λ fault. r ≡ Err (Failed fault))
-    → IfErr r (λ refusal. IsRefusalOf remaining request input left old new refusal)
-same_refusal remaining request given input left old new (Ok x) r same can fault turns leaves done
-    failed =
+    → IfErr r (λ refusal. IsRefusalOf remaining asked input left old new refusal)
+ended_refusal remaining asked input left old new (Ok x) r can fault turns leaves done failed =
     rw done tt
-same_refusal remaining request given input left old new (Err e) r same can fault turns leaves done
-    failed =
-    rw failed
-    (same_end remaining request given input left old new e same (can, fault, turns, leaves))
+ended_refusal remaining asked input left old new (Err e) r can fault turns leaves done failed =
+    rw failed (can, fault, turns, leaves)
 
 -- what was done where no refusal came is done
 pub done_if : {A P Q : Type 0} (ended : Result A Fault) (r : Result A ProgramFault) → OnOk ended P
@@ -206,19 +162,19 @@ done_if (Ok x) (Err e) p f failed = tt
 done_if (Err e) r p f failed = rw failed tt
 
 -- the end of a request that was refused, as it was told
-pub told_end : {A F : Type 0} (remaining : F → Option (List ℕ)) (request : Request)
+pub told_end : {A F : Type 0} (remaining : F → Option (List ℕ)) (asked : Asked)
     (input left old new : Option (List ℕ)) (r : Result A ProgramFault) (status : ℕ)
     (Line : List ℕ → Type 0) (Same : Type 0) → OnOk r ((status ≡ 0) × Same)
     → IfErr r (λ refusal. IsToldBy refusal status Line)
-    → IfErr r (λ refusal. IsRefusalOf remaining request input left old new refusal)
+    → IfErr r (λ refusal. IsRefusalOf remaining asked input left old new refusal)
     → 0 < status
     → (fault : Fault) × ((status ≡ status_of fault) × Line (error_line fault)
-    × IsEndOf remaining request input left old new fault)
-told_end remaining request input left old new (Ok x) status Line Same silent told refusal some =
+    × IsEndOf remaining asked input left old new fault)
+told_end remaining asked input left old new (Ok x) status Line Same silent told refusal some =
     absurd (omega (arith, silent.0, some))
-told_end remaining request input left old new (Err (Words e)) status Line Same silent told refusal
+told_end remaining asked input left old new (Err (Words e)) status Line Same silent told refusal
     some =
     absurd refusal
-told_end remaining request input left old new (Err (Failed e)) status Line Same silent told refusal
+told_end remaining asked input left old new (Err (Failed e)) status Line Same silent told refusal
     some =
     (e, (told.0, told.1, refusal))

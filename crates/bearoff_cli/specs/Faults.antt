@@ -1,5 +1,5 @@
 -- Which fault is told where a command fails. Source: this project's profile.
-use Rattle.std.specs.Prelude.{◌≡◌, ℕ, ◌<◌, ◌≤◌, ◌⊎◌, List, Option, Some, None}
+use Rattle.std.specs.Prelude.{◌≡◌, ℕ, ◌<◌, ◌≤◌, ◌⊎◌, List, Option, None}
 use Rattle.race_model.specs.Versions.{compact}
 use Rattle.race_model.specs.Files.{version_of}
 use Rattle.race_model.specs.RightFiles.{IsRightDatabase}
@@ -8,16 +8,13 @@ use Rattle.certificate.specs.declared.check_fault.CheckFault.{CheckFault}
 use Rattle.epc_query.specs.AnyFiles.{AnyFile, database_file, board_file}
 use Rattle.board_check.specs.Faults.{IsFirst as IsFirstOnBoard, told_as}
 use Rattle.board_check.specs.declared.fault.BoardFault.{BoardFault}
-use Rattle.command_line.specs.declared.words.Request.{Request}
-use Rattle.command_line.specs.declared.words.Request.TheVariants.{Default, Build, Check, Query, Audit}
-use Rattle.command_line.specs.declared.words.Request.TheVariants.{Upgrade, Board}
-use Rattle.command_line.specs.declared.words.BoardCommand.TheVariants.{Build as BuildBoard, Check as CheckBoard}
-use Rattle.command_line.specs.declared.words.BoardCommand.TheVariants.{Query as QueryBoard, Audit as AuditBoard}
+use Rattle.command_line.specs.Asked.{Asked, default, build, check, query, audit, upgrade}
 use Rattle.exit_status.specs.Statuses.{status_of}
 use Rattle.exit_status.specs.declared.fault.Fault.{Fault}
 use Rattle.exit_status.specs.declared.fault.Fault.TheVariants.{Open, File, Read, Write, Memory, Turns, OverBound}
 use Rattle.exit_status.specs.declared.fault.Fault.TheVariants.{Refused, NotOld}
 use Rattle.bearoff_cli.specs.FileAnswers.{IsReadFrom}
+use Rattle.bearoff_cli.specs.Kinds.{file_of, greatest}
 
 -- the first fault of a file, a board file's in the words of a database's
 abbrev pub IsFirstBy : AnyFile → CheckFault → Type 0
@@ -50,14 +47,11 @@ IsOwnFault kind remaining fault = (status_of fault ≡ 1)
 
 -- what the fault of a request says of the file that it reads. Which fault a refused database has is
 -- not said of the answers by pages
-abbrev pub IsFaultOf : {F : Type 0} → (F → Option (List ℕ)) → Request → Fault → Type 0
-IsFaultOf remaining (Check path) = IsOwnFault database_file remaining
-IsFaultOf remaining (Query path None) = IsOwnFault database_file remaining
-IsFaultOf remaining (Audit path) = IsOwnFault database_file remaining
-IsFaultOf remaining (Upgrade before after) = IsOwnFault database_file remaining
-IsFaultOf remaining (Board CheckBoard path) = IsOwnFault board_file remaining
-IsFaultOf remaining (Board QueryBoard path) = IsOwnFault board_file remaining
-IsFaultOf remaining (Board AuditBoard path) = IsOwnFault board_file remaining
+abbrev pub IsFaultOf : {F : Type 0} → (F → Option (List ℕ)) → Asked → Fault → Type 0
+IsFaultOf remaining (check kind path) = IsOwnFault (file_of kind) remaining
+IsFaultOf remaining (query kind path None) = IsOwnFault (file_of kind) remaining
+IsFaultOf remaining (audit kind path) = IsOwnFault (file_of kind) remaining
+IsFaultOf remaining (upgrade before after) = IsOwnFault database_file remaining
 IsFaultOf remaining _ = λ fault. Unit {0}
 
 -- what a command that writes a file, and reads none, can fail by
@@ -105,19 +99,15 @@ IsQueryFault fault = IsAnswerFault fault
 
 -- a build of a pip bound: one over the greatest is told as that, if not as want of memory, and no
 -- other one is
-pub record IsBoundFault (pips : ℕ) (fault : Fault) : Type 0 where
-  pub within : pips ≤ 58 → IsBuildFault fault
-  pub over : 58 < pips → (fault ≡ OverBound) ⊎ (fault ≡ Memory)
+pub record IsBoundFault (most pips : ℕ) (fault : Fault) : Type 0 where
+  pub within : pips ≤ most → IsBuildFault fault
+  pub over : most < pips → (fault ≡ OverBound) ⊎ (fault ≡ Memory)
 
 -- the faults that a request can end with
-abbrev pub CanEnd : Request → Fault → Type 0
-CanEnd Default = IsAnswerFault
-CanEnd (Build pips path) = IsBoundFault pips
-CanEnd (Check path) = IsCheckFault
-CanEnd (Query path records) = IsQueryFault
-CanEnd (Audit path) = IsCheckFault
-CanEnd (Upgrade before after) = IsUpgradeFault
-CanEnd (Board BuildBoard path) = IsBuildFault
-CanEnd (Board CheckBoard path) = IsCheckFault
-CanEnd (Board QueryBoard path) = IsQueryFault
-CanEnd (Board AuditBoard path) = IsCheckFault
+abbrev pub CanEnd : Asked → Fault → Type 0
+CanEnd default = IsAnswerFault
+CanEnd (build kind pips path) = IsBoundFault (greatest kind) pips
+CanEnd (check kind path) = IsCheckFault
+CanEnd (query kind path records) = IsQueryFault
+CanEnd (audit kind path) = IsCheckFault
+CanEnd (upgrade before after) = IsUpgradeFault

@@ -8,7 +8,6 @@ use Rattle.race_model.specs.RightFiles.{IsRightDatabase}
 use Rattle.db_reader.specs.Telling.{WhereTold}
 use Rattle.certificate.specs.Upgrades.{WritesUpgrade}
 use Rattle.epc_query.specs.AnyFiles.{AnyFile, bound_by, IsRightBy, IsLevelLineBy}
-use Rattle.board_build.specs.BuiltBoards.{IsBuiltBoard}
 use Rattle.bearoff_cli.specs.InputAnswers.{AreAnswered}
 use Rattle.bearoff_cli.specs.declared.act.Done.{Done}
 use Rattle.bearoff_cli.specs.declared.act.Done.TheVariants.{Built, Checked, Upgraded}
@@ -23,10 +22,6 @@ abbrev pub IsHandedTo : {W : Type 0} → (W → Option (List ℕ))
     → (Option (List ℕ) → Option (List ℕ) → Type 0) → Type 0
 IsHandedTo {W} contents Writes =
     (before : W) × (after : W) × Writes (contents before) (contents after)
-
--- the built board file of a bound was written
-abbrev pub WritesBuiltBoard : ℕ → Option (List ℕ) → Option (List ℕ) → Type 0
-WritesBuiltBoard bound old new = (file : List ℕ) × IsBuiltBoard bound file × Appends old new file
 
 -- the replies over some opened file of this kind were written
 pub record AreAnsweredFrom {F : Type 0} (kind : List ℕ → AnyFile)

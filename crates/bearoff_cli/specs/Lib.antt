@@ -1,6 +1,7 @@
 pub mod Faults
 pub mod FileAnswers
 pub mod InputAnswers
+pub mod Kinds
 pub mod PutFiles
 pub mod RefusedFiles
 pub mod Requests

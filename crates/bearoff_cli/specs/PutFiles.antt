@@ -5,17 +5,11 @@ use Rattle.race_model.specs.Files.{version_of}
 use Rattle.race_model.specs.RightFiles.{IsRightDatabase}
 use Rattle.race_model.specs.Upgrades.{IsUpgrade}
 use Rattle.race_model.specs.Versions.{full}
-use Rattle.race_model.specs.BuiltFile.{IsBuilt}
-use Rattle.retrograde.specs.UsualVersion.{usual_version}
-use Rattle.board_build.specs.BuiltBoards.{IsBuiltBoard}
-use Rattle.command_line.specs.declared.words.Request.{Request}
-use Rattle.command_line.specs.declared.words.Request.TheVariants.{Default, Build, Check, Query, Audit}
-use Rattle.command_line.specs.declared.words.Request.TheVariants.{Upgrade, Board}
-use Rattle.command_line.specs.declared.words.BoardCommand.TheVariants.{Build as BuildBoard, Check as CheckBoard}
-use Rattle.command_line.specs.declared.words.BoardCommand.TheVariants.{Query as QueryBoard, Audit as AuditBoard}
+use Rattle.command_line.specs.Asked.{Asked, default, build, check, query, audit, upgrade}
 use Rattle.whole_file.specs.Disks.{Moment}
 use Rattle.whole_file.specs.Paths.{Paths}
 use Rattle.whole_file.specs.Puts.{Puts}
+use Rattle.bearoff_cli.specs.Kinds.{IsBuiltOf}
 
 -- the upgrade of a right database of version 1 was put where a path leads
 abbrev pub PutsUpgrade : Paths → List ℕ → Option (List Moment) → Option (List Moment) → Type 0
@@ -23,15 +17,10 @@ PutsUpgrade paths path old new = (file : List ℕ) × IsRightDatabase file × (v
     × Puts paths path (IsUpgrade file) old new
 
 -- what a request that was fulfilled has put where its path leads, where it writes a file
-abbrev pub PutsFor : Paths → Request → Option (List Moment) → Option (List Moment) → Type 0
-PutsFor paths Default old new = Unit {0}
-PutsFor paths (Build pips path) old new =
-    Puts paths path.now (IsBuilt (usual_version pips) pips) old new
-PutsFor paths (Check path) old new = Unit {0}
-PutsFor paths (Query path records) old new = Unit {0}
-PutsFor paths (Audit path) old new = Unit {0}
-PutsFor paths (Upgrade before after) old new = PutsUpgrade paths after.now old new
-PutsFor paths (Board BuildBoard path) old new = Puts paths path.now (IsBuiltBoard 90) old new
-PutsFor paths (Board CheckBoard path) old new = Unit {0}
-PutsFor paths (Board QueryBoard path) old new = Unit {0}
-PutsFor paths (Board AuditBoard path) old new = Unit {0}
+abbrev pub PutsFor : Paths → Asked → Option (List Moment) → Option (List Moment) → Type 0
+PutsFor paths default old new = Unit {0}
+PutsFor paths (build kind pips path) old new = Puts paths path (IsBuiltOf kind pips) old new
+PutsFor paths (check kind path) old new = Unit {0}
+PutsFor paths (query kind path records) old new = Unit {0}
+PutsFor paths (audit kind path) old new = Unit {0}
+PutsFor paths (upgrade before after) old new = PutsUpgrade paths after old new

@@ -3,63 +3,51 @@
 use Rattle.std.specs.Prelude.{◌≡◌, ℕ, ◌<◌, ◌≤◌, List, [], ◌∷◌, Option, Some, None, codes}
 use Rattle.std.specs.Io.KnownBytes.{Appends}
 use Rattle.race_model.specs.Ranks.{count_to}
-use Rattle.command_line.specs.Asked.{IsPlain, Writes, name_of}
-use Rattle.command_line.specs.declared.words.Request.{Request}
-use Rattle.command_line.specs.declared.words.Request.TheVariants.{Default, Build, Check, Query, Audit}
-use Rattle.command_line.specs.declared.words.Request.TheVariants.{Upgrade, Board}
-use Rattle.command_line.specs.declared.words.BoardCommand.TheVariants.{Build as BuildBoard, Check as CheckBoard}
-use Rattle.command_line.specs.declared.words.BoardCommand.TheVariants.{Query as QueryBoard, Audit as AuditBoard}
-use Rattle.epc_query.specs.AnyFiles.{database_file, board_file}
+use Rattle.command_line.specs.Asked.{Asked, IsPlain, Writes, flagged}
+use Rattle.command_line.specs.Asked.{default, build, check, query, audit, upgrade}
+use Rattle.command_line.specs.declared.words.FileKind.TheVariants.{Database, Board}
 use Rattle.db_reader.specs.Telling.{WhereTold}
-use Rattle.retrograde.specs.BuiltBytes.{WritesBuilt}
-use Rattle.retrograde.specs.UsualVersion.{usual_version}
 use Rattle.bearoff_cli.specs.InputAnswers.{AreAnsweredOver}
 use Rattle.bearoff_cli.specs.FileAnswers.{AreAnsweredFrom, IsHandedTo, SaysRight, SaysUpgraded, SaysLevels}
-use Rattle.bearoff_cli.specs.FileAnswers.{WritesBuiltBoard, count_line}
+use Rattle.bearoff_cli.specs.FileAnswers.{count_line}
+use Rattle.bearoff_cli.specs.Kinds.{WritesBuiltOf, file_of, greatest}
 use Rattle.bearoff_cli.specs.declared.act.Done.TheVariants.{Built}
 
--- the words are these of the request: the name of the command, an option with its number before the
--- file, and files whose names don't begin with a hyphen
-abbrev pub Asks : List (List ℕ) → Request → Type 0
-Asks words Default = words ≡ []
-Asks words (Build pips path) = (digits : List ℕ) × Writes pips digits × (pips < 256)
-    × IsPlain path.now × (words ≡ codes "build" ∷ codes "--pips" ∷ digits ∷ path.now ∷ [])
-Asks words (Check path) = IsPlain path.now × (words ≡ codes "check" ∷ path.now ∷ [])
-Asks words (Query path None) = IsPlain path.now × (words ≡ codes "query" ∷ path.now ∷ [])
-Asks words (Query path (Some records)) = (digits : List ℕ) × Writes records digits
-    × (1 ≤ records) × (records < 65536) × IsPlain path.now
-    × (words ≡ codes "query" ∷ codes "--cache" ∷ digits ∷ path.now ∷ [])
-Asks words (Audit path) = IsPlain path.now × (words ≡ codes "audit" ∷ path.now ∷ [])
-Asks words (Upgrade before after) = IsPlain before.now × IsPlain after.now
-    × (words ≡ codes "upgrade" ∷ before.now ∷ after.now ∷ [])
-Asks words (Board command path) = IsPlain path.now
-    × (words ≡ name_of command ∷ codes "--board" ∷ path.now ∷ [])
+-- the words are these of the request: the name of the command, `--board` for a board file or an
+-- option with its number before the file, and files whose names don't begin with a hyphen
+abbrev pub Asks : List (List ℕ) → Asked → Type 0
+Asks words default = words ≡ []
+Asks words (build Database pips path) = (digits : List ℕ) × Writes pips digits × (pips < 256)
+    × IsPlain path × (words ≡ codes "build" ∷ codes "--pips" ∷ digits ∷ path ∷ [])
+Asks words (build Board pips path) = (pips ≡ 90) × IsPlain path
+    × (words ≡ codes "build" ∷ codes "--board" ∷ path ∷ [])
+Asks words (check kind path) = IsPlain path × (words ≡ codes "check" ∷ flagged kind (path ∷ []))
+Asks words (query kind path None) =
+    IsPlain path × (words ≡ codes "query" ∷ flagged kind (path ∷ []))
+Asks words (query Database path (Some records)) = (digits : List ℕ) × Writes records digits
+    × (1 ≤ records) × (records < 65536) × IsPlain path
+    × (words ≡ codes "query" ∷ codes "--cache" ∷ digits ∷ path ∷ [])
+Asks words (query Board path (Some records)) = ⊥
+Asks words (audit kind path) = IsPlain path × (words ≡ codes "audit" ∷ flagged kind (path ∷ []))
+Asks words (upgrade before after) = IsPlain before × IsPlain after
+    × (words ≡ codes "upgrade" ∷ before ∷ after ∷ [])
 
 -- what was read of the input and of an opened file and written to the output, where the request was
 -- fulfilled. Nothing is said of the answers by pages: what a seek and a read give, no contract of
 -- the library says together
-abbrev pub IsDone : {F W : Type 0} → (F → Option (List ℕ)) → (W → Option (List ℕ)) → Request
+abbrev pub IsDone : {F W : Type 0} → (F → Option (List ℕ)) → (W → Option (List ℕ)) → Asked
     → Option (List ℕ) → Option (List ℕ) → Option (List ℕ) → Option (List ℕ) → Type 0
-IsDone remaining contents Default input left old new =
+IsDone remaining contents default input left old new =
     WhereTold input (λ given. AreAnsweredOver 8 given left old new)
-IsDone remaining contents (Build pips path) input left old new =
-    (pips ≤ 58) × IsHandedTo contents (WritesBuilt (usual_version pips) pips)
+IsDone remaining contents (build kind pips path) input left old new =
+    (pips ≤ greatest kind) × IsHandedTo contents (WritesBuiltOf kind pips)
     × Appends old new (count_line Built pips (count_to pips))
-IsDone remaining contents (Check path) input left old new =
-    SaysRight database_file remaining old new
-IsDone remaining contents (Query path None) input left old new =
-    WhereTold input (λ given. AreAnsweredFrom database_file remaining given left old new)
-IsDone remaining contents (Query path (Some records)) input left old new = Unit {0}
-IsDone remaining contents (Audit path) input left old new =
-    SaysLevels database_file remaining old new
-IsDone remaining contents (Upgrade before after) input left old new =
+IsDone remaining contents (check kind path) input left old new =
+    SaysRight (file_of kind) remaining old new
+IsDone remaining contents (query kind path None) input left old new =
+    WhereTold input (λ given. AreAnsweredFrom (file_of kind) remaining given left old new)
+IsDone remaining contents (query kind path (Some records)) input left old new = Unit {0}
+IsDone remaining contents (audit kind path) input left old new =
+    SaysLevels (file_of kind) remaining old new
+IsDone remaining contents (upgrade before after) input left old new =
     SaysUpgraded remaining contents old new
-IsDone remaining contents (Board BuildBoard path) input left old new =
-    IsHandedTo contents (WritesBuiltBoard 90)
-    × Appends old new (count_line Built 90 (count_to 90))
-IsDone remaining contents (Board CheckBoard path) input left old new =
-    SaysRight board_file remaining old new
-IsDone remaining contents (Board QueryBoard path) input left old new =
-    WhereTold input (λ given. AreAnsweredFrom board_file remaining given left old new)
-IsDone remaining contents (Board AuditBoard path) input left old new =
-    SaysLevels board_file remaining old new

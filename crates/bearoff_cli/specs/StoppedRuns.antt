@@ -8,19 +8,16 @@ use Rattle.race_model.specs.Versions.{full}
 use Rattle.db_layout.specs.Writes.{AppendsPart}
 use Rattle.db_reader.specs.Telling.{WhereTold}
 use Rattle.retrograde.specs.UsualVersion.{usual_version}
-use Rattle.epc_query.specs.AnyFiles.{AnyFile, database_file, board_file, bound_by, IsRightBy}
+use Rattle.epc_query.specs.AnyFiles.{AnyFile, database_file, bound_by, IsRightBy}
 use Rattle.epc_query.specs.AnyFiles.{IsLevelLineBy}
 use Rattle.epc_query.specs.Runs.{IsRunStopped}
 use Rattle.epc_query.specs.declared.run_fault.RunFault.{RunFault}
-use Rattle.command_line.specs.declared.words.Request.{Request}
-use Rattle.command_line.specs.declared.words.Request.TheVariants.{Default, Build, Check, Query, Audit}
-use Rattle.command_line.specs.declared.words.Request.TheVariants.{Upgrade, Board}
-use Rattle.command_line.specs.declared.words.BoardCommand.TheVariants.{Build as BuildBoard, Check as CheckBoard}
-use Rattle.command_line.specs.declared.words.BoardCommand.TheVariants.{Query as QueryBoard, Audit as AuditBoard}
+use Rattle.command_line.specs.Asked.{Asked, default, build, check, query, audit, upgrade}
 use Rattle.exit_status.specs.Causes.{of_run}
 use Rattle.exit_status.specs.declared.fault.Fault.{Fault}
 use Rattle.bearoff_cli.specs.Faults.{CanEnd, IsFaultOf}
 use Rattle.bearoff_cli.specs.FileAnswers.{AreLevelLines, IsReadFrom, count_line}
+use Rattle.bearoff_cli.specs.Kinds.{file_of}
 use Rattle.bearoff_cli.specs.Turns.{UsesTurns}
 use Rattle.bearoff_cli.specs.declared.act.Done.TheVariants.{Built, Checked, Upgraded}
 use Rattle.bearoff_cli.specs.declared.act.ProgramFault.{ProgramFault}
@@ -85,42 +82,34 @@ LeavesLevels kind remaining old new =
 
 -- what was written for a request where the program ended with this fault. Of the answers by pages
 -- nothing is said
-abbrev pub Leaves : {F : Type 0} → (F → Option (List ℕ)) → Request → Option (List ℕ)
+abbrev pub Leaves : {F : Type 0} → (F → Option (List ℕ)) → Asked → Option (List ℕ)
     → Option (List ℕ) → Option (List ℕ) → Option (List ℕ) → Fault → Type 0
-Leaves remaining Default input left old new fault = WhereTold input (λ given. (new ≡ old)
+Leaves remaining default input left old new fault = WhereTold input (λ given. (new ≡ old)
     ⊎ ((file : List ℕ) × IsBuilt (usual_version 8) 8 file
     × AreStopped (database_file file) given left old new fault))
-Leaves remaining (Build pips path) input left old new fault =
+Leaves remaining (build kind pips path) input left old new fault =
     AppendsPart old new (count_line Built pips (count_to pips))
-Leaves remaining (Check path) input left old new fault =
-    LeavesLine database_file remaining old new
-Leaves remaining (Query path None) input left old new fault =
-    LeavesReplies database_file remaining input left old new fault
-Leaves remaining (Query path (Some records)) input left old new fault = Unit {0}
-Leaves remaining (Audit path) input left old new fault =
-    LeavesLevels database_file remaining old new
-Leaves remaining (Upgrade before after) input left old new fault =
+Leaves remaining (check kind path) input left old new fault =
+    LeavesLine (file_of kind) remaining old new
+Leaves remaining (query kind path None) input left old new fault =
+    LeavesReplies (file_of kind) remaining input left old new fault
+Leaves remaining (query kind path (Some records)) input left old new fault = Unit {0}
+Leaves remaining (audit kind path) input left old new fault =
+    LeavesLevels (file_of kind) remaining old new
+Leaves remaining (upgrade before after) input left old new fault =
     IsNothingOr database_file remaining (λ file. SaysUpgradedPart file old new) old new
-Leaves remaining (Board BuildBoard path) input left old new fault =
-    AppendsPart old new (count_line Built 90 (count_to 90))
-Leaves remaining (Board CheckBoard path) input left old new fault =
-    LeavesLine board_file remaining old new
-Leaves remaining (Board QueryBoard path) input left old new fault =
-    LeavesReplies board_file remaining input left old new fault
-Leaves remaining (Board AuditBoard path) input left old new fault =
-    LeavesLevels board_file remaining old new
 
 -- a request ended so: with a fault that it can end with, which comes where it is said to, and with
 -- what was read and written by then
-abbrev pub IsEndOf : {F : Type 0} → (F → Option (List ℕ)) → Request → Option (List ℕ)
+abbrev pub IsEndOf : {F : Type 0} → (F → Option (List ℕ)) → Asked → Option (List ℕ)
     → Option (List ℕ) → Option (List ℕ) → Option (List ℕ) → Fault → Type 0
-IsEndOf remaining request input left old new fault = CanEnd request fault
-    × IsFaultOf remaining request fault × UsesTurns input left fault
-    × Leaves remaining request input left old new fault
+IsEndOf remaining asked input left old new fault = CanEnd asked fault
+    × IsFaultOf remaining asked fault × UsesTurns input left fault
+    × Leaves remaining asked input left old new fault
 
 -- .. as a refusal: its words are not wrong
-abbrev pub IsRefusalOf : {F : Type 0} → (F → Option (List ℕ)) → Request → Option (List ℕ)
+abbrev pub IsRefusalOf : {F : Type 0} → (F → Option (List ℕ)) → Asked → Option (List ℕ)
     → Option (List ℕ) → Option (List ℕ) → Option (List ℕ) → ProgramFault → Type 0
-IsRefusalOf remaining request input left old new (Words error) = ⊥
-IsRefusalOf remaining request input left old new (Failed fault) =
-    IsEndOf remaining request input left old new fault
+IsRefusalOf remaining asked input left old new (Words error) = ⊥
+IsRefusalOf remaining asked input left old new (Failed fault) =
+    IsEndOf remaining asked input left old new fault

@@ -1,5 +1,5 @@
 //! The whole program, over the files of a system, a reader and two writers.
-ghost use Rattle.std.specs.Prelude.{◌≡◌, ℕ, ◌<◌, ◌⊎◌, List, map, Some, Ok, Err, IfOk, IfErr, OnOk, OnErr};
+ghost use Rattle.std.specs.Prelude.{◌≡◌, ℕ, ◌<◌, ◌≤◌, ◌⊎◌, List, map, Some, Ok, Err, IfOk, IfErr, OnOk, OnErr};
 ghost use Rattle.std.specs.Io.KnownBytes.{Appends};
 ghost use Rattle.race_model.specs.BuiltFile.{IsBuilt};
 ghost use Rattle.epc_query.specs.AnyFiles.{database_file, IsRightBy};
@@ -11,21 +11,20 @@ ghost use Rattle.exit_status.specs.Lines.{error_line};
 ghost use Rattle.exit_status.specs.Statuses.{status_of};
 ghost use Rattle.exit_status.specs.declared.fault.Fault.{Fault};
 ghost use Rattle.exit_status.specs.declared.fault.Fault.TheVariants.{OverBound, Write};
-ghost use Rattle.command_line.specs.declared.words.Request.{Request};
+ghost use Rattle.command_line.specs.Asked.{Asked, asked_by};
 ghost use Rattle.certificate.specs.CheckFaults.{IsFirst};
 ghost use Rattle.certificate.specs.declared.check_fault.CheckFault.{CheckFault};
 ghost use Rattle.bearoff_cli.specs.Tellings.{IsToldBy, IsWritten};
 ghost use Rattle.bearoff_cli.specs.Turns.{UsesTurns};
-ghost use Rattle.bearoff_cli.specs.Faults.{CanEnd, IsAnswerFault, IsBoundFault, IsBuildFault, IsCheckFault};
+ghost use Rattle.bearoff_cli.specs.Faults.{CanEnd, IsAnswerFault, IsBoundFault, IsCheckFault};
 ghost use Rattle.bearoff_cli.specs.Faults.{IsFaultIn, IsFaultOf, IsOwnFault, IsQueryFault, IsUpgradeFault};
 ghost use Rattle.bearoff_cli.specs.InputAnswers.{AreAnswered, AreAnsweredOver};
 ghost use Rattle.bearoff_cli.specs.FileAnswers.{AreAnsweredFrom, IsHandedTo, SaysRight, SaysUpgraded, SaysLevels};
-ghost use Rattle.retrograde.specs.BuiltBytes.{WritesBuilt};
-ghost use Rattle.board_build.specs.BuiltBoards.{IsBuiltBoard};
 ghost use Rattle.whole_file.specs.Puts.{Puts};
 ghost use Rattle.bearoff_cli.specs.PutFiles.{PutsFor, PutsUpgrade};
 ghost use Rattle.retrograde.specs.UsualVersion.{usual_version};
-ghost use Rattle.bearoff_cli.specs.FileAnswers.{WritesBuiltBoard, count_line};
+ghost use Rattle.bearoff_cli.specs.FileAnswers.{count_line};
+ghost use Rattle.bearoff_cli.specs.Kinds.{IsBuiltOf, WritesBuiltOf, file_of, greatest};
 ghost use Rattle.bearoff_cli.specs.RefusedFiles.{KeepsIfRefused, KeepsIfTold};
 ghost use Rattle.bearoff_cli.specs.Requests.{Asks, IsDone};
 ghost use Rattle.bearoff_cli.specs.StoppedRuns.{AreStopped, IsEndOf, IsNothingOr, IsRefusalOf, Leaves, LeavesLevels};
@@ -34,20 +33,18 @@ ghost use Rattle.bearoff_cli.specs.declared.act.Done.TheVariants.{Built};
 ghost use Rattle.bearoff_cli.specs.declared.act.ProgramFault.TheVariants.{Failed};
 
 use crate::files::{
-    WHOLE_BOARD, affordable, build_board_file, build_file, flush, probe_stack, read_file,
-    stack_room, upgrade_file,
+    affordable, build_file, flush, probe_stack, read_file, stack_room, upgrade_file,
 };
-use crate::kinds::{Boards, Databases, Kind, TURNS, handed_on, write_levels};
+use crate::kinds::{TURNS, accept, answer, greatest, handed_on, write_levels};
 use arrayvec::ArrayString;
 use certificate::{CheckFault, Checked, check};
 use clap::Error;
 use clap::error::ErrorKind;
-use command_line::{BoardCommand, Request, read_words};
+use command_line::{FileKind, Request, read_words};
 use db_layout::{COMPACT_VERSION, WriteFault, write_bytes};
 use db_reader::{FileSource, Paged, Table, Whole};
 use epc_query::run;
 use exit_status::{Fault, write_fault};
-use home_board::MAX_BOUND;
 use itoa::Buffer;
 use ranking::Ranks;
 use retrograde::build;
@@ -81,13 +78,13 @@ where
     ensures told { 0 < result → ¬ (result ≡ 2) → (fault : Fault) × ((result ≡ status_of fault)
         × AppendsPart (E.contents errors.old) (E.contents errors.new) (error_line fault)) }
     ensures refused { 1 < result → O.contents output.new ≡ O.contents output.old }
-    ensures fault { (request : Request) → Asks (map S.text words.entry.now) request → 0 < result
+    ensures fault { (asked : Asked) → Asks (map S.text words.entry.now) asked → 0 < result
         → (fault : Fault) × ((result ≡ status_of fault)
         × AppendsPart (E.contents errors.old) (E.contents errors.new) (error_line fault)
-        × IsEndOf R.File.remaining request (I.remaining input.old) (I.remaining input.new)
+        × IsEndOf R.File.remaining asked (I.remaining input.old) (I.remaining input.new)
         (O.contents output.old) (O.contents output.new) fault) }
-    ensures done { (request : Request) → Asks (map S.text words.entry.now) request → result ≡ 0
-        → IsDone R.File.remaining ⟦<BufWriter<R::File> as Write>⟧.contents request
+    ensures done { (asked : Asked) → Asks (map S.text words.entry.now) asked → result ≡ 0
+        → IsDone R.File.remaining ⟦<BufWriter<R::File> as Write>⟧.contents asked
         (I.remaining input.old) (I.remaining input.new)
         (O.contents output.old) (O.contents output.new) }
 {
@@ -118,20 +115,20 @@ pub fn act_on<D: Disk, S: AsStr, I: Read, O: Write, E: Write>(
         × ((result.status ≡ status_of fault) × IsWritten result.line
         (E.contents errors.old) (E.contents errors.new) (error_line fault)) }
     ensures refused { 1 < result.status → O.contents output.new ≡ O.contents output.old }
-    ensures fault { (request : Request) → Asks (map S.text words.entry.now) request
+    ensures fault { (asked : Asked) → Asks (map S.text words.entry.now) asked
         → 0 < result.status → (fault : Fault)
         × ((result.status ≡ status_of fault) × IsWritten result.line
         (E.contents errors.old) (E.contents errors.new) (error_line fault)
-        × IsEndOf D.Reader.remaining request (I.remaining input.old) (I.remaining input.new)
+        × IsEndOf D.Reader.remaining asked (I.remaining input.old) (I.remaining input.new)
         (O.contents output.old) (O.contents output.new) fault) }
-    ensures done { (request : Request) → Asks (map S.text words.entry.now) request
+    ensures done { (asked : Asked) → Asks (map S.text words.entry.now) asked
         → result.status ≡ 0
-        → IsDone D.Reader.remaining ⟦<BufWriter<D::File> as Write>⟧.contents request
+        → IsDone D.Reader.remaining ⟦<BufWriter<D::File> as Write>⟧.contents asked
         (I.remaining input.old) (I.remaining input.new)
         (O.contents output.old) (O.contents output.new) }
-    ensures put { (request : Request) → Asks (map S.text words.entry.now) request
+    ensures put { (asked : Asked) → Asks (map S.text words.entry.now) asked
         → result.status ≡ 0
-        → PutsFor (D.paths disk.old) request (D.told disk.old) (D.told disk.new) }
+        → PutsFor (D.paths disk.old) asked (D.told disk.old) (D.told disk.new) }
 {
     tell(perform(disk, alloc, words, input, output), errors)
 }
@@ -192,16 +189,16 @@ fn perform<D: Disk, S: AsStr, I: Read, O: Write>(
     output: &mut O,
 ) -> Result<(), ProgramFault>
     ensures refused { KeepsIfTold result (O.contents output.old) (O.contents output.new) }
-    ensures fault { (request : Request) → Asks (map S.text words.entry.now) request
-        → IfErr result (λ refusal. IsRefusalOf D.Reader.remaining request
+    ensures fault { (asked : Asked) → Asks (map S.text words.entry.now) asked
+        → IfErr result (λ refusal. IsRefusalOf D.Reader.remaining asked
         (I.remaining input.old) (I.remaining input.new)
         (O.contents output.old) (O.contents output.new) refusal) }
-    ensures done { (request : Request) → Asks (map S.text words.entry.now) request
-        → OnOk result (IsDone D.Reader.remaining ⟦<BufWriter<D::File> as Write>⟧.contents request
+    ensures done { (asked : Asked) → Asks (map S.text words.entry.now) asked
+        → OnOk result (IsDone D.Reader.remaining ⟦<BufWriter<D::File> as Write>⟧.contents asked
         (I.remaining input.old) (I.remaining input.new)
         (O.contents output.old) (O.contents output.new)) }
-    ensures put { (request : Request) → Asks (map S.text words.entry.now) request
-        → OnOk result (PutsFor (D.paths disk.old) request (D.told disk.old) (D.told disk.new)) }
+    ensures put { (asked : Asked) → Asks (map S.text words.entry.now) asked
+        → OnOk result (PutsFor (D.paths disk.old) asked (D.told disk.old) (D.told disk.new)) }
 {
     match read_words(alloc, words) {
         Ok(request) => refused(fulfil(disk, alloc, request, input, output)),
@@ -243,39 +240,34 @@ fn fulfil<D: Disk, I: Read, O: Write>(
     output: &mut O,
 ) -> Result<(), Fault>
     ensures refused { KeepsIfRefused result (O.contents output.old) (O.contents output.new) }
-    ensures cause { IfErr result (CanEnd request.entry) }
+    ensures cause { IfErr result (CanEnd (asked_by request.entry)) }
     ensures fault { IfErr result
-        (λ fault. IsFaultOf D.Reader.remaining request.entry fault) }
+        (λ fault. IsFaultOf D.Reader.remaining (asked_by request.entry) fault) }
     ensures turns { IfErr result (UsesTurns (I.remaining input.old) (I.remaining input.new)) }
-    ensures left { IfErr result (Leaves D.Reader.remaining request.entry (I.remaining input.old)
+    ensures left { IfErr result (Leaves D.Reader.remaining (asked_by request.entry) (I.remaining input.old)
         (I.remaining input.new) (O.contents output.old) (O.contents output.new)) }
     ensures done { OnOk result (IsDone D.Reader.remaining
-        ⟦<BufWriter<D::File> as Write>⟧.contents request.entry (I.remaining input.old)
+        ⟦<BufWriter<D::File> as Write>⟧.contents (asked_by request.entry) (I.remaining input.old)
         (I.remaining input.new) (O.contents output.old) (O.contents output.new)) }
-    ensures put { OnOk result (PutsFor (D.paths disk.old) request.entry
+    ensures put { OnOk result (PutsFor (D.paths disk.old) (asked_by request.entry)
         (D.told disk.old) (D.told disk.new)) }
 {
     match request {
         Request::Default => answer_default(alloc, input, output),
-        Request::Build { pips, path } => write_database(disk, alloc, pips, path, output),
-        Request::Check { path } => check_file::<Databases, _, _>(disk, alloc, path, output),
-        Request::Query { path, cache: None } => {
-            answer_file::<Databases, _, _, _>(disk, alloc, path, input, output)
-        }
+        Request::Build { kind, pips, path } => write_built(disk, alloc, kind, pips, path, output),
+        Request::Check { kind, path } => check_file(disk, alloc, kind, path, output),
+        Request::Query {
+            kind,
+            path,
+            cache: None,
+        } => answer_file(disk, alloc, kind, path, input, output),
         Request::Query {
             path,
             cache: Some(records),
+            ..
         } => answer_pages(disk, alloc, path, records, input, output),
-        Request::Audit { path } => audit_file::<Databases, _, _>(disk, alloc, path, output),
+        Request::Audit { kind, path } => audit_file(disk, alloc, kind, path, output),
         Request::Upgrade { old, new } => upgrade_database(disk, alloc, old, new, output),
-        Request::Board { command, path } => match command {
-            BoardCommand::Build => write_board(disk, alloc, path, output),
-            BoardCommand::Check => check_file::<Boards, _, _>(disk, alloc, path, output),
-            BoardCommand::Query => {
-                answer_file::<Boards, _, _, _>(disk, alloc, path, input, output)
-            }
-            BoardCommand::Audit => audit_file::<Boards, _, _>(disk, alloc, path, output),
-        },
     }
 }
 
@@ -300,14 +292,15 @@ fn answer_default<I: Read, O: Write>(
     probe_stack(alloc)?;
     let mut bytes = Vec::new(alloc);
     build(alloc, DEFAULT_BOUND, &mut bytes)?;
-    answer_bytes::<Databases, _, _>(alloc, bytes.as_slice(), input, output)
+    answer_bytes(alloc, FileKind::Database, bytes.as_slice(), input, output)
 }
 
 /// Answers each line of the input over a file, which is read whole.
 #[inline(never)]
-fn answer_file<K: Kind, D: Disk, I: Read, O: Write>(
+fn answer_file<D: Disk, I: Read, O: Write>(
     disk: &mut D,
     alloc: Global,
+    kind: FileKind,
     path: &str,
     input: &mut I,
     output: &mut O,
@@ -315,15 +308,15 @@ fn answer_file<K: Kind, D: Disk, I: Read, O: Write>(
     ensures refused { KeepsIfRefused result (O.contents output.old) (O.contents output.new) }
     ensures cause { IfErr result IsQueryFault }
     ensures turns { IfErr result (UsesTurns (I.remaining input.old) (I.remaining input.new)) }
-    ensures fault { IfErr result (λ fault. IsOwnFault K.kind D.Reader.remaining fault) }
-    ensures left { IfErr result (LeavesReplies K.kind D.Reader.remaining (I.remaining input.old)
+    ensures fault { IfErr result (λ fault. IsOwnFault (file_of kind) D.Reader.remaining fault) }
+    ensures left { IfErr result (LeavesReplies (file_of kind) D.Reader.remaining (I.remaining input.old)
         (I.remaining input.new) (O.contents output.old) (O.contents output.new)) }
-    ensures answers { WhereTold (I.remaining input.old)
-        (λ given. IfOk result (λ _. AreAnsweredFrom K.kind D.Reader.remaining given
-        (I.remaining input.new) (O.contents output.old) (O.contents output.new))) }
+    ensures answers { OnOk result (WhereTold (I.remaining input.old) (λ given.
+        AreAnsweredFrom (file_of kind) D.Reader.remaining given (I.remaining input.new)
+        (O.contents output.old) (O.contents output.new))) }
 {
     let file = read_file(disk, alloc, path)?;
-    answer_bytes::<K, _, _>(alloc, file.as_slice(), input, output)
+    answer_bytes(alloc, kind, file.as_slice(), input, output)
 }
 
 /// Answers each line of the input over the database in a file, of which at most so many records
@@ -354,8 +347,9 @@ fn answer_pages<D: Disk, I: Read, O: Write>(
 }
 
 /// Answers each line of the input over the file in bytes.
-fn answer_bytes<K: Kind, I: Read, O: Write>(
+fn answer_bytes<I: Read, O: Write>(
     alloc: Global,
+    kind: FileKind,
     bytes: &[u8],
     input: &mut I,
     output: &mut O,
@@ -363,18 +357,18 @@ fn answer_bytes<K: Kind, I: Read, O: Write>(
     ensures refused { KeepsIfRefused result (O.contents output.old) (O.contents output.new) }
     ensures cause { IfErr result IsQueryFault }
     ensures turns { IfErr result (UsesTurns (I.remaining input.old) (I.remaining input.new)) }
-    ensures right { IsRightBy (K.kind bytes.now) → IfErr result IsAnswerFault }
-    ensures fault { IfErr result (λ fault. IsFaultIn (K.kind bytes.now) fault) }
+    ensures right { IsRightBy (file_of kind bytes.now) → IfErr result IsAnswerFault }
+    ensures fault { IfErr result (λ fault. IsFaultIn (file_of kind bytes.now) fault) }
     ensures left { WhereTold (I.remaining input.old) (λ given. IfErr result
         (λ fault. (O.contents output.new ≡ O.contents output.old)
-        ⊎ AreStopped (K.kind bytes.now) given (I.remaining input.new) (O.contents output.old)
+        ⊎ AreStopped (file_of kind bytes.now) given (I.remaining input.new) (O.contents output.old)
         (O.contents output.new) fault)) }
     ensures answers { WhereTold (I.remaining input.old) (λ given. IfOk result
-        (λ _. AreAnswered (K.kind bytes.now) given (I.remaining input.new)
+        (λ _. AreAnswered (file_of kind bytes.now) given (I.remaining input.new)
         (O.contents output.old) (O.contents output.new))) }
 {
-    let kept = K::accept(bytes)?;
-    kept.answer(alloc, bytes, input, output)
+    let kept = accept(kind, bytes)?;
+    answer(kind, kept, alloc, bytes, input, output)
 }
 
 /// Answers each line of the input over the database of a table that isn't in memory.
@@ -432,96 +426,78 @@ fn accepted<T: Table>(
     }
 }
 
-/// Writes the database of a pip bound into a file, and says so.
+/// Writes the file of a kind and a pip bound, and says so.
 #[inline(never)]
-fn write_database<D: Disk, O: Write>(
+fn write_built<D: Disk, O: Write>(
     disk: &mut D,
     alloc: Global,
+    kind: FileKind,
     pips: u8,
     path: &str,
     output: &mut O,
 ) -> Result<(), Fault>
     ensures refused { KeepsIfRefused result (O.contents output.old) (O.contents output.new) }
-    ensures over { 58 < pips → result ≡ Err Fault.OverBound }
-    ensures cause { IfErr result (IsBoundFault pips) }
+    ensures over { greatest kind < pips → result ≡ Err Fault.OverBound }
+    ensures within { OnOk result (pips ≤ greatest kind) }
+    ensures cause { IfErr result (IsBoundFault (greatest kind) pips) }
     ensures left { OnErr result (AppendsPart (O.contents output.old) (O.contents output.new)
         (count_line Built pips (count_to pips))) }
     ensures handed { OnOk result (IsHandedTo ⟦<BufWriter<D::File> as Write>⟧.contents
-        (WritesBuilt (usual_version pips) pips)) }
-    ensures put { OnOk result (Puts (D.paths disk.old) path.now
-        (IsBuilt (usual_version pips) pips) (D.told disk.old) (D.told disk.new)) }
+        (WritesBuiltOf kind pips)) }
+    ensures put { OnOk result (Puts (D.paths disk.old) path.now (IsBuiltOf kind pips)
+        (D.told disk.old) (D.told disk.new)) }
     ensures built { OnOk result (Appends (O.contents output.old) (O.contents output.new)
         (count_line Built pips (count_to pips))) }
 {
-    if pips > MAX_BOUND {
+    if pips > greatest(kind) {
         return Err(Fault::OverBound);
     }
-    build_file(disk, alloc, pips, path)?;
+    build_file(disk, alloc, kind, pips, path)?;
     write_count(Done::Built, pips, output)
 }
 
 /// Checks a file, and says that it was accepted.
 #[inline(never)]
-fn check_file<K: Kind, D: Disk, O: Write>(
+fn check_file<D: Disk, O: Write>(
     disk: &mut D,
     alloc: Global,
+    kind: FileKind,
     path: &str,
     output: &mut O,
 ) -> Result<(), Fault>
     ensures refused { KeepsIfRefused result (O.contents output.old) (O.contents output.new) }
     ensures cause { IfErr result IsCheckFault }
-    ensures fault { IfErr result (λ fault. IsOwnFault K.kind D.Reader.remaining fault) }
-    ensures left { OnErr result (LeavesLine K.kind D.Reader.remaining
+    ensures fault { IfErr result (λ fault. IsOwnFault (file_of kind) D.Reader.remaining fault) }
+    ensures left { OnErr result (LeavesLine (file_of kind) D.Reader.remaining
         (O.contents output.old) (O.contents output.new)) }
     ensures right { OnOk result
-        (SaysRight K.kind D.Reader.remaining (O.contents output.old) (O.contents output.new)) }
+        (SaysRight (file_of kind) D.Reader.remaining (O.contents output.old) (O.contents output.new)) }
 {
     let bytes = read_file(disk, alloc, path)?;
-    let kept = K::accept(bytes.as_slice())?;
-    write_count(Done::Checked, kept.bound(), output)
+    let kept = accept(kind, bytes.as_slice())?;
+    write_count(Done::Checked, kept.bound, output)
 }
 
 /// Checks a file, and writes a line for each pip count.
 #[inline(never)]
-fn audit_file<K: Kind, D: Disk, O: Write>(
+fn audit_file<D: Disk, O: Write>(
     disk: &mut D,
     alloc: Global,
+    kind: FileKind,
     path: &str,
     output: &mut O,
 ) -> Result<(), Fault>
     ensures refused { KeepsIfRefused result (O.contents output.old) (O.contents output.new) }
     ensures cause { IfErr result IsCheckFault }
-    ensures fault { IfErr result (λ fault. IsOwnFault K.kind D.Reader.remaining fault) }
-    ensures left { OnErr result (LeavesLevels K.kind D.Reader.remaining
+    ensures fault { IfErr result (λ fault. IsOwnFault (file_of kind) D.Reader.remaining fault) }
+    ensures left { OnErr result (LeavesLevels (file_of kind) D.Reader.remaining
         (O.contents output.old) (O.contents output.new)) }
     ensures levels { OnOk result
-        (SaysLevels K.kind D.Reader.remaining (O.contents output.old) (O.contents output.new)) }
+        (SaysLevels (file_of kind) D.Reader.remaining (O.contents output.old) (O.contents output.new)) }
 {
     let bytes = read_file(disk, alloc, path)?;
-    let kept = K::accept(bytes.as_slice())?;
-    write_levels(kept, bytes.as_slice(), output)
-}
-
-/// Writes the board file of 90 pips into a file, and says so.
-#[inline(never)]
-fn write_board<D: Disk, O: Write>(
-    disk: &mut D,
-    alloc: Global,
-    path: &str,
-    output: &mut O,
-) -> Result<(), Fault>
-    ensures cause { IfErr result IsBuildFault }
-    ensures left { OnErr result (AppendsPart (O.contents output.old) (O.contents output.new)
-        (count_line Built 90 (count_to 90))) }
-    ensures handed { OnOk result (IsHandedTo ⟦<BufWriter<D::File> as Write>⟧.contents
-        (WritesBuiltBoard 90)) }
-    ensures put { OnOk result (Puts (D.paths disk.old) path.now (IsBuiltBoard 90)
-        (D.told disk.old) (D.told disk.new)) }
-    ensures built { OnOk result (Appends (O.contents output.old) (O.contents output.new)
-        (count_line Built 90 (count_to 90))) }
-{
-    build_board_file(disk, alloc, path)?;
-    write_count(Done::Built, WHOLE_BOARD, output)
+    let kept = accept(kind, bytes.as_slice())?;
+    write_levels(kind, kept, bytes.as_slice(), output)
 }
 
 /// Checks the database in an old file, writes it into a new one as a file of version 2, and says

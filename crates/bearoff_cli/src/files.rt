@@ -5,13 +5,12 @@ ghost use Rattle.exit_status.specs.Statuses.{status_of};
 ghost use Rattle.exit_status.specs.declared.fault.Fault.TheVariants.{File, Write, Memory};
 ghost use Rattle.board_build.specs.BuiltBoards.{IsBuiltBoard};
 ghost use Rattle.bearoff_cli.specs.Faults.{IsBuildFault, IsReadFault, IsUpgradeFault};
-ghost use Rattle.bearoff_cli.specs.FileAnswers.{IsHandedTo, IsReadFrom, WritesBuiltBoard};
+ghost use Rattle.bearoff_cli.specs.FileAnswers.{IsHandedTo, IsReadFrom};
+ghost use Rattle.bearoff_cli.specs.Kinds.{IsBuiltOf, WritesBuiltOf, greatest};
+ghost use Rattle.command_line.specs.declared.words.FileKind.TheVariants.{Database, Board};
 ghost use Rattle.race_model.specs.Versions.{full};
 ghost use Rattle.db_reader.specs.Telling.{WhereTold};
-ghost use Rattle.retrograde.specs.BuiltBytes.{WritesBuilt};
-ghost use Rattle.retrograde.specs.UsualVersion.{usual_version};
 ghost use Rattle.certificate.specs.Upgrades.{WritesUpgrade};
-ghost use Rattle.race_model.specs.BuiltFile.{IsBuilt};
 ghost use Rattle.race_model.specs.Upgrades.{IsUpgrade};
 ghost use Rattle.std.specs.Io.Buffered.{writer_contents};
 ghost use Rattle.whole_file.specs.Drafts.{IsBegun, IsPut};
@@ -20,6 +19,7 @@ ghost use Rattle.whole_file.specs.Puts.{Puts};
 use board_build::build_board;
 use board_layout::BoardHeader;
 use certificate::Checked;
+use command_line::FileKind;
 use db_layout::write_bytes;
 use db_reader::Table;
 use exit_status::Fault;
@@ -27,9 +27,6 @@ use retrograde::ReadyBuild;
 use std::alloc::Global;
 use std::io::{BufWriter, Read, Write};
 use whole_file::{Disk, Draft, DraftFault, begin};
-
-/// The greatest pip count of any position.
-pub const WHOLE_BOARD: u8 = 90;
 
 /// How many bytes one read moves. They lie on the stack, which can't grow while room is kept for a
 /// check (`stack_room`), beyond the 128 KB that the system gives a program at its start.
@@ -186,17 +183,38 @@ fn of_draft(fault: DraftFault) -> Fault
     }
 }
 
-/// Writes the database of a pip bound into a file, which takes the place of an old one once it is
+/// Writes the file of a kind and a pip bound, which takes the place of an old one once it is
 /// complete (`draft`). The memory that it needs is taken before the file is begun. `Open` where it
 /// can't be made, and `Write` where a write fails: then the old file stays, or, where the bytes go
-/// straight into it, it may hold a prefix of the database.
-pub fn build_file<D: Disk>(disk: &mut D, alloc: Global, pips: u8, path: &str) -> Result<(), Fault>
+/// straight into it, it may hold a prefix of the new one.
+pub fn build_file<D: Disk>(
+    disk: &mut D,
+    alloc: Global,
+    kind: FileKind,
+    pips: u8,
+    path: &str,
+) -> Result<(), Fault>
+    ensures cause { pips ≤ greatest kind → IfErr result IsBuildFault }
+    ensures built { OnOk result (IsHandedTo ⟦<BufWriter<D::File> as Write>⟧.contents
+        (WritesBuiltOf kind pips)) }
+    ensures paths { D.paths disk.new ≡ D.paths disk.old }
+    ensures put { OnOk result (Puts (D.paths disk.old) path.now (IsBuiltOf kind pips)
+        (D.told disk.old) (D.told disk.new)) }
+{
+    match kind {
+        FileKind::Database => build_database(disk, alloc, pips, path),
+        FileKind::Board => build_board_file(disk, alloc, pips, path),
+    }
+}
+
+/// Writes the database of a pip bound into a file.
+fn build_database<D: Disk>(disk: &mut D, alloc: Global, pips: u8, path: &str) -> Result<(), Fault>
     ensures cause { pips ≤ 58 → IfErr result IsBuildFault }
     ensures built { OnOk result (IsHandedTo ⟦<BufWriter<D::File> as Write>⟧.contents
-        (WritesBuilt (usual_version pips) pips)) }
+        (WritesBuiltOf Database pips)) }
     ensures paths { D.paths disk.new ≡ D.paths disk.old }
-    ensures put { OnOk result (Puts (D.paths disk.old) path.now
-        (IsBuilt (usual_version pips) pips) (D.told disk.old) (D.told disk.new)) }
+    ensures put { OnOk result (Puts (D.paths disk.old) path.now (IsBuiltOf Database pips)
+        (D.told disk.old) (D.told disk.new)) }
 {
     let room = stack_room(alloc)?;
     let ready = ReadyBuild::new(alloc, pips)?;
@@ -209,63 +227,64 @@ pub fn build_file<D: Disk>(disk: &mut D, alloc: Global, pips: u8, path: &str) ->
 /// Writes the database of a build that has its memory, to its last byte.
 fn build_into<O: Write>(ready: ReadyBuild, output: &mut O) -> Result<(), Fault>
     ensures cause { ready ≤ 58 → IfErr result IsBuildFault }
-    ensures built { OnOk result (WritesBuilt (usual_version ready) ready (O.contents output.old)
+    ensures built { OnOk result (WritesBuiltOf Database ready (O.contents output.old)
         (O.contents output.new)) }
 {
     ready.write(output)?;
     flush(output)
 }
 
-/// Writes the board file of 90 pips into a file, with the faults of `build_file`. It is made in
-/// memory, of which it needs as much as it is long, and which is taken before the file is begun.
-pub fn build_board_file<D: Disk>(disk: &mut D, alloc: Global, path: &str) -> Result<(), Fault>
+/// Writes the board file of a pip bound into a file. It is made in memory, of which it needs as
+/// much as it is long.
+fn build_board_file<D: Disk>(disk: &mut D, alloc: Global, pips: u8, path: &str) -> Result<(), Fault>
     ensures cause { IfErr result IsBuildFault }
     ensures built { OnOk result (IsHandedTo ⟦<BufWriter<D::File> as Write>⟧.contents
-        (WritesBuiltBoard 90)) }
+        (WritesBuiltOf Board pips)) }
     ensures paths { D.paths disk.new ≡ D.paths disk.old }
-    ensures put { OnOk result (Puts (D.paths disk.old) path.now (IsBuiltBoard 90)
+    ensures put { OnOk result (Puts (D.paths disk.old) path.now (IsBuiltOf Board pips)
         (D.told disk.old) (D.told disk.new)) }
 {
     let room = stack_room(alloc)?;
-    let mut file = board_room(alloc)?;
+    let mut file = board_room(alloc, pips)?;
     let mut draft = begin_file(disk, alloc, path)?;
     drop(room);
-    let written = build_board_into(&mut file, &mut draft.writer);
+    let written = build_board_into(pips, &mut file, &mut draft.writer);
     finish_file(disk, draft, written)
 }
 
-/// As many bytes as the board file of 90 pips has.
-fn board_room(alloc: Global) -> Result<Vec<u8>, Fault>
+/// As many bytes as the board file of a pip bound has.
+fn board_room(alloc: Global, pips: u8) -> Result<Vec<u8>, Fault>
     ensures { IfErr result (λ fault. fault ≡ Memory) }
 {
-    let size = match BoardHeader::new(WHOLE_BOARD) {
+    let size = match BoardHeader::new(pips) {
         Some(header) => header.end(),
         None => 0,
     };
     Ok(vec![in alloc; 0; size]?)
 }
 
-/// Writes the board file of 90 pips, to its last byte. It is made in a room that has as many bytes.
-fn build_board_into<O: Write>(room: &mut Vec<u8>, output: &mut O) -> Result<(), Fault>
+/// Writes the board file of a pip bound, to its last byte. It is made in a room that has as many
+/// bytes.
+fn build_board_into<O: Write>(pips: u8, room: &mut Vec<u8>, output: &mut O) -> Result<(), Fault>
     ensures cause { IfErr result IsBuildFault }
-    ensures built { OnOk result (WritesBuiltBoard 90 (O.contents output.old)
+    ensures built { OnOk result (WritesBuiltOf Board pips (O.contents output.old)
         (O.contents output.new)) }
 {
-    let file = whole_board(room)?;
+    let file = whole_board(pips, room)?;
     if write_bytes(file, output).is_err() {
         return Err(Fault::Write);
     }
     flush(output)
 }
 
-/// The board file of 90 pips, made in a room that has as many bytes.
+/// The board file of a pip bound, made in a room that has as many bytes.
 // so that the room of the builder is not part of its caller's
 #[inline(never)]
-fn whole_board(room: &mut Vec<u8>) -> Result<&[u8], Fault>
+fn whole_board(pips: u8, room: &mut Vec<u8>) -> Result<&[u8], Fault>
     ensures cause { IfErr result IsBuildFault }
-    ensures built { IfOk result (λ file. IsBuiltBoard 90 file.now) }
+    ensures built { IfOk result (λ file. IsBuiltBoard pips file.now) }
 {
-    match build_board(WHOLE_BOARD, room.as_mut_slice()) {
+    match build_board(pips, room.as_mut_slice()) {
         Ok(count) => {
             room.truncate(count);
             Ok(room.as_slice())

@@ -149,7 +149,10 @@ pub file_is_word : (name : Text) (words : List Text) (text : Text)
 file_is_word name words text e =
     first_is_word (codes "FILE") (Contains words) (built (file_app name)).top.rules
     (names_of (built (file_app name)))
-    words text ((λ _. (refl, refl, refl, refl)), ((λ same. absurd (true≢false (sym same))), tt))
+    words text (
+      (λ same. absurd (true≢false (sym same))),
+      ((λ _. (refl, refl, refl, refl)), ((λ same. absurd (true≢false (sym same))), tt)),
+    )
     (each_contains words (Contains words) (λ x c. c)) e
 
 -- ---- a file and no `--cache`
@@ -243,7 +246,10 @@ pub build_is_word : (words : List Text) (text : Text)
 build_is_word words text e =
     first_is_word (codes "FILE") (Contains words) (built build_app).top.rules [] words text (
       (λ same. absurd (true≢false (sym same))),
-      ((λ _. (refl, refl, refl, refl)), ((λ same. absurd (true≢false (sym same))), tt)),
+      (
+        (λ _. (refl, refl, refl, refl)),
+        ((λ same. absurd (true≢false (sym same))), ((λ same. absurd (true≢false (sym same))), tt)),
+      ),
     )
     (each_contains words (Contains words) (λ x c. c)) e
 
@@ -251,8 +257,11 @@ pub query_is_word : (words : List Text) (text : Text)
     → first_of (codes "FILE") (matches_of query_app words) ≡ Some text → Contains words text
 query_is_word words text e =
     first_is_word (codes "FILE") (Contains words) (built query_app).top.rules [] words text (
-      (λ _. (refl, refl, refl, refl)),
-      ((λ same. absurd (true≢false (sym same))), ((λ same. absurd (true≢false (sym same))), tt)),
+      (λ same. absurd (true≢false (sym same))),
+      (
+        (λ _. (refl, refl, refl, refl)),
+        ((λ same. absurd (true≢false (sym same))), ((λ same. absurd (true≢false (sym same))), tt)),
+      ),
     )
     (each_contains words (Contains words) (λ x c. c)) e
 

@@ -1,5 +1,5 @@
 -- What words ask for.
-use Rattle.std.specs.Prelude.{◌≡◌, ◌⊎◌, ◌==◌, ◌&&◌, ◌||◌, ℕ, Bool, true, false, not, List, [], ◌∷◌}
+use Rattle.std.specs.Prelude.{◌≡◌, ◌⊎◌, ◌==◌, ℕ, Bool, true, not, cond, List, [], ◌∷◌}
 use Rattle.std.specs.Str.Parse.{IsNumeral, digits_value}
 use Rattle.std.specs.Prelude.{Option, Result, IfOk, IfErr, codes}
 use Rattle.std.specs.List.{Contains}
@@ -7,12 +7,30 @@ use Rattle.std.specs.Str.{bytes_eq}
 use Rattle.clap.specs.Words.{Text, kind_of}
 use Rattle.clap.specs.declared.error.Error.{Error}
 use Rattle.clap.specs.declared.error.kind.ErrorKind.TheVariants.{OutOfMemory}
-use Rattle.command_line.specs.declared.words.BoardCommand.{BoardCommand}
-use Rattle.command_line.specs.declared.words.BoardCommand.TheVariants.{Build, Check, Query, Audit}
+use Rattle.command_line.specs.declared.words.FileKind.{FileKind}
+use Rattle.command_line.specs.declared.words.FileKind.TheVariants.{Database, Board}
 use Rattle.command_line.specs.declared.words.Request.{Request}
-use Rattle.command_line.specs.declared.words.Request.TheVariants as request
+use Rattle.command_line.specs.declared.words.Request.TheVariants.{Default, Build, Check, Query, Audit, Upgrade}
 
--- whether the text does not begin with a hyphen (45)
+-- a request with each of its texts as bytes, wherever they lie
+pub data Asked : Type 0 where
+  default : Asked
+  build : FileKind → ℕ → Text → Asked
+  check : FileKind → Text → Asked
+  query : FileKind → Text → Option ℕ → Asked
+  audit : FileKind → Text → Asked
+  upgrade : Text → Text → Asked
+
+-- what a request asks for
+abbrev pub asked_by : Request → Asked
+asked_by Default = default
+asked_by (Build kind pips path) = build kind pips path.now
+asked_by (Check kind path) = check kind path.now
+asked_by (Query kind path cache) = query kind path.now cache
+asked_by (Audit kind path) = audit kind path.now
+asked_by (Upgrade old new) = upgrade old.now new.now
+
+-- whether the text does not begin with a hyphen
 abbrev pub is_plain : Text → Bool
 is_plain [] = true
 is_plain (x ∷ xs) = not (x == 45)
@@ -21,79 +39,50 @@ is_plain (x ∷ xs) = not (x == 45)
 abbrev pub IsPlain : Text → Type 0
 IsPlain text = is_plain text ≡ true
 
+-- the text is one digit or more, which write n
+abbrev pub Writes : ℕ → Text → Type 0
+Writes n text = IsNumeral 10 text × (digits_value 10 text ≡ n)
+
+-- the words for a file of a kind: `--board` stands before those for a board file
+abbrev pub flagged : FileKind → List Text → List Text
+flagged Database words = words
+flagged Board words = codes "--board" ∷ words
+
+-- the kind of file that words speak of: a board file where `--board` is one of them, before any
+-- word `--`
+abbrev pub kind_in : List Text → FileKind
+kind_in [] = Database
+kind_in (word ∷ rest) = cond (bytes_eq word (codes "--board")) Board
+    (cond (bytes_eq word (codes "--")) Database (kind_in rest))
+
 -- the result is an `Ok` of which P holds, or memory was wanting
 abbrev pub Gives : {X : Type 0} → Result X Error → (X → Type 0) → Type 0
 Gives result P = IfOk result P × IfErr result (λ e. kind_of e ≡ OutOfMemory)
 
--- the request is to check the file of this path
-abbrev pub asks_check : Text → Request → Type 0
-asks_check path (request.Check given) = given.now ≡ path
-asks_check path _ = ⊥
-
--- .. to audit it
-abbrev pub asks_audit : Text → Request → Type 0
-asks_audit path (request.Audit given) = given.now ≡ path
-asks_audit path _ = ⊥
-
--- .. to upgrade the file of the first path to that of the second
-abbrev pub asks_upgrade : Text → Text → Request → Type 0
-asks_upgrade old new (request.Upgrade o n) = (o.now ≡ old) × (n.now ≡ new)
-asks_upgrade old new _ = ⊥
-
--- .. to build up to n pips into the file of this path
-abbrev pub asks_build : ℕ → Text → Request → Type 0
-asks_build n path (request.Build pips given) = (pips ≡ n) × (given.now ≡ path)
-asks_build n path _ = ⊥
-
--- .. to answer questions of the file of this path, with so many records kept in memory, if any
--- number is given
-abbrev pub asks_query : Text → Option ℕ → Request → Type 0
-asks_query path records (request.Query given cache) = (given.now ≡ path) × (cache ≡ records)
-asks_query path records _ = ⊥
-
--- .. to do this with the board file of this path
-abbrev pub asks_board : BoardCommand → Text → Request → Type 0
-asks_board command path (request.Board asked given) = (asked ≡ command) × (given.now ≡ path)
-asks_board command path _ = ⊥
-
--- the name of a command
-abbrev pub name_of : BoardCommand → Text
-name_of Build = codes "build"
-name_of Check = codes "check"
-name_of Query = codes "query"
-name_of Audit = codes "audit"
-
--- the text is one digit or more, which write n
-abbrev pub Writes : ℕ → Text → Type 0
-Writes n text = IsNumeral 10 text × (digits_value 10 text ≡ n)
+-- a request asks for this
+abbrev pub IsFor : Asked → Request → Type 0
+IsFor asked request = asked_by request ≡ asked
 
 -- the words begin with the name, and the text is one of the others
 abbrev pub Follows : Text → List Text → Text → Type 0
 Follows name words text = (rest : List Text) × (words ≡ name ∷ rest) × Contains rest text
 
--- whether `--board` is one of the words, before any word `--`
-abbrev pub names_board : List Text → Bool
-names_board [] = false
-names_board (word ∷ rest) = bytes_eq word (codes "--board")
-    || (not (bytes_eq word (codes "--")) && names_board rest)
-
--- the words begin with the name, `--board` is one of the others, and so is the text
-abbrev pub FollowsBoard : Text → List Text → Text → Type 0
-FollowsBoard name words text = (rest : List Text) × (words ≡ name ∷ rest)
-    × (names_board rest ≡ true) × Contains rest text
+-- .. which speak of a file of this kind
+abbrev pub FollowsFor : FileKind → Text → List Text → Text → Type 0
+FollowsFor kind name words text = (rest : List Text) × (words ≡ name ∷ rest)
+    × (kind_in rest ≡ kind) × Contains rest text
 
 -- no word stands there, or the one that ends the options, alone
 abbrev pub HasNoCommand : List Text → Type 0
 HasNoCommand words = (words ≡ []) ⊎ (words ≡ codes "--" ∷ [])
 
--- the command is the first word, each path is one of the others, and so is `--board` where the
--- request is of a board file
-abbrev pub IsAskedBy : List Text → Request → Type 0
-IsAskedBy words request.Default = HasNoCommand words
-IsAskedBy words (request.Build pips path) = Follows (codes "build") words path.now
-IsAskedBy words (request.Check path) = Follows (codes "check") words path.now
-IsAskedBy words (request.Query path cache) = Follows (codes "query") words path.now
-IsAskedBy words (request.Audit path) = Follows (codes "audit") words path.now
-IsAskedBy words (request.Upgrade old new) =
-    Follows (codes "upgrade") words old.now × Follows (codes "upgrade") words new.now
-IsAskedBy words (request.Board command path) = FollowsBoard (name_of command) words path.now
+-- the command is the first word, each path is one of the others, and so is `--board` exactly where
+-- a board file is asked for
+abbrev pub IsAskedBy : List Text → Asked → Type 0
+IsAskedBy words default = HasNoCommand words
+IsAskedBy words (build kind pips path) = FollowsFor kind (codes "build") words path
+IsAskedBy words (check kind path) = FollowsFor kind (codes "check") words path
+IsAskedBy words (query kind path cache) = FollowsFor kind (codes "query") words path
+IsAskedBy words (audit kind path) = FollowsFor kind (codes "audit") words path
+IsAskedBy words (upgrade old new) =
+    Follows (codes "upgrade") words old × Follows (codes "upgrade") words new

@@ -13,9 +13,14 @@ word_rule id = record (new_rule id) { required = true }
 abbrev pub bare_app : Text → App
 bare_app name = on_top (λ s. record s { no_binary_name = true }) (new_app name)
 
--- `NAME FILE`
+-- the flag `--board`
+abbrev pub board_rule : Rule
+board_rule =
+    record (new_rule (codes "board")) { long = Some (codes "board"); action = Some SetTrue }
+
+-- `NAME --board FILE`
 abbrev pub file_app : Text → App
-file_app name = with_rule (bare_app name) (word_rule (codes "FILE"))
+file_app name = with_rule (with_rule (bare_app name) board_rule) (word_rule (codes "FILE"))
 
 -- .. of some name
 abbrev pub IsFileApp : App → Type 0
@@ -26,17 +31,17 @@ abbrev pub upgrade_app : App
 upgrade_app = with_rule (with_rule (bare_app (codes "upgrade")) (word_rule (codes "OLD")))
     (word_rule (codes "NEW"))
 
--- `--pips N`, which is required: a number from 0 to 255
+-- `--pips N`: a number from 0 to 255
 abbrev pub pips_rule : Rule
-pips_rule = record (word_rule (codes "pips")) {
+pips_rule = record (new_rule (codes "pips")) {
   long = Some (codes "pips");
   value_names = 1;
   parser = Some (vp.Signed (pos 0) (pos 255));
 }
 
--- `build --pips N FILE`
+-- `build --pips N --board FILE`
 abbrev pub build_app : App
-build_app = with_rule (with_rule (bare_app (codes "build")) pips_rule) (word_rule (codes "FILE"))
+build_app = with_rule (file_app (codes "build")) pips_rule
 
 -- `--cache N`: a number from 1 to 65535
 abbrev pub cache_rule : Rule
@@ -46,35 +51,6 @@ cache_rule = record (new_rule (codes "cache")) {
   parser = Some (vp.Signed (pos 1) (pos 65535));
 }
 
--- `query --cache N FILE`
+-- `query --cache N --board FILE`
 abbrev pub query_app : App
 query_app = with_rule (file_app (codes "query")) cache_rule
-
--- the flag `--board`, which is required
-abbrev pub board_rule : Rule
-board_rule =
-    record (word_rule (codes "board")) { long = Some (codes "board"); action = Some SetTrue }
-
--- `NAME --board FILE`
-abbrev pub board_app : Text → App
-board_app name = with_rule (with_rule (bare_app name) board_rule) (word_rule (codes "FILE"))
-
--- .. of some name
-abbrev pub IsBoardApp : App → Type 0
-IsBoardApp a = (name : Text) × (a ≡ board_app name)
-
--- an option of this name with a value, which does not go with `--board`
-abbrev pub other_rule : Text → Rule
-other_rule id = record (new_rule id) { long = Some id; value_names = 1 }
-
--- `NAME --board FILE`, which knows the option of that name, too
-abbrev pub board_or_app : Text → Text → App
-board_or_app name other = with_rule (board_app name) (other_rule other)
-
--- `build --board FILE`, which knows `--pips N`, too
-abbrev pub build_board_app : App
-build_board_app = board_or_app (codes "build") (codes "pips")
-
--- `query --board FILE`, which knows `--cache N`, too
-abbrev pub query_board_app : App
-query_board_app = board_or_app (codes "query") (codes "cache")

@@ -7,6 +7,6 @@ returns-clause-told g c some other =
     (told.0, (told.1.0, told.1.1.0))
 
 pub returns-clause-fault : goal.returns-clause-fault
-returns-clause-fault g c request asks some =
-    let told = c.act_on-told.ensures.fault request asks some in
+returns-clause-fault g c asked asks some =
+    let told = c.act_on-told.ensures.fault asked asks some in
     (told.0, (told.1.0, told.1.1.0, told.1.2))

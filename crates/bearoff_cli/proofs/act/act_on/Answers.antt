@@ -4,10 +4,10 @@ use Rattle.bearoff_cli.proofs.ToldFaults.{told_end}
 use Rattle.bearoff_cli.proofs.act.act_on.Goals as goal
 
 pub returns-clause-fault : goal.returns-clause-fault
-returns-clause-fault g c request asks some =
-    told_end g.D.Reader.Read.remaining request (g.I.Read.remaining c.args.input.now)
+returns-clause-fault g c asked asks some =
+    told_end g.D.Reader.Read.remaining asked (g.I.Read.remaining c.args.input.now)
     (g.I.Read.remaining c.perform.new.input) (g.O.Write.contents c.args.output.now)
     (g.O.Write.contents c.perform.new.output) c.perform.result c.tell.result.status
     (λ line. IsWritten c.tell.result.line (g.E.Write.contents c.args.errors.now)
     (g.E.Write.contents c.tell.new.errors) line) _ c.tell.ensures.silent c.tell.ensures.told
-    (c.perform.ensures.fault request asks) some
+    (c.perform.ensures.fault asked asks) some

@@ -1,5 +1,6 @@
 -- The levels of the bytes that were read, which are a right file.
 use Rattle.std.proofs.Common.{◌≡◌, ◌∙◌, Err, inr, subst, sym, rules}
+use Rattle.bearoff_cli.specs.Kinds.{file_of}
 use Rattle.bearoff_cli.specs.FileAnswers.{IsReadFrom}
 use Rattle.bearoff_cli.specs.StoppedRuns.{WritesLevelsPart}
 use Rattle.bearoff_cli.proofs.OpenedFiles.{levels_read}
@@ -17,7 +18,7 @@ returns-in_err-kept-clause-fault g c =
     rw same (inr (
       file,
       read,
-      first_in (g.K.Kind.kind file) _ c.in_err-kept.ensures.fault,
+      first_in (file_of c.args.kind file) _ c.in_err-kept.ensures.fault,
     ))
 
 pub returns-clause-levels : goal.returns-clause-levels
@@ -26,7 +27,7 @@ returns-clause-levels g c =
     let read = subst (λ bytes. IsReadFrom g.D.Reader.Read.remaining bytes)
     (sym c.as_slice.ensures.value) c.in_ok-bytes.ensures.read in
     let same = c.as_slice-2.ensures.value ∙ sym c.as_slice.ensures.value in
-    levels_read g.K.Kind.kind g.D.Reader.Read.remaining file _ _ c.write_levels.result read
+    levels_read (file_of c.args.kind) g.D.Reader.Read.remaining file _ _ c.write_levels.result read
     c.in_ok-kept.ensures.right (rw same at c.write_levels.ensures.levels)
 
 pub returns-clause-left : goal.returns-clause-left
@@ -37,7 +38,7 @@ returns-clause-left g c =
     let same = c.as_slice-2.ensures.value ∙ sym c.as_slice.ensures.value in
     let old = g.O.Write.contents c.args.output.now in
     let new = g.O.Write.contents c.write_levels.new.output in
-    read_part g.K.Kind.kind g.D.Reader.Read.remaining
-    (λ f. WritesLevelsPart (g.K.Kind.kind f) old new) file old new
+    read_part (file_of c.args.kind) g.D.Reader.Read.remaining
+    (λ f. WritesLevelsPart (file_of c.args.kind f) old new) file old new
     c.write_levels.result read c.in_ok-kept.ensures.right
     (rw same at c.write_levels.ensures.part)

@@ -1,6 +1,7 @@
 -- The fault of the bytes that were read, and the line of what was accepted.
 use Rattle.std.proofs.Common.{◌≡◌, Err, inr, ap, subst, sym, rules}
 use Rattle.race_model.specs.Ranks.{count_to}
+use Rattle.bearoff_cli.specs.Kinds.{file_of}
 use Rattle.bearoff_cli.specs.FileAnswers.{IsReadFrom}
 use Rattle.bearoff_cli.specs.StoppedRuns.{SaysRightPart}
 use Rattle.bearoff_cli.specs.declared.act.Done.TheVariants.{Checked}
@@ -19,7 +20,7 @@ returns-in_err-kept-clause-fault g c =
     rw same (inr (
       file,
       read,
-      first_in (g.K.Kind.kind file) _ c.in_err-kept.ensures.fault,
+      first_in (file_of c.args.kind file) _ c.in_err-kept.ensures.fault,
     ))
 
 pub returns-clause-left : goal.returns-clause-left
@@ -28,10 +29,9 @@ returns-clause-left g c =
     let read = subst (λ bytes. IsReadFrom g.D.Reader.Read.remaining bytes)
     (sym c.as_slice.ensures.value) c.in_ok-bytes.ensures.read in
     let kept = c.in_ok-kept.ensures in
-    let bound = c.bound.ensures file kept.kept in
     let old = g.O.Write.contents c.args.output.now in
     let new = g.O.Write.contents c.write_count.new.output in
-    read_part g.K.Kind.kind g.D.Reader.Read.remaining (λ f. SaysRightPart (g.K.Kind.kind f) old new)
+    read_part (file_of c.args.kind) g.D.Reader.Read.remaining (λ f. SaysRightPart (file_of c.args.kind f) old new)
     file old new
     c.write_count.result read kept.right (err-weaker c.write_count.result
-    (line_part old new Checked _ _ _ bound (ap count_to bound)) c.write_count.ensures.part)
+    (line_part old new Checked _ _ _ kept.bound (ap count_to kept.bound)) c.write_count.ensures.part)

@@ -1,58 +1,59 @@
 -- The words ask for a request, and so it is the one that was read and fulfilled.
-use Rattle.std.proofs.Common.{◌≡◌, IfOk, IfErr, true, map, subst, sym, ◌∙◌}
+use Rattle.std.proofs.Common.{◌≡◌, Global, IfOk, IfErr, true, map, subst, sym, ◌∙◌}
 use Rattle.clap.specs.Words.{kind_of}
 use Rattle.clap.specs.declared.error.kind.ErrorKind.TheVariants.{OutOfMemory}
 use Rattle.std.specs.Io.Buffered.{writer_contents}
-use Rattle.command_line.specs.Asked.{Gives}
-use Rattle.command_line.specs.declared.words.Request.{Request}
-use Rattle.bearoff_cli.specs.Requests.{Asks}
-use Rattle.bearoff_cli.proofs.PutFiles.{same_put}
-use Rattle.bearoff_cli.proofs.Requests.{IsSame, IsNot, read_as, board_as, same_done, no_help}
-use Rattle.bearoff_cli.proofs.ToldFaults.{done_if, memory_end, same_refusal}
+use Rattle.command_line.specs.Asked.{Asked, Gives, IsFor, asked_by}
+use Rattle.bearoff_cli.specs.PutFiles.{PutsFor}
+use Rattle.bearoff_cli.specs.Requests.{Asks, IsDone}
+use Rattle.bearoff_cli.specs.StoppedRuns.{IsRefusalOf}
+use Rattle.bearoff_cli.proofs.Requests.{IsNot, read_as, no_help}
+use Rattle.bearoff_cli.proofs.ToldFaults.{done_if, ended_refusal, memory_end}
 use Rattle.bearoff_cli.proofs.act.perform.Given.{Over}
 use Rattle.bearoff_cli.proofs.act.perform.Goals.{After-read_words}
 use Rattle.bearoff_cli.proofs.act.perform.Goals as goal
 
 -- the request that the words ask for was read, or memory was wanting
-read : (g : Over) (c : After-read_words g) (request : Request)
-    → Asks (map g.S.AsStr.text c.args.words.now) request
-    → Gives c.read_words.result (IsSame request)
+read : (g : Over) (c : After-read_words g) (asked : Asked)
+    → Asks (map g.S.AsStr.text c.args.words.now) asked → Gives c.read_words.result (IsFor asked)
 read g c =
     let words = c.read_words.ensures in
     read_as g.S.AsStr.text c.args.words.now c.read_words.result words.nothing words.build
-    words.query words.query_by words.check words.audit words.upgrade
-    (board_as g.S.AsStr.text c.args.words.now c.read_words.result words.build_board
-    words.check_board words.query_board words.audit_board)
+    words.build_board words.check words.query words.query_by words.audit words.upgrade
 
 pub returns-in-Err-clause-fault : goal.returns-in-Err-clause-fault
-returns-in-Err-clause-fault g c request asks =
-    memory_end g.D.Reader.Read.remaining request (g.I.Read.remaining c.args.input.now)
+returns-in-Err-clause-fault g c asked asks =
+    memory_end g.D.Reader.Read.remaining asked (g.I.Read.remaining c.args.input.now)
     (g.I.Read.remaining c.args.input.now) (g.O.Write.contents c.args.output.now)
 
 pub returns-in-Ok-clause-done : goal.returns-in-Ok-clause-done
-returns-in-Ok-clause-done g c request asks =
-    let gives = read g (goal.at.returns-in-Ok-clause-done g c).After-read_words request asks in
-    let same = subst (λ r. IfOk r (λ read. IsSame request read)) c.in-Ok.is gives.0 in
+returns-in-Ok-clause-done g c asked asks =
+    let gives = read g (goal.at.returns-in-Ok-clause-done g c).After-read_words asked asks in
+    let same = subst (λ r. IfOk r (IsFor asked)) c.in-Ok.is gives.0 in
     done_if c.fulfil.result c.refused.result c.fulfil.ensures.done
-    (same_done g.D.Reader.Read.remaining (writer_contents g.D.File.Write.contents) request
-    c.in-Ok.request _ _ _ _ same)
+    (subst (λ a. IsDone g.D.Reader.Read.remaining (writer_contents {A = Global} g.D.File.Write.contents) a
+    (g.I.Read.remaining c.args.input.now) (g.I.Read.remaining c.fulfil.new.input)
+    (g.O.Write.contents c.args.output.now) (g.O.Write.contents c.fulfil.new.output)) same)
     c.refused.ensures.fault
 
 pub returns-in-Ok-clause-fault : goal.returns-in-Ok-clause-fault
-returns-in-Ok-clause-fault g c request asks =
-    let gives = read g (goal.at.returns-in-Ok-clause-fault g c).After-read_words request asks in
-    let same = subst (λ r. IfOk r (λ read. IsSame request read)) c.in-Ok.is gives.0 in
-    same_refusal g.D.Reader.Read.remaining request c.in-Ok.request
+returns-in-Ok-clause-fault g c asked asks =
+    let gives = read g (goal.at.returns-in-Ok-clause-fault g c).After-read_words asked asks in
+    let same = subst (λ r. IfOk r (IsFor asked)) c.in-Ok.is gives.0 in
+    subst (λ a. IfErr c.refused.result (λ refusal. IsRefusalOf g.D.Reader.Read.remaining a
+    (g.I.Read.remaining c.args.input.now) (g.I.Read.remaining c.fulfil.new.input)
+    (g.O.Write.contents c.args.output.now) (g.O.Write.contents c.fulfil.new.output) refusal)) same
+    (ended_refusal g.D.Reader.Read.remaining (asked_by c.in-Ok.request)
     (g.I.Read.remaining c.args.input.now) (g.I.Read.remaining c.fulfil.new.input)
     (g.O.Write.contents c.args.output.now) (g.O.Write.contents c.fulfil.new.output)
-    c.fulfil.result c.refused.result same c.fulfil.ensures.cause c.fulfil.ensures.fault
+    c.fulfil.result c.refused.result c.fulfil.ensures.cause c.fulfil.ensures.fault
     c.fulfil.ensures.turns c.fulfil.ensures.left
-    c.refused.ensures.done c.refused.ensures.fault
+    c.refused.ensures.done c.refused.ensures.fault)
 
 -- words that ask for a request are not wrong
 pub returns-in-Err-2-clause-fault : goal.returns-in-Err-2-clause-fault
-returns-in-Err-2-clause-fault g c request asks =
-    let gives = read g (goal.at.returns-in-Err-2-clause-fault g c).After-read_words request asks in
+returns-in-Err-2-clause-fault g c asked asks =
+    let gives = read g (goal.at.returns-in-Err-2-clause-fault g c).After-read_words asked asks in
     let memory = subst (λ r. IfErr r (λ error. kind_of error ≡ OutOfMemory)) c.in-Err.is gives.1 in
     let kind : c.kind.result ≡ OutOfMemory = c.kind.ensures ∙ memory in
     let equal : c.eq.result ≡ true = rw kind at c.eq.ensures in
@@ -60,28 +61,28 @@ returns-in-Err-2-clause-fault g c request asks =
 
 -- .. and ask for no help
 pub returns-in-Err-3-clause-done : goal.returns-in-Err-3-clause-done
-returns-in-Err-3-clause-done g c request asks =
-    let gives = read g (goal.at.returns-in-Err-3-clause-done g c).After-read_words request asks in
+returns-in-Err-3-clause-done g c asked asks =
+    let gives = read g (goal.at.returns-in-Err-3-clause-done g c).After-read_words asked asks in
     let memory = subst (λ r. IfErr r (λ error. kind_of error ≡ OutOfMemory)) c.in-Err.is gives.1 in
     absurd (no_help _ c.use_stderr.result c.use_stderr.ensures memory c.if-use_stderr.false)
 
 pub returns-in-Err-3-clause-fault : goal.returns-in-Err-3-clause-fault
-returns-in-Err-3-clause-fault g c request asks =
-    let gives = read g (goal.at.returns-in-Err-3-clause-fault g c).After-read_words request asks in
+returns-in-Err-3-clause-fault g c asked asks =
+    let gives = read g (goal.at.returns-in-Err-3-clause-fault g c).After-read_words asked asks in
     let memory = subst (λ r. IfErr r (λ error. kind_of error ≡ OutOfMemory)) c.in-Err.is gives.1 in
     absurd (no_help _ c.use_stderr.result c.use_stderr.ensures memory c.if-use_stderr.false)
 
 pub returns-in-Ok-clause-put : goal.returns-in-Ok-clause-put
-returns-in-Ok-clause-put g c request asks =
-    let gives = read g (goal.at.returns-in-Ok-clause-put g c).After-read_words request asks in
-    let same = subst (λ r. IfOk r (λ read. IsSame request read)) c.in-Ok.is gives.0 in
+returns-in-Ok-clause-put g c asked asks =
+    let gives = read g (goal.at.returns-in-Ok-clause-put g c).After-read_words asked asks in
+    let same = subst (λ r. IfOk r (IsFor asked)) c.in-Ok.is gives.0 in
     done_if c.fulfil.result c.refused.result c.fulfil.ensures.put
-    (same_put (g.D.Disk.paths c.args.disk.now) request c.in-Ok.request
-    (g.D.Disk.told c.args.disk.now) (g.D.Disk.told c.fulfil.new.disk) same)
+    (subst (λ a. PutsFor (g.D.Disk.paths c.args.disk.now) a (g.D.Disk.told c.args.disk.now)
+    (g.D.Disk.told c.fulfil.new.disk)) same)
     c.refused.ensures.fault
 
 pub returns-in-Err-3-clause-put : goal.returns-in-Err-3-clause-put
-returns-in-Err-3-clause-put g c request asks =
-    let gives = read g (goal.at.returns-in-Err-3-clause-put g c).After-read_words request asks in
+returns-in-Err-3-clause-put g c asked asks =
+    let gives = read g (goal.at.returns-in-Err-3-clause-put g c).After-read_words asked asks in
     let memory = subst (λ r. IfErr r (λ error. kind_of error ≡ OutOfMemory)) c.in-Err.is gives.1 in
     absurd (no_help _ c.use_stderr.result c.use_stderr.ensures memory c.if-use_stderr.false)

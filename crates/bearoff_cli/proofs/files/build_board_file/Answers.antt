@@ -1,14 +1,14 @@
 -- The built board file was handed to the writer of the file that was begun.
 use Rattle.std.specs.Io.Buffered.{writer_contents}
-use Rattle.bearoff_cli.specs.FileAnswers.{WritesBuiltBoard}
-use Rattle.board_build.specs.BuiltBoards.{IsBuiltBoard}
+use Rattle.command_line.specs.declared.words.FileKind.TheVariants.{Board}
+use Rattle.bearoff_cli.specs.Kinds.{IsBuiltOf, WritesBuiltOf}
 use Rattle.whole_file.proofs.Puts.{puts}
 use Rattle.bearoff_cli.proofs.OpenedFiles.{handed}
 use Rattle.bearoff_cli.proofs.files.build_board_file.Goals as goal
 
 pub returns-clause-built : goal.returns-clause-built
 returns-clause-built g c =
-    handed (writer_contents g.D.File.Write.contents) (WritesBuiltBoard 90)
+    handed (writer_contents g.D.File.Write.contents) (WritesBuiltOf Board c.args.pips)
     c.in_ok-draft.draft.writer c.build_board_into-written.new.output
     c.build_board_into-written.result c.finish_file.result c.build_board_into-written.ensures.built
     c.finish_file.ensures.fault
@@ -16,6 +16,6 @@ returns-clause-built g c =
 pub returns-clause-put : goal.returns-clause-put
 returns-clause-put g c =
     puts (g.D.Disk.paths c.args.disk.now) c.args.path.now c.in_ok-draft.draft.names _ _
-    (g.D.Disk.told c.args.disk.now) _ _ (IsBuiltBoard 90) c.build_board_into-written.result
+    (g.D.Disk.told c.args.disk.now) _ _ (IsBuiltOf Board c.args.pips) c.build_board_into-written.result
     c.finish_file.result c.in_ok-draft.ensures.begun c.build_board_into-written.ensures.built c.finish_file.ensures.fault
     (rw c.in_ok-draft.ensures.paths at c.finish_file.ensures.put)

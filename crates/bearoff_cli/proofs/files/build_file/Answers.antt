@@ -1,25 +1,8 @@
--- The built file was handed to the writer of the file that was begun.
-use Rattle.std.proofs.Common.{◌≡◌}
-use Rattle.std.specs.Io.Buffered.{writer_contents}
-use Rattle.retrograde.specs.BuiltBytes.{WritesBuilt}
-use Rattle.retrograde.specs.UsualVersion.{usual_version}
-use Rattle.race_model.specs.BuiltFile.{IsBuilt}
-use Rattle.whole_file.proofs.Puts.{puts}
-use Rattle.bearoff_cli.proofs.OpenedFiles.{handed}
+-- The file of a kind is what was built for it.
 use Rattle.bearoff_cli.proofs.files.build_file.Goals as goal
 
-pub returns-clause-built : goal.returns-clause-built
-returns-clause-built g c =
-    let same : c.in_ok-ready.ready ≡ c.args.pips = c.in_ok-ready.ensures.bound in
-    handed (writer_contents g.D.File.Write.contents)
-    (WritesBuilt (usual_version c.args.pips) c.args.pips) c.in_ok-draft.draft.writer
-    c.build_into-written.new.output c.build_into-written.result c.finish_file.result
-    (rw same at c.build_into-written.ensures.built) c.finish_file.ensures.fault
+pub returns-in-Database-clause-built : goal.returns-in-Database-clause-built
+returns-in-Database-clause-built g c = rw c.in-Database.is c.build_database.ensures.built
 
-pub returns-clause-put : goal.returns-clause-put
-returns-clause-put g c =
-    let same : c.in_ok-ready.ready ≡ c.args.pips = c.in_ok-ready.ensures.bound in
-    puts (g.D.Disk.paths c.args.disk.now) c.args.path.now c.in_ok-draft.draft.names _ _
-    (g.D.Disk.told c.args.disk.now) _ _ (IsBuilt (usual_version c.args.pips) c.args.pips) c.build_into-written.result
-    c.finish_file.result c.in_ok-draft.ensures.begun (rw same at c.build_into-written.ensures.built) c.finish_file.ensures.fault
-    (rw c.in_ok-draft.ensures.paths at c.finish_file.ensures.put)
+pub returns-in-Board-clause-built : goal.returns-in-Board-clause-built
+returns-in-Board-clause-built g c = rw c.in-Board.is c.build_board_file.ensures.built

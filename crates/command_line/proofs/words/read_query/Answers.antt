@@ -1,89 +1,112 @@
-use Rattle.std.proofs.Common.{rules, ap, ap₂, sym, ◌∙◌, map, codes, Some, None, refl, arith}
+-- The file and the number that stand among the words.
+use Rattle.std.proofs.Common.{rules, ap, ap₂, sym, ◌≡◌, ◌<◌, ◌≤◌, ◌∙◌, ◌∷◌, [], ℕ, List, map, codes, Some, None, refl, arith}
 use Rattle.std.specs.Str.Parse.{ExplainsUnsignedError, HasUnsignedDigitsIfOk, ParsesUnsigned}
-use Rattle.clap.specs.Words.{takes}
+use Rattle.clap.specs.Words.{first_value, found_of, takes}
+use Rattle.command_line.specs.Asked.{IsPlain, Writes, flagged}
 use Rattle.command_line.specs.Commands.{query_app}
-use Rattle.command_line.proofs.PlainWords.{bare_first, bare_none, bare_takes, query_is_word, first_from, first_read}
-use Rattle.command_line.proofs.PlainWords.{one_from}
+use Rattle.command_line.proofs.PlainWords.{first_from, first_read, one_from, query_is_word}
+use Rattle.command_line.proofs.BoardWords.{query_kind_first, query_kind_none, query_kind_takes}
 use Rattle.command_line.proofs.Numbers.{numeral_accepted, numeral_is_plain, numeral_reads, without_no_minus}
 use Rattle.command_line.proofs.OptionWords.{query_one, query_path, query_takes}
+use Rattle.command_line.proofs.words.read_query.Given.{Over}
+use Rattle.command_line.proofs.words.read_query.Goals.{After-value_of, After-get_one-cache}
 use Rattle.command_line.proofs.words.read_query.Goals as goal
+
+-- the file that is found stands behind `--cache N`
+numbered : (g : Over) (c : After-value_of g) (n : ℕ) (digits path : List ℕ) → Writes n digits
+    → 1 ≤ n → n < 65536 → IsPlain path
+    → map g.S.AsStr.text c.args.words.now ≡ codes "--cache" ∷ digits ∷ path ∷ []
+    → first_value (found_of c.in_ok-matches.matches) (codes "FILE") ≡ Some path
+numbered g c n digits path w more lt plain words_are =
+    let accepted = numeral_accepted 1 65535 n digits w (omega arith) (omega arith) (omega arith) in
+    first_from _ query_app (map g.S.AsStr.text c.args.words.now) _ c.in_ok-matches.matches
+    (codes "FILE") path c.in_ok-query_command.ensures refl c.in_ok-matches.ensures.matches words_are
+    (query_path digits path (numeral_is_plain digits w.0) accepted plain)
+
+-- .. or with `--board` or nothing before it
+flagged_file : (g : Over) (c : After-value_of g) (path : List ℕ) → IsPlain path
+    → map g.S.AsStr.text c.args.words.now ≡ flagged c.args.kind (path ∷ [])
+    → first_value (found_of c.in_ok-matches.matches) (codes "FILE") ≡ Some path
+flagged_file g c path plain words_are =
+    first_from _ query_app (map g.S.AsStr.text c.args.words.now) _ c.in_ok-matches.matches
+    (codes "FILE") path c.in_ok-query_command.ensures refl c.in_ok-matches.ensures.matches words_are
+    (query_kind_first c.args.kind path plain)
+
+-- .. where no number is read
+no_number : (g : Over) (c : After-get_one-cache g) (path : List ℕ) → IsPlain path
+    → map g.S.AsStr.text c.args.words.now ≡ flagged c.args.kind (path ∷ [])
+    → c.get_one-cache.result ≡ None
+no_number g c path plain words_are =
+    c.get_one-cache.ensures.none (one_from _ query_app (map g.S.AsStr.text c.args.words.now) _
+    c.in_ok-matches.matches (codes "cache") None c.in_ok-query_command.ensures refl
+    c.in_ok-matches.ensures.matches words_are (query_kind_none c.args.kind path plain))
 
 pub returns-in_err-matches-clause-file : goal.returns-in_err-matches-clause-file
 returns-in_err-matches-clause-file g c path plain words_are =
     let kind = c.in_err-matches.ensures.passes
-    (ap₂ takes c.in_ok-query_command.ensures words_are ∙ bare_takes path plain) in
+    (ap₂ takes c.in_ok-query_command.ensures words_are ∙ query_kind_takes c.args.kind path plain) in
     search rules
 
 pub returns-in_err-matches-clause-cache : goal.returns-in_err-matches-clause-cache
-returns-in_err-matches-clause-cache g c n digits path w more lt plain words_are =
-    let plain_digits = numeral_is_plain digits w.0 in
+returns-in_err-matches-clause-cache g c n digits path w more lt plain words_are is =
     let accepted = numeral_accepted 1 65535 n digits w (omega arith) (omega arith) (omega arith) in
     let kind = c.in_err-matches.ensures.passes
     (ap₂ takes c.in_ok-query_command.ensures words_are
-    ∙ query_takes digits path plain_digits accepted plain) in
+    ∙ query_takes digits path (numeral_is_plain digits w.0) accepted plain) in
     search rules
 
 pub returns-in_err-path-clause-file : goal.returns-in_err-path-clause-file
 returns-in_err-path-clause-file g c path plain words_are =
-    let words = map g.S.AsStr.text c.args.words.now in
-    let m = c.in_ok-matches.matches in
-    let same = first_from _ query_app words _ m (codes "FILE") path c.in_ok-query_command.ensures
-    refl
-    c.in_ok-matches.ensures.matches words_are (bare_first path plain) in
-    let read = c.value_of.ensures.some path same in
+    let read = c.value_of.ensures.some path
+    (flagged_file g (goal.at.returns-in_err-path-clause-file g c).After-value_of path plain
+    words_are) in
     search rules
 
 pub returns-in_err-path-clause-cache : goal.returns-in_err-path-clause-cache
-returns-in_err-path-clause-cache g c n digits path w more lt plain words_are =
-    let plain_digits = numeral_is_plain digits w.0 in
-    let accepted = numeral_accepted 1 65535 n digits w (omega arith) (omega arith) (omega arith) in
-    let words = map g.S.AsStr.text c.args.words.now in
-    let m = c.in_ok-matches.matches in
-    let same = first_from _ query_app words _ m (codes "FILE") path c.in_ok-query_command.ensures
-    refl
-    c.in_ok-matches.ensures.matches words_are (query_path digits path plain_digits accepted plain)
-    in
-    let read = c.value_of.ensures.some path same in
+returns-in_err-path-clause-cache g c n digits path w more lt plain words_are is =
+    let read = c.value_of.ensures.some path
+    (numbered g (goal.at.returns-in_err-path-clause-cache g c).After-value_of n digits path w more lt
+    plain words_are) in
+    search rules
+
+pub returns-then-is_some-clause-file : goal.returns-then-is_some-clause-file
+returns-then-is_some-clause-file g c path plain words_are =
+    let none = no_number g (goal.at.returns-then-is_some-clause-file g c).After-get_one-cache path
+    plain words_are in
     search rules
 
 pub returns-clause-asked : goal.returns-clause-asked
 returns-clause-asked g c =
     let words = map g.S.AsStr.text c.args.words.now in
-    let m = c.in_ok-matches.matches in
-    let read = first_read _ query_app words m (codes "FILE") c.in_ok-query_command.ensures refl
-    c.in_ok-matches.ensures.matches in
-    (words, refl, query_is_word words c.in_ok-path.path.now (sym read ∙ c.in_ok-path.ensures.read))
+    let read = first_read _ query_app words c.in_ok-matches.matches (codes "FILE")
+    c.in_ok-query_command.ensures refl c.in_ok-matches.ensures.matches in (
+      words,
+      refl,
+      sym c.requires,
+      query_is_word words c.in_ok-path.path.now (sym read ∙ c.in_ok-path.ensures.read),
+    )
 
 pub returns-clause-file : goal.returns-clause-file
 returns-clause-file g c path plain words_are =
-    let words = map g.S.AsStr.text c.args.words.now in
-    let m = c.in_ok-matches.matches in
-    let same = first_from _ query_app words _ m (codes "FILE") path c.in_ok-query_command.ensures
-    refl
-    c.in_ok-matches.ensures.matches words_are (bare_first path plain) in
-    let none = one_from _ query_app words _ m (codes "cache") None c.in_ok-query_command.ensures
-    refl
-    c.in_ok-matches.ensures.matches words_are (bare_none path plain) in
-    let read = c.in_ok-path.ensures.some path same in
-    ((read.0, c.get_one.ensures.none none), tt)
+    let at = goal.at.returns-clause-file g c in
+    let none = no_number g at.After-get_one-cache path plain words_are in
+    let read = c.in_ok-path.ensures.some path
+    (flagged_file g at.After-value_of path plain words_are) in
+    (rw (read.0, none) refl, tt)
 
 pub returns-clause-cache : goal.returns-clause-cache
-returns-clause-cache g c n digits path w more lt plain words_are =
-    let plain_digits = numeral_is_plain digits w.0 in
+returns-clause-cache g c n digits path w more lt plain words_are is =
+    let at = goal.at.returns-clause-cache g c in
     let accepted = numeral_accepted 1 65535 n digits w (omega arith) (omega arith) (omega arith) in
-    let words = map g.S.AsStr.text c.args.words.now in
-    let m = c.in_ok-matches.matches in
-    let same = first_from _ query_app words _ m (codes "FILE") path c.in_ok-query_command.ensures
-    refl
-    c.in_ok-matches.ensures.matches words_are (query_path digits path plain_digits accepted plain)
-    in
-    let number = one_from _ query_app words _ m (codes "cache") (Some digits)
-    c.in_ok-query_command.ensures refl
+    let text = one_from _ query_app (map g.S.AsStr.text c.args.words.now) _ c.in_ok-matches.matches
+    (codes "cache") (Some digits) c.in_ok-query_command.ensures refl
     c.in_ok-matches.ensures.matches words_are
-    (query_one digits path plain_digits accepted plain ∙ ap Some (without_no_minus digits w.0)) in
-    let read = c.in_ok-path.ensures.some path same in
+    (query_one digits path (numeral_is_plain digits w.0) accepted plain
+    ∙ ap Some (without_no_minus digits w.0)) in
     let got = numeral_reads _
     (λ bs r. ParsesUnsigned 16 10 bs r × ExplainsUnsignedError 10 bs r
-    × HasUnsignedDigitsIfOk bs r) 16 n digits c.get_one.result
-    (c.get_one.ensures.value digits number) (λ u x h. h.0) w (omega arith) in
-    ((read.0, got), tt)
+    × HasUnsignedDigitsIfOk bs r) 16 n digits c.get_one-cache.result
+    (c.get_one-cache.ensures.value digits text) (λ u x h. h.0) w (omega arith) in
+    let read = c.in_ok-path.ensures.some path
+    (numbered g at.After-value_of n digits path w more lt plain words_are) in
+    (rw (is, read.0, got) refl, tt)

@@ -1,5 +1,6 @@
 use Rattle.std.proofs.Common.{rules, ap₂, sym, ◌∙◌, map, codes, refl}
 use Rattle.clap.specs.Words.{Text, takes}
+use Rattle.command_line.specs.Asked.{upgrade}
 use Rattle.command_line.specs.Commands.{upgrade_app}
 use Rattle.command_line.proofs.PlainWords.{first_from, first_read, new_first, new_is_word, old_first, old_is_word}
 use Rattle.command_line.proofs.PlainWords.{upgrade_takes}
@@ -56,4 +57,4 @@ returns-clause-given g c old new old_plain new_plain words_are =
     c.in_ok-matches.ensures.matches words_are (new_first old new old_plain new_plain) in
     let o = c.in_ok-old.ensures.some old old_same in
     let n = c.in_ok-new.ensures.some new new_same in
-    ((o.0, n.0), tt)
+    (ap₂ upgrade o.0 n.0, tt)

@@ -1,32 +1,27 @@
+-- The words of a request are those of its command.
 use Rattle.std.proofs.Common.{rules, ap, sym, ◌≡◌, ◌∙◌, ◌∷◌, map, drop}
-use Rattle.command_line.specs.Asked.{names_board}
-use Rattle.command_line.proofs.BoardWords.{number_names_none}
+use Rattle.command_line.specs.Asked.{kind_in}
+use Rattle.command_line.proofs.BoardWords.{number_kind}
 use Rattle.command_line.proofs.words.read_words.Goals as goal
 
 pub returns-in-build-clause-build : goal.returns-in-build-clause-build
 returns-in-build-clause-build g c n digits path w lt plain words_are =
     let parts : map g.S.AsStr.text c.args.words.now ≡ c.as_str.result.now
     ∷ map g.S.AsStr.text c.in-Some.rest.now = search rules in
-    let none = ap (λ ws. names_board (drop 1 ws)) (sym parts ∙ words_are)
-    ∙ number_names_none n digits path w plain in
-    search rules
-
-pub returns-in-build-2-clause-build : goal.returns-in-build-2-clause-build
-returns-in-build-2-clause-build g c n digits path w lt plain words_are =
-    let parts : map g.S.AsStr.text c.args.words.now ≡ c.as_str.result.now
-    ∷ map g.S.AsStr.text c.in-Some.rest.now = search rules in
-    c.read_build.ensures.given n digits path w lt plain (ap (drop 1) (sym parts ∙ words_are))
+    let rest = ap (drop 1) (sym parts ∙ words_are) in
+    c.read_build.ensures.pips n digits path w lt plain rest
+    (c.kind_in-kind.ensures ∙ ap kind_in rest ∙ number_kind n digits path w plain)
 
 pub returns-in-query-clause-query_by : goal.returns-in-query-clause-query_by
 returns-in-query-clause-query_by g c n digits path w more lt plain words_are =
     let parts : map g.S.AsStr.text c.args.words.now ≡ c.as_str.result.now
     ∷ map g.S.AsStr.text c.in-Some.rest.now = search rules in
-    let none = ap (λ ws. names_board (drop 1 ws)) (sym parts ∙ words_are)
-    ∙ number_names_none n digits path w plain in
-    search rules
+    let rest = ap (drop 1) (sym parts ∙ words_are) in
+    c.read_query.ensures.cache n digits path w more lt plain rest
+    (c.kind_in-kind.ensures ∙ ap kind_in rest ∙ number_kind n digits path w plain)
 
-pub returns-in-query-2-clause-query_by : goal.returns-in-query-2-clause-query_by
-returns-in-query-2-clause-query_by g c n digits path w more lt plain words_are =
+pub returns-in-upgrade-clause-upgrade : goal.returns-in-upgrade-clause-upgrade
+returns-in-upgrade-clause-upgrade g c old new old_plain new_plain words_are =
     let parts : map g.S.AsStr.text c.args.words.now ≡ c.as_str.result.now
     ∷ map g.S.AsStr.text c.in-Some.rest.now = search rules in
-    c.read_query.ensures.cache n digits path w more lt plain (ap (drop 1) (sym parts ∙ words_are))
+    c.read_upgrade.ensures.given old new old_plain new_plain (ap (drop 1) (sym parts ∙ words_are))

@@ -1,23 +1,16 @@
 -- The replies over bytes that were accepted.
-use Rattle.std.proofs.Common.{Some, ap}
-use Rattle.epc_query.specs.AnyFiles.{database_file}
 use Rattle.bearoff_cli.proofs.CommandFaults.{run_answer, run_turns}
-use Rattle.bearoff_cli.proofs.kinds.DatabasesKind.answer.Goals as goal
+use Rattle.bearoff_cli.specs.Kinds.{file_of}
+use Rattle.bearoff_cli.proofs.kinds.answer.Goals as goal
 
 pub returns-in-Err-clause-left : goal.returns-in-Err-clause-left
 returns-in-Err-clause-left g c given read = record {
   right = c.requires.right;
   cause = c.handed_on.result;
   fault_is = c.from.ensures;
-  stopped = c.handed_on.ensures.stopped (database_file c.args.bytes.now) given _ _
-      (c.in-Err.ensures.stopped c.args.bytes.now (ap Some c.kept-database.ensures) given read);
+  stopped = c.handed_on.ensures.stopped (file_of c.args.kind c.args.bytes.now) given _ _
+      (c.in-Err.ensures.stopped given read);
 }
-
-pub returns-in-Ok-clause-answers : goal.returns-in-Ok-clause-answers
-returns-in-Ok-clause-answers g c given read =
-    let done = c.in-Ok.ensures.done c.args.bytes.now (ap Some c.kept-database.ensures) given read
-    in
-    record { right = c.requires.right; end = done.0; replies = done.2 }
 
 pub returns-in-Err-clause-cause : goal.returns-in-Err-clause-cause
 returns-in-Err-clause-cause g c = rw c.from.ensures (run_answer c.handed_on.result)

@@ -1,0 +1,24 @@
+-- The built file was handed to the writer of the file that was begun.
+use Rattle.std.proofs.Common.{◌≡◌}
+use Rattle.std.specs.Io.Buffered.{writer_contents}
+use Rattle.command_line.specs.declared.words.FileKind.TheVariants.{Database}
+use Rattle.bearoff_cli.specs.Kinds.{IsBuiltOf, WritesBuiltOf}
+use Rattle.whole_file.proofs.Puts.{puts}
+use Rattle.bearoff_cli.proofs.OpenedFiles.{handed}
+use Rattle.bearoff_cli.proofs.files.build_database.Goals as goal
+
+pub returns-clause-built : goal.returns-clause-built
+returns-clause-built g c =
+    let same : c.in_ok-ready.ready ≡ c.args.pips = c.in_ok-ready.ensures.bound in
+    handed (writer_contents g.D.File.Write.contents)
+    (WritesBuiltOf Database c.args.pips) c.in_ok-draft.draft.writer
+    c.build_into-written.new.output c.build_into-written.result c.finish_file.result
+    (rw same at c.build_into-written.ensures.built) c.finish_file.ensures.fault
+
+pub returns-clause-put : goal.returns-clause-put
+returns-clause-put g c =
+    let same : c.in_ok-ready.ready ≡ c.args.pips = c.in_ok-ready.ensures.bound in
+    puts (g.D.Disk.paths c.args.disk.now) c.args.path.now c.in_ok-draft.draft.names _ _
+    (g.D.Disk.told c.args.disk.now) _ _ (IsBuiltOf Database c.args.pips) c.build_into-written.result
+    c.finish_file.result c.in_ok-draft.ensures.begun (rw same at c.build_into-written.ensures.built) c.finish_file.ensures.fault
+    (rw c.in_ok-draft.ensures.paths at c.finish_file.ensures.put)
