@@ -11,6 +11,7 @@ import resource
 import shutil
 import subprocess
 import sys
+import termios
 import time
 from collections import Counter
 from pathlib import Path
@@ -36,6 +37,12 @@ AUDIT = """pips 0 positions 1 least 0/1 greatest 0/1
 pips 1 positions 1 least 1/1 greatest 1/1
 pips 2 positions 2 least 1/1 greatest 1/1
 pips 3 positions 3 least 1/1 greatest 11/6"""
+TYPED_HELP = (
+    "Lines: mean, dist or rank and a position; play or moves, a position and a roll; loss, a "
+    "position,\na roll and a position. A position is six counts, that of the ace point first: "
+    "mean 0,0,0,0,0,1.\nA roll is two digits: play 0,0,0,2,0,0 21. An empty line or help shows "
+    "this, Ctrl-D ends.\n"
+)
 BUILD_USAGE = (
     "Usage: bearoff build --pips <N> <FILE>\n       bearoff build --board <FILE>"
 )
@@ -701,6 +708,36 @@ class TestTerminal:
             os.close(terminal)
         told = as_bytes(REPLIES if typed else "")
         assert (child.returncode, output, errors) == (0, told, b"")
+
+    # where standard output is the terminal, too, a prompt stands before each line, and an empty one
+    # and `help` have the help
+    @pytest.mark.parametrize("words", ["", "query eight", "query --board whole"])
+    def test_the_prompt(self, files, program, whole, words):
+        os.symlink(whole, "whole")
+        typist, terminal = os.openpty()
+        settings = termios.tcgetattr(terminal)
+        settings[1] &= ~termios.OPOST
+        settings[3] &= ~termios.ECHO
+        termios.tcsetattr(terminal, termios.TCSANOW, settings)
+        child = subprocess.Popen(
+            [program, *words.split()], stdin=terminal, stdout=terminal, stderr=subprocess.PIPE
+        )
+        os.close(terminal)
+        shown = b""
+        try:
+            os.write(typist, b"mean 0,0,1,0,0,0\n\nhelp\nhelp me\n\4")
+            with contextlib.suppress(OSError):
+                while piece := os.read(typist, 4096):
+                    shown += piece
+            status = child.wait(20 * SLOWER)
+        finally:
+            child.kill()
+            os.close(typist)
+        told = (
+            f"{TYPED_HELP}> mean 1/1 epc 49/6 8.167\n> {TYPED_HELP}> {TYPED_HELP}"
+            "> error bad-line\n> "
+        )
+        assert (status, shown, child.stderr.read()) == (0, told.encode(), b"")
 
 
 class TestManyTurns:

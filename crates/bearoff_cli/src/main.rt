@@ -5,8 +5,9 @@
 
 use act::act;
 use exit_status::{Fault, write_fault};
+use prompt::Prompted;
 use std::fs::File;
-use std::io::BufWriter;
+use std::io::{BufWriter, IsTerminal};
 use std::os::fd::{AsFd, AsRawFd, BorrowedFd};
 use std::process::ExitCode;
 use std::{env, fs, io};
@@ -14,6 +15,7 @@ use std::{env, fs, io};
 pub mod act;
 pub mod files;
 pub mod kinds;
+pub mod prompt;
 
 /// What the system says of a number that is no open file's (`EBADF`).
 const NOT_OPEN: i32 = 9;
@@ -36,11 +38,13 @@ fn run(rt: &HostRuntime) -> Result<u8, Fault> {
     let Ok(mut output) = BufWriter::new(rt.alloc(), rt.stdout()) else {
         return Err(Fault::Memory);
     };
+    let mut terminal = rt.stdout();
+    let is_typed = rt.stdin().is_terminal() && terminal.is_terminal();
     let status = act(
         rt,
         rt.alloc(),
         words.as_slice(),
-        &mut rt.stdin(),
+        &mut Prompted::new(&mut rt.stdin(), is_typed.then_some(&mut terminal)),
         &mut output,
         &mut rt.stderr(),
     );
