@@ -43,9 +43,7 @@ TYPED_HELP = (
     "mean 0,0,0,0,0,1.\nA roll is two digits: play 0,0,0,2,0,0 21. An empty line or help shows "
     "this, Ctrl-D ends.\n"
 )
-BUILD_USAGE = (
-    "Usage: bearoff build --pips <N> <FILE>\n       bearoff build --board <FILE>"
-)
+BUILD_USAGE = "Usage: bearoff build --pips <N> <FILE>\n       bearoff build --board <FILE>"
 READERS = ("check", "query", "query --cache 1", "audit")
 
 
@@ -293,7 +291,9 @@ class TestCommands:
     # the help of a command tells of board files, and of what refuses one
     @pytest.mark.parametrize("name", ["build", "check", "query", "audit"])
     def test_helps_of_board(self, files, ask, name):
-        helps = {ask(f"{name} {it}").output for it in ("--help", "--board --help", "--help --board")}
+        helps = {
+            ask(f"{name} {it}").output for it in ("--help", "--board --help", "--help --board")
+        }
         (text,) = helps
         assert b"FILE is a board file: the whole home board, to 90 pips" in text
         assert name == "build" or b"`header bad-version` where `--board` is missing" in text
