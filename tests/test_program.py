@@ -38,10 +38,10 @@ pips 1 positions 1 least 1/1 greatest 1/1
 pips 2 positions 2 least 1/1 greatest 1/1
 pips 3 positions 3 least 1/1 greatest 11/6"""
 TYPED_HELP = (
-    "Lines: mean, dist or rank and a position; play or moves, a position and a roll; loss, a "
-    "position,\na roll and a position. A position is six counts, that of the ace point first: "
-    "mean 0,0,0,0,0,1.\nA roll is two digits: play 0,0,0,2,0,0 21. An empty line or help shows "
-    "this, Ctrl-D ends.\n"
+    "Lines: mean, dist or rank and a position; play or moves, a position and a roll; loss, a\n"
+    "position, a roll and a position. A position is six counts, that of the ace point first:\n"
+    "mean 0,0,0,0,0,1. A roll is two digits: play 0,0,0,2,0,0 21. An empty line or help shows this,\n"
+    "and Ctrl-D ends the input.\n"
 )
 BUILD_USAGE = "Usage: bearoff build --pips <N> <FILE>\n       bearoff build --board <FILE>"
 READERS = ("check", "query", "query --cache 1", "audit")

@@ -244,8 +244,9 @@ fn fulfil<D: Disk, I: Read, O: Write>(
     ensures fault { IfErr result
         (λ fault. IsFaultOf D.Reader.remaining (asked_by request.entry) fault) }
     ensures turns { IfErr result (UsesTurns (I.remaining input.old) (I.remaining input.new)) }
-    ensures left { IfErr result (Leaves D.Reader.remaining (asked_by request.entry) (I.remaining input.old)
-        (I.remaining input.new) (O.contents output.old) (O.contents output.new)) }
+    ensures left { IfErr result (Leaves D.Reader.remaining (asked_by request.entry)
+        (I.remaining input.old) (I.remaining input.new)
+        (O.contents output.old) (O.contents output.new)) }
     ensures done { OnOk result (IsDone D.Reader.remaining
         ⟦<BufWriter<D::File> as Write>⟧.contents (asked_by request.entry) (I.remaining input.old)
         (I.remaining input.new) (O.contents output.old) (O.contents output.new)) }
@@ -309,8 +310,9 @@ fn answer_file<D: Disk, I: Read, O: Write>(
     ensures cause { IfErr result IsQueryFault }
     ensures turns { IfErr result (UsesTurns (I.remaining input.old) (I.remaining input.new)) }
     ensures fault { IfErr result (λ fault. IsOwnFault (file_of kind) D.Reader.remaining fault) }
-    ensures left { IfErr result (LeavesReplies (file_of kind) D.Reader.remaining (I.remaining input.old)
-        (I.remaining input.new) (O.contents output.old) (O.contents output.new)) }
+    ensures left { IfErr result (LeavesReplies (file_of kind) D.Reader.remaining
+        (I.remaining input.old) (I.remaining input.new)
+        (O.contents output.old) (O.contents output.new)) }
     ensures answers { OnOk result (WhereTold (I.remaining input.old) (λ given.
         AreAnsweredFrom (file_of kind) D.Reader.remaining given (I.remaining input.new)
         (O.contents output.old) (O.contents output.new))) }
@@ -471,7 +473,8 @@ fn check_file<D: Disk, O: Write>(
     ensures left { OnErr result (LeavesLine (file_of kind) D.Reader.remaining
         (O.contents output.old) (O.contents output.new)) }
     ensures right { OnOk result
-        (SaysRight (file_of kind) D.Reader.remaining (O.contents output.old) (O.contents output.new)) }
+        (SaysRight (file_of kind) D.Reader.remaining
+        (O.contents output.old) (O.contents output.new)) }
 {
     let bytes = read_file(disk, alloc, path)?;
     let kept = accept(kind, bytes.as_slice())?;
@@ -493,7 +496,8 @@ fn audit_file<D: Disk, O: Write>(
     ensures left { OnErr result (LeavesLevels (file_of kind) D.Reader.remaining
         (O.contents output.old) (O.contents output.new)) }
     ensures levels { OnOk result
-        (SaysLevels (file_of kind) D.Reader.remaining (O.contents output.old) (O.contents output.new)) }
+        (SaysLevels (file_of kind) D.Reader.remaining
+        (O.contents output.old) (O.contents output.new)) }
 {
     let bytes = read_file(disk, alloc, path)?;
     let kept = accept(kind, bytes.as_slice())?;

@@ -5,9 +5,10 @@ use std::io::{Read, Write};
 const PROMPT: &str = "> ";
 
 const HELP: &str =
-    "Lines: mean, dist or rank and a position; play or moves, a position and a roll; loss, a position,
-a roll and a position. A position is six counts, that of the ace point first: mean 0,0,0,0,0,1.
-A roll is two digits: play 0,0,0,2,0,0 21. An empty line or help shows this, Ctrl-D ends.
+    "Lines: mean, dist or rank and a position; play or moves, a position and a roll; loss, a
+position, a roll and a position. A position is six counts, that of the ace point first:
+mean 0,0,0,0,0,1. A roll is two digits: play 0,0,0,2,0,0 21. An empty line or help shows this,
+and Ctrl-D ends the input.
 ";
 
 /// How many helps there are at most before one line.

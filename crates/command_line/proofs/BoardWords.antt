@@ -89,12 +89,15 @@ module _ (name path : Text) (plain : IsPlain path) where
   -- it takes the words
   pub named_takes : takes (file_app name) (board_words path) ≡ true
   named_takes = ap₂ (taken (built (file_app name)))
-      (board_passes (file_app name) path plain named_flag named_flag_turn refl) named_walked
+      (board_passes (file_app name) path plain named_flag named_flag_turn refl)
+      named_walked
 
   -- .. gives the path
-  pub named_first : first_of (codes "FILE") (matches_of (file_app name) (board_words path)) ≡ Some path
+  pub named_first : first_of (codes "FILE") (matches_of (file_app name) (board_words path))
+      ≡ Some path
   named_first =
-      ap (λ (w : Walk). first_of (codes "FILE") (finished (built (file_app name)).top.rules w.held)) named_walked
+      ap (λ (w : Walk). first_of (codes "FILE") (finished (built (file_app name)).top.rules w.held))
+      named_walked
 
 -- ---- build --board FILE
 
@@ -116,17 +119,21 @@ module _ (path : Text) (plain : IsPlain path) where
   -- it takes the words
   pub build_board_takes : takes build_app (board_words path) ≡ true
   build_board_takes = ap₂ (taken (built build_app))
-      (board_passes build_app path plain build_board_flag build_board_flag_turn refl) build_board_walked
+      (board_passes build_app path plain build_board_flag build_board_flag_turn refl)
+      build_board_walked
 
   -- .. gives the path
-  pub build_board_first : first_of (codes "FILE") (matches_of build_app (board_words path)) ≡ Some path
+  pub build_board_first : first_of (codes "FILE") (matches_of build_app (board_words path))
+      ≡ Some path
   build_board_first =
-      ap (λ (w : Walk). first_of (codes "FILE") (finished (built build_app).top.rules w.held)) build_board_walked
+      ap (λ (w : Walk). first_of (codes "FILE") (finished (built build_app).top.rules w.held))
+      build_board_walked
 
   -- .. and no value of `--pips`
   pub build_board_none : one_of (codes "pips") (matches_of build_app (board_words path)) ≡ None
   build_board_none =
-      ap (λ (w : Walk). one_of (codes "pips") (finished (built build_app).top.rules w.held)) build_board_walked
+      ap (λ (w : Walk). one_of (codes "pips") (finished (built build_app).top.rules w.held))
+      build_board_walked
 
 -- ---- query --board FILE
 
@@ -148,17 +155,21 @@ module _ (path : Text) (plain : IsPlain path) where
   -- it takes the words
   pub query_board_takes : takes query_app (board_words path) ≡ true
   query_board_takes = ap₂ (taken (built query_app))
-      (board_passes query_app path plain query_board_flag query_board_flag_turn refl) query_board_walked
+      (board_passes query_app path plain query_board_flag query_board_flag_turn refl)
+      query_board_walked
 
   -- .. gives the path
-  pub query_board_first : first_of (codes "FILE") (matches_of query_app (board_words path)) ≡ Some path
+  pub query_board_first : first_of (codes "FILE") (matches_of query_app (board_words path))
+      ≡ Some path
   query_board_first =
-      ap (λ (w : Walk). first_of (codes "FILE") (finished (built query_app).top.rules w.held)) query_board_walked
+      ap (λ (w : Walk). first_of (codes "FILE") (finished (built query_app).top.rules w.held))
+      query_board_walked
 
   -- .. and no value of `--cache`
   pub query_board_none : one_of (codes "cache") (matches_of query_app (board_words path)) ≡ None
   query_board_none =
-      ap (λ (w : Walk). one_of (codes "cache") (finished (built query_app).top.rules w.held)) query_board_walked
+      ap (λ (w : Walk). one_of (codes "cache") (finished (built query_app).top.rules w.held))
+      query_board_walked
 
 -- ---- a file of a kind
 

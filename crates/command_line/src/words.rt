@@ -104,8 +104,8 @@ are wrong; 3 the file was refused, and standard error says why. A board file is 
 `header bad-version` where `--board` is missing, and a database where it stands.";
 
 const BUILD_STATUSES: &str =
-    "Exit status: 0 the file was written; 1 it, the output or memory failed (FILE is the old file, or
-the whole new one); 2 the words are wrong or N is over the greatest bound.";
+    "Exit status: 0 the file was written; 1 it, the output or memory failed (FILE is the old file,
+or the whole new one); 2 the words are wrong or N is over the greatest bound.";
 
 const UPGRADE_STATUSES: &str =
     "Exit status: 0 NEW was written; 1 a file, the output or memory failed (NEW is the old file, or

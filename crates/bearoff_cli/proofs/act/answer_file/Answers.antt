@@ -31,5 +31,6 @@ returns-clause-left g c =
     told_left c.answer_bytes.result (g.I.Read.remaining c.args.input.now)
     (λ given fault. IsNothingOr (file_of c.args.kind) g.D.Reader.Read.remaining
     (λ f. AreStopped (file_of c.args.kind f) given left old new fault) old new)
-    (λ given told. read_stopped (file_of c.args.kind) g.D.Reader.Read.remaining c.as_slice.result.now given
-    left old new c.answer_bytes.result read (c.answer_bytes.ensures.left given told))
+    (λ given told. read_stopped (file_of c.args.kind) g.D.Reader.Read.remaining
+    c.as_slice.result.now given left old new c.answer_bytes.result read
+    (c.answer_bytes.ensures.left given told))

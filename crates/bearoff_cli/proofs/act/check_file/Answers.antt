@@ -31,7 +31,8 @@ returns-clause-left g c =
     let kept = c.in_ok-kept.ensures in
     let old = g.O.Write.contents c.args.output.now in
     let new = g.O.Write.contents c.write_count.new.output in
-    read_part (file_of c.args.kind) g.D.Reader.Read.remaining (λ f. SaysRightPart (file_of c.args.kind f) old new)
-    file old new
+    read_part (file_of c.args.kind) g.D.Reader.Read.remaining
+    (λ f. SaysRightPart (file_of c.args.kind f) old new) file old new
     c.write_count.result read kept.right (err-weaker c.write_count.result
-    (line_part old new Checked _ _ _ kept.bound (ap count_to kept.bound)) c.write_count.ensures.part)
+    (line_part old new Checked _ _ _ kept.bound (ap count_to kept.bound))
+    c.write_count.ensures.part)

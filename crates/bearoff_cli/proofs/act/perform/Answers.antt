@@ -31,7 +31,8 @@ returns-in-Ok-clause-done g c asked asks =
     let gives = read g (goal.at.returns-in-Ok-clause-done g c).After-read_words asked asks in
     let same = subst (λ r. IfOk r (IsFor asked)) c.in-Ok.is gives.0 in
     done_if c.fulfil.result c.refused.result c.fulfil.ensures.done
-    (subst (λ a. IsDone g.D.Reader.Read.remaining (writer_contents {A = Global} g.D.File.Write.contents) a
+    (subst (λ a. IsDone g.D.Reader.Read.remaining
+    (writer_contents {A = Global} g.D.File.Write.contents) a
     (g.I.Read.remaining c.args.input.now) (g.I.Read.remaining c.fulfil.new.input)
     (g.O.Write.contents c.args.output.now) (g.O.Write.contents c.fulfil.new.output)) same)
     c.refused.ensures.fault

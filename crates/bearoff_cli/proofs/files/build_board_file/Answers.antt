@@ -16,6 +16,7 @@ returns-clause-built g c =
 pub returns-clause-put : goal.returns-clause-put
 returns-clause-put g c =
     puts (g.D.Disk.paths c.args.disk.now) c.args.path.now c.in_ok-draft.draft.names _ _
-    (g.D.Disk.told c.args.disk.now) _ _ (IsBuiltOf Board c.args.pips) c.build_board_into-written.result
-    c.finish_file.result c.in_ok-draft.ensures.begun c.build_board_into-written.ensures.built c.finish_file.ensures.fault
+    (g.D.Disk.told c.args.disk.now) _ _ (IsBuiltOf Board c.args.pips)
+    c.build_board_into-written.result c.finish_file.result c.in_ok-draft.ensures.begun
+    c.build_board_into-written.ensures.built c.finish_file.ensures.fault
     (rw c.in_ok-draft.ensures.paths at c.finish_file.ensures.put)

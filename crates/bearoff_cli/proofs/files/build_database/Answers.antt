@@ -20,5 +20,6 @@ returns-clause-put g c =
     let same : c.in_ok-ready.ready ≡ c.args.pips = c.in_ok-ready.ensures.bound in
     puts (g.D.Disk.paths c.args.disk.now) c.args.path.now c.in_ok-draft.draft.names _ _
     (g.D.Disk.told c.args.disk.now) _ _ (IsBuiltOf Database c.args.pips) c.build_into-written.result
-    c.finish_file.result c.in_ok-draft.ensures.begun (rw same at c.build_into-written.ensures.built) c.finish_file.ensures.fault
+    c.finish_file.result c.in_ok-draft.ensures.begun
+    (rw same at c.build_into-written.ensures.built) c.finish_file.ensures.fault
     (rw c.in_ok-draft.ensures.paths at c.finish_file.ensures.put)

@@ -13,7 +13,8 @@ returns-in-Database-clause-answers g c given read =
     let left = g.I.Read.remaining c.run_lines.new.reader in
     let old = g.O.Write.contents c.args.output.now in
     let new = g.O.Write.contents c.run_lines.new.writer in
-    subst (λ kind. IfOk c.run_lines.result (λ _. AreAnswered (file_of kind bytes) given left old new))
+    subst (λ kind. IfOk c.run_lines.result
+    (λ _. AreAnswered (file_of kind bytes) given left old new))
     (sym c.in-Database.is) (are_answered (database_file bytes) given left old new c.run_lines.result
     (subst (λ kind. IsRightBy (file_of kind bytes)) c.in-Database.is c.requires.right)
     (c.run_lines.ensures.done bytes (ap Some c.kept-database.ensures) given read))

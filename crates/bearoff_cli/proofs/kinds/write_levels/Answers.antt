@@ -13,7 +13,8 @@ use Rattle.bearoff_cli.proofs.kinds.write_levels.Goals.{then-loop-pips-test+in_o
 use Rattle.bearoff_cli.proofs.kinds.write_levels.Goals as goal
 
 pub loop-pips-preserved : goal.loop-pips-preserved
-loop-pips-preserved g c = rw add-one (next_level (file_of c.args.kind c.args.bytes.now) c.loop-pips.pips
+loop-pips-preserved g c = rw add-one (next_level (file_of c.args.kind c.args.bytes.now)
+    c.loop-pips.pips
     _ _ _ c.loop-pips.invariant c.in_ok-write_level.ensures.level)
 
 pub returns-in_err-write_level-clause-part : goal.returns-in_err-write_level-clause-part

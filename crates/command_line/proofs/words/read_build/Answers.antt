@@ -75,8 +75,8 @@ returns-in_err-matches-clause-board g c path plain words_are is =
 pub returns-in_err-path-clause-pips : goal.returns-in_err-path-clause-pips
 returns-in_err-path-clause-pips g c n digits path w lt plain words_are is =
     let read = c.value_of.ensures.some path
-    (numbered g (goal.at.returns-in_err-path-clause-pips g c).After-value_of n digits path w lt plain
-    words_are) in
+    (numbered g (goal.at.returns-in_err-path-clause-pips g c).After-value_of n digits path w lt
+    plain words_are) in
     search rules
 
 pub returns-in_err-path-clause-board : goal.returns-in_err-path-clause-board
@@ -119,8 +119,8 @@ returns-in-Database-Some-clause-pips g c n digits path w lt plain words_are is =
 
 pub returns-in-Database-None-clause-pips : goal.returns-in-Database-None-clause-pips
 returns-in-Database-None-clause-pips g c n digits path w lt plain words_are is =
-    let got = number g (goal.at.returns-in-Database-None-clause-pips g c).After-get_one n digits path
-    w lt plain words_are in
+    let got = number g (goal.at.returns-in-Database-None-clause-pips g c).After-get_one n digits
+    path w lt plain words_are in
     search rules
 
 pub returns-in-Board-None-clause-board : goal.returns-in-Board-None-clause-board

@@ -1,5 +1,6 @@
 -- The file and the number that stand among the words.
-use Rattle.std.proofs.Common.{rules, ap, ap₂, sym, ◌≡◌, ◌<◌, ◌≤◌, ◌∙◌, ◌∷◌, [], ℕ, List, map, codes, Some, None, refl, arith}
+use Rattle.std.proofs.Common.{rules, ap, ap₂, sym, ◌≡◌, ◌<◌, ◌≤◌, ◌∙◌, ◌∷◌, [], ℕ, List, map, codes}
+use Rattle.std.proofs.Common.{Some, None, refl, arith}
 use Rattle.std.specs.Str.Parse.{ExplainsUnsignedError, HasUnsignedDigitsIfOk, ParsesUnsigned}
 use Rattle.clap.specs.Words.{first_value, found_of, takes}
 use Rattle.command_line.specs.Asked.{IsPlain, Writes, flagged}
@@ -65,8 +66,8 @@ returns-in_err-path-clause-file g c path plain words_are =
 pub returns-in_err-path-clause-cache : goal.returns-in_err-path-clause-cache
 returns-in_err-path-clause-cache g c n digits path w more lt plain words_are is =
     let read = c.value_of.ensures.some path
-    (numbered g (goal.at.returns-in_err-path-clause-cache g c).After-value_of n digits path w more lt
-    plain words_are) in
+    (numbered g (goal.at.returns-in_err-path-clause-cache g c).After-value_of n digits path w more
+    lt plain words_are) in
     search rules
 
 pub returns-then-is_some-clause-file : goal.returns-then-is_some-clause-file
