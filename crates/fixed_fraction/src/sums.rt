@@ -258,9 +258,31 @@ fn sums_by_plays<S: Distribution>(spreads: &[S; 21], rolls: u8) -> [u128; 23]
     shares
 }
 
-/// Adds the shares of one play with its weight. It has none of so many rolls or more.
+/// Adds the shares of one play with its weight. It has none of so many rolls or more. The loop of a
+/// weight of one and of two has no product.
 #[inline(always)]
 fn add_shares<S: Distribution>(shares: &mut [u128; 23], spread: S, weight: u8, rolls: u8)
+    requires len { length shares.old ≡ 23 }
+    requires few { rolls ≤ 23 }
+    requires none { (k : ℕ) → rolls ≤ k → slice_index (S.shares spread) k ≡ 0 }
+    requires room { (k : ℕ) → k < 23 →
+        slice_index shares.old k + weight * slice_index (S.shares spread) k < 2 ^ 128 }
+    ensures len { length shares.new ≡ 23 }
+    ensures added { (k : ℕ) → k < 23 → slice_index shares.new k
+        ≡ slice_index shares.old k + weight * slice_index (S.shares spread) k }
+{
+    if weight == 1 {
+        add_weighed(shares, spread, 1, rolls);
+    } else if weight == 2 {
+        add_weighed(shares, spread, 2, rolls);
+    } else {
+        add_weighed(shares, spread, weight, rolls);
+    }
+}
+
+/// The same, where the weight is known.
+#[inline(always)]
+fn add_weighed<S: Distribution>(shares: &mut [u128; 23], spread: S, weight: u8, rolls: u8)
     requires len { length shares.old ≡ 23 }
     requires few { rolls ≤ 23 }
     requires none { (k : ℕ) → rolls ≤ k → slice_index (S.shares spread) k ≡ 0 }

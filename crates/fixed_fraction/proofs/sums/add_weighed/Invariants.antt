@@ -1,6 +1,6 @@
 use Rattle.std.proofs.Common.{◌≡◌, ℕ, ◌+◌, ◌*◌, ◌<◌, ◌≤◌, length}
 use Rattle.std.specs.Prelude.{slice_index}
-use Rattle.fixed_fraction.proofs.sums.add_shares.Given as goal
+use Rattle.fixed_fraction.proofs.sums.add_weighed.Given as goal
 
 -- the shares of fewer than k rolls are added, and the others are as they were
 abbrev pub invariant-loop-k : goal.invariant-loop-k
