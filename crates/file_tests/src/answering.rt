@@ -5,8 +5,8 @@
 //! their calls are in `failing_calls`.
 use crate::given::{accepted, answers, database, put};
 use db_reader::Whole;
-use epc_query::{Text, put_loss};
-use fixed_fraction::{Scaled, mean};
+use epc_query::{Number, Text, put_loss};
+use fixed_fraction::Scaled;
 use std::test::Fail;
 
 /// Inputs to the database of 8 pips, what is written of each, and how many lines it has.
@@ -120,10 +120,8 @@ fn numbers_of_one_and_two_parts(rt: HostRuntime) -> Result<(), Fail> {
         ),
     ] {
         let mut text = Text::new();
-        put_loss(
-            &mut text,
-            mean(Scaled::new(numerator).ok_or("over 22 rolls")?),
-        );
+        let loss = Scaled::new(numerator).ok_or("over 22 rolls")?;
+        put_loss(&mut text, loss.fraction());
         assert_eq!(rt; text.as_str(), expected);
     }
     Ok(())
