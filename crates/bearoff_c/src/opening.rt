@@ -14,8 +14,8 @@ ghost use Rattle.bearoff_c.specs.Refusals.{open_refusal, status_of};
 use crate::kept::Database;
 use crate::lines::put_text;
 use crate::statuses::{OK, fault_status};
-use certificate::fault_line;
 use book::accept;
+use certificate::fault_line;
 use ranking::RankTable;
 
 /// Checks the bytes of a file and opens a database over them. The status is 0 exactly where they

@@ -20,8 +20,8 @@
 //! rates differ from run to run.
 #![tactic(auto)]
 
-use certificate::check;
 use book::Database;
+use certificate::check;
 use db_reader::{Paged, SliceSource, Table};
 use epc_query::{Answers, run_lines};
 use home_board::OLD_BOUND;
