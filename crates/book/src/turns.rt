@@ -45,6 +45,8 @@ pub(crate) fn least_mean<L: Lent>(lent: &L, position: &Position, roll: Roll) -> 
     let _pips = position.pips();
     let recorded = lent.recorded(position, roll)?;
     let to = lent.ranks().unrank(recorded)?;
+    // so that nothing is told by bytes that were changed to where the roll doesn't lead
+    let _play = play_to(position, roll, &to)?;
     lent.mean_ranked(&to, recorded)
 }
 

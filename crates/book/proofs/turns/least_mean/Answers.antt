@@ -1,8 +1,9 @@
 use Rattle.std.proofs.Common.{◌≤◌, sym, ap, subst, ◌∙◌, arith}
 use Rattle.std.proofs.lemmas.Bool.{false≢true}
 use Rattle.race_model.specs.Positions.{pips}
+use Rattle.race_model.specs.Plays.{Legal}
 use Rattle.race_model.specs.Ranks.{at_rank}
-use Rattle.book.proofs.Books.{played_within, played_under}
+use Rattle.book.proofs.Books.{played, played_within, played_under}
 use Rattle.book.proofs.turns.least_mean.Goals as goal
 
 pub returns-in_err-to-clause-some : goal.returns-in_err-to-clause-some
@@ -14,6 +15,16 @@ returns-in_err-to-clause-some g c =
       played_under _ c.bound-bound.ensures.right c.args.position.now c.pips-pips.ensures.position
           c.requires c.args.roll,
     ))))
+
+pub returns-in_err-_play-clause-some : goal.returns-in_err-_play-clause-some
+returns-in_err-_play-clause-some g c =
+    let x = c.args.position.now in
+    let v = c.args.roll in
+    absurd (false≢true ((c.in_err-_play.ensures {u = tt}).legal.1
+    (subst (Legal x v)
+    (sym ((c.in_ok-to.ensures {u = tt}).value
+    ∙ ap at_rank (c.in_ok-recorded.ensures {u = tt}).recorded))
+    (played _ c.bound-bound.ensures.right x c.pips-pips.ensures.position c.requires v).legal)))
 
 pub mean_ranked-requires-clause-within : goal.mean_ranked-requires-clause-within
 mean_ranked-requires-clause-within g c =
