@@ -186,7 +186,7 @@ export interface Table extends BigUint64Array {
 export function asDoubles(table: BigUint64Array, whole?: bigint): Float64Array;
 
 /**
- * A checked database, in a memory of its own: 25 MB and its file, or twice its file where it was built. `close` gives it
+ * A checked database, in a memory of its own: 4 MB and its file, or twice its file where it was built. `close` gives it
  * back for the next one; without it the memory goes when nothing refers to the database any more.
  */
 export class Bearoff {

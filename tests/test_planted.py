@@ -83,7 +83,7 @@ PROGRAMS = {
 
 # the name, the file, a line of it, what stands there instead, and the crate whose tests have to
 # fail, or the program that has to print something else, with its words, or `rows` and the class of
-# test_program.py or test_files.py, or a test of one with its parameter, that has to fail
+# tests, or a test with its parameter, that has to fail
 PLANTED = [
     (
         "build_always_wants_memory",
@@ -284,10 +284,12 @@ PLANTED = [
     (
         "the_query_reads_another_file",
         ACT,
-        "Request::Query { path, cache: None } => {\n"
-        "            answer_file::<Databases, _, _, _>(disk, alloc, path, input, output)",
-        "Request::Query { path: _, cache: None } => {\n"
-        '            answer_file::<Databases, _, _, _>(disk, alloc, "race.db", input, output)',
+        "            path,\n"
+        "            cache: None,\n"
+        "        } => answer_file(disk, alloc, kind, path, input, output),",
+        "            path: _,\n"
+        "            cache: None,\n"
+        '        } => answer_file(disk, alloc, kind, "race.db", input, output),',
         "rows TestCommands",
     ),
     (
@@ -452,8 +454,11 @@ PLANTED = [
     (
         "the_query_of_a_board_reads_another_file",
         ACT,
-        "answer_file::<Boards, _, _, _>(disk, alloc, path, input, output)",
-        'answer_file::<Boards, _, _, _>(disk, alloc, "eight", input, output)',
+        "        } => answer_file(disk, alloc, kind, path, input, output),",
+        "        } => match kind {\n"
+        "            FileKind::Database => answer_file(disk, alloc, kind, path, input, output),\n"
+        '            FileKind::Board => answer_file(disk, alloc, kind, "eight", input, output),\n'
+        "        },",
         "rows TestBoards::test_query[kinds]",
     ),
     (
@@ -541,6 +546,20 @@ PLANTED = [
         "    for place in &mut standing[..2] {",
         "rows TestClosedStreams::test_what_stands_in[012]",
     ),
+    (
+        "a_help_that_is_asked_for_is_told_as_wrong_words",
+        ACT,
+        "        Err(error) => refused(write_help(&error, output)),",
+        "        Err(error) => Err(ProgramFault::Words(error)),",
+        "rows TestCommands::test_words_that_tell_a_text",
+    ),
+    (
+        "the_stack_has_room_for_a_64th",
+        FILES,
+        "const STACK: usize = 896 << 10;",
+        "const STACK: usize = 14 << 10;",
+        "rows test_memory_about_the_least[check of 20 pips]",
+    ),
 ]
 
 # the bodies of the gate: those of each kind of test that cost least
@@ -608,7 +627,7 @@ def parts(words):
 
 def tried(place, words):
     """Whether the tests of a crate pass, or its program, started with words, prints what it has
-    to, or rows of test_program.py or test_files.py pass; and what was said. What comes to no verdict
+    to, or rows of another file of tests pass; and what was said. What comes to no verdict
     is a failure."""
     crate, *arguments = parts(words)
     if crate == "rows":
@@ -668,18 +687,18 @@ def text_of(file):
 
 
 def rows_of(text):
-    """The classes of a file of tests, and the tests of each, as CLASS::TEST."""
+    """The classes of a file of tests, the tests of each, as CLASS::TEST, and those of none."""
     classes = re.split(r"(?m)^class (\w+):", text)[1:]
     return {
         row
         for name, body in zip(classes[::2], classes[1::2])
         for row in (name, *(f"{name}::{test}" for test in re.findall(r" def (test_\w+)", body)))
-    }
+    } | {*re.findall(r"(?m)^def (test_\w+)", text)}
 
 
 ROWS = {
     row: file
-    for file in ("test_program.py", "test_files.py")
+    for file in ("test_program.py", "test_files.py", "test_starved.py")
     for row in rows_of(text_of(f"tests/{file}"))
 }
 SHORT_TRIALS = re.findall(r'(?m)^ +"(\w+)" => ', text_of("crates/failing_calls/src/growths.rt"))
