@@ -15,11 +15,29 @@ import subprocess
 import sys
 from pathlib import Path
 
-MOST_BYTES = 400_000
+MOST_BYTES = 420_000
 # where Debian puts what is written for node
 LIBRARIES = "/usr/share/nodejs"
 # what the oldest browsers that have all else can read
 TARGET = "es2020"
+# the parts of the style, in web/style: of two rules that are as specific the one in a later part
+# holds. There are no cascade layers, since a browser that doesn't know them would show no style
+STYLES = (
+    "colours",
+    "base",
+    "board",
+    "numbers",
+    "rolls",
+    "kept",
+    "coach",
+    "worth",
+    "student",
+    "playing",
+    "training",
+    "compact",
+    "foot",
+    "print",
+)
 # modules are strict, and a script says so
 STRICT = '"use strict";'
 # what each of the two scripts begins with
@@ -95,7 +113,7 @@ def main(web, modules, version, page, maps=None):
     # what the script is given stands behind it, so that its map holds
     code = script(web, PAGE, STRICT + "(PARTS=>{", maps)
     code = f"{code}}})({parts});"
-    style = (web / "style.css").read_text()
+    style = "".join((web / "style" / f"{name}.css").read_text() for name in STYLES)
     text = (web / "index.html").read_text()
     for mark, part in (
         ("/*POLICY*/", policy(code, style)),
