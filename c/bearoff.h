@@ -19,8 +19,8 @@
  * Threads. Each call may be made from any thread; calls that only read a database may share it.
  *
  * Stack. bearoff_open and bearoff_upgrade need less than BEAROFF_OPEN_STACK bytes of stack,
- * bearoff_build less than BEAROFF_BUILD_STACK, bearoff_board_open and bearoff_board_build less
- * than BEAROFF_BOARD_STACK, every other call less than 128 KB. Threads whose stack is smaller have
+ * bearoff_build less than BEAROFF_BUILD_STACK, bearoff_file_open, bearoff_board_open and
+ * bearoff_board_build less than BEAROFF_BOARD_STACK, every other call less than 128 KB. Threads whose stack is smaller have
  * to be given more before they make such a call. The stack of a main thread, 8 MB on most systems,
  * is enough for each call.
  *
@@ -28,8 +28,8 @@
  * where it isn't BEAROFF_OK nothing that the caller lends was changed, except for what the call's
  * comment says.
  *
- * Order. A call that could be refused for several reasons tells the first of these: the database
- * or board is BEAROFF_NOT_OPEN; BEAROFF_BAD_ROLL; BEAROFF_TOO_MANY, of any position that is given;
+ * Order. A call that could be refused for several reasons tells the first of these: the database,
+ * board or file is BEAROFF_NOT_OPEN; BEAROFF_BAD_ROLL; BEAROFF_TOO_MANY, of any position that is given;
  * BEAROFF_OVER_BOUND and BEAROFF_FINISHED, of the first position alone; BEAROFF_NOT_LEGAL;
  * BEAROFF_NO_RANK; BEAROFF_CHANGED; BEAROFF_SHORT. An upgrade tells the fault of the bytes before
  * BEAROFF_NOT_OLD, and that before BEAROFF_SHORT.
@@ -566,6 +566,145 @@ uint32_t bearoff_board_distributions(const bearoff_board *board, uint16_t first,
  */
 uint32_t bearoff_board_answer_line(const bearoff_board *board, const uint8_t *line, size_t length,
                                    uint8_t *text, size_t room, size_t *needed);
+
+/*
+ * A file of any version: a database, of version 1 or 2, or a board file, of version 3. One struct
+ * and one family of calls answer for all three, and a number has three words whichever it is. What
+ * is said above of bytes, structs, threads, stack and statuses holds of files too.
+ *
+ * A file's numbers are over 36 to the power of its most rolls, which bearoff_file_about tells: 22
+ * of a database, 33 of a board file. bearoff_file_as_double is near to a numerator as a number of
+ * rolls or a chance.
+ */
+
+/* What a file says of itself. */
+typedef struct bearoff_about {
+    uint16_t version;   /* 1 or 2 of a database, 3 of a board file */
+    uint8_t bound;      /* the pip bound, 0 to 58 of a database, 0 to 90 of a board file */
+    uint8_t rolls;      /* the most rolls that have a share, 22 or 33; numbers are over 36^rolls */
+    uint32_t positions; /* how many positions there are: those of at most the bound */
+} bearoff_about;
+
+/* A mean number of rolls: exact, and in thousandths, rounded to the nearest and a half up. */
+typedef struct bearoff_long_rolls {
+    bearoff_long_fraction exact;
+    uint64_t thousandths;
+} bearoff_long_rolls;
+
+/* A chance: its numerator over 36^rolls, and in thousandths, rounded to the nearest, a half up. */
+typedef struct bearoff_chance {
+    bearoff_long numerator;
+    uint64_t thousandths;
+} bearoff_chance;
+
+/*
+ * A file, in 17,680 bytes of the caller's. Nothing but bearoff_file_open writes it. It begins as
+ * BEAROFF_FILE_CLOSED, which is not open; one of zeros isn't open either.
+ */
+typedef struct bearoff_file {
+    const uint8_t *bytes;
+    size_t length;
+    uint8_t is_open;
+    uint8_t bound;
+    uint16_t version;
+    uint16_t ranks[6 * 16 * 91 + 92];
+} bearoff_file;
+
+/* bearoff_file file = BEAROFF_FILE_CLOSED; */
+#define BEAROFF_FILE_CLOSED {(const uint8_t *)"", 0, 0, 0, 0, {0}}
+
+/* A numerator of a file that is open as a number of rolls or a chance. */
+static inline double bearoff_file_as_double(const bearoff_file *file, bearoff_long numerator) {
+    double over_board = bearoff_long_as_double(numerator);
+    return file->version == 3 ? over_board : over_board * 131621703842267136.0;
+}
+
+/*
+ * Checks `length` bytes and opens a file over them. BEAROFF_OK exactly where they are a right file
+ * of whichever version their header states: a database of at most 58 pips, or a board file. Any
+ * other status, 16 to 27, names the first fault: that of bearoff_open, and where this is
+ * BEAROFF_BAD_VERSION that of bearoff_board_open. Then the file is not open, whatever it was
+ * before, and else as it was; of `line`, `room` and `*needed` the same holds as in bearoff_open.
+ */
+uint32_t bearoff_file_open(bearoff_file *file, const uint8_t *bytes, size_t length, uint8_t *line,
+                           size_t room, size_t *needed);
+
+/* What the file says of itself, without a byte being read. BEAROFF_OK or BEAROFF_NOT_OPEN. */
+uint32_t bearoff_file_about(const bearoff_file *file, bearoff_about *about);
+
+/*
+ * The rank of a position, at most 54,263, and the position of a rank, as bearoff_rank and
+ * bearoff_position_of tell them, with the same statuses. They read no byte.
+ */
+uint32_t bearoff_file_rank(const bearoff_file *file, const bearoff_position *position,
+                           uint16_t *rank);
+uint32_t bearoff_file_position_of(const bearoff_file *file, uint16_t rank,
+                                  bearoff_position *position);
+
+/*
+ * The least mean number of rolls until all checkers are off, over all strategies: its numerator,
+ * and exact and rounded; the effective pip count, 49/6 pips for each roll of it; and the wastage,
+ * as bearoff_wastage tells it. BEAROFF_OK, BEAROFF_NOT_OPEN, BEAROFF_TOO_MANY or
+ * BEAROFF_OVER_BOUND, and BEAROFF_CHANGED, which comes only where the bytes were changed after
+ * they were checked: where the mean that now stands there is none.
+ */
+uint32_t bearoff_file_mean(const bearoff_file *file, const bearoff_position *position,
+                           bearoff_long *mean);
+uint32_t bearoff_file_rounded_mean(const bearoff_file *file, const bearoff_position *position,
+                                   bearoff_long_rolls *rolls);
+uint32_t bearoff_file_epc(const bearoff_file *file, const bearoff_position *position,
+                          bearoff_long_pips *pips);
+uint32_t bearoff_file_wastage(const bearoff_file *file, const bearoff_position *position,
+                              bearoff_wasted *wastage);
+
+/*
+ * The chance of each number of rolls, where each play is the recorded one, and beyond the file's
+ * most rolls none; and the chance that all checkers are off within `rolls` rolls, which is 1 from
+ * the most rolls on. The statuses of bearoff_file_mean; BEAROFF_CHANGED comes only where the bytes
+ * were changed, where the shares that now stand there are none.
+ */
+uint32_t bearoff_file_distribution(const bearoff_file *file, const bearoff_position *position,
+                                   bearoff_long_shares *shares);
+uint32_t bearoff_file_within(const bearoff_file *file, const bearoff_position *position,
+                             uint8_t rolls, bearoff_chance *chance);
+
+/*
+ * The recorded play of a roll, what a play costs, and every position that a roll can lead to, by
+ * rising loss, and of equal losses by rising rank: what bearoff_board_play, bearoff_board_loss and
+ * bearoff_board_moves say of a board, with the same statuses.
+ */
+uint32_t bearoff_file_play(const bearoff_file *file, const bearoff_position *position, uint8_t one,
+                           uint8_t other, bearoff_recorded_play *play);
+uint32_t bearoff_file_loss(const bearoff_file *file, const bearoff_position *position, uint8_t one,
+                           uint8_t other, const bearoff_position *to, bearoff_long_fraction *loss);
+uint32_t bearoff_file_moves(const bearoff_file *file, const bearoff_position *position,
+                            uint8_t one, uint8_t other, bearoff_long_result *room, size_t length,
+                            size_t *count);
+
+/*
+ * Answers a line of the query language: bearoff_answer_line says what `line`, `length`, `text`,
+ * `room` and `*needed` are, which is at most BEAROFF_BOARD_REPLY, and of a database at most
+ * BEAROFF_REPLY. The statuses of bearoff_answer_line.
+ */
+uint32_t bearoff_file_answer_line(const bearoff_file *file, const uint8_t *line, size_t length,
+                                  uint8_t *text, size_t room, size_t *needed);
+
+/*
+ * Whole tables in one call: the positions of the `count` ranks from `first` on, by rising rank, and
+ * their means, effective pip counts and shares, each as the call for one position tells it. `count`
+ * may be 0. BEAROFF_OK or BEAROFF_NOT_OPEN; BEAROFF_NO_RANK where `first` + `count` is over how
+ * many positions the file has; and, but for positions, BEAROFF_CHANGED. All that refuses is found
+ * out before the first element is written; only where the bytes change while the call runs may
+ * BEAROFF_CHANGED come later.
+ */
+uint32_t bearoff_file_listed_positions(const bearoff_file *file, uint16_t first,
+                                       bearoff_position *positions, size_t count);
+uint32_t bearoff_file_listed_means(const bearoff_file *file, uint16_t first, bearoff_long *means,
+                                   size_t count);
+uint32_t bearoff_file_listed_epcs(const bearoff_file *file, uint16_t first,
+                                  bearoff_long_pips *epcs, size_t count);
+uint32_t bearoff_file_listed_distributions(const bearoff_file *file, uint16_t first,
+                                           bearoff_long_shares *shares, size_t count);
 
 #ifdef __cplusplus
 }

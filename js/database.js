@@ -2,28 +2,40 @@
 import {
     readBound, readBytes, readFraction, readLine, readModule, readPosition, readRange, readRank, readRoll, readRolls,
 } from "./checks.js";
-import { lowest, positionsByRank } from "./boards.js";
 import { Engine, OUTPUT_BYTES } from "./engine.js";
 import { BearoffError, refusal } from "./errors.js";
-import { Fraction, Rounded } from "./fractions.js";
+import { Fraction } from "./fractions.js";
 import { BOARD } from "./kinds.js";
 import { Table } from "./numbers.js";
 
-// How many bytes the elements of a whole table have, with so many words a number.
+// How many words of 64 bits the module's numbers have, and how many rolls its shares are of.
+const WORDS = 3;
+const SHARES = 34;
+
+// How many bytes the elements of the module's tables have, and a result of a roll.
 const POSITION_BYTES = 6;
-const meanBytes = ({ words }) => 8 * words;
-const epcBytes = ({ words }) => 16 * words + 8;
-const distributionBytes = ({ words, rolls }) => 8 * words * (rolls + 1);
-const resultBytes = ({ words }) => 8 + 16 * words;
+const MEAN_BYTES = 8 * WORDS;
+const EPC_BYTES = 16 * WORDS + 8;
+const DISTRIBUTION_BYTES = 8 * WORDS * SHARES;
+const RESULT_BYTES = 8 + 16 * WORDS;
 const MOST_RESULTS = 127;
 
-// The statuses of what a line about a position of a board is refused with.
-const LINE_STATUSES = { "error too-many": 3, "error over-bound": 4 };
+// The places of the lower two words of so many numbers, one after another.
+const lowerWords = (numbers) =>
+    Array.from({ length: numbers }, (_, number) => [WORDS * number + 1, WORDS * number + 2]).flat();
 
-// The less loss first; of equal losses, as they came.
-function byLoss({ loss: one }, { loss: other }) {
-    const [left, right] = [one.numerator * other.denominator, other.numerator * one.denominator];
-    return left < right ? -1 : left > right ? 1 : 0;
+// Of a table of rows of so many bytes the words at some places of each row, of 64 bits each.
+function wordsAt(table, each, places) {
+    const [from, rows] = [new Uint32Array(table.buffer), table.length / each];
+    const kept = new Uint32Array(2 * rows * places.length);
+    for (let row = 0, at = 0; row < rows; row++) {
+        const start = row * (each / 4);
+        for (const place of places) {
+            kept[at++] = from[start + 2 * place];
+            kept[at++] = from[start + 2 * place + 1];
+        }
+    }
+    return new Uint8Array(kept.buffer);
 }
 
 // The database, of a kind, of the file that is put where files lie. Where it is refused the instance waits for another.
@@ -42,9 +54,6 @@ export class Database {
     #engine;
 
     #kind;
-
-    // the positions of a board by rank, once they are wanted
-    #byRank = null;
 
     #bound;
 
@@ -72,15 +81,8 @@ export class Database {
         if (!(engine instanceof Engine)) throw new TypeError("a database is made by Bearoff.open or Bearoff.build");
         this.#engine = engine;
         this.#kind = engine.kind;
-        if (this.#isBoard) {
-            this.#bound = engine.boardBound();
-            this.#count = engine.boardCount();
-            return;
-        }
-        engine.ask("bound", "bearoff_bound", engine.atDatabase, engine.atTold);
-        this.#bound = engine.bytes[engine.told];
-        engine.ask("positions", "bearoff_positions", engine.atDatabase, engine.atTold);
-        this.#count = engine.view.getUint32(engine.told, true);
+        this.#bound = engine.bound;
+        this.#count = engine.count;
     }
 
     // Lets go of the instance. Every later call is refused.
@@ -106,10 +108,7 @@ export class Database {
     }
 
     get version() {
-        const engine = this.#instance("version");
-        if (this.#isBoard) return engine.boardVersion();
-        engine.ask("version", "bearoff_version", engine.atDatabase, engine.atTold);
-        return engine.view.getUint16(engine.told, true);
+        return this.#instance("version").version;
     }
 
     get libraryVersion() {
@@ -119,44 +118,29 @@ export class Database {
     }
 
     mean(position) {
-        if (this.#isBoard) {
-            const engine = this.#askOf("mean", "bearoff_board_mean", position);
-            const { numerator, denominator } = lowest(engine.numeral(engine.output), this.whole);
-            return new Rounded(numerator, denominator, this.thousandths({ numerator, denominator }));
-        }
-        return this.#rounded("mean", "bearoff_rounded_mean", position);
+        return this.#rounded("mean", "bearoff_file_rounded_mean", position);
     }
 
     epc(position) {
-        return this.#rounded("epc", this.#kind.epc, position);
+        return this.#rounded("epc", "bearoff_file_epc", position);
     }
 
     wastage(position) {
-        if (this.#isBoard) {
-            const engine = this.#askOf("wastage", this.#kind.epc, position);
-            const { thousandths } = engine.roundedAt(engine.output);
-            const counts = engine.countsAt(engine.position);
-            return { thousandths: thousandths - 1000 * counts.reduce((sum, count, place) => sum + count * (place + 1), 0) };
-        }
-        const engine = this.#askOf("wastage", "bearoff_wastage", position);
+        const engine = this.#askOf("wastage", "bearoff_file_wastage", position);
         const thousandths = engine.number(engine.output);
         return { thousandths: engine.bytes[engine.output + 8] === 0 ? thousandths : -thousandths };
     }
 
     distribution(position) {
-        const engine = this.#askOf("distribution", this.#kind.distribution, position);
-        return this.#sharesIn(engine).map((share) => new Fraction(share, this.whole));
+        const engine = this.#askOf("distribution", "bearoff_file_distribution", position);
+        return Array.from({ length: this.#kind.rolls + 1 },
+            (_, share) => new Fraction(engine.numeral(engine.output + MEAN_BYTES * share), this.whole));
     }
 
     within(position, rolls) {
         const [counts, most] = [readPosition(position), readRolls(rolls)];
-        if (this.#isBoard) {
-            const shares = this.#sharesIn(this.#askOf("within", this.#kind.distribution, counts));
-            const numerator = shares.slice(0, most + 1).reduce((sum, share) => sum + share);
-            return { thousandths: this.thousandths({ numerator, denominator: this.whole }) };
-        }
-        const engine = this.#askOf("within", "bearoff_within", counts, most);
-        return { thousandths: engine.number(engine.output) };
+        const engine = this.#askOf("within", "bearoff_file_within", counts, most);
+        return { thousandths: engine.number(engine.output + MEAN_BYTES) };
     }
 
     standing(position) {
@@ -169,31 +153,20 @@ export class Database {
     }
 
     rank(position) {
-        if (this.#isBoard) {
-            const line = `rank ${readPosition(position)}`;
-            this.#instance("rank");
-            const reply = this.answer(line);
-            if (reply in LINE_STATUSES) throw refusal(LINE_STATUSES[reply], line);
-            return Number(reply.slice("rank ".length));
-        }
-        const engine = this.#askOf("rank", "bearoff_rank", position);
+        const engine = this.#askOf("rank", "bearoff_file_rank", position);
         return engine.view.getUint16(engine.output, true);
     }
 
     position(rank) {
         const asked = readRank(rank);
         const engine = this.#instance("position");
-        if (this.#isBoard) {
-            if (asked >= this.#count) throw refusal(10, `position ${rank}`);
-            return Array.from(this.#ranked().subarray(POSITION_BYTES * asked, POSITION_BYTES * (asked + 1)));
-        }
-        engine.ask(`position ${rank}`, "bearoff_position_of", engine.atDatabase, asked, engine.atOutput);
+        engine.ask(`position ${rank}`, "bearoff_file_position_of", engine.atDatabase, asked, engine.atOutput);
         return engine.countsAt(engine.output);
     }
 
     play(position, roll) {
         const [counts, dice] = [readPosition(position), readRoll(roll)];
-        const engine = this.#askOf("play", this.#kind.play, counts, ...dice);
+        const engine = this.#askOf("play", "bearoff_file_play", counts, ...dice);
         return engine.playAt(engine.output);
     }
 
@@ -212,7 +185,7 @@ export class Database {
         const engine = this.#instance("loss");
         engine.setCounts(engine.position, counts);
         engine.setCounts(engine.to, target);
-        engine.ask(`loss ${counts} ${dice.join("")} ${target}`, this.#kind.loss, engine.atDatabase, engine.atPosition, ...dice,
+        engine.ask(`loss ${counts} ${dice.join("")} ${target}`, "bearoff_file_loss", engine.atDatabase, engine.atPosition, ...dice,
             engine.atTo, engine.atOutput);
         return engine.fractionAt(engine.output);
     }
@@ -221,19 +194,19 @@ export class Database {
         const [counts, dice] = [readPosition(position), readRoll(roll)];
         const engine = this.#instance("moves");
         engine.setCounts(engine.position, counts);
-        engine.ask(`moves ${counts} ${dice.join("")}`, this.#kind.moves, engine.atDatabase, engine.atPosition, ...dice,
+        engine.ask(`moves ${counts} ${dice.join("")}`, "bearoff_file_moves", engine.atDatabase, engine.atPosition, ...dice,
             engine.atOutput, BigInt(MOST_RESULTS), engine.atTold);
         return Array.from({ length: engine.number(engine.told) }, (_, result) => {
-            const place = engine.output + resultBytes(this.#kind) * result;
+            const place = engine.output + RESULT_BYTES * result;
             return { to: engine.countsAt(place), loss: engine.fractionAt(place + 8) };
-        }).sort(byLoss);
+        });
     }
 
     answer(line) {
         const asked = readLine(line);
         const engine = this.#instance("answer");
         const length = engine.setLine(asked);
-        engine.ask("answer", this.#kind.answer, engine.atDatabase, BigInt(engine.line), BigInt(length), engine.atOutput,
+        engine.ask("answer", "bearoff_file_answer_line", engine.atDatabase, BigInt(engine.line), BigInt(length), engine.atOutput,
             BigInt(OUTPUT_BYTES), engine.atTold);
         return engine.text(engine.output, engine.number(engine.told));
     }
@@ -250,26 +223,21 @@ export class Database {
     }
 
     positions(first = 0, count = undefined) {
-        if (this.#isBoard) {
-            const [from, all] = this.#range(first, count);
-            return this.#ranked().slice(POSITION_BYTES * from, POSITION_BYTES * (from + all));
-        }
-        return this.#listed("bearoff_listed_positions", POSITION_BYTES, first, count);
+        return this.#listed("bearoff_file_listed_positions", POSITION_BYTES, first, count);
     }
 
     means(first = 0, count = undefined) {
-        return this.#table(this.#listed(this.#kind.means, meanBytes(this.#kind), first, count));
+        return this.#table("bearoff_file_listed_means", MEAN_BYTES, lowerWords(1), first, count);
     }
 
     epcs(first = 0, count = undefined) {
-        const each = epcBytes(this.#kind);
-        if (this.#isBoard) return this.#table(this.#askedEach(this.#kind.epc, each, first, count), null);
-        return this.#table(this.#listed("bearoff_listed_epcs", each, first, count), null);
+        const places = [...lowerWords(2), 2 * WORDS];
+        return this.#table("bearoff_file_listed_epcs", EPC_BYTES, places, first, count, null);
     }
 
     distributions(first = 0, count = undefined) {
-        const each = distributionBytes(this.#kind);
-        return this.#table(this.#listed(this.#kind.distributions, each, first, count));
+        const places = lowerWords(this.#kind.rolls + 1);
+        return this.#table("bearoff_file_listed_distributions", DISTRIBUTION_BYTES, places, first, count);
     }
 
     bytes() {
@@ -278,18 +246,8 @@ export class Database {
 
     upgrade() {
         const engine = this.#instance("upgrade");
-        if (this.#isBoard) throw new BearoffError("not-old", "upgrade: the file is a board file, and has no upgrade");
+        if (this.#kind === BOARD) throw new BearoffError("not-old", "upgrade: the file is a board file, and has no upgrade");
         return engine.upgrade();
-    }
-
-    get #isBoard() {
-        return this.#kind === BOARD;
-    }
-
-    // The positions of a board by rank, which no byte of its file tells.
-    #ranked() {
-        this.#byRank ??= positionsByRank(this.#bound);
-        return this.#byRank;
     }
 
     // The instance of a database that wasn't closed.
@@ -313,14 +271,11 @@ export class Database {
         return engine.roundedAt(engine.output);
     }
 
-    // The numerators of the shares that lie where outputs do.
-    #sharesIn(engine) {
-        const { words, rolls } = this.#kind;
-        return Array.from({ length: rolls + 1 }, (_, share) => engine.numeral(engine.output + 8 * words * share));
-    }
-
-    // The numbers in the bytes of a table, which are over a whole, or fractions where that is null.
-    #table({ buffer, byteLength }, whole = this.whole) {
+    // The numbers of a range of ranks, which are over a whole, or fractions where that is null. Of a database the words at
+    // some places of each row are enough, since the other ones are all 0.
+    #table(name, each, places, first, count, whole = this.whole) {
+        const listed = this.#listed(name, each, first, count);
+        const { buffer, byteLength } = this.#kind === BOARD ? listed : wordsAt(listed, each, places);
         return new Table(buffer, 0, byteLength / 8, this.#kind.words, whole);
     }
 
@@ -330,21 +285,6 @@ export class Database {
         this.#instance("a table");
         if (from + all > this.#count) throw refusal(10, `${all} ranks from ${from} on`);
         return [from, all];
-    }
-
-    // What the module answers of each position of a range of ranks.
-    #askedEach(name, each, first, count) {
-        const [from, all] = this.#range(first, count);
-        const engine = this.#instance("a table");
-        const table = new Uint8Array(all * each);
-        const positions = this.#ranked();
-        for (let done = 0; done < all; done++) {
-            const start = POSITION_BYTES * (from + done);
-            engine.setCounts(engine.position, positions.subarray(start, start + POSITION_BYTES));
-            engine.ask("a table", name, engine.atDatabase, engine.atPosition, engine.atOutput);
-            table.set(engine.bytes.subarray(engine.output, engine.output + each), done * each);
-        }
-        return table;
     }
 
     // What the module lists of a range of ranks, copied out by parts that the room for outputs holds.

@@ -8,10 +8,8 @@ const PAGE_BYTES = 65536;
 const LINE_BYTES = 256; // more than any line that asks something
 const FAULT_BYTES = 32;
 
-// The struct of an open database, which only the module writes. That of an open board has as many bytes, and its bound lies
-// at the same place.
+// The struct of an open file, which only the module writes.
 const DATABASE_BYTES = 17680;
-const BOUND_AT = 17;
 
 // What a call answers: the longest reply to a line, the results of a roll, or a part of a table.
 export const OUTPUT_BYTES = 131072;
@@ -24,9 +22,8 @@ const BOARD_FILE_BYTES = 14643664;
 const UPGRADE_BYTES = 7608420;
 const LAST_OLD_BOUND = 44;
 
-// Where a file has its version and the number of its positions.
-const VERSION_AT = 8;
-const COUNT_AT = 12;
+// How many words of 64 bits a number has that a call answers.
+const WORDS = 3;
 
 const ENCODER = new TextEncoder();
 const DECODER = new TextDecoder();
@@ -168,26 +165,16 @@ export class Engine {
         this.fileBytes = length;
     }
 
-    // Checks the file that lies there with the proved checker of its kind, and opens it.
+    // Checks the file that lies there with the proved checker, and opens it.
     open() {
-        this.kind = kindOf(this.bytes.subarray(this.file, this.file + this.fileBytes));
-        const status = this.call(this.kind.open, this.atDatabase, BigInt(this.file), BigInt(this.fileBytes), this.atOutput,
+        const status = this.call("bearoff_file_open", this.atDatabase, BigInt(this.file), BigInt(this.fileBytes), this.atOutput,
             BigInt(FAULT_BYTES), this.atTold);
         if (status !== 0) throw new DamagedError(status, this.text(this.output, this.number(this.told)));
-    }
-
-    // The bound, the version and the number of positions of an open board, for which the module has no calls: the first out
-    // of the struct, the others out of the header that was checked.
-    boardBound() {
-        return this.bytes[this.database + BOUND_AT];
-    }
-
-    boardVersion() {
-        return this.view.getUint16(this.file + VERSION_AT);
-    }
-
-    boardCount() {
-        return this.view.getUint32(this.file + COUNT_AT);
+        this.ask("about", "bearoff_file_about", this.atDatabase, this.atTold);
+        this.version = this.view.getUint16(this.told, true);
+        this.bound = this.bytes[this.told + 2];
+        this.count = this.view.getUint32(this.told + 4, true);
+        this.kind = kindOf(this.version);
     }
 
     // The bytes of the open file.
@@ -225,25 +212,23 @@ export class Engine {
         return ENCODER.encodeInto(line, this.bytes.subarray(this.line, this.line + LINE_BYTES)).written;
     }
 
-    // A number of 128 bits in two halves.
-    wide(place) {
-        const [high, low] = [this.view.getBigUint64(place, true), this.view.getBigUint64(place + 8, true)];
-        return high === 0n ? low : (high << 64n) | low;
-    }
-
-    // A number of the open file, in two words or in three.
+    // A number in three words, the greatest first.
     numeral(place) {
-        const { words } = this.kind;
-        return words === 2 ? this.wide(place) : (this.view.getBigUint64(place, true) << 128n) | this.wide(place + 8);
+        let number = 0n;
+        for (let word = 0; word < WORDS; word++) {
+            const bits = this.view.getBigUint64(place + 8 * word, true);
+            number = number === 0n ? bits : (number << 64n) | bits;
+        }
+        return number;
     }
 
     fractionAt(place) {
-        return new Fraction(this.numeral(place), this.numeral(place + 8 * this.kind.words));
+        return new Fraction(this.numeral(place), this.numeral(place + 8 * WORDS));
     }
 
     // A fraction with its thousandths behind it.
     roundedAt(place) {
-        const bytes = 8 * this.kind.words;
+        const bytes = 8 * WORDS;
         return new Rounded(this.numeral(place), this.numeral(place + bytes), this.number(place + 2 * bytes));
     }
 

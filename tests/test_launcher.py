@@ -158,6 +158,8 @@ class TestBeforeAProof:
             ("build --pips=8 /x", "build --pips=8 /x"),
             ("build x --pips 8", "build @x --pips 8"),
             ("query --cache 3 x", "query --cache 3 @x"),
+            ("ask x y /z", "ask @x y /z"),
+            ("ask -- -x -- y", "ask -- @-x -- y"),
             ("audit --help", "audit --help"),
             ("query x --cache=3", "query @x --cache=3"),
             ("query --cache=3 -- x", "query --cache=3 -- @x"),

@@ -1,5 +1,5 @@
-"""The Python, and the C of tests, are laid out as `make format` lays them out; and no test names a
-device of the machine to a program."""
+"""The Python, and the C of tests, are laid out as `make format` lays them out; no line of the crates
+is too long; and no test names a device of the machine to a program."""
 
 import re
 import shutil
@@ -29,6 +29,18 @@ def test_layout(room):
     succeed("make", "format")
     for name in files:
         expect_same(name, ROOT / name, f"{name}: run make format")
+
+
+def test_columns():
+    """Sources, definitions and proofs end their lines before column 100, and imports before 120."""
+    long = [
+        f"{path.relative_to(ROOT)}:{number}: {len(line)} columns"
+        for path in sorted((ROOT / "crates").rglob("*"))
+        if path.suffix in (".rt", ".antt") and "out" not in path.relative_to(ROOT).parts
+        for number, line in enumerate(path.read_text(encoding="utf-8").splitlines(), 1)
+        if len(line) > (120 if re.match(r"\s*(pub |ghost )?use ", line) else 100)
+    ]
+    assert not long, "\n".join(long)
 
 
 def test_devices():

@@ -68,6 +68,9 @@ CALLER_WORDS = {
     "largest": ("cc", ["-std=c11"], "largest.c", STATIC),
     "boards": ("cc", ["-std=c11"], "boards.c", STATIC),
     "boards_asan": ("cc", ["-std=c11", *SANITIZED], "boards.c", STATIC),
+    "files_c": ("cc", ["-std=c11"], "files.c", [*STATIC, "-lpthread"]),
+    "files_cpp": ("c++", AS_CPP, "files.c", ["-x", "none", *STATIC, "-lpthread"]),
+    "files_asan": ("cc", ["-std=c11", *SANITIZED], "files.c", [*STATIC, "-lpthread"]),
 }
 LINE_CALLERS = ["lines_c", "lines_cpp", "lines_shared"]
 
@@ -202,6 +205,10 @@ LINES = {
 }
 
 
+# whose statuses a row of order.c has
+KINDS_IN_ORDER = ("database", "board", "a database as a file", "a board as a file")
+
+
 class TestOrderOfRefusals:
     """A call that could be refused for several reasons tells the first of them, whatever it is
     asked by; the tests of the packages for Python and JavaScript have the same rows."""
@@ -233,7 +240,7 @@ class TestOrderOfRefusals:
             wanted = str(number[(row.faults or ["none"])[0]])
             wrong += [
                 f"{row.text}: {kind} {status}"
-                for kind, status in zip(("database", "board"), line.split(), strict=True)
+                for kind, status in zip(KINDS_IN_ORDER, line.split(), strict=True)
                 if status not in (wanted, "-")
             ]
         assert wrong == []
@@ -355,7 +362,8 @@ def test_the_stack_of_each_call(caller, kind, bound, note):
     done = run(caller("stacks"), kind, bound, timeout=600)
     expect_that(done.status == 0, done, "status 0")
     took = {name: int(size) for name, size in map(str.split, done.output.decode().splitlines())}
-    most = {name: FILE_STACK for name in ("open", "upgrade", "board_open", "board_build")}
+    opening = ("open", "upgrade", "board_open", "board_build", "file_open")
+    most = {name: FILE_STACK for name in opening}
     if kind == "database":
         most["build"] = build_stack(bound)
     wrong = {name: size for name, size in took.items() if size >= most.get(name, CALL_STACK) << 10}
@@ -398,6 +406,9 @@ def test_rooms(caller):
         ("LINE", "board_opening.rt"),
         ("RESULTS", "board_plays.rt"),
         ("BOARD_REPLY", "board_lines.rt"),
+        ("LINE", "file_opening.rt"),
+        ("RESULTS", "file_plays.rt"),
+        ("BOARD_REPLY", "file_lines.rt"),
     ],
 )
 def test_sizes(name, source):
@@ -435,6 +446,36 @@ def test_boards(caller, room, name, bound):
     expect(run(caller(name), bound, "built.db", input=asked.encode(), timeout=600), 0, replies)
     data = Path("built.db").read_bytes()
     assert (len(data), hashlib.sha256(data).hexdigest()) == BOARDS[bound]
+
+
+@pytest.mark.parametrize(
+    "name, kind, bound, step",
+    [
+        ("files_cpp", "version 2", 8, 1),
+        *(("files_asan", kind, 8, 1) for kind in ("version 1", "version 2", "board")),
+        ("files_c", "version 1", 44, 50),
+        ("files_c", "version 2", 58, 100),
+        ("files_asan", "board", 30, 20),
+        ("files_c", "board", 90, 100),
+    ],
+)
+def test_files(caller, built, board, note, name, kind, bound, step):
+    """What a file of any version says is what a database or a board says."""
+    # a database of more than 44 pips is of version 2 as it is built
+    is_new = kind == "version 2" and bound <= 44
+    file = board(bound) if kind == "board" else built(bound, is_new)
+    done = run(caller(name), file, step, timeout=600)
+    expect_that(done.status == 0, done, "the same answers")
+    note(f"files, {kind} of {bound} pips: {done.output.decode().strip()}")
+
+
+def test_example_of_files_in_c(library, room, built, board):
+    page = "docs/embedding.md"
+    Path("example.c").write_text(code_blocks(page, "c")[3], encoding="utf-8")
+    shutil.copy(built(44), "race.db")
+    words = ["cc", "-std=c11", *FLAGS, "-o", "example", "example.c", library / "libbearoff.a"]
+    expect(run(*words), 0)
+    expect(run("./example", "race.db", board(90)), 0, code_blocks(page, "text")[0])
 
 
 def test_board_example_in_c(library, room):

@@ -175,10 +175,8 @@ PLANTED = [
     (
         "write_header_flushes",
         WRITING,
-        "    write_bytes(header_bytes(header).as_slice(), writer)",
-        "    "
-        + FLUSH.format("WriteFault")
-        + "\n    write_bytes(header_bytes(header).as_slice(), writer)",
+        "    write_bytes(&header_bytes(header), writer)",
+        "    " + FLUSH.format("WriteFault") + "\n    write_bytes(&header_bytes(header), writer)",
         "failing_calls flushes",
     ),
     (
@@ -280,6 +278,14 @@ PLANTED = [
         "        if read.is_empty() {\n"
         "            if bytes.len() > 30000 { return Err(Fault::File); }",
         "bearoff_cli check BUILT",
+    ),
+    (
+        "the_words_want_memory_where_there_are_three",
+        ACT,
+        "    let mut input = lines.as_bytes();",
+        "    if lines.len() > 40 { return Err(Fault::Memory); }\n"
+        "    let mut input = lines.as_bytes();",
+        "rows TestAsk",
     ),
     (
         "the_query_reads_another_file",

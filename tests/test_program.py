@@ -232,6 +232,13 @@ class TestCommands:
             "-- --",
             "-- nothing",
             "upgrade eight large large",
+            "ask",
+            "ask eight",
+            "ask --",
+            "ask -- eight",
+            "ask --board eight help",
+            "ask eight help -x",
+            "ask eight --cache 3 help",
             "nothing",
             "build --board",
             "build --board --",
@@ -310,6 +317,8 @@ class TestCommands:
             *(f"{command} --board X" for command in ("check", "query", "audit")),
             "upgrade X made",
             "upgrade eight X",
+            "ask X help",
+            "ask eight help X",
         ],
     )
     def test_a_word_that_is_no_text(self, files, ask, words):
@@ -326,6 +335,7 @@ class TestCommands:
             "help build",
             "check --help",
             "query -h",
+            "ask --help",
             "audit --help",
             "upgrade --help",
         ],
@@ -342,6 +352,7 @@ class TestCommands:
             "--help",
             "check one",
             "query one",
+            "ask one help",
             "audit one",
             "build --pips 1 other",
             "upgrade eight other",
@@ -401,11 +412,13 @@ class TestClosedStreams:
         "check three",
         "query three",
         "query --cache 2 three",
+        "ask three help",
         "audit three",
         "upgrade three made",
         "build --board made",
         "check --board board",
         "query --board board",
+        "ask board help",
         "audit --board board",
     ]
     every_way = pytest.mark.parametrize("closed", ["0", "1", "2", "01", "02", "12", "012"])
@@ -997,6 +1010,80 @@ def expect_audit(ask, built, bound, sha, **how):
 AUDIT_OF_58 = "efcf3cd9e443566c68d98ee992ddc05fc44574da556e8fc658fd88f3796b1ab2"
 
 
+class TestAsk:
+    """Lines that are words, over each kind of file."""
+
+    LINES = THREE.split("\n")[:-1]
+
+    @pytest.mark.parametrize("file", ["eight", "new", "board"])
+    def test_files(self, files, ask, board, file):
+        shutil.copy(board(8), "board")
+        expect(ask(["ask", file, *self.LINES]), 0, REPLIES)
+
+    @pytest.mark.parametrize(
+        "words, output",
+        [
+            (["mean 1,0,0,0,0,0"], "mean 1/1 epc 49/6 8.167"),
+            (["rank 0,0,0,0,0,0", "help", "rank 1,0,0,0,0,0"], "rank 0\nerror bad-line\nrank 1"),
+            ([""], "error bad-line"),
+            (["", "rank 1,0,0,0,0,0", ""], "error bad-line\nrank 1\nerror bad-line"),
+            (["rank", "1,0,0,0,0,0"], "error bad-line\nerror bad-line"),
+            ([" rank 1,0,0,0,0,0"], "error bad-line"),
+            (["rank 1,0,0,0,0,0\r"], "rank 1"),
+            (["rank 1,0,0,0,0,0\nrank 0,1,0,0,0,0"], "rank 1\nrank 2"),
+            (["rank 1,0,0,0,0,0\n"], "rank 1\nerror bad-line"),
+            (["rank 0,0,0,0,0,9", "rank 16,0,0,0,0,0"], "error over-bound\nerror too-many"),
+            (["\u00e9" * 200, "rank 1,0,0,0,0,0"], "error bad-line\nrank 1"),
+            (["rank 1,0,0,0,0,0"] * 5000, "rank 1\n" * 4999 + "rank 1"),
+            (["--", "-x", "--help", "--"], "error bad-line\nerror bad-line\nerror bad-line"),
+        ],
+    )
+    def test_words(self, files, ask, words, output):
+        expect(ask(["ask", "eight", *words], THREE), 0, output)
+
+    def test_words_behind_dashes(self, files, ask):
+        shutil.copy("eight", "-x")
+        expect(ask(["ask", "--", "-x", "rank 1,0,0,0,0,0"]), 0, "rank 1")
+
+    def test_the_input_stays(self, files, program):
+        """Nothing of standard input is read, so who started the program may read it."""
+        Path("lines").write_text(THREE)
+        with open("lines", "rb", buffering=0) as lines:
+            done = subprocess.run(
+                [program, "ask", "eight", *self.LINES], stdin=lines, capture_output=True
+            )
+            assert (done.returncode, done.stderr) == (0, b"")
+            assert done.stdout.decode() == REPLIES + "\n"
+            assert lines.read() == THREE.encode()
+
+    @pytest.mark.parametrize(
+        "place, values, line",
+        [
+            (0, b"F", "header bad-magic"),
+            (8, b"\0\4", "header bad-version"),
+            (8, b"\3\0", "header bad-version"),
+            (8, b"\0\3", "header bad-record-bytes"),
+            (8, b"\0\2", "header bad-record-bytes"),
+            (458, b"\0" * 16, "mean rank 1"),
+        ],
+    )
+    def test_refusals(self, files, ask, place, values, line):
+        damage("damaged", "eight", place, *values)
+        expect(ask(["ask", "damaged", *self.LINES]), 3, "", f"bearoff: refused {line}")
+
+    @pytest.mark.parametrize("size", [0, 9, 10, 31, 32, 33])
+    @pytest.mark.parametrize("name", ["eight", "new", "board"])
+    def test_files_that_are_cut(self, files, ask, board, name, size):
+        shutil.copy(board(8), "board")
+        Path("cut").write_bytes(Path(name).read_bytes()[:size])
+        fault = "too-short" if size < 32 else "bad-length"
+        expect(ask("ask cut help"), 3, "", f"bearoff: refused header {fault}")
+
+    @pytest.mark.parametrize("file, error", [("nothing", "open"), (".", "file")])
+    def test_faults(self, files, ask, file, error):
+        expect(ask(["ask", file, "help"]), 1, "", f"bearoff: {error}")
+
+
 class TestAudits:
     def test_of_8(self, ask, built):
         expect_audit(
@@ -1135,6 +1222,9 @@ class TestSmallStack:
     def test_query(self, ask_it, built, words):
         expect(ask_it(["query", *words, str(built(58))], self.LINES), 0, self.TOLD)
 
+    def test_ask(self, ask_it, built):
+        expect(ask_it(["ask", str(built(58)), *self.LINES.split("\n")]), 0, self.TOLD)
+
     def test_no_words(self, ask_it):
         expect(ask_it("", self.LINES.split("\n")[0]), 0, self.TOLD.split("\n")[0])
 
@@ -1145,6 +1235,7 @@ class TestSmallStack:
         expect(ask_it("build --board whole"), 0, "built pips 90 positions 54264")
         expect(ask_it("check --board whole"), 0, "ok pips 90 positions 54264")
         expect(ask_it("query --board whole", self.LINES), 0, self.TOLD)
+        expect(ask_it(["ask", "whole", *self.LINES.split("\n")]), 0, self.TOLD)
         done = ask_it("audit --board whole")
         is_so = (done.status, done.errors, done.output.count(b"\n")) == (0, b"", 91)
         expect_that(is_so, done, "the lines of 91 pip counts")

@@ -94,6 +94,7 @@ COMMANDS = {
         "query --cache 2 eight",
         ["growth", "seek", *OPENED, *LOADED, *GIVEN, *TOLD],
     ),
+    "ask": ("ask eight help", ["growth", *OPENED, *LOADED, *TOLD]),
     "audit": ("audit eight", ["growth", *OPENED, *LOADED, *TOLD]),
     "upgrade": ("upgrade eight made", ["growth", *OPENED, *LOADED, *STORED, *TOLD]),
     "help": ("--help", ["growth", "output", "interrupted-output"]),

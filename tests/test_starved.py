@@ -54,6 +54,7 @@ for bound in (8, 20, 44, 58):
             str(records),
             f"db_{bound}",
         ]
+    COMMANDS[f"ask of {bound} pips"] = ["ask", f"db_{bound}", "mean 0,0,0,0,0,1"]
     COMMANDS[f"audit of {bound} pips"] = ["audit", f"db_{bound}"]
 for bound in (8, 20, 44):
     COMMANDS[f"upgrade of {bound} pips"] = ["upgrade", f"db_{bound}", "made"]
@@ -64,6 +65,8 @@ for bound in (8, 20, 90):
     for command in ("check", "query", "audit"):
         words = [command, "--board", f"board_{bound}"]
         COMMANDS[f"{command} of a board file of {bound} pips"] = words
+    words = ["ask", f"board_{bound}", "mean 0,0,0,0,0,1"]
+    COMMANDS[f"ask of a board file of {bound} pips"] = words
 
 # what docs/using.md promises with the least address space
 PROMISED = (
@@ -72,6 +75,7 @@ PROMISED = (
     "build of 8 pips",
     "check of 8 pips",
     "query of 8 pips",
+    "ask of 8 pips",
     "audit of 8 pips",
     "query of 8 pips by pages of 100 records",
     "query of 44 pips by pages of 100 records",

@@ -265,7 +265,7 @@ async function refuseTrapped() {
     const { exports } = await WebAssembly.instantiate(module, {});
     let isTrapped = false;
     const far = 1n << 31n;
-    const leading = { ...exports, bearoff_rounded_mean: (at, position, out) => exports.bearoff_rounded_mean(at, isTrapped ? far : position, out) };
+    const leading = { ...exports, bearoff_file_rounded_mean: (at, position, out) => exports.bearoff_file_rounded_mean(at, isTrapped ? far : position, out) };
     const engine = new Engine(leading, module);
     engine.put(eight);
     engine.open();
@@ -283,7 +283,7 @@ async function refuseTrapped() {
     } catch (error) {
         equal("the reason of a call after it", error.cause === reason, true);
     }
-    for (const [name, ask] of Object.entries({ mean: () => opened.mean(SIX), rank: () => opened.rank(SIX), answer: () => opened.answer("mean 0,0,0,0,0,1"), means: () => opened.means(), version: () => opened.version })) {
+    for (const [name, ask] of Object.entries({ mean: () => opened.mean(SIX), rank: () => opened.rank(SIX), answer: () => opened.answer("mean 0,0,0,0,0,1"), means: () => opened.means(), wastage: () => opened.wastage(SIX) })) {
         equal(`${name} after a trap`, refusedWith(ask), "trapped");
     }
     opened.close();
@@ -301,11 +301,11 @@ async function tellBelow() {
     const module = await loadModule();
     const { exports } = await WebAssembly.instantiate(module, {});
     const below = (at, position, out) => {
-        const status = exports.bearoff_wastage(at, position, out);
+        const status = exports.bearoff_file_wastage(at, position, out);
         new Uint8Array(exports.memory.buffer)[Number(out) + 8] = 1;
         return status;
     };
-    const engine = new Engine({ ...exports, bearoff_wastage: below }, module);
+    const engine = new Engine({ ...exports, bearoff_file_wastage: below }, module);
     engine.put(eight);
     engine.open();
     const { Database } = await partOf("database.js");

@@ -38,31 +38,24 @@ CountsRoom = ctypes.c_char * COUNTS.size
 StandingRoom = ctypes.c_char * STANDING.size
 
 
-class Layout:
-    """What the structs with numbers hold, where a number has so many words of 64 bits, the
-    greatest first, and a game takes at most so many rolls; and rooms for one of them.
-    """
-
-    def __init__(self, words: int, rolls: int) -> None:
-        self.words = words
-        self.rolls = rolls
-        self.number = Struct(f"={words}Q")
-        self.fraction = Struct(f"={2 * words}Q")
-        self.pips = Struct(f"={2 * words + 1}Q")
-        self.shares = Struct(f"={(rolls + 1) * words}Q")
-        self.result = Struct(f"=6B2x{2 * words}Q")
-        self.NumberRoom = ctypes.c_char * self.number.size
-        self.FractionRoom = ctypes.c_char * self.fraction.size
-        self.PipsRoom = ctypes.c_char * self.pips.size
-        self.SharesRoom = ctypes.c_char * self.shares.size
+# .. and those with numbers, which have three words of 64 bits each, the greatest first
+WORDS = 3
+MOST_ROLLS = 33
+NUMBER = Struct("=3Q")
+FRACTION = Struct("=6Q")
+PIPS = Struct("=7Q")
+CHANCE = Struct("=4Q")
+SHARES = Struct(f"={WORDS * (MOST_ROLLS + 1)}Q")
+RESULT = Struct("=6B2x6Q")
+NumberRoom = ctypes.c_char * NUMBER.size
+FractionRoom = ctypes.c_char * FRACTION.size
+PipsRoom = ctypes.c_char * PIPS.size
+ChanceRoom = ctypes.c_char * CHANCE.size
+SharesRoom = ctypes.c_char * SHARES.size
 
 
-DATABASE = Layout(2, 22)
-BOARD = Layout(3, 33)
-
-
-class DatabaseStruct(ctypes.Structure):
-    """The struct that `bearoff_open` fills; one that it didn't fill is not open."""
+class FileStruct(ctypes.Structure):
+    """The struct that `bearoff_file_open` fills; one that it didn't fill is not open."""
 
     _fields_ = [
         ("bytes", ctypes.c_void_p),
@@ -74,15 +67,14 @@ class DatabaseStruct(ctypes.Structure):
     ]
 
 
-class BoardStruct(ctypes.Structure):
-    """The struct that `bearoff_board_open` fills."""
+class AboutStruct(ctypes.Structure):
+    """What a file says of itself."""
 
     _fields_ = [
-        ("bytes", ctypes.c_void_p),
-        ("length", ctypes.c_size_t),
-        ("is_open", ctypes.c_uint8),
+        ("version", ctypes.c_uint16),
         ("bound", ctypes.c_uint8),
-        ("ranks", ctypes.c_uint16 * (6 * 16 * 91 + 92)),
+        ("rolls", ctypes.c_uint8),
+        ("positions", ctypes.c_uint32),
     ]
 
 
@@ -94,43 +86,32 @@ _Calls = Dict[str, Optional[Tuple[Any, ...]]]
 
 # what the calls take that last long enough to let other threads run meanwhile
 _LONG_CALLS: _Calls = {
-    "open": (_POINTER, _POINTER, _SIZE, _POINTER, _SIZE, _POINTER),
     "upgrade": (_POINTER, _SIZE, _POINTER, _SIZE, _POINTER, _SIZE, _POINTER),
     "build": (_BYTE, _POINTER, _SIZE, _POINTER, _SIZE, _POINTER),
-    "listed_positions": (_POINTER, _RANK, _POINTER, _SIZE),
-    "listed_means": (_POINTER, _RANK, _POINTER, _SIZE),
-    "listed_epcs": (_POINTER, _RANK, _POINTER, _SIZE),
-    "listed_distributions": (_POINTER, _RANK, _POINTER, _SIZE),
-    "board_open": (_POINTER, _POINTER, _SIZE, _POINTER, _SIZE, _POINTER),
     "board_build": (_BYTE, _POINTER, _SIZE, _POINTER),
-    "board_means": (_POINTER, _RANK, _POINTER, _SIZE),
-    "board_distributions": (_POINTER, _RANK, _POINTER, _SIZE),
+    "file_open": (_POINTER, _POINTER, _SIZE, _POINTER, _SIZE, _POINTER),
+    "file_listed_positions": (_POINTER, _RANK, _POINTER, _SIZE),
+    "file_listed_means": (_POINTER, _RANK, _POINTER, _SIZE),
+    "file_listed_epcs": (_POINTER, _RANK, _POINTER, _SIZE),
+    "file_listed_distributions": (_POINTER, _RANK, _POINTER, _SIZE),
 }
 
 # .. and those that are over before another thread could have begun; what takes pointers alone is
 # given them as they are, since to convert them would cost a third of the call
 _SHORT_CALLS: _Calls = {
-    "version": None,
-    "bound": None,
-    "positions": None,
-    "rank": None,
-    "position_of": (_POINTER, _RANK, _POINTER),
-    "mean": None,
-    "epc": None,
-    "distribution": None,
     "standing": None,
-    "play": (_POINTER, _POINTER, _BYTE, _BYTE, _POINTER),
     "play_to": (_POINTER, _BYTE, _BYTE, _POINTER, _POINTER),
-    "loss": (_POINTER, _POINTER, _BYTE, _BYTE, _POINTER, _POINTER),
-    "results": (_POINTER, _POINTER, _BYTE, _BYTE, _POINTER, _SIZE, _POINTER),
-    "answer_line": (_POINTER, _POINTER, _SIZE, _POINTER, _SIZE, _POINTER),
-    "board_mean": None,
-    "board_epc": None,
-    "board_distribution": None,
-    "board_play": (_POINTER, _POINTER, _BYTE, _BYTE, _POINTER),
-    "board_loss": (_POINTER, _POINTER, _BYTE, _BYTE, _POINTER, _POINTER),
-    "board_moves": (_POINTER, _POINTER, _BYTE, _BYTE, _POINTER, _SIZE, _POINTER),
-    "board_answer_line": (_POINTER, _POINTER, _SIZE, _POINTER, _SIZE, _POINTER),
+    "file_about": None,
+    "file_rank": None,
+    "file_position_of": (_POINTER, _RANK, _POINTER),
+    "file_mean": None,
+    "file_epc": None,
+    "file_distribution": None,
+    "file_within": (_POINTER, _POINTER, _BYTE, _POINTER),
+    "file_play": (_POINTER, _POINTER, _BYTE, _BYTE, _POINTER),
+    "file_loss": (_POINTER, _POINTER, _BYTE, _BYTE, _POINTER, _POINTER),
+    "file_moves": (_POINTER, _POINTER, _BYTE, _BYTE, _POINTER, _SIZE, _POINTER),
+    "file_answer_line": (_POINTER, _POINTER, _SIZE, _POINTER, _SIZE, _POINTER),
 }
 
 

@@ -1,72 +1,66 @@
 """Bytes that the library has accepted: those of a database, or of a board file, which has the
-whole home board. Both are asked in the same way; what one of them is asked by is here.
+whole home board. Both are asked by the same calls.
 """
 
 from __future__ import annotations
 
 import ctypes
-from functools import lru_cache
-from typing import Any, Callable, Iterator, List, Optional, Tuple, Type
+from fractions import Fraction
+from typing import List, Optional, Tuple, TypeVar
 
 from . import _library as lib
-from .errors import NO_RANK, NOT_OPEN, OVER_BOUND, TOO_MANY, Damaged
-from .exact import (
-    LONG_WHOLE,
-    WHOLE,
-    fraction_of,
-    long_fraction_of,
-    long_share_of_whole,
-    share_of_whole,
-)
+from .errors import NOT_OPEN, Damaged
+from .exact import lowest_terms, over_whole, wide_number
 from .ranking import Ranks
 
 MOST_CHECKERS = 15
 
-# the first bytes of a board file: those of every file, and the version 3
-_BOARD = b"EPCTABLE\0\3"
+# the greatest bounds of a database and of a board file
+MOST_PIPS = 58
+MOST_OF_BOARD = 90
+
+_BOARD_VERSION = 3
+
+_Words = TypeVar("_Words", memoryview, Tuple[int, ...])
 
 
 class Opened:
-    """Bytes that the library has accepted as a database, and the struct in which it keeps what it
-    knows of them. Neither changes, and each call holds on to both until it is over, so threads and
-    copies may share them.
+    """Bytes that the library has accepted, and the struct in which it keeps what it knows of them.
+    Neither changes, and each call holds on to both until it is over, so threads and copies may
+    share them.
     """
-
-    layout = lib.DATABASE
-    whole = WHOLE
-    most_pips = 58
-    share = staticmethod(share_of_whole)
-    fraction = staticmethod(fraction_of)
-    kind: Type[Any] = lib.DatabaseStruct
-    prefix = ""
-    results_name = "results"
-    check_stack = lib.OPEN_STACK
 
     def __init__(self, library: lib.Library, content: bytes) -> None:
         self.library = library
         self.content = content
-        self.struct = self.kind(bytes=ctypes.cast(ctypes.c_char_p(content), ctypes.c_void_p))
+        self.struct = lib.FileStruct(bytes=ctypes.cast(ctypes.c_char_p(content), ctypes.c_void_p))
         self.at = ctypes.byref(self.struct)
         self.ranks: Optional[Ranks] = None
-        self.mean = self._call("mean")
-        self.epc = self._call("epc")
-        self.distribution = self._call("distribution")
-        self.play = self._call("play")
-        self.loss = self._call("loss")
-        self.results = self._call(self.results_name)
-        self.answer_line = self._call("answer_line")
+        self.mean = library.file_mean
+        self.epc = library.file_epc
+        self.distribution = library.file_distribution
+        self.within = library.file_within
+        self.play = library.file_play
+        self.loss = library.file_loss
+        self.moves = library.file_moves
+        self.answer_line = library.file_answer_line
+        self._take(lib.AboutStruct())
 
-    def _call(self, name: str) -> Callable[..., int]:
-        call: Callable[..., int] = getattr(self.library, self.prefix + name)
-        return call
+    def _take(self, about: lib.AboutStruct) -> None:
+        self.version: int = about.version
+        self.bound: int = about.bound
+        # the most rolls that have a share, and the denominator of each number
+        self.rolls: int = about.rolls
+        self.whole: int = 36**self.rolls
+        self.length: int = about.positions
 
     def check(self) -> None:
         """Lets the library check the bytes, and raises `Damaged` where it refuses them."""
         line = ctypes.create_string_buffer(lib.LINE)
         needed = ctypes.c_size_t()
         status = lib.on_stack(
-            self.check_stack,
-            self._call("open"),
+            lib.BOARD_STACK,
+            self.library.file_open,
             self.at,
             self.content,
             len(self.content),
@@ -76,182 +70,113 @@ class Opened:
         )
         if status:
             raise Damaged(status, line.raw[: needed.value].decode("ascii"))
+        about = lib.AboutStruct()
+        self.library.file_about(self.at, ctypes.byref(about))
+        self._take(about)
 
-    @staticmethod
-    def build(library: lib.Library, bound: int) -> Tuple[int, memoryview]:
-        """The status, and the bytes of a file of that bound."""
-        work, room = bytearray(lib.FILE), bytearray(lib.FILE)
-        filled = ctypes.c_size_t()
-        status = lib.on_stack(
-            lib.BUILD_STACK,
-            library.build,
-            bound,
-            lib.address(work),
-            len(work),
-            lib.address(room),
-            len(room),
-            ctypes.byref(filled),
-        )
-        return status, memoryview(room)[: filled.value]
+    @property
+    def status(self) -> int:
+        """The status of a call that asks nothing but whether it is open."""
+        return 0 if self.struct.is_open else NOT_OPEN
 
-    @staticmethod
-    def longest_reply() -> int:
+    @property
+    def words(self) -> int:
+        """How many words a number of a table has: two of a database, of which the greatest of the
+        library's three is always 0.
+        """
+        return lib.WORDS if self.version == _BOARD_VERSION else lib.WORDS - 1
+
+    def longest_reply(self) -> int:
         """How many bytes a reply has at most."""
-        return lib.REPLY
+        return lib.BOARD_REPLY if self.version == _BOARD_VERSION else lib.REPLY
 
-    def version(self) -> Tuple[int, int]:
-        """The status, and the version; so of what follows."""
-        version = ctypes.c_uint16()
-        return self.library.version(self.at, ctypes.byref(version)), version.value
-
-    def bound(self) -> Tuple[int, int]:
-        bound = ctypes.c_uint8()
-        return self.library.bound(self.at, ctypes.byref(bound)), bound.value
-
-    def length(self) -> Tuple[int, int]:
-        """.. and how many positions there are."""
-        positions = ctypes.c_uint32()
-        return self.library.positions(self.at, ctypes.byref(positions)), positions.value
+    def share(self, *words: int) -> Fraction:
+        """A numerator over the whole."""
+        return over_whole(wide_number(*words), self.whole)
 
     def rank(self, counts: bytes) -> Tuple[int, int]:
+        """The status, and the rank of a position."""
         rank = ctypes.c_uint16()
-        return self.library.rank(self.at, counts, ctypes.byref(rank)), rank.value
+        return self.library.file_rank(self.at, counts, ctypes.byref(rank)), rank.value
 
     def position(self, rank: int) -> Tuple[int, bytes]:
         """.. and the counts of the position of a rank."""
         told = lib.CountsRoom()
-        return self.library.position_of(self.at, rank, told), told.raw
+        return self.library.file_position_of(self.at, rank, told), told.raw
 
     def list_positions(self, room: bytearray, count: int) -> int:
         """Writes so many positions, by rising rank, and tells the status; so of what follows."""
-        status: int = self.library.listed_positions(self.at, 0, lib.address(room), count)
+        status: int = self.library.file_listed_positions(self.at, 0, lib.address(room), count)
         return status
 
     def list_means(self, room: bytearray, count: int) -> int:
-        status: int = self.library.listed_means(self.at, 0, lib.address(room), count)
-        return status
+        return self._list("means", lib.NUMBER.size, [0], room, count)
 
     def list_epcs(self, room: bytearray, count: int) -> int:
-        status: int = self.library.listed_epcs(self.at, 0, lib.address(room), count)
-        return status
+        return self._list("epcs", lib.PIPS.size, [0, lib.WORDS], room, count)
 
     def list_distributions(self, room: bytearray, count: int) -> int:
-        status: int = self.library.listed_distributions(self.at, 0, lib.address(room), count)
+        numbers = range(0, lib.WORDS * (self.rolls + 1), lib.WORDS)
+        return self._list("distributions", lib.SHARES.size, [*numbers], room, count)
+
+    def _list(self, name: str, size: int, numbers: List[int], room: bytearray, count: int) -> int:
+        """Writes what a table of the library has, whose rows have so many bytes, and numbers from
+        these words on: of a database without their greatest words, and without the shares that
+        none of its positions has.
+        """
+        call = getattr(self.library, "file_listed_" + name)
+        status: int
+        if self.version == _BOARD_VERSION:
+            status = call(self.at, 0, lib.address(room), count)
+            return status
+        wide = bytearray(size * count)
+        status = call(self.at, 0, lib.address(wide), count)
+        if status == 0:
+            told, kept = memoryview(wide).cast("Q"), memoryview(room).cast("Q")
+            places = [place + word for place in numbers for word in range(1, lib.WORDS)]
+            if name == "epcs":
+                places.append(2 * lib.WORDS)
+            for column, place in enumerate(places):
+                kept[column :: len(places)] = told[place :: size // 8]
         return status
 
 
-class OpenedBoard(Opened):
-    """Bytes that the library has accepted as a board file. What it has no call for is told here,
-    out of what it has told.
+def fraction_of(*words: int) -> Fraction:
+    """A fraction that the library tells in lowest terms, the words of the denominator last."""
+    return lowest_terms(wide_number(*words[: lib.WORDS]), wide_number(*words[lib.WORDS :]))
+
+
+def build(library: lib.Library, bound: int) -> Tuple[int, memoryview]:
+    """The status, and the bytes of the database of a bound, or where no database has it of the
+    board file.
     """
-
-    layout = lib.BOARD
-    whole = LONG_WHOLE
-    most_pips = 90
-    share = staticmethod(long_share_of_whole)
-    fraction = staticmethod(long_fraction_of)
-    kind = lib.BoardStruct
-    prefix = "board_"
-    results_name = "moves"
-    check_stack = lib.BOARD_STACK
-
-    @staticmethod
-    def build(library: lib.Library, bound: int) -> Tuple[int, memoryview]:
-        room = bytearray(lib.BOARD_FILE)
-        filled = ctypes.c_size_t()
-        status = lib.on_stack(
-            lib.BOARD_STACK,
-            library.board_build,
-            bound,
-            lib.address(room),
-            len(room),
-            ctypes.byref(filled),
-        )
-        return status, memoryview(room)[: filled.value]
-
-    @staticmethod
-    def longest_reply() -> int:
-        return lib.BOARD_REPLY
-
-    def _status(self) -> int:
-        return 0 if self.struct.is_open else NOT_OPEN
-
-    def version(self) -> Tuple[int, int]:
-        return self._status(), 3
-
-    def bound(self) -> Tuple[int, int]:
-        return self._status(), self.struct.bound
-
-    def length(self) -> Tuple[int, int]:
-        # the library has compared the count in the header with that of the bound
-        return self._status(), int.from_bytes(self.content[12:16], "big")
-
-    def rank(self, counts: bytes) -> Tuple[int, int]:
-        """The status, and the rank: the number in the reply to the line `rank`."""
-        if self._status():
-            return NOT_OPEN, 0
-        if sum(counts) > MOST_CHECKERS:
-            return TOO_MANY, 0
-        if _pips(counts) > self.struct.bound:
-            return OVER_BOUND, 0
-        line = b"rank " + ",".join(map(str, counts)).encode("ascii")
-        text = ctypes.create_string_buffer(32)
-        needed = ctypes.c_size_t()
-        status = self.answer_line(self.at, line, len(line), text, 32, ctypes.byref(needed))
-        return status, 0 if status else int(text.raw[5 : needed.value])
-
-    def position(self, rank: int) -> Tuple[int, bytes]:
-        status, length = self.length()
-        if status:
-            return status, b""
-        return 0 if rank < length else NO_RANK, _all_positions()[6 * rank : 6 * rank + 6]
-
-    def list_positions(self, room: bytearray, count: int) -> int:
-        room[:] = _all_positions()[: 6 * count]
-        return self._status()
-
-    def list_means(self, room: bytearray, count: int) -> int:
-        status: int = self.library.board_means(self.at, 0, lib.address(room), count)
-        return status
-
-    def list_epcs(self, room: bytearray, count: int) -> int:
-        every, size = _all_positions(), self.layout.pips.size
-        told = self.layout.PipsRoom()
-        for rank in range(count):
-            status = self.epc(self.at, every[6 * rank : 6 * rank + 6], told)
-            if status:
-                return status
-            room[size * rank : size * rank + size] = told.raw
-        return self._status()
-
-    def list_distributions(self, room: bytearray, count: int) -> int:
-        status: int = self.library.board_distributions(self.at, 0, lib.address(room), count)
-        return status
+    if bound > MOST_PIPS:
+        return build_board(library, bound)
+    work, room = bytearray(lib.FILE), bytearray(lib.FILE)
+    filled = ctypes.c_size_t()
+    status = lib.on_stack(
+        lib.BUILD_STACK,
+        library.build,
+        bound,
+        lib.address(work),
+        len(work),
+        lib.address(room),
+        len(room),
+        ctypes.byref(filled),
+    )
+    return status, memoryview(room)[: filled.value]
 
 
-def opened_of(library: lib.Library, content: bytes) -> Opened:
-    """What asks these bytes, as the version in their header has it; nothing of them is checked."""
-    return (OpenedBoard if content.startswith(_BOARD) else Opened)(library, content)
-
-
-def _pips(counts: bytes) -> int:
-    return sum(point * count for point, count in enumerate(counts, 1))
-
-
-@lru_cache(maxsize=None)
-def _all_positions() -> bytes:
-    """The counts of all 54,264 positions of the home board by rising rank: of a smaller bound they
-    are the first ones.
-    """
-
-    def lists(left: int, points: int) -> Iterator[Tuple[int, ...]]:
-        if points == 0:
-            yield ()
-            return
-        for count in range(left + 1):
-            for rest in lists(left - count, points - 1):
-                yield (count, *rest)
-
-    every: List[bytes] = [bytes(counts) for counts in lists(MOST_CHECKERS, 6)]
-    every.sort(key=lambda counts: (_pips(counts), counts))
-    return b"".join(every)
+def build_board(library: lib.Library, bound: int) -> Tuple[int, memoryview]:
+    """.. and of the board file of a bound."""
+    room = bytearray(lib.BOARD_FILE)
+    filled = ctypes.c_size_t()
+    status = lib.on_stack(
+        lib.BOARD_STACK,
+        library.board_build,
+        bound,
+        lib.address(room),
+        len(room),
+        ctypes.byref(filled),
+    )
+    return status, memoryview(room)[: filled.value]

@@ -26,7 +26,7 @@ from typing import (
 )
 
 from . import _library as lib
-from ._opened import MOST_CHECKERS, Opened, OpenedBoard, opened_of
+from ._opened import MOST_CHECKERS, MOST_OF_BOARD, Opened, build, fraction_of
 from .errors import (
     NO_RANK,
     NOT_OPEN,
@@ -97,7 +97,7 @@ class Database:
 
     def __init__(self, content: Union[bytes, bytearray, memoryview]) -> None:
         """Takes the bytes of a file and checks them, as `open` does."""
-        opened = opened_of(lib.library(), _bytes_of(content))
+        opened = Opened(lib.library(), _bytes_of(content))
         opened.check()
         self._opened = opened
         self._path: Optional[str] = None
@@ -131,12 +131,9 @@ class Database:
         Raises `BadArgument` where the bound is no whole number from 0 on, and `Refused` where it
         is over 90.
         """
-        library = lib.library()
-        asked = bound_of(bound)
-        kind = Opened if asked <= Opened.most_pips else OpenedBoard
-        status, content = kind.build(library, asked)
+        status, content = build(lib.library(), bound_of(bound))
         if status == OVER_BOUND:
-            raise Refused(status, f"{shown(bound)}, and no bound is over {kind.most_pips}")
+            raise Refused(status, f"{shown(bound)}, and no bound is over {MOST_OF_BOARD}")
         _check(status)
         return cls(content)
 
@@ -150,7 +147,7 @@ class Database:
         return not self._opened.struct.is_open
 
     def __enter__(self: _Self) -> _Self:
-        _check(NOT_OPEN if self.closed else 0)
+        _asked(self._opened)
         return self
 
     def __exit__(
@@ -166,24 +163,22 @@ class Database:
         """The version of its file: 1, or 2 where records leave out the shares that are known, or 3
         where it is a board file.
         """
-        return _told(*self._opened.version())
+        return _asked(self._opened).version
 
     @property
     def bound(self) -> int:
         """The greatest pip count of its positions."""
-        return _told(*self._opened.bound())
+        return _asked(self._opened).bound
 
     @property
     def whole(self) -> int:
         """The denominator over which all its means and shares are numerators: 36^22, or 36^33 of a
         board file.
         """
-        opened = self._opened
-        _check(0 if opened.struct.is_open else NOT_OPEN)
-        return opened.whole
+        return _asked(self._opened).whole
 
     def __len__(self) -> int:
-        return _told(*self._opened.length())
+        return _asked(self._opened).length
 
     def __contains__(self, position: object) -> bool:
         """Whether it is a position, of at most 15 checkers, and of at most as many pips as the
@@ -193,7 +188,7 @@ class Database:
         try:
             counts = counts_of(position)  # type: ignore[arg-type]
         except BadArgument:
-            _check(0 if opened.struct.is_open else NOT_OPEN)
+            _asked(opened)
             return False
         status, _ = opened.rank(counts)
         if status in (TOO_MANY, OVER_BOUND):
@@ -231,9 +226,7 @@ class Database:
 
     def __bytes__(self) -> bytes:
         """The bytes of its file."""
-        opened = self._opened
-        _check(0 if opened.struct.is_open else NOT_OPEN)
-        return opened.content
+        return _asked(self._opened).content
 
     def __repr__(self) -> str:
         if self.closed:
@@ -294,20 +287,19 @@ class Database:
     def mean(self, position: AnyPosition) -> Fraction:
         """The least mean number of rolls until all checkers are off, over all strategies."""
         opened = self._opened
-        layout = opened.layout
-        told = layout.NumberRoom()
+        told = lib.NumberRoom()
         status = opened.mean(opened.at, counts_of(position), told)
         if status:
             raise _refused(status, position)
-        return opened.share(*layout.number.unpack(told))
+        return opened.share(*lib.NUMBER.unpack(told))
 
     def epc(self, position: AnyPosition) -> EffectivePips:
         """The effective pip count, in pips, and in thousandths rounded to the nearest, half up."""
         opened = self._opened
-        told = opened.layout.PipsRoom()
+        told = lib.PipsRoom()
         _check(opened.epc(opened.at, counts_of(position), told), position)
-        *exact, thousandths = opened.layout.pips.unpack(told)
-        return EffectivePips(opened.fraction(*exact), thousandths)
+        *exact, thousandths = lib.PIPS.unpack(told)
+        return EffectivePips(fraction_of(*exact), thousandths)
 
     def wastage(self, position: AnyPosition) -> Wastage:
         """The effective pip count less the pip count, in pips, and in thousandths rounded to the
@@ -322,7 +314,10 @@ class Database:
         file 0 to 33. They sum to 1.
         """
         opened = self._opened
-        return tuple(map(opened.share, *_shares(opened, counts_of(position), position)))
+        told = lib.SharesRoom()
+        _check(opened.distribution(opened.at, counts_of(position), told), position)
+        columns = _columns(lib.SHARES.unpack(told), lib.WORDS)
+        return tuple(map(opened.share, *(column[: opened.rolls + 1] for column in columns)))
 
     def within(self, position: AnyPosition, rolls: SupportsIndex) -> Fraction:
         """The chance of being off in at most so many rolls, by the recorded plays. From 22 rolls
@@ -332,9 +327,10 @@ class Database:
         """
         opened = self._opened
         counts = counts_of(position)
-        asked = rolls_of(rolls, opened.layout.rolls)
-        columns = _shares(opened, counts, position)
-        return opened.share(*(sum(column[: asked + 1]) for column in columns))
+        asked = rolls_of(rolls, lib.MOST_ROLLS)
+        told = lib.ChanceRoom()
+        _check(opened.within(opened.at, counts, asked, told), position)
+        return opened.share(*lib.CHANCE.unpack(told)[: lib.WORDS])
 
     def wins(
         self,
@@ -383,7 +379,7 @@ class Database:
         the exact number; so of each table below.
         """
         opened = self._opened
-        table = _table(opened, "means", "Q", opened.layout.words)
+        table = _table(opened, "means", "Q", opened.words)
         return _floats_over_whole(opened, table, len(table)) if floats else table
 
     def epcs(self, *, floats: bool = False) -> memoryview:
@@ -393,7 +389,7 @@ class Database:
         the thousandths.
         """
         opened = self._opened
-        table = _table(opened, "epcs", "Q", 2 * opened.layout.words + 1)
+        table = _table(opened, "epcs", "Q", 2 * opened.words + 1)
         return _floats_of_fractions(opened, table) if floats else table
 
     def wastages(self, *, floats: bool = False) -> memoryview:
@@ -401,7 +397,7 @@ class Database:
         0.
         """
         opened = self._opened
-        words = opened.layout.words
+        words = opened.words
         table = _table(opened, "epcs", "Q", 2 * words + 1)
         flat = table.cast("B").cast("Q")
         # what is taken from the numerator is so many times the denominator, so the terms stay the
@@ -428,8 +424,8 @@ class Database:
         there is a float for each number of rolls.
         """
         opened = self._opened
-        shares = opened.layout.rolls + 1
-        table = _table(opened, "distributions", "Q", shares, opened.layout.words)
+        shares = opened.rolls + 1
+        table = _table(opened, "distributions", "Q", shares, opened.words)
         return _floats_over_whole(opened, table, len(table), shares) if floats else table
 
     def withins(self, rolls: SupportsIndex, *, floats: bool = False) -> memoryview:
@@ -438,8 +434,8 @@ class Database:
         on.
         """
         opened = self._opened
-        words, shares = opened.layout.words, opened.layout.rolls + 1
-        asked = rolls_of(rolls, opened.layout.rolls)
+        words, shares = opened.words, opened.rolls + 1
+        asked = rolls_of(rolls, opened.rolls)
         flat = _table(opened, "distributions", "Q", shares, words).cast("B").cast("Q")
         columns = _columns(flat, words * shares)[: words * (asked + 1)]
         sums = [
@@ -485,11 +481,11 @@ class Database:
         Raises `Refused` as `play` does, and where the roll doesn't lead to `to`.
         """
         opened = self._opened
-        told = opened.layout.FractionRoom()
+        told = lib.FractionRoom()
         counts, (one, other) = counts_of(position), dice_of(roll)
         after = counts_after(position, to)
         _check(opened.loss(opened.at, counts, one, other, after, told), position, roll, after)
-        return opened.fraction(*opened.layout.fraction.unpack(told))
+        return fraction_of(*lib.FRACTION.unpack(told))
 
     def moves(self, position: AnyPosition, roll: AnyRoll) -> List[Choice]:
         """Every position that a roll can lead to, once, the best first, and of equal ones the
@@ -499,23 +495,19 @@ class Database:
         counts = counts_of(position)
         one, other = dice_of(roll)
         count = ctypes.c_size_t()
-        result_of = opened.layout.result
         for room in (64, lib.RESULTS):
-            results = bytearray(room * result_of.size)
-            status = opened.results(
+            results = bytearray(room * lib.RESULT.size)
+            status = opened.moves(
                 opened.at, counts, one, other, lib.address(results), room, ctypes.byref(count)
             )
             if status != SHORT:
                 break
         _check(status, position, roll)
-        told = memoryview(results)[: count.value * result_of.size]
-        choices = [
-            Choice(Position._make(result[:6]), opened.fraction(*result[6:]))
-            for result in result_of.iter_unpack(told)
+        told = memoryview(results)[: count.value * lib.RESULT.size]
+        return [
+            Choice(Position._make(result[:6]), fraction_of(*result[6:]))
+            for result in lib.RESULT.iter_unpack(told)
         ]
-        # they come by rising rank, or of a board by rising loss and then by rising rank, and
-        # sorting leaves those of equal loss in their order
-        return sorted(choices, key=lambda choice: choice.loss)
 
     def answer(self, line: str) -> str:
         """What ``bearoff query`` writes for a line, which is given without its line ending, as in
@@ -631,14 +623,6 @@ def _column(numbers: Iterator[int]) -> memoryview:
     return memoryview(array("Q", numbers)).cast("B").cast("Q")
 
 
-def _shares(opened: Opened, counts: bytes, position: AnyPosition) -> List[Tuple[int, ...]]:
-    """The numerators of a distribution: all the greatest words of them, and so on."""
-    layout = opened.layout
-    told = layout.SharesRoom()
-    _check(opened.distribution(opened.at, counts, told), position)
-    return _columns(layout.shares.unpack(told), layout.words)
-
-
 def _columns(flat: _Words, count: int) -> List[_Words]:
     """The columns of a table of so many of them."""
     return [flat[place::count] for place in range(count)]
@@ -660,7 +644,7 @@ def _pips(opened: Opened) -> List[int]:
 
 def _floats_over_whole(opened: Opened, table: memoryview, *shape: int) -> memoryview:
     """The floats of a table of numerators over 36^22, or over 36^33."""
-    columns = _columns(table.cast("B").cast("Q"), opened.layout.words)
+    columns = _columns(table.cast("B").cast("Q"), opened.words)
     numbers = wide_numbers(*(column.tolist() for column in columns))
     whole = opened.whole
     return _floats((numerator / whole for numerator in numbers), *shape)
@@ -668,7 +652,7 @@ def _floats_over_whole(opened: Opened, table: memoryview, *shape: int) -> memory
 
 def _floats_of_fractions(opened: Opened, table: memoryview) -> memoryview:
     """The floats of a table of fractions, as `Database.epcs` has it."""
-    words = opened.layout.words
+    words = opened.words
     columns = [column.tolist() for column in _columns(table.cast("B").cast("Q"), 2 * words + 1)]
     numbers = map(truediv, wide_numbers(*columns[:words]), wide_numbers(*columns[words:-1]))
     return _floats(numbers, len(table))
@@ -680,7 +664,7 @@ def _floats(numbers: Iterator[float], *shape: int) -> memoryview:
 
 def _table(opened: Opened, name: str, kind: Literal["B", "Q"], *shape: int) -> memoryview:
     """An array of all positions, which belongs to the caller."""
-    count = _told(*opened.length())
+    count = _asked(opened).length
     size = 1 if kind == "B" else 8
     for length in shape:
         size *= length
@@ -689,10 +673,10 @@ def _table(opened: Opened, name: str, kind: Literal["B", "Q"], *shape: int) -> m
     return memoryview(room).cast(kind, (count, *shape))
 
 
-def _told(status: int, number: int) -> int:
-    """What was told, where the status is that of success."""
-    _check(status)
-    return number
+def _asked(opened: Opened) -> Opened:
+    """The same, where it is open."""
+    _check(opened.status)
+    return opened
 
 
 def _check(status: int, position: Any = None, roll: Any = None, to: Any = None) -> None:

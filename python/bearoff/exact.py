@@ -12,9 +12,6 @@ from typing import Any, Callable, Iterable, Iterator
 WHOLE = 36**22
 """The denominator of every number in a database: 36 throws, and at most 22 rolls."""
 
-LONG_WHOLE = 36**33
-"""That of every number of a board file: no game takes more than 33 rolls."""
-
 WEIGHTS = (2.0**64 / WHOLE, 1.0 / WHOLE)
 """What the high and the low half of a numerator over 36^22 count, as floats: the halves, each
 times its weight, add up to the number of rolls, or to the chance, with a relative error of less
@@ -67,31 +64,10 @@ else:
         setattr(Fraction, _operator, _kept(getattr(fractions.Fraction, _operator)))
 
 
-def share_of_whole(high: int, low: int) -> fractions.Fraction:
-    """A numerator over 36^22."""
-    return over_whole((high << 64) + low)
-
-
-def long_share_of_whole(first: int, middle: int, last: int) -> fractions.Fraction:
-    """A numerator over 36^33."""
-    return over_whole((first << 128) + (middle << 64) + last, LONG_WHOLE)
-
-
 def over_whole(numerator: int, whole: int = WHOLE) -> fractions.Fraction:
     """A numerator over 36^22, or over another whole."""
     common = gcd(numerator, whole)
     return lowest_terms(numerator // common, whole // common)
-
-
-def fraction_of(high: int, low: int, below_high: int, below_low: int) -> fractions.Fraction:
-    """A fraction that the library tells in lowest terms, the halves of the denominator last."""
-    return lowest_terms((high << 64) + low, (below_high << 64) + below_low)
-
-
-def long_fraction_of(*words: int) -> fractions.Fraction:
-    """A fraction in lowest terms of six words, those of the denominator last."""
-    numerator, denominator = wide_numbers(words[::3], words[1::3], words[2::3])
-    return lowest_terms(numerator, denominator)
 
 
 def lowest_terms(numerator: int, denominator: int) -> fractions.Fraction:
@@ -107,10 +83,15 @@ def lowest_terms(numerator: int, denominator: int) -> fractions.Fraction:
     return fraction
 
 
+def wide_number(first: int, middle: int, last: int) -> int:
+    """The number of three words."""
+    return (first << 128) + (middle << 64) + last if first else (middle << 64) + last
+
+
 def wide_numbers(*words: Iterable[int]) -> Iterator[int]:
     """The numbers of many words: all the greatest ones, and so on. They are two for a number of
     128 bits, and three for one of 192.
     """
     if len(words) == 2:
         return ((high << 64) + low for high, low in zip(*words))
-    return ((first << 128) + (middle << 64) + last for first, middle, last in zip(*words))
+    return map(wide_number, *words)

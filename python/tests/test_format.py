@@ -12,7 +12,7 @@ from fractions import Fraction
 from typing import Any, Callable, List
 
 from bearoff import WHOLE
-from bearoff.exact import lowest_terms, share_of_whole
+from bearoff.exact import lowest_terms, over_whole
 
 from .given import database, positions
 
@@ -97,7 +97,7 @@ class Written(unittest.TestCase):
         )
         self.assertEqual(f"{here.epc(six)}", str(here.epc(six)))
         self.assertEqual(f"{here.epc(six):.30f}", "10.208" + "3" * 27)
-        self.assertEqual(f"{share_of_whole(0, 0):.1f}", "0.0")
+        self.assertEqual(f"{over_whole(0):.1f}", "0.0")
 
 
 class Computed(unittest.TestCase):

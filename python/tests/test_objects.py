@@ -351,7 +351,7 @@ class Versions(unittest.TestCase):
                     f"{later} is of version 2.3.4, "
                     f"and this package of version {bearoff.__version__}",
                 ),
-                (empty, f"{empty} has no function bearoff_version"),
+                (empty, f"{empty} has no function bearoff_standing"),
                 (source, f"{source} is no library: "),
                 (Path(folder, "missing.so"), f"{folder}/missing.so is no library: "),
                 (Path("libm.so.6"), "libm.so.6 has no function bearoff_library_version"),

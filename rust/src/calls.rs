@@ -17,28 +17,51 @@ pub struct Counts {
     pub points: [u8; 6],
 }
 
-/// Numbers of so many words, the greatest first.
-pub type Words<const N: usize> = [u64; N];
+/// A number of three words, the greatest first.
+pub type Words = [u64; 3];
 
 #[repr(C)]
-#[derive(Clone, Copy)]
-pub struct Fraction<const N: usize> {
-    pub numerator: Words<N>,
-    pub denominator: Words<N>,
+#[derive(Clone, Copy, Default)]
+pub struct Fraction {
+    pub numerator: Words,
+    pub denominator: Words,
 }
 
 #[repr(C)]
-#[derive(Clone, Copy)]
-pub struct Pips<const N: usize> {
-    pub exact: Fraction<N>,
+#[derive(Clone, Copy, Default)]
+pub struct Pips {
+    pub exact: Fraction,
     pub thousandths: u64,
 }
 
 #[repr(C)]
-#[derive(Clone, Copy)]
-pub struct Choice<const N: usize> {
+#[derive(Clone, Copy, Default)]
+pub struct Wasted {
+    pub thousandths: u64,
+    pub is_below: bool,
+}
+
+#[repr(C)]
+#[derive(Clone, Copy, Default)]
+pub struct Chance {
+    pub numerator: Words,
+    pub thousandths: u64,
+}
+
+#[repr(C)]
+#[derive(Clone, Copy, Default)]
+pub struct Choice {
     pub to: Counts,
-    pub loss: Fraction<N>,
+    pub loss: Fraction,
+}
+
+#[repr(C)]
+#[derive(Clone, Copy, Default)]
+pub struct About {
+    pub version: u16,
+    pub bound: u8,
+    pub rolls: u8,
+    pub positions: u32,
 }
 
 #[repr(C)]
@@ -64,15 +87,15 @@ pub struct Stand {
     pub off: u8,
 }
 
-/// A database or a board over bytes of the caller's: what opens it alone writes it.
+/// A file of any version over bytes of the caller's: what opens it alone writes it.
 #[repr(C)]
 pub struct Opened {
     bytes: *const u8,
     length: usize,
     is_open: u8,
     bound: u8,
-    // of a database its version stands here, before the ranks; a board has one number less
-    rest: [u16; 1 + RANKS],
+    version: u16,
+    ranks: [u16; RANKS],
 }
 
 impl Opened {
@@ -83,7 +106,8 @@ impl Opened {
             length: 0,
             is_open: 0,
             bound: 0,
-            rest: [0; 1 + RANKS],
+            version: 0,
+            ranks: [0; RANKS],
         })
     }
 }
@@ -93,45 +117,10 @@ type At = *const Opened;
 /// A call that says something of a position.
 pub type OfPosition<T> = unsafe extern "C" fn(At, *const Counts, *mut T) -> u32;
 
-/// .. that says what a play costs.
-pub type Loss<const N: usize> =
-    unsafe extern "C" fn(At, *const Counts, u8, u8, *const Counts, *mut Fraction<N>) -> u32;
-
-/// .. that lists what a roll can lead to.
-pub type Moves<const N: usize> =
-    unsafe extern "C" fn(At, *const Counts, u8, u8, *mut Choice<N>, usize, *mut usize) -> u32;
-
-// what stands where a call writes
-impl<const N: usize> Fraction<N> {
-    pub fn none() -> Fraction<N> {
-        Fraction { numerator: [0; N], denominator: [0; N] }
-    }
-}
-
-impl<const N: usize> Pips<N> {
-    pub fn none() -> Pips<N> {
-        Pips { exact: Fraction::none(), thousandths: 0 }
-    }
-}
-
-impl<const N: usize> Choice<N> {
-    pub fn none() -> Choice<N> {
-        Choice { to: Counts::default(), loss: Fraction::none() }
-    }
-}
-
 extern "C" {
     pub fn bearoff_library_version(major: *mut u16, minor: *mut u16, patch: *mut u16) -> u32;
     pub fn bearoff_status_text(status: u32, text: *mut u8, room: usize, needed: *mut usize) -> u32;
-    pub fn bearoff_open(
-        at: *mut Opened,
-        bytes: *const u8,
-        length: usize,
-        line: *mut u8,
-        room: usize,
-        needed: *mut usize,
-    ) -> u32;
-    pub fn bearoff_board_open(
+    pub fn bearoff_file_open(
         at: *mut Opened,
         bytes: *const u8,
         length: usize,
@@ -157,57 +146,39 @@ extern "C" {
         room_length: usize,
         filled: *mut usize,
     ) -> u32;
-    pub fn bearoff_mean(at: At, of: *const Counts, mean: *mut Words<2>) -> u32;
-    pub fn bearoff_board_mean(at: At, of: *const Counts, mean: *mut Words<3>) -> u32;
-    pub fn bearoff_epc(at: At, of: *const Counts, pips: *mut Pips<2>) -> u32;
-    pub fn bearoff_board_epc(at: At, of: *const Counts, pips: *mut Pips<3>) -> u32;
-    pub fn bearoff_distribution(at: At, of: *const Counts, shares: *mut [Words<2>; 23]) -> u32;
-    pub fn bearoff_board_distribution(
-        at: At,
-        of: *const Counts,
-        shares: *mut [Words<3>; 34],
-    ) -> u32;
-    pub fn bearoff_play(at: At, of: *const Counts, one: u8, other: u8, play: *mut Play) -> u32;
-    pub fn bearoff_board_play(
-        at: At,
-        of: *const Counts,
-        one: u8,
-        other: u8,
-        play: *mut Play,
-    ) -> u32;
-    pub fn bearoff_loss(
+    pub fn bearoff_file_about(at: At, about: *mut About) -> u32;
+    pub fn bearoff_file_rank(at: At, of: *const Counts, rank: *mut u16) -> u32;
+    pub fn bearoff_file_mean(at: At, of: *const Counts, mean: *mut Words) -> u32;
+    pub fn bearoff_file_epc(at: At, of: *const Counts, pips: *mut Pips) -> u32;
+    pub fn bearoff_file_wastage(at: At, of: *const Counts, wastage: *mut Wasted) -> u32;
+    pub fn bearoff_file_distribution(at: At, of: *const Counts, shares: *mut [Words; 34]) -> u32;
+    pub fn bearoff_file_within(at: At, of: *const Counts, rolls: u8, chance: *mut Chance) -> u32;
+    pub fn bearoff_file_play(at: At, of: *const Counts, one: u8, other: u8, play: *mut Play)
+        -> u32;
+    pub fn bearoff_file_loss(
         at: At,
         of: *const Counts,
         one: u8,
         other: u8,
         to: *const Counts,
-        loss: *mut Fraction<2>,
+        loss: *mut Fraction,
     ) -> u32;
-    pub fn bearoff_board_loss(
+    pub fn bearoff_file_moves(
         at: At,
         of: *const Counts,
         one: u8,
         other: u8,
-        to: *const Counts,
-        loss: *mut Fraction<3>,
-    ) -> u32;
-    pub fn bearoff_results(
-        at: At,
-        of: *const Counts,
-        one: u8,
-        other: u8,
-        results: *mut Choice<2>,
+        results: *mut Choice,
         room: usize,
         count: *mut usize,
     ) -> u32;
-    pub fn bearoff_board_moves(
+    pub fn bearoff_file_answer_line(
         at: At,
-        of: *const Counts,
-        one: u8,
-        other: u8,
-        results: *mut Choice<3>,
+        line: *const u8,
+        length: usize,
+        text: *mut u8,
         room: usize,
-        count: *mut usize,
+        needed: *mut usize,
     ) -> u32;
     pub fn bearoff_play_to(
         position: *const Counts,
@@ -217,22 +188,6 @@ extern "C" {
         play: *mut Play,
     ) -> u32;
     pub fn bearoff_standing(position: *const Counts, standing: *mut Stand) -> u32;
-    pub fn bearoff_answer_line(
-        at: At,
-        line: *const u8,
-        length: usize,
-        text: *mut u8,
-        room: usize,
-        needed: *mut usize,
-    ) -> u32;
-    pub fn bearoff_board_answer_line(
-        at: At,
-        line: *const u8,
-        length: usize,
-        text: *mut u8,
-        room: usize,
-        needed: *mut usize,
-    ) -> u32;
 }
 
 /// The struct has the bytes that the header says.

@@ -8,13 +8,6 @@ use std::fmt;
 pub struct Whole(pub [u64; 3]);
 
 impl Whole {
-    /// The number of two words or three, the greatest first.
-    pub(crate) fn of<const N: usize>(words: [u64; N]) -> Whole {
-        let mut all = [0; 3];
-        all[3 - N..].copy_from_slice(&words);
-        Whole(all)
-    }
-
     /// The power of 36, at most the 36th.
     pub(crate) fn power_of_36(exponent: u32) -> Whole {
         let mut power = Whole([0, 0, 1]);
@@ -27,17 +20,6 @@ impl Whole {
             }
         }
         power
-    }
-
-    /// The sum, which is below 2^192.
-    pub(crate) fn plus(self, other: Whole) -> Whole {
-        let (mut sum, mut carry) = ([0; 3], 0);
-        for place in (0..3).rev() {
-            let word = u128::from(self.0[place]) + u128::from(other.0[place]) + carry;
-            sum[place] = word as u64;
-            carry = word >> 64;
-        }
-        Whole(sum)
     }
 
     /// Divided by a small number, and what is left.

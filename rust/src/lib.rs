@@ -219,7 +219,7 @@ pub struct Database<'a> {
     // nobody changes the bytes or the struct while this lives, and neither moves with it
     bytes: Cow<'a, [u8]>,
     opened: Box<calls::Opened>,
-    is_board: bool,
+    about: calls::About,
 }
 
 // what the pointer in the struct leads to belongs to the same value, and is only read
@@ -251,7 +251,6 @@ impl<'a> Database<'a> {
     /// 44 pips. They are bytes that are lent, or a `Vec` of the database's own.
     pub fn open(bytes: impl Into<Cow<'a, [u8]>>) -> Result<Database<'a>, Error> {
         let bytes = bytes.into();
-        let is_board = bytes.get(..10) == Some(b"EPCTABLE\0\x03");
         let mut opened = calls::Opened::closed();
         let (mut line, mut needed) = ([0; calls::LINE], 0);
         let lent = Lent((&mut *opened, &bytes[..], &mut line, &mut needed));
@@ -260,19 +259,16 @@ impl<'a> Database<'a> {
             let (from, length) = (bytes.as_ptr(), bytes.len());
             let (to, room) = (line.as_mut_ptr(), line.len());
             // the struct, the bytes and the room outlive the call, which changes no byte
-            unsafe {
-                if is_board {
-                    calls::bearoff_board_open(at, from, length, to, room, needed)
-                } else {
-                    calls::bearoff_open(at, from, length, to, room, needed)
-                }
-            }
+            unsafe { calls::bearoff_file_open(at, from, length, to, room, needed) }
         })?;
         if status != calls::OK {
             let line = String::from_utf8_lossy(&line[..needed.min(line.len())]).into_owned();
             return Err(Error::Damaged { status, line });
         }
-        Ok(Database { bytes, opened, is_board })
+        let at: *const calls::Opened = &*opened;
+        let none = calls::About::default();
+        let about = answered(none, |it| unsafe { calls::bearoff_file_about(at, it) })?;
+        Ok(Database { bytes, opened, about })
     }
 
     /// The bytes of its file.
@@ -287,149 +283,112 @@ impl<'a> Database<'a> {
     /// The version of its file: 1, or 2 where the records leave out the shares that are known, or 3
     /// of a board file.
     pub fn version(&self) -> u16 {
-        u16::from_be_bytes([self.bytes[8], self.bytes[9]])
+        self.about.version
     }
 
     /// The greatest pip count of its positions.
     pub fn bound(&self) -> u8 {
-        u8::from_be_bytes([self.bytes[11]])
+        self.about.bound
     }
 
     /// How many positions it has: those of at most its bound.
     pub fn positions(&self) -> u32 {
-        u32::from_be_bytes([self.bytes[12], self.bytes[13], self.bytes[14], self.bytes[15]])
+        self.about.positions
     }
 
     /// What its means and shares are numerators over: 36^22, or 36^33 of a board file.
     pub fn whole(&self) -> Whole {
-        Whole::power_of_36(if self.is_board { 33 } else { 22 })
+        Whole::power_of_36(u32::from(self.about.rolls))
     }
 
-    fn over_whole<const N: usize>(&self, words: [u64; N]) -> Fraction {
-        Fraction::over_power_of_36(Whole::of(words), self.whole())
+    fn over_whole(&self, words: calls::Words) -> Fraction {
+        Fraction::over_power_of_36(Whole(words), self.whole())
     }
 
     /// The least mean number of rolls until all checkers are off, over all strategies.
     pub fn mean(&self, position: Position) -> Result<Fraction, Error> {
-        if self.is_board {
-            let mean = self.asked([0; 3], position, calls::bearoff_board_mean)?;
-            return Ok(self.over_whole(mean));
-        }
-        Ok(self.over_whole(self.asked([0; 2], position, calls::bearoff_mean)?))
+        Ok(self.over_whole(self.asked([0; 3], position, calls::bearoff_file_mean)?))
     }
 
     /// The effective pip count.
     pub fn epc(&self, position: Position) -> Result<EffectivePips, Error> {
-        if self.is_board {
-            return Ok(self.asked(calls::Pips::none(), position, calls::bearoff_board_epc)?.into());
-        }
-        Ok(self.asked(calls::Pips::none(), position, calls::bearoff_epc)?.into())
+        Ok(self.asked(calls::Pips::default(), position, calls::bearoff_file_epc)?.into())
     }
 
     /// The effective pip count less the pip count, in thousandths of a pip; of few positions it is
     /// below 0.
     pub fn wastage(&self, position: Position) -> Result<i64, Error> {
-        let epc = self.epc(position)?.thousandths as i64;
-        Ok(epc - 1000 * i64::from(standing(position)?.pips))
+        let none = calls::Wasted::default();
+        let told = self.asked(none, position, calls::bearoff_file_wastage)?;
+        let thousandths = told.thousandths as i64;
+        Ok(if told.is_below { -thousandths } else { thousandths })
     }
 
     /// The chances of being off in exactly 0 to 22 rolls, of a board file 0 to 33, by the recorded
     /// plays. They add up to 1.
     pub fn distribution(&self, position: Position) -> Result<Vec<Fraction>, Error> {
-        Ok(self.shares(position)?.into_iter().map(|share| self.over_whole(share.0)).collect())
+        let shares = self.asked([[0; 3]; 34], position, calls::bearoff_file_distribution)?;
+        let count = usize::from(self.about.rolls) + 1;
+        Ok(shares.iter().take(count).map(|share| self.over_whole(*share)).collect())
     }
 
     /// The chance of being off in at most so many rolls, by the recorded plays.
     pub fn within(&self, position: Position, rolls: usize) -> Result<Fraction, Error> {
-        let shares = self.shares(position)?;
-        let some = shares.into_iter().take(rolls.saturating_add(1));
-        let sum = some.fold(Whole::default(), Whole::plus);
-        Ok(Fraction::over_power_of_36(sum, self.whole()))
-    }
-
-    fn shares(&self, position: Position) -> Result<Vec<Whole>, Error> {
-        if self.is_board {
-            let call = calls::bearoff_board_distribution;
-            let shares = self.asked([[0; 3]; 34], position, call)?;
-            return Ok(shares.iter().copied().map(Whole::of).collect());
-        }
-        let shares = self.asked([[0; 2]; 23], position, calls::bearoff_distribution)?;
-        Ok(shares.iter().copied().map(Whole::of).collect())
+        let (at, of) = (self.at(), position.counts());
+        let rolls = rolls.min(usize::from(u8::MAX)) as u8;
+        let none = calls::Chance::default();
+        let told = answered(none, |it| unsafe { calls::bearoff_file_within(at, &of, rolls, it) })?;
+        Ok(self.over_whole(told.numerator))
     }
 
     /// What a call says of a position.
     fn asked<T>(&self, none: T, of: Position, call: calls::OfPosition<T>) -> Result<T, Error> {
         let (at, of) = (self.at(), of.counts());
-        // the struct is of an open database of the call's kind, and all outlives the call; so in
-        // each call below
+        // the struct is of an open file, and all outlives the call; so in each call
         answered(none, |it| unsafe { call(at, &of, it) })
     }
 
     /// The recorded play of a roll: none has a smaller mean, and others may be as good.
     pub fn play(&self, position: Position, roll: Roll) -> Result<Play, Error> {
         let (at, of) = (self.at(), position.counts());
-        let call = if self.is_board { calls::bearoff_board_play } else { calls::bearoff_play };
         let none = calls::Play::default();
-        Ok(answered(none, |it| unsafe { call(at, &of, roll.one, roll.other, it) })?.into())
+        let play = answered(none, |it| unsafe {
+            calls::bearoff_file_play(at, &of, roll.one, roll.other, it)
+        })?;
+        Ok(play.into())
     }
 
     /// What a play to `to` costs, in rolls, beside the best one. It is 0 for a best play.
     pub fn loss(&self, position: Position, roll: Roll, to: Position) -> Result<Fraction, Error> {
-        if self.is_board {
-            return self.loss_by(calls::bearoff_board_loss, position, roll, to);
-        }
-        self.loss_by(calls::bearoff_loss, position, roll, to)
-    }
-
-    fn loss_by<const N: usize>(
-        &self,
-        call: calls::Loss<N>,
-        position: Position,
-        roll: Roll,
-        to: Position,
-    ) -> Result<Fraction, Error> {
         let (at, of, to) = (self.at(), position.counts(), to.counts());
-        let none = calls::Fraction::none();
-        Ok(answered(none, |it| unsafe { call(at, &of, roll.one, roll.other, &to, it) })?.into())
+        let none = calls::Fraction::default();
+        let loss = answered(none, |it| unsafe {
+            calls::bearoff_file_loss(at, &of, roll.one, roll.other, &to, it)
+        })?;
+        Ok(loss.into())
     }
 
     /// Every position that a roll can lead to, once, the best first, and of equal ones that of the
     /// lower rank first.
     pub fn moves(&self, position: Position, roll: Roll) -> Result<Vec<Choice>, Error> {
-        if self.is_board {
-            return self.moves_by(calls::bearoff_board_moves, position, roll);
-        }
-        self.moves_by(calls::bearoff_results, position, roll)
-    }
-
-    fn moves_by<const N: usize>(
-        &self,
-        call: calls::Moves<N>,
-        position: Position,
-        roll: Roll,
-    ) -> Result<Vec<Choice>, Error> {
         let (at, of) = (self.at(), position.counts());
-        let (mut results, mut count) = ([calls::Choice::none(); calls::RESULTS], 0);
+        let (mut results, mut count) = ([calls::Choice::default(); calls::RESULTS], 0);
         let (room, length) = (results.as_mut_ptr(), results.len());
-        told(unsafe { call(at, &of, roll.one, roll.other, room, length, &mut count) })?;
-        let mut choices: Vec<Choice> = results[..count].iter().copied().map(Choice::from).collect();
-        // they come by rising rank, or of a board by rising loss; sorting leaves equal ones in order
-        choices.sort_by_key(|choice| choice.loss);
-        Ok(choices)
+        told(unsafe {
+            calls::bearoff_file_moves(at, &of, roll.one, roll.other, room, length, &mut count)
+        })?;
+        Ok(results[..count].iter().copied().map(Choice::from).collect())
     }
 
     /// What `bearoff query` writes for a line, as `mean 0,0,0,0,0,1`, without a line ending. A line
     /// that asks nothing, or is refused, is answered too, by a text that begins with `error`.
     pub fn answer(&self, line: impl AsRef<[u8]>) -> Result<String, Error> {
         let (at, line) = (self.at(), line.as_ref());
-        let call = if self.is_board {
-            calls::bearoff_board_answer_line
-        } else {
-            calls::bearoff_answer_line
-        };
         let (mut text, mut needed) = (vec![0; calls::REPLY], 0);
+        let (room, length) = (text.as_mut_ptr(), text.len());
         told(unsafe {
-            call(at, line.as_ptr(), line.len(), text.as_mut_ptr(), text.len(), &mut needed)
+            let from = line.as_ptr();
+            calls::bearoff_file_answer_line(at, from, line.len(), room, length, &mut needed)
         })?;
         text.truncate(needed);
         Ok(String::from_utf8_lossy(&text).into_owned())
@@ -438,11 +397,7 @@ impl<'a> Database<'a> {
     /// The rank of a position: how many are before it, which are those of fewer pips, and of as
     /// many those with the smaller counts, that of the ace point first.
     pub fn rank(&self, position: Position) -> Result<u16, Error> {
-        // refused as every question about a position is
-        self.mean(position)?;
-        let reply = self.answer(format!("rank {}", position))?;
-        let rank = reply.strip_prefix("rank ").and_then(|rank| rank.parse().ok());
-        rank.ok_or(Error::BadText)
+        self.asked(0, position, calls::bearoff_file_rank)
     }
 
     /// The bytes of a file of version 2 that says the same. Refused where its own is of version 2
@@ -529,20 +484,20 @@ pub fn library_version() -> String {
     format!("{}.{}.{}", major, minor, patch)
 }
 
-impl<const N: usize> From<calls::Fraction<N>> for Fraction {
-    fn from(told: calls::Fraction<N>) -> Fraction {
-        Fraction::in_lowest_terms(Whole::of(told.numerator), Whole::of(told.denominator))
+impl From<calls::Fraction> for Fraction {
+    fn from(told: calls::Fraction) -> Fraction {
+        Fraction::in_lowest_terms(Whole(told.numerator), Whole(told.denominator))
     }
 }
 
-impl<const N: usize> From<calls::Pips<N>> for EffectivePips {
-    fn from(told: calls::Pips<N>) -> EffectivePips {
+impl From<calls::Pips> for EffectivePips {
+    fn from(told: calls::Pips) -> EffectivePips {
         EffectivePips { exact: told.exact.into(), thousandths: told.thousandths }
     }
 }
 
-impl<const N: usize> From<calls::Choice<N>> for Choice {
-    fn from(told: calls::Choice<N>) -> Choice {
+impl From<calls::Choice> for Choice {
+    fn from(told: calls::Choice) -> Choice {
         Choice { to: Position::new(told.to.points), loss: told.loss.into() }
     }
 }

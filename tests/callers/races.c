@@ -21,7 +21,7 @@
 #include "bearoff.h"
 
 enum { MOST_STATUS = 28, MOST_BYTES = 1 << 20, MOST_LISTED = 8, GUARD = 64, MARK = 0xA5 };
-enum { CALLERS = 2, CALLS = 16, BOARD_VERSION = 3 };
+enum { CALLERS = 2, CALLS = 32, BOARD_VERSION = 3 };
 
 static uint8_t right[MOST_BYTES], bytes[MOST_BYTES];
 static size_t length;
@@ -30,16 +30,22 @@ static long rounds;
 static uint64_t seed = 88172645463325252u;
 static bearoff_database database = BEAROFF_CLOSED;
 static bearoff_board board = BEAROFF_BOARD_CLOSED;
+static bearoff_file any_file = BEAROFF_FILE_CLOSED;
 static atomic_bool ended;
 
 /* the names of the calls, the opening first, in the order in which each thread makes them */
+#define OF_FILES                                                                     \
+    "file_open", "file_mean", "file_rounded_mean", "file_epc", "file_wastage",       \
+        "file_distribution", "file_within", "file_listed_means", "file_listed_epcs", \
+        "file_listed_distributions", "file_play", "file_loss", "file_moves", "file_answer_line"
 static const char *const of_databases[CALLS] = {
     "open",         "upgrade", "mean",         "epc",         "rounded_mean",         "wastage",
     "distribution", "within",  "listed_means", "listed_epcs", "listed_distributions", "play",
-    "loss",         "results", "answer_line"};
+    "loss",         "results", "answer_line",  OF_FILES};
 static const char *const of_boards[CALLS] = {
-    "board_open",          "board_mean", "board_epc",  "board_distribution", "board_means",
-    "board_distributions", "board_play", "board_loss", "board_moves",        "board_answer_line"};
+    "board_open",  "board_mean",          "board_epc",  "board_distribution",
+    "board_means", "board_distributions", "board_play", "board_loss",
+    "board_moves", "board_answer_line",   OF_FILES};
 
 /* one of the threads that call: what it counts, and room for a call, with guards about it */
 typedef struct caller {
@@ -49,6 +55,7 @@ typedef struct caller {
     unsigned long counts[CALLS][MOST_STATUS + 1], others, writes;
     bearoff_database database;
     bearoff_board board;
+    bearoff_file file;
     uint8_t *room;
     size_t size;
 } caller;
@@ -200,6 +207,46 @@ static void ask_board(caller *by, bearoff_position at, bearoff_position to, uint
                                        BEAROFF_BOARD_REPLY, &needed));
 }
 
+/* every call that reads the bytes of a file of any version */
+static void ask_file(caller *by, bearoff_position at, bearoff_position to, uint8_t one,
+                     uint8_t other) {
+    size_t needed, count = 1 + next_number(&by->state) % MOST_LISTED;
+    uint16_t first = (uint16_t)(next_number(&by->state) % (uint64_t)positions);
+    char line[128];
+    uint8_t *text = (uint8_t *)lend(by, BEAROFF_LINE);
+    take(by, bearoff_file_open(&by->file, bytes, length, text, BEAROFF_LINE, &needed));
+    take(by, bearoff_file_mean(&any_file, &at, (bearoff_long *)lend(by, sizeof(bearoff_long))));
+    take(by, bearoff_file_rounded_mean(
+                 &any_file, &at, (bearoff_long_rolls *)lend(by, sizeof(bearoff_long_rolls))));
+    take(by, bearoff_file_epc(&any_file, &at,
+                              (bearoff_long_pips *)lend(by, sizeof(bearoff_long_pips))));
+    take(by,
+         bearoff_file_wastage(&any_file, &at, (bearoff_wasted *)lend(by, sizeof(bearoff_wasted))));
+    take(by, bearoff_file_distribution(
+                 &any_file, &at, (bearoff_long_shares *)lend(by, sizeof(bearoff_long_shares))));
+    take(by, bearoff_file_within(&any_file, &at, one,
+                                 (bearoff_chance *)lend(by, sizeof(bearoff_chance))));
+    take(by, bearoff_file_listed_means(
+                 &any_file, first, (bearoff_long *)lend(by, count * sizeof(bearoff_long)), count));
+    take(by, bearoff_file_listed_epcs(
+                 &any_file, first,
+                 (bearoff_long_pips *)lend(by, count * sizeof(bearoff_long_pips)), count));
+    take(by, bearoff_file_listed_distributions(
+                 &any_file, first,
+                 (bearoff_long_shares *)lend(by, count * sizeof(bearoff_long_shares)), count));
+    take(by, bearoff_file_play(&any_file, &at, one, other,
+                               (bearoff_recorded_play *)lend(by, sizeof(bearoff_recorded_play))));
+    take(by, bearoff_file_loss(&any_file, &at, one, other, &to,
+                               (bearoff_long_fraction *)lend(by, sizeof(bearoff_long_fraction))));
+    size_t size = BEAROFF_RESULTS * sizeof(bearoff_long_result);
+    take(by, bearoff_file_moves(&any_file, &at, one, other, (bearoff_long_result *)lend(by, size),
+                                BEAROFF_RESULTS, &needed));
+    int bytes_of_line = some_line(by, line, sizeof line, at, to, one, other);
+    text = (uint8_t *)lend(by, BEAROFF_BOARD_REPLY);
+    take(by, bearoff_file_answer_line(&any_file, (const uint8_t *)line, (size_t)bytes_of_line,
+                                      text, BEAROFF_BOARD_REPLY, &needed));
+}
+
 static void *call(void *of) {
     caller *by = (caller *)of;
     for (long round = 0; round < rounds; round++) {
@@ -208,6 +255,7 @@ static void *call(void *of) {
         uint8_t one = (uint8_t)(1 + roll % 6), other = (uint8_t)(1 + roll / 6 % 6);
         by->call = 0;
         (version == BOARD_VERSION ? ask_board : ask_database)(by, at, to, one, other);
+        ask_file(by, at, to, one, other);
     }
     return of;
 }
@@ -219,6 +267,8 @@ static void open_right(void) {
                           ? bearoff_board_open(&board, bytes, length, line, sizeof line, &needed)
                           : bearoff_open(&database, bytes, length, line, sizeof line, &needed);
     if (status != BEAROFF_OK) fail("no right database or board");
+    status = bearoff_file_open(&any_file, bytes, length, line, sizeof line, &needed);
+    if (status != BEAROFF_OK) fail("no right file");
 }
 
 /* how often each status came of each call; whether all is as it should be */

@@ -25,6 +25,7 @@ static size_t filled, needed;
 static int failed;
 static bearoff_database database = BEAROFF_CLOSED;
 static bearoff_board board = BEAROFF_BOARD_CLOSED;
+static bearoff_file any_file = BEAROFF_FILE_CLOSED;
 
 /* what the calls are asked */
 typedef struct question {
@@ -41,7 +42,10 @@ static union {
     bearoff_wide means[LISTED];
     bearoff_long board_means[LISTED];
     bearoff_pips epcs[LISTED];
-    bearoff_long_pips board_epc;
+    bearoff_long_pips board_epcs[LISTED];
+    bearoff_long_rolls board_rolls;
+    bearoff_about about;
+    bearoff_chance chance;
     bearoff_rolls rolls;
     bearoff_wasted wasted;
     bearoff_shares shares[LISTED];
@@ -100,7 +104,7 @@ CALL(answer_line,
 CALL(board_build, bearoff_board_build(bound, file, sizeof file, &filled))
 CALL(board_open, bearoff_board_open(&board, file, filled, text, sizeof text, &needed))
 CALL(board_mean, bearoff_board_mean(&board, &now->at, told.board_means))
-CALL(board_epc, bearoff_board_epc(&board, &now->at, &told.board_epc))
+CALL(board_epc, bearoff_board_epc(&board, &now->at, told.board_epcs))
 CALL(board_distribution, bearoff_board_distribution(&board, &now->at, told.board_shares))
 CALL(board_means, bearoff_board_means(&board, 0, told.board_means, listed()))
 CALL(board_distributions, bearoff_board_distributions(&board, 0, told.board_shares, listed()))
@@ -112,6 +116,29 @@ CALL(board_moves, bearoff_board_moves(&board, &now->at, now->one, now->other, to
 CALL(board_answer_line, bearoff_board_answer_line(&board, line_now(), strlen(now->line), text,
                                                   BEAROFF_BOARD_REPLY, &needed))
 CALL(board_close, bearoff_board_close(&board))
+CALL(file_open, bearoff_file_open(&any_file, file, filled, text, sizeof text, &needed))
+CALL(file_about, bearoff_file_about(&any_file, &told.about))
+CALL(file_rank, bearoff_file_rank(&any_file, &now->at, &told.half))
+CALL(file_position_of,
+     bearoff_file_position_of(&any_file, (uint16_t)(listed() - 1), told.positions))
+CALL(file_mean, bearoff_file_mean(&any_file, &now->at, told.board_means))
+CALL(file_rounded_mean, bearoff_file_rounded_mean(&any_file, &now->at, &told.board_rolls))
+CALL(file_epc, bearoff_file_epc(&any_file, &now->at, told.board_epcs))
+CALL(file_wastage, bearoff_file_wastage(&any_file, &now->at, &told.wasted))
+CALL(file_distribution, bearoff_file_distribution(&any_file, &now->at, told.board_shares))
+CALL(file_within, bearoff_file_within(&any_file, &now->at, now->one, &told.chance))
+CALL(file_play, bearoff_file_play(&any_file, &now->at, now->one, now->other, &told.play))
+CALL(file_loss,
+     bearoff_file_loss(&any_file, &now->at, now->one, now->other, &now->to, &told.board_loss))
+CALL(file_moves, bearoff_file_moves(&any_file, &now->at, now->one, now->other, told.board_results,
+                                    BEAROFF_RESULTS, &needed))
+CALL(file_answer_line, bearoff_file_answer_line(&any_file, line_now(), strlen(now->line), text,
+                                                BEAROFF_BOARD_REPLY, &needed))
+CALL(file_listed_positions, bearoff_file_listed_positions(&any_file, 0, told.positions, listed()))
+CALL(file_listed_means, bearoff_file_listed_means(&any_file, 0, told.board_means, listed()))
+CALL(file_listed_epcs, bearoff_file_listed_epcs(&any_file, 0, told.board_epcs, listed()))
+CALL(file_listed_distributions,
+     bearoff_file_listed_distributions(&any_file, 0, told.board_shares, listed()))
 CALL(parse_position, bearoff_parse_position((const uint8_t *)"0,0,0,2,0,1", 11, told.positions))
 CALL(standing, bearoff_standing(&now->at, &told.stand))
 CALL(status_text, bearoff_status_text(28, text, sizeof text, &needed))
@@ -133,8 +160,8 @@ typedef struct row {
     { NULL, NULL, 0 }
 
 /* the questions are made between the first row and the second */
-static const row of_databases[] = {ONCE(build), ONCE(open), END},
-                 of_boards[] = {ONCE(board_build), ONCE(board_open), END},
+static const row of_databases[] = {ONCE(build), ONCE(open), ONCE(file_open), END},
+                 of_boards[] = {ONCE(board_build), ONCE(board_open), ONCE(file_open), END},
                  asked_of_databases[] = {ONCE(upgrade),
                                          ROW(version),
                                          ROW(bound),
@@ -162,11 +189,30 @@ static const row of_databases[] = {ONCE(build), ONCE(open), END},
                                          ROW(status_text),
                                          ROW(library_version),
                                          END},
-                 asked_of_boards[] = {
-                     ROW(board_mean),        ROW(board_epc),           ROW(board_distribution),
-                     ROW(board_means),       ROW(board_distributions), ROW(board_play),
-                     ROW(board_moves),       ROW(board_loss),          ROW(board_thousandths),
-                     ROW(board_answer_line), ONCE(board_close),        END};
+                 asked_of_boards[] = {ROW(board_mean),          ROW(board_epc),
+                                      ROW(board_distribution),  ROW(board_means),
+                                      ROW(board_distributions), ROW(board_play),
+                                      ROW(board_moves),         ROW(board_loss),
+                                      ROW(board_thousandths),   ROW(board_answer_line),
+                                      ONCE(board_close),        END},
+                 asked_of_files[] = {ROW(file_about),
+                                     ROW(file_rank),
+                                     ROW(file_position_of),
+                                     ROW(file_mean),
+                                     ROW(file_rounded_mean),
+                                     ROW(file_epc),
+                                     ROW(file_wastage),
+                                     ROW(file_distribution),
+                                     ROW(file_within),
+                                     ROW(file_play),
+                                     ROW(file_moves),
+                                     ROW(file_loss),
+                                     ROW(file_answer_line),
+                                     ROW(file_listed_positions),
+                                     ROW(file_listed_means),
+                                     ROW(file_listed_epcs),
+                                     ROW(file_listed_distributions),
+                                     END};
 
 /* makes a call, with each question where it is asked one */
 static void *make_calls(void *of) {
@@ -250,5 +296,6 @@ int main(int count, char **words) {
     if (failed) return 1;
     make_questions(is_board);
     tell(is_board ? asked_of_boards : asked_of_databases, stack);
+    tell(asked_of_files, stack);
     return failed;
 }

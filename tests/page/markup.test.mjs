@@ -1,11 +1,13 @@
 // What the page's markup and style say without a script: the language, what is read aloud when it
 // changes, the dialog and how it closes, what is promised there, and whether shapes and texts stand
 // out from what is behind them, in the light, in the dark and on paper.
-import { readFileSync } from "node:fs";
+import { readdirSync, readFileSync } from "node:fs";
 import { equal, pagePath, part } from "./given.mjs";
 import { newDocument } from "./stand_in.mjs";
 
 const webText = (name) => readFileSync(new URL(`../../web/${name}`, import.meta.url), "utf8");
+const styleText = readdirSync(new URL("../../web/style/", import.meta.url))
+    .map((name) => webText(`style/${name}`)).join("");
 const onOneLine = (text) => text.replace(/\s+/g, " ").trim();
 
 part("the language, and how wide a telephone takes the page", () => {
@@ -30,7 +32,7 @@ part("what is read aloud when it changes", () => {
     }
     // it is read though it isn't seen
     equal("what is said is heard alone", document.getElementById("said").getAttribute("class"), "heard");
-    equal("and so still laid out", /\.heard \{[^}]*display: none/.test(webText("style.css")), false);
+    equal("and so still laid out", /\.heard \{[^}]*display: none/.test(styleText), false);
 });
 
 part("each dialog has a name and closes", () => {
@@ -131,7 +133,7 @@ const STANDS_OUT = [
 ];
 
 part("shapes and texts stand out, in the light, in the dark and on paper", () => {
-    const schemes = schemesOf(webText("style.css"));
+    const schemes = schemesOf(styleText);
     const names = Object.keys(schemes.light).sort();
     equal("how many colours", names.length, 17);
     for (const [scheme, colours] of Object.entries(schemes)) {

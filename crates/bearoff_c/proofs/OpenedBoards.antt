@@ -4,8 +4,8 @@ use Rattle.std.proofs.Math.Bridge.{le_prop}
 use Rattle.std.proofs.Math.Nat.{ℕ_set}
 use mathlib.Core.Logic.{∥∥₁_elim, ∥∥₁_map}
 use Rattle.race_model.specs.Books.{whole_in}
-use Rattle.race_model.specs.BoardFiles.{board_book}
-use Rattle.race_model.specs.BoardFiles.{IsBoardFile}
+use Rattle.race_model.specs.Files.{Layout, IsFileBy}
+use Rattle.race_model.specs.BoardFiles.{board_layout, board_book}
 use Rattle.race_model.specs.RightFiles.{IsRightBoard}
 use Rattle.race_model.specs.BoardEquations.{IsLocalBoard}
 use Rattle.race_model.proofs.Books.Boards.{right_board, local_board}
@@ -19,9 +19,9 @@ list_known xs ys known =
     (λ apart. absurd (∥∥₁_elim known (λ a b. absurd a) (λ same. apart same)))
     (lists_same_or_not xs ys)
 
--- that the bytes are a board file is known as such
-file_known : (f : List ℕ) → ∥ IsBoardFile f ∥₁ → IsBoardFile f
-file_known f known = record {
+-- that the bytes are a file of a layout is known as such
+pub file_known : (layout : Layout) (f : List ℕ) → ∥ IsFileBy layout f ∥₁ → IsFileBy layout f
+file_known layout f known = record {
   bounded = ∥∥₁_elim known le_prop (λ file. file.bounded);
   headed = list_known _ _ (∥∥₁_map known (λ file. file.headed));
   whole = ∥∥₁_elim known (ℕ_set _ _) (λ file. file.whole);
@@ -30,7 +30,7 @@ file_known f known = record {
 -- so are its local equations
 local_known : (f : List ℕ) → ∥ IsLocalBoard f ∥₁ → IsLocalBoard f
 local_known f known = record {
-  file = file_known f (∥∥₁_map known (λ local. local.file));
+  file = file_known board_layout f (∥∥₁_map known (λ local. local.file));
   written = λ x at low. record {
     mean = ∥∥₁_elim known le_prop (λ local. (local.written x at low).mean);
     counts = λ k few over most. ∥∥₁_elim known le_prop

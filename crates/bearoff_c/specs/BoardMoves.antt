@@ -3,19 +3,18 @@ use Rattle.std.specs.Prelude.{◌≡◌, ℕ, List, length, map, All}
 use Rattle.race_model.specs.Positions.{Board}
 use Rattle.race_model.specs.Dice.{Throw}
 use Rattle.race_model.specs.Fractions.{IsFraction}
-use Rattle.race_model.specs.Books.{Book}
+use Rattle.race_model.specs.Books.{Book, whole_in}
 use Rattle.race_model.specs.Losses.{loss_in, IsMoveListIn}
-use Rattle.fixed_fraction.specs.Board.{board_whole}
-use Rattle.bearoff_c.specs.declared.board_plays.LongChoice.{LongChoice}
+use Rattle.bearoff_c.specs.declared.file_plays.LongChoice.{LongChoice}
 use Rattle.bearoff_c.specs.Longs.{long_number_of}
 
 -- the positions of results
 abbrev pub long_places : List LongChoice → List Board
 long_places choices = map (λ choice. choice.to.points) choices
 
--- the loss of a result is what its position costs, over 36 ^ 33
-abbrev pub HasLongCost : (Board → ℕ) → LongChoice → Type 0
-HasLongCost cost choice = IsFraction (cost choice.to.points) board_whole
+-- the loss of a result is what its position costs, over a whole
+abbrev pub HasLongCost : ℕ → (Board → ℕ) → LongChoice → Type 0
+HasLongCost whole cost choice = IsFraction (cost choice.to.points) whole
     (long_number_of choice.loss.numerator) (long_number_of choice.loss.denominator)
 
 -- the results are every position that the throw leads to, once, by rising loss and then by rising
@@ -23,7 +22,7 @@ HasLongCost cost choice = IsFraction (cost choice.to.points) board_whole
 pub record IsChoiceList (b : Book) (x : Board) (v : Throw) (choices : List LongChoice) : Type 0
   where
     pub listed : IsMoveListIn b x v (long_places choices)
-    pub losses : All (HasLongCost (loss_in b x v)) choices
+    pub losses : All (HasLongCost (whole_in b) (loss_in b x v)) choices
 
 -- there are so many positions that the throw leads to: a list has each of them once
 pub record IsChoiceCount (b : Book) (x : Board) (v : Throw) (n : ℕ) : Type 0 where

@@ -12,3 +12,5 @@ pub mod Longs
 pub mod OpenedBoards
 pub mod BoardClosing
 pub mod BoardMoves
+pub mod FileBooks
+pub mod FileOpening

@@ -2,10 +2,10 @@
 ghost use Rattle.std.specs.Prelude.{◌≡◌, ◌<◌, ◌≤◌, ◌↔◌, length, take, drop};
 ghost use Rattle.race_model.specs.Ranks.{count_to};
 ghost use Rattle.race_model.specs.BoardFiles.{board_place};
-ghost use Rattle.board_build.specs.BuiltBoards.{IsBuiltBoard};
+ghost use Rattle.retrograde.specs.BuiltBoards.{IsBuiltBoard};
 
 use crate::statuses::{OK, Refusal, SHORT};
-use board_build::{BoardBuildFault, build_board};
+use retrograde::{BoardBuildFault, build_board};
 
 /// Builds the board file of a pip bound into the front of a room; `filled` is how many bytes it
 /// has: 14,643,664 for 90 pips. It needs some 0.7 MB of stack. Refused as `OverBound` exactly where

@@ -6,11 +6,11 @@ ghost use Rattle.race_model.specs.BoardFiles.{board_book};
 ghost use Rattle.bearoff_c.specs.Longs.{long_number_of};
 ghost use Rattle.bearoff_c.specs.Refusals.{position_refusal, status_of};
 
-use crate::board_positions::find_on_board;
+use crate::file_distributions::tell_distribution;
 use crate::kept_board::Board;
 use crate::long_numbers::Long;
+use crate::opened_file::OpenedFile;
 use crate::positions::Counts;
-use crate::statuses::{OK, Refusal};
 use fixed_fraction::LongCount;
 
 /// How the number of rolls is spread.
@@ -40,18 +40,9 @@ pub extern "C" fn bearoff_board_distribution(
         ≡ share_in (board_book board.now.bytes.now) position.now.points k }
     ensures left { ¬ (result ≡ 0) → distribution.new ≡ distribution.old }
 {
-    let found = match find_on_board(board, position) {
-        Ok(found) => found,
-        Err(refusal) => return refusal.status(),
-    };
-    let _bound = found.board.bound();
-    let _pips = found.position.pips();
-    match found.board.counts(&found.position) {
-        Some(counts) => {
-            distribution.shares = shares_by(&counts);
-            OK
-        }
-        None => Refusal::Changed.status(),
+    match board.opened() {
+        Ok(opened) => tell_distribution(&OpenedFile::Board(opened), position, distribution),
+        Err(refusal) => refusal.status(),
     }
 }
 

@@ -8,7 +8,7 @@ ghost use Rattle.bearoff_c.specs.Refusals.{open_refusal, status_of};
 use crate::kept_board::Board;
 use crate::lines::put_text;
 use crate::statuses::{OK, Refusal, SHORT};
-use book::BoardText;
+use book::{Board as Opened, BoardText};
 
 /// Answers a line of the query language by a board file. The line is given without its line ending:
 /// `text` has its reply in front, without the line feed, and the rest of it stays as it was;
@@ -32,10 +32,27 @@ pub extern "C" fn bearoff_board_answer_line(
     ensures most { IsTrue board.now.is_open → needed.new ≤ 16642 }
     ensures left { result ≡ 1 → (text.new ≡ text.old) × (needed.new ≡ needed.old) }
 {
-    let opened = match board.opened() {
-        Ok(opened) => opened,
-        Err(refusal) => return refusal.status(),
-    };
+    match board.opened() {
+        Ok(opened) => tell_board_reply(&opened, line, text, needed),
+        Err(refusal) => refusal.status(),
+    }
+}
+
+/// Tells the reply of a board file to a line. Refused as `tell_reply` is.
+// so that its room is not part of its caller's
+#[inline(never)]
+pub fn tell_board_reply(
+    opened: &Opened<'_>,
+    line: &[u8],
+    text: &mut [u8],
+    needed: &mut usize,
+) -> u32
+    ensures short { (result ≡ 8) ↔ (length text.old < needed.new) }
+    ensures status { ¬ (result ≡ 8) → result ≡ 0 }
+    ensures reply { (reply : List ℕ) × HasText reply text.old text.new needed.new
+        × IsReplyIn (board_book opened.now) line.now (reply ++ 10 ∷ []) }
+    ensures most { needed.new ≤ 16642 }
+{
     let mut reply = BoardText::new();
     if opened.answer(line, &mut reply).is_none() {
         return Refusal::Changed.status();

@@ -1,36 +1,20 @@
 //! The least mean number of rolls of a position of the whole board, its effective pip count, and
 //! the thousandths of such numbers.
-ghost use Rattle.std.specs.Prelude.{◌≡◌, ◌*◌, ◌<◌, ◌≤◌, ◌↔◌, IsTrue, IfOk};
+ghost use Rattle.std.specs.Prelude.{◌≡◌, ◌*◌, ◌<◌, ◌≤◌, ◌↔◌, IsTrue};
 ghost use Rattle.race_model.specs.Strategies.{IsLeastIn};
 ghost use Rattle.race_model.specs.Books.{mean_in};
 ghost use Rattle.race_model.specs.BoardFiles.{board_book};
 ghost use Rattle.race_model.specs.Fractions.{IsFraction, IsThousandths};
 ghost use Rattle.fixed_fraction.specs.Board.{board_whole};
 ghost use Rattle.bearoff_c.specs.Longs.{long_number_of};
-ghost use Rattle.bearoff_c.specs.Refusals.{position_refusal, refusal_in, status_of};
+ghost use Rattle.bearoff_c.specs.Refusals.{position_refusal, status_of};
 
-use crate::board_positions::find_on_board;
+use crate::file_means::{tell_epc, tell_mean};
 use crate::kept_board::Board;
 use crate::long_numbers::{Long, LongFraction, RoundedLong};
+use crate::opened_file::OpenedFile;
 use crate::positions::Counts;
-use crate::statuses::{OK, Refusal};
-use fixed_fraction::{BoardMean, wide_thousandths};
-
-/// The least mean number of rolls of a position, as a numerator over 36 ^ 33. Refused as
-/// `find_on_board` is.
-fn mean_of_counts(board: &Board<'_>, counts: &Counts) -> Result<BoardMean, Refusal>
-    ensures refusal { refusal_in result
-        ≡ position_refusal board.now.is_open board.now.bound counts.now.points }
-    ensures least { IfOk result (IsLeastIn 33 counts.now.points) }
-    ensures recorded { IfOk result (λ mean.
-        mean ≡ mean_in (board_book board.now.bytes.now) counts.now.points) }
-{
-    let found = find_on_board(board, counts)?;
-    match found.board.mean(&found.position) {
-        Some(mean) => Ok(mean),
-        None => Err(Refusal::Changed),
-    }
-}
+use fixed_fraction::wide_thousandths;
 
 /// The least mean number of rolls of a position over all strategies, also those that look at the
 /// history, as a numerator over 36 ^ 33. Refused as `NotOpen`, `TooMany` or `OverBound`, and as
@@ -45,11 +29,8 @@ pub extern "C" fn bearoff_board_mean(board: &Board<'_>, position: &Counts, mean:
         ≡ mean_in (board_book board.now.bytes.now) position.now.points }
     ensures left { ¬ (result ≡ 0) → mean.new ≡ mean.old }
 {
-    match mean_of_counts(board, position) {
-        Ok(rolls) => {
-            *mean = Long::of(rolls.numerator());
-            OK
-        }
+    match board.opened() {
+        Ok(opened) => tell_mean(&OpenedFile::Board(opened), position, mean),
         Err(refusal) => refusal.status(),
     }
 }
@@ -74,11 +55,8 @@ pub extern "C" fn bearoff_board_epc(
         pips.new.thousandths }
     ensures left { ¬ (result ≡ 0) → pips.new ≡ pips.old }
 {
-    match mean_of_counts(board, position) {
-        Ok(rolls) => {
-            *pips = RoundedLong::epc(rolls);
-            OK
-        }
+    match board.opened() {
+        Ok(opened) => tell_epc(&OpenedFile::Board(opened), position, pips),
         Err(refusal) => refusal.status(),
     }
 }

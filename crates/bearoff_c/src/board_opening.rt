@@ -2,9 +2,8 @@
 ghost use Rattle.std.specs.Prelude.{◌≡◌, ◌<◌, ◌≤◌, ◌↔◌, IsTrue, false};
 ghost use Rattle.race_model.specs.Files.{bound_of};
 ghost use Rattle.race_model.specs.RightFiles.{IsRightBoard};
-ghost use Rattle.board_check.specs.declared.fault.BoardFault.{BoardFault as Fault};
-ghost use Rattle.board_check.specs.Faults.{IsFirst, told_as};
-ghost use Rattle.certificate.specs.CheckFaults.{line_of};
+ghost use Rattle.certificate.specs.declared.check_fault.CheckFault.{CheckFault as Fault};
+ghost use Rattle.certificate.specs.CheckFaults.{IsFirstOnBoard, line_of};
 ghost use Rattle.bearoff_c.specs.FileFaults.{fault_status as status_of_fault};
 ghost use Rattle.bearoff_c.specs.BoardClosing.{IsElseSameBoard};
 ghost use Rattle.bearoff_c.specs.Buffers.{HasText};
@@ -12,8 +11,7 @@ ghost use Rattle.bearoff_c.specs.Buffers.{HasText};
 use crate::kept_board::Board;
 use crate::lines::put_text;
 use crate::statuses::{OK, fault_status};
-use board_check::check_board;
-use certificate::{CheckFault, fault_line};
+use certificate::{check_board, fault_line};
 use ranking::RankTable;
 
 /// Checks the bytes of a file and opens a board over them. The status is 0 exactly where they are
@@ -33,9 +31,9 @@ pub extern "C" fn bearoff_board_open<'a>(
     ensures opened { IsTrue board.new.is_open ↔ (result ≡ 0) }
     ensures bytes { result ≡ 0 → board.new.bytes.now ≡ bytes.now }
     ensures bound { result ≡ 0 → board.new.bound ≡ bound_of bytes.now }
-    ensures fault { ¬ (result ≡ 0) → (fault : Fault) × IsFirst bytes.now fault
-        × (result ≡ status_of_fault (told_as fault))
-        × HasText (line_of (told_as fault)) line.old line.new needed.new }
+    ensures fault { ¬ (result ≡ 0) → (fault : Fault) × IsFirstOnBoard bytes.now fault
+        × (result ≡ status_of_fault fault)
+        × HasText (line_of fault) line.old line.new needed.new }
     ensures read { result < 28 }
     ensures none { result ≡ 0 → (needed.new ≡ 0) × (line.new ≡ line.old) }
     ensures most { needed.new ≤ 32 }
@@ -54,9 +52,8 @@ pub extern "C" fn bearoff_board_open<'a>(
         }
         Err(fault) => {
             board.is_open = false;
-            let told = CheckFault::from(fault);
-            put_text(fault_line(&told).as_str().as_bytes(), line, needed);
-            fault_status(&told)
+            put_text(fault_line(&fault).as_str().as_bytes(), line, needed);
+            fault_status(&fault)
         }
     }
 }

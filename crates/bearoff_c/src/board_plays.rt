@@ -1,9 +1,6 @@
 //! What a roll is played with by a board file, and what plays cost.
-ghost use Rattle.std.specs.Prelude.{◌≡◌, ℕ, ◌<◌, ◌≤◌, ◌⊎◌, ◌↔◌, None, IfOk, All, length, map, take, drop};
-ghost use Rattle.std.specs.Prelude.{nat_le, if◌then◌else◌};
-ghost use Rattle.race_model.specs.Positions.{Board as Place, pips};
+ghost use Rattle.std.specs.Prelude.{◌≡◌, ◌<◌, ◌≤◌, ◌⊎◌, ◌↔◌, None, length, take, drop};
 ghost use Rattle.race_model.specs.Plays.{Legal};
-ghost use Rattle.race_model.specs.Files.{bound_of};
 ghost use Rattle.race_model.specs.FirstPlays.{IsFirstPlay};
 ghost use Rattle.race_model.specs.Fractions.{IsFraction};
 ghost use Rattle.race_model.specs.Books.{recorded_in};
@@ -11,60 +8,17 @@ ghost use Rattle.race_model.specs.Losses.{loss_in, IsLossIn};
 ghost use Rattle.race_model.specs.BoardFiles.{board_book};
 ghost use Rattle.fixed_fraction.specs.Board.{board_whole};
 ghost use Rattle.legal_plays.specs.Faces.{face, roll_of};
-ghost use Rattle.book.specs.Choices.{result_of};
-ghost use Rattle.bearoff_c.specs.BoardMoves.{long_places, HasLongCost, IsChoiceList, IsChoiceCount};
+ghost use Rattle.bearoff_c.specs.BoardMoves.{IsChoiceList, IsChoiceCount};
 ghost use Rattle.bearoff_c.specs.Longs.{long_number_of};
 ghost use Rattle.bearoff_c.specs.PlayLists.{moves_in, AreZerosAfter};
-ghost use Rattle.bearoff_c.specs.Refusals.{loss_refusal, play_refusal, refusal_in, status_of};
+ghost use Rattle.bearoff_c.specs.Refusals.{loss_refusal, play_refusal, status_of};
 
-use crate::board_positions::{FoundOnBoard, find_on_board};
+use crate::file_plays::{LongChoice, tell_loss, tell_moves, tell_play};
 use crate::kept_board::Board;
 use crate::long_numbers::LongFraction;
-use crate::plays::{RecordedPlay, listed, read_ends, read_roll};
+use crate::opened_file::OpenedFile;
+use crate::plays::RecordedPlay;
 use crate::positions::Counts;
-use crate::statuses::{OK, Refusal, SHORT};
-use book::{Board as Opened, Choice};
-use fixed_fraction::{BoardMean, board_mean_fraction};
-use home_board::Position;
-use legal_plays::{Roll, play_to};
-
-/// A position that is to be played, a roll, and the board file that has a record of the position.
-#[derive(Drop)]
-pub struct BoardTurn<'a> {
-    pub board: Opened<'a>,
-    pub position: Position,
-    pub roll: Roll,
-}
-
-/// The position that is to be played with a roll, which is given by its two dice in either order.
-/// Refused exactly as `play_refusal` says.
-fn find_board_turn<'a>(
-    board: &'a Board<'_>,
-    counts: &Counts,
-    one: u8,
-    other: u8,
-) -> Result<BoardTurn<'a>, Refusal>
-    ensures refusal { refusal_in result ≡ play_refusal
-        board.now.is_open board.now.bound counts.now.points one other }
-    ensures bytes { IfOk result (λ turn. turn.board ≡ board.now.bytes.now) }
-    ensures position { IfOk result (λ turn. turn.position ≡ counts.now.points) }
-    ensures roll { IfOk result (λ turn. turn.roll ≡ roll_of (face one) (face other)) }
-    ensures within { IfOk result (λ turn. pips turn.position ≤ bound_of turn.board) }
-{
-    if !board.is_open {
-        return Err(Refusal::NotOpen);
-    }
-    let roll = read_roll(one, other)?;
-    let FoundOnBoard { board, position } = find_on_board(board, counts)?;
-    if position.is_finished() {
-        return Err(Refusal::Finished);
-    }
-    Ok(BoardTurn {
-        board,
-        position,
-        roll,
-    })
-}
 
 /// The recorded play of a roll, given by its two dice in either order: no play has a smaller mean.
 /// Refused as `NotOpen`, else as `BadRoll` where a die isn't 1 to 6, else as `TooMany` or
@@ -90,19 +44,10 @@ pub extern "C" fn bearoff_board_play(
     ensures zeros { result ≡ 0 → AreZerosAfter play.new.count play.new.moves }
     ensures left { ¬ (result ≡ 0) → play.new ≡ play.old }
 {
-    let turn = match find_board_turn(board, position, one, other) {
-        Ok(turn) => turn,
-        Err(refusal) => return refusal.status(),
-    };
-    let Some((found, to)) = turn.board.play(&turn.position, turn.roll) else {
-        return Refusal::Changed.status();
-    };
-    *play = RecordedPlay {
-        moves: listed(&found),
-        count: found.len() as u8,
-        to: Counts::of(&to),
-    };
-    OK
+    match board.opened() {
+        Ok(opened) => tell_play(&OpenedFile::Board(opened), position, one, other, play),
+        Err(refusal) => refusal.status(),
+    }
 }
 
 /// What a result of a roll costs, in rolls: the least mean after it less the least such mean among
@@ -132,37 +77,10 @@ pub extern "C" fn bearoff_board_loss(
         position.now.points (roll_of (face one) (face other)) to.now.points) }
     ensures left { ¬ (result ≡ 0) → loss.new ≡ loss.old }
 {
-    if !board.is_open {
-        return Refusal::NotOpen.status();
+    match board.opened() {
+        Ok(opened) => tell_loss(&OpenedFile::Board(opened), position, one, other, to, loss),
+        Err(refusal) => refusal.status(),
     }
-    let ends = match read_ends(position, one, other, to) {
-        Ok(ends) => ends,
-        Err(refusal) => return refusal.status(),
-    };
-    let turn = match find_board_turn(board, position, one, other) {
-        Ok(turn) => turn,
-        Err(refusal) => return refusal.status(),
-    };
-    if play_to(&turn.position, turn.roll, &ends.after).is_none() {
-        return Refusal::NotLegal.status();
-    }
-    let Some(lost) = turn.board.loss(&turn.position, turn.roll, &ends.after) else {
-        return Refusal::Changed.status();
-    };
-    *loss = LongFraction::of(board_mean_fraction(lost));
-    OK
-}
-
-/// A position that a roll can lead to, and what it costs.
-#[repr(C)]
-#[derive(Clone, Copy, Debug, PartialEq, Eq)]
-pub struct LongChoice {
-    /// The position.
-    pub to: Counts,
-
-    /// The least mean number of rolls after it less the least such mean among all results of the
-    /// roll, in rolls.
-    pub loss: LongFraction,
 }
 
 /// Every position that a roll can lead to, once, by rising loss and then by rising rank, with what
@@ -193,40 +111,15 @@ pub extern "C" fn bearoff_board_moves(
     ensures left { ¬ (result ≡ 0) → room.new ≡ room.old }
     ensures untold { ¬ (result ≡ 0) → ¬ (result ≡ 8) → count.new ≡ count.old }
 {
-    let turn = match find_board_turn(board, position, one, other) {
-        Ok(turn) => turn,
-        Err(refusal) => return refusal.status(),
-    };
-    match turn.board.moves(&turn.position, turn.roll) {
-        Some(choices) => tell_choices(choices.as_slice(), room, count),
-        None => Refusal::Changed.status(),
+    match board.opened() {
+        Ok(opened) => tell_moves(
+            &OpenedFile::Board(opened),
+            position,
+            one,
+            other,
+            room,
+            count,
+        ),
+        Err(refusal) => refusal.status(),
     }
-}
-
-/// Tells how many choices there are, and writes them to the front of a room: the status 0. With
-/// the status 8, exactly where they have no room, only their number is told. It reads no byte of a
-/// board file.
-fn tell_choices(found: &[Choice<BoardMean>], room: &mut [LongChoice], count: &mut usize) -> u32
-    ensures status { result ≡ (if nat_le (length found.now) (length room.old) then 0 else 8) }
-    ensures told { count.new ≡ length found.now }
-    ensures places { result ≡ 0 →
-        long_places (take (length found.now) room.new) ≡ map result_of found.now }
-    ensures costs { result ≡ 0 → (cost : Place → ℕ)
-        → All (λ choice. choice.loss ≡ cost choice.to) found.now
-        → All (HasLongCost cost) (take (length found.now) room.new) }
-    ensures rest { result ≡ 0 →
-        drop (length found.now) room.new ≡ drop (length found.now) room.old }
-    ensures left { ¬ (result ≡ 0) → room.new ≡ room.old }
-{
-    *count = found.len();
-    if found.len() > room.len() {
-        return SHORT;
-    }
-    for (index, choice) in found.iter().enumerate() {
-        room[index] = LongChoice {
-            to: Counts::of(&choice.to),
-            loss: LongFraction::of(board_mean_fraction(choice.loss)),
-        };
-    }
-    OK
 }

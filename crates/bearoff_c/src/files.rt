@@ -101,8 +101,11 @@ pub extern "C" fn bearoff_build(
     let Some(header) = Header::new(usual_version(bound), bound) else {
         return Refusal::OverBound.status();
     };
-    match build_in_room(&header, work) {
-        Some(count) => hand_over(&work[..count], room, filled),
+    match build_in_room(&header, work, room) {
+        Some(count) => {
+            *filled = count;
+            OK
+        }
         None => SHORT,
     }
 }

@@ -6,8 +6,8 @@ ghost use Rattle.bearoff_c.specs.OpenedBoards.{IsOpenedBoard};
 ghost use Rattle.bearoff_c.specs.Refusals.{open_refusal, refusal_in};
 
 use crate::statuses::Refusal;
-use board_layout::BoardHeader;
 use book::Board as Opened;
+use db_layout::BoardHeader;
 use ranking::RankTable;
 
 /// A board file in bytes that the caller keeps: every position of the home board, to a pip bound of

@@ -6,6 +6,7 @@ ghost use Rattle.bearoff_c.specs.Refusals.{open_refusal, status_of};
 
 use crate::kept::Database;
 use crate::statuses::{OK, Refusal, SHORT};
+use book::Database as Opened;
 use epc_query::Text;
 
 /// Answers a line of the query language, which is given without its line ending: `text` has in
@@ -30,10 +31,24 @@ pub extern "C" fn bearoff_answer_line(
     ensures most { IsTrue database.now.is_open → needed.new ≤ 12070 }
     ensures left { result ≡ 1 → (text.new ≡ text.old) × (needed.new ≡ needed.old) }
 {
-    let opened = match database.opened() {
-        Ok(opened) => opened,
-        Err(refusal) => return refusal.status(),
-    };
+    match database.opened() {
+        Ok(opened) => tell_reply(&opened, line, text, needed),
+        Err(refusal) => refusal.status(),
+    }
+}
+
+/// Tells the reply of a database to a line. Refused as `Changed` only where the bytes were changed
+/// since they were checked, when all stays as it was; and with the status 8 where the text has no
+/// room, when `needed` is told and `text` stays as it was.
+// so that its room is not part of its caller's
+#[inline(never)]
+pub fn tell_reply(opened: &Opened<'_>, line: &[u8], text: &mut [u8], needed: &mut usize) -> u32
+    ensures short { (result ≡ 8) ↔ (length text.old < needed.new) }
+    ensures status { ¬ (result ≡ 8) → result ≡ 0 }
+    ensures reply { (reply : List ℕ) × HasText reply text.old text.new needed.new
+        × IsReply opened.now line.now (reply ++ 10 ∷ []) }
+    ensures most { needed.new ≤ 12070 }
+{
     let mut reply = Text::new();
     if opened.answer(line, &mut reply).is_none() {
         return Refusal::Changed.status();

@@ -1,10 +1,13 @@
 //! Numbers of the whole board as C has them.
-ghost use Rattle.std.specs.Prelude.{◌≡◌, ◌*◌};
+ghost use Rattle.std.specs.Prelude.{◌≡◌, ◌+◌, ◌*◌, ◌^◌, ◌<◌, ◌↔◌, IsSome, IfSome};
 ghost use Rattle.race_model.specs.Fractions.{IsFraction, IsThousandths};
 ghost use Rattle.fixed_fraction.specs.Board.{board_whole};
 ghost use Rattle.bearoff_c.specs.Longs.{long_number_of};
 
-use fixed_fraction::{BoardMean, Wide, WideFraction, board_mean_and_epc};
+use fixed_fraction::{
+    BoardMean, Fraction, Wide, WideFraction, board_mean_and_epc, board_mean_fraction,
+    thousandths_of,
+};
 
 /// 2 ^ 64.
 const WORD: u128 = 18_446_744_073_709_551_616;
@@ -38,6 +41,23 @@ impl Long {
             words: [number.high(), (low / WORD) as u64, (low % WORD) as u64],
         }
     }
+
+    /// The number and another one; none exactly where the sum has more than 192 bits.
+    pub fn plus(self, other: Long) -> Option<Long>
+        ensures some { IsSome result ↔ (long_number_of self + long_number_of other < 2 ^ 192) }
+        ensures value { IfSome result (λ sum.
+            long_number_of sum ≡ long_number_of self + long_number_of other) }
+    {
+        let low = u128::from(self.words[2]) + u128::from(other.words[2]);
+        let middle = u128::from(self.words[1]) + u128::from(other.words[1]) + low / WORD;
+        let high = u128::from(self.words[0]) + u128::from(other.words[0]) + middle / WORD;
+        if high >= WORD {
+            return None;
+        }
+        Some(Long {
+            words: [high as u64, (middle % WORD) as u64, (low % WORD) as u64],
+        })
+    }
 }
 
 /// A fraction in lowest terms.
@@ -59,9 +79,20 @@ impl LongFraction {
             denominator: Long::of(fraction.denominator()),
         }
     }
+
+    /// A fraction of 128 bits.
+    pub fn short(fraction: Fraction) -> LongFraction
+        ensures numerator { long_number_of result.numerator ≡ fraction.numerator }
+        ensures denominator { long_number_of result.denominator ≡ fraction.denominator }
+    {
+        LongFraction {
+            numerator: Long::of(Wide::of(fraction.numerator())),
+            denominator: Long::of(Wide::of(fraction.denominator())),
+        }
+    }
 }
 
-/// A number of pips, exact and rounded.
+/// A number of rolls or of pips, exact and rounded.
 #[repr(C)]
 #[derive(Clone, Copy, Debug, PartialEq, Eq)]
 pub struct RoundedLong {
@@ -73,6 +104,32 @@ pub struct RoundedLong {
 }
 
 impl RoundedLong {
+    /// A fraction of 128 bits, exact and rounded.
+    pub fn short(fraction: Fraction) -> RoundedLong
+        ensures numerator { long_number_of result.exact.numerator ≡ fraction.numerator }
+        ensures denominator { long_number_of result.exact.denominator ≡ fraction.denominator }
+        ensures rounded { IsThousandths fraction.numerator fraction.denominator
+            result.thousandths }
+    {
+        RoundedLong {
+            exact: LongFraction::short(fraction),
+            thousandths: thousandths_of(fraction.numerator(), fraction.denominator()),
+        }
+    }
+
+    /// A mean, exact and rounded.
+    pub fn rolls(mean: BoardMean) -> RoundedLong
+        ensures exact { IsFraction mean board_whole
+            (long_number_of result.exact.numerator) (long_number_of result.exact.denominator) }
+        ensures rounded { IsThousandths (long_number_of result.exact.numerator)
+            (long_number_of result.exact.denominator) result.thousandths }
+    {
+        RoundedLong {
+            exact: LongFraction::of(board_mean_fraction(mean)),
+            thousandths: mean.thousandths(),
+        }
+    }
+
     /// The effective pip count of a mean, exact and rounded: 49/6 of it.
     pub fn epc(mean: BoardMean) -> RoundedLong
         ensures exact { IsFraction (49 * mean) (6 * board_whole)

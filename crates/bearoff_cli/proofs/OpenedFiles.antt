@@ -16,6 +16,7 @@ use Rattle.epc_query.specs.Runs.{HasReplies}
 use Rattle.epc_query.proofs.Runs.{read_all, read_front}
 use Rattle.bearoff_cli.proofs.Requests.{IsNot}
 use Rattle.bearoff_cli.specs.InputAnswers.{AreAnswered}
+use Rattle.bearoff_cli.specs.Kinds.{stated_file}
 use Rattle.bearoff_cli.specs.FileAnswers.{AreAnsweredFrom, IsHandedTo, IsReadFrom, SaysLevels, SaysUpgraded}
 use Rattle.bearoff_cli.specs.FileAnswers.{WritesLevels, count_line}
 use Rattle.bearoff_cli.specs.declared.act.Done.TheVariants.{Upgraded}
@@ -83,6 +84,18 @@ pub over_read : {A E F : Type 0} (kind : List ℕ → AnyFile) (remaining : F �
 over_read kind remaining file given left old new (Ok x) read is =
     record { file = file; read = read; answered = is }
 over_read kind remaining file given left old new (Err e) read is = tt
+
+-- .. to lines that are words, which were all read then
+pub words_answered : {A E F : Type 0} (remaining : F → Option (List ℕ)) (file given : List ℕ)
+    (left old new : Option (List ℕ)) (r : Result A E) → IsReadFrom remaining file
+    → IfOk r (λ _. AreAnswered (stated_file file) given left old new)
+    → OnOk r (AreAnsweredFrom stated_file remaining given (Some []) old new)
+words_answered remaining file given left old new (Ok x) read is = record {
+  file = file;
+  read = read;
+  answered = record { right = is.right; end = refl; replies = is.replies };
+}
+words_answered remaining file given left old new (Err e) read is = tt
 
 -- a version that is not the second is the first
 pub is_full : (v : Version) → ¬ (version_number v ≡ 2) → v ≡ full

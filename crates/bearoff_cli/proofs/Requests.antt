@@ -6,8 +6,8 @@ use Rattle.clap.specs.Words.{kind_of}
 use Rattle.clap.specs.declared.error.Error.{Error}
 use Rattle.clap.specs.declared.error.kind.ErrorKind.{ErrorKind}
 use Rattle.clap.specs.declared.error.kind.ErrorKind.TheVariants.{OutOfMemory, DisplayHelp, DisplayVersion}
-use Rattle.command_line.specs.Asked.{Asked, Gives, IsFor, IsPlain, Writes, flagged}
-use Rattle.command_line.specs.Asked.{default, build, check, query, audit, upgrade}
+use Rattle.command_line.specs.Asked.{Asked, ArePlain, Gives, IsFor, IsPlain, Writes, as_input, flagged}
+use Rattle.command_line.specs.Asked.{default, build, check, query, ask, audit, upgrade}
 use Rattle.command_line.specs.declared.words.FileKind.{FileKind}
 use Rattle.command_line.specs.declared.words.FileKind.TheVariants.{Database, Board}
 use Rattle.command_line.specs.declared.words.Request.{Request}
@@ -40,6 +40,9 @@ module _ {S : Type 0} (text : S → List ℕ) (given : List S) (result : Result 
     (query_by : (n : ℕ) (digits path : List ℕ) → Writes n digits → 1 ≤ n → n < 65536
     → IsPlain path → map text given ≡ codes "query" ∷ codes "--cache" ∷ digits ∷ path ∷ []
     → Gives result (IsFor (query Database path (Some n))))
+    (ask_of : (path line : List ℕ) (lines : List (List ℕ)) → IsPlain path → ArePlain (line ∷ lines)
+    → map text given ≡ codes "ask" ∷ path ∷ line ∷ lines
+    → Gives result (IsFor (ask path (as_input (line ∷ lines)))))
     (audit_of : (kind : FileKind) (path : List ℕ) → IsPlain path
     → map text given ≡ codes "audit" ∷ flagged kind (path ∷ [])
     → Gives result (IsFor (audit kind path)))
@@ -62,6 +65,9 @@ module _ {S : Type 0} (text : S → List ℕ) (given : List S) (result : Result 
   read_as (query Database path (Some records)) is =
       query_by records is.0 path is.1 is.2 is.3 is.4 is.5
   read_as (query Board path (Some records)) is = absurd is
+  read_as (ask path lines) (line, more, plain, all, same, are) =
+      subst (λ text. Gives result (IsFor (ask path text))) (sym same)
+      (ask_of path line more plain all are)
   read_as (audit kind path) is = audit_of kind path is.0 is.1
   read_as (upgrade before after) is = upgrade_of before after is.0 is.1 is.2
 

@@ -1,5 +1,5 @@
 -- What stands in the output where a command failed, from what its parts wrote.
-use Rattle.std.proofs.Common.{◌≡◌, ℕ, suc, ◌≤◌, ◌⊎◌, inl, inr, List, ◌∷◌, [], ◌++◌, take, Option, Result}
+use Rattle.std.proofs.Common.{◌≡◌, ℕ, suc, ◌≤◌, ◌⊎◌, inl, inr, List, ◌∷◌, [], ◌++◌, take, Option, Some, Result}
 use Rattle.std.proofs.Common.{Ok, Err}
 use Rattle.std.proofs.Common.{IfErr, refl, subst, arith}
 use Rattle.std.specs.Prelude.{OnErr}
@@ -11,6 +11,7 @@ use Rattle.race_model.specs.InputLines.{whole_lines, lines_of}
 use Rattle.race_model.proofs.Replies.InputLines.{pieces_stay}
 use Rattle.retrograde.specs.UsualVersion.{usual_version}
 use Rattle.db_layout.specs.Writes.{AppendsPart}
+use Rattle.db_reader.specs.Telling.{WhereTold}
 use Rattle.db_layout.proofs.Known.{appends_kept, appends_twice}
 use Rattle.epc_query.specs.AnyFiles.{AnyFile, database_file, bound_by, IsRightBy}
 use Rattle.epc_query.specs.Runs.{HasAnswered, HasPart, HasReplies, IsRunStopped, IsStoppedAt}
@@ -20,7 +21,9 @@ use Rattle.epc_query.proofs.Held.{appends_same, part_after, part_all}
 use Rattle.epc_query.proofs.Runs.{failed_flush, flushed, read_front, stopped_in}
 use Rattle.exit_status.specs.declared.fault.Fault.{Fault}
 use Rattle.bearoff_cli.specs.FileAnswers.{IsReadFrom, WritesLevels, count_line}
-use Rattle.bearoff_cli.specs.StoppedRuns.{AreStopped, IsNothingOr, WritesLevelsPart, WritesLevelPart}
+use Rattle.bearoff_cli.specs.Kinds.{stated_file}
+use Rattle.bearoff_cli.specs.StoppedRuns.{AreStopped, IsNothingOr, LeavesReplies, WritesLevelsPart, WritesLevelPart}
+use Rattle.bearoff_cli.specs.Turns.{UsesTurns}
 use Rattle.bearoff_cli.specs.declared.act.Done.{Done}
 
 -- whole lines of pip counts are a part of all lines
@@ -82,6 +85,22 @@ read_stopped kind remaining file given left old new (Err e) read (inl same) = in
 read_stopped kind remaining file given left old new (Err e) read (inr stops) =
     inr (file, read, stops.right, stops)
 
+-- .. where the lines are words
+pub words_stopped : {A F : Type 0} (remaining : F → Option (List ℕ)) (file given : List ℕ)
+    (rest old new : Option (List ℕ)) (r : Result A Fault) → IsReadFrom remaining file
+    → IfErr r (UsesTurns (Some given) rest)
+    → WhereTold (Some given) (λ lines. IfErr r
+    (λ fault. (new ≡ old) ⊎ AreStopped (stated_file file) lines rest old new fault))
+    → IfErr r (λ fault. (left : Option (List ℕ)) × UsesTurns (Some given) left fault
+    × LeavesReplies stated_file remaining (Some given) left old new fault)
+words_stopped remaining file given rest old new (Ok x) read turns stops = tt
+words_stopped {A} remaining file given rest old new (Err e) read turns stops = (
+  rest,
+  turns,
+  λ lines told. read_stopped {A = A} stated_file remaining file lines rest old new (Err e) read
+      (stops lines told),
+)
+
 -- .. and over the built one
 pub built_stopped : {A : Type 0} (file given : List ℕ) (left old new : Option (List ℕ))
     (r : Result A Fault) → IsBuilt (usual_version 8) 8 file
@@ -118,7 +137,8 @@ replies_part f lines old mid new has kept =
 
 -- .. and those to the whole lines of what was read a part of all
 answered_part : (f : AnyFile) (input : List ℕ) (left old mid new : Option (List ℕ))
-    → HasAnswered f input left old mid → Keeps mid new → IsStoppedAt f (lines_of input) old new Write
+    → HasAnswered f input left old mid → Keeps mid new
+    → IsStoppedAt f (lines_of input) old new Write
 answered_part f input left old mid new (done, read, has) kept =
     let front = read_front input left done read in
     let later = pieces_stay done front.0 in

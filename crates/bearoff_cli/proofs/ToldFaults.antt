@@ -13,11 +13,6 @@ use Rattle.certificate.specs.declared.check_fault.CheckFault.TheVariants.{Read a
 use Rattle.epc_query.specs.declared.run_fault.RunFault.{RunFault}
 use Rattle.epc_query.specs.declared.run_fault.RunFault.TheVariants.{Read as InputRead, Write as OutputWrite, Table}
 use Rattle.epc_query.specs.declared.run_fault.RunFault.TheVariants.{Memory as NoMemoryLeft, Turns as NoTurns}
-use Rattle.board_check.specs.Faults.{told_as}
-use Rattle.board_check.specs.declared.fault.BoardFault.{BoardFault}
-use Rattle.board_check.specs.declared.fault.BoardFault.TheVariants.{Header as BoardHeader, Play as BoardPlay}
-use Rattle.board_check.specs.declared.fault.BoardFault.TheVariants.{NotLeast as NotLeastOnBoard}
-use Rattle.board_check.specs.declared.fault.BoardFault.TheVariants.{Mean as BoardMean, Spread as BoardSpread}
 use Rattle.epc_query.specs.AnyFiles.{AnyFile}
 use Rattle.exit_status.specs.Causes.{of_check, of_run, of_upgrade}
 use Rattle.exit_status.specs.Lines.{error_line}
@@ -26,10 +21,9 @@ use Rattle.exit_status.specs.declared.fault.Fault.{Fault}
 use Rattle.exit_status.specs.declared.fault.Fault.TheVariants.{Open, File, Read, Write, Memory, Turns, OverBound}
 use Rattle.exit_status.specs.declared.fault.Fault.TheVariants.{Refused, NotOld}
 use Rattle.bearoff_cli.specs.FileAnswers.{IsReadFrom}
-use Rattle.command_line.specs.Asked.{Asked, default, build, check, query, audit, upgrade}
+use Rattle.command_line.specs.Asked.{Asked, default, build, check, query, ask, audit, upgrade}
 use Rattle.bearoff_cli.specs.Faults.{CanEnd, IsFaultIn, IsFirstBy, IsOwnFault, IsFaultOf}
-use Rattle.bearoff_cli.specs.StoppedRuns.{IsEndOf, IsRefusalOf, Leaves}
-use Rattle.bearoff_cli.specs.Turns.{UsesTurns}
+use Rattle.bearoff_cli.specs.StoppedRuns.{IsEndOf, IsRefusalOf, Leaves, RunsOut}
 use Rattle.bearoff_cli.specs.Tellings.{IsToldBy}
 use Rattle.bearoff_cli.specs.declared.act.ProgramFault.{ProgramFault}
 use Rattle.bearoff_cli.specs.declared.act.ProgramFault.TheVariants.{Words, Failed}
@@ -49,14 +43,6 @@ pub first_in : (file : AnyFile) (fault : Fault)
     → (cause : CheckFault) × IsFirstBy file cause × (fault ≡ of_check cause)
     → IsFaultIn file fault
 first_in file fault (cause, first, is) = rw is (check_in file cause first)
-
--- a fault of a board file refuses it
-pub board_refused : (fault : BoardFault) → of_check (told_as fault) ≡ Refused (told_as fault)
-board_refused (BoardHeader fault) = refl
-board_refused (BoardPlay rank roll) = refl
-board_refused (NotLeastOnBoard rank roll) = refl
-board_refused (BoardMean rank) = refl
-board_refused (BoardSpread rank k) = refl
 
 -- what failed is no database
 pub status_in : (file : AnyFile) (fault : Fault) → status_of fault ≡ 1 → IsFaultIn file fault
@@ -107,36 +93,48 @@ memory_of remaining (build kind pips path) = tt
 memory_of remaining (check kind path) = inl refl
 memory_of remaining (query kind path None) = inl refl
 memory_of remaining (query kind path (Some records)) = tt
+memory_of remaining (ask path lines) = inl refl
 memory_of remaining (audit kind path) = inl refl
 memory_of remaining (upgrade before after) = inl refl
 
 -- .. before anything was written
 pub nothing_of : {F : Type 0} (remaining : F → Option (List ℕ)) (asked : Asked)
-    (input left old : Option (List ℕ)) (fault : Fault)
-    → Leaves remaining asked input left old old fault
-nothing_of remaining default input left old fault = λ given told. inl refl
-nothing_of remaining (build kind pips path) input left old fault = (0, appends_none old)
-nothing_of remaining (check kind path) input left old fault = inl refl
-nothing_of remaining (query kind path None) input left old fault = λ given told. inl refl
-nothing_of remaining (query kind path (Some records)) input left old fault = tt
-nothing_of remaining (audit kind path) input left old fault = inl refl
-nothing_of remaining (upgrade before after) input left old fault = inl refl
+    (input old : Option (List ℕ)) → Leaves remaining asked input input old old Memory
+nothing_of remaining default input old = λ given told. inl refl
+nothing_of remaining (build kind pips path) input old = (0, appends_none old)
+nothing_of remaining (check kind path) input old = inl refl
+nothing_of remaining (query kind path None) input old = λ given told. inl refl
+nothing_of remaining (query kind path (Some records)) input old = tt
+nothing_of remaining (ask path lines) input old =
+    (refl, (Some lines, (λ given told. tt), (λ given told. inl refl)))
+nothing_of remaining (audit kind path) input old = inl refl
+nothing_of remaining (upgrade before after) input old = inl refl
 
 -- .. so it may be the end of each
 pub memory_end : {F : Type 0} (remaining : F → Option (List ℕ)) (asked : Asked)
-    (input left old : Option (List ℕ)) → IsEndOf remaining asked input left old old Memory
-memory_end remaining asked input left old = (
+    (input old : Option (List ℕ)) → IsEndOf remaining asked input input old old Memory
+memory_end remaining asked input old = (
   can_want asked,
   memory_of remaining asked,
-  λ given told. tt,
-  nothing_of remaining asked input left old Memory,
+  none_out asked,
+  nothing_of remaining asked input old,
 )
   where
+    none_out : (asked : Asked) → RunsOut asked input input Memory
+    none_out default = λ given told. tt
+    none_out (build kind pips path) = λ given told. tt
+    none_out (check kind path) = λ given told. tt
+    none_out (query kind path records) = λ given told. tt
+    none_out (ask path lines) = tt
+    none_out (audit kind path) = λ given told. tt
+    none_out (upgrade before after) = λ given told. tt
+
     can_want : (asked : Asked) → CanEnd asked Memory
     can_want default = tt
     can_want (build kind pips path) = record { within = λ low. tt; over = λ over. inr refl }
     can_want (check kind path) = tt
     can_want (query kind path records) = tt
+    can_want (ask path lines) = tt
     can_want (audit kind path) = tt
     can_want (upgrade before after) = tt
 
@@ -145,7 +143,7 @@ pub ended_refusal : {A F : Type 0} (remaining : F → Option (List ℕ)) (asked 
     (input left old new : Option (List ℕ)) (ended : Result A Fault) (r : Result A ProgramFault)
     → IfErr ended (λ fault. CanEnd asked fault)
     → IfErr ended (λ fault. IsFaultOf remaining asked fault)
-    → IfErr ended (λ fault. UsesTurns input left fault)
+    → IfErr ended (λ fault. RunsOut asked input left fault)
     → IfErr ended (λ fault. Leaves remaining asked input left old new fault)
     → IfOk ended (λ done. r ≡ Ok done) → IfErr ended (λ fault. r ≡ Err (Failed fault))
     → IfErr r (λ refusal. IsRefusalOf remaining asked input left old new refusal)

@@ -3,24 +3,21 @@ use Rattle.std.specs.Prelude.{◌≡◌, ℕ, ◌<◌, ◌≤◌, ◌⊎◌, Lis
 use Rattle.race_model.specs.Versions.{compact}
 use Rattle.race_model.specs.Files.{version_of}
 use Rattle.race_model.specs.RightFiles.{IsRightDatabase}
-use Rattle.certificate.specs.CheckFaults.{IsFirst}
+use Rattle.certificate.specs.CheckFaults.{IsFirst, IsFirstOnBoard}
 use Rattle.certificate.specs.declared.check_fault.CheckFault.{CheckFault}
 use Rattle.epc_query.specs.AnyFiles.{AnyFile, database_file, board_file}
-use Rattle.board_check.specs.Faults.{IsFirst as IsFirstOnBoard, told_as}
-use Rattle.board_check.specs.declared.fault.BoardFault.{BoardFault}
-use Rattle.command_line.specs.Asked.{Asked, default, build, check, query, audit, upgrade}
+use Rattle.command_line.specs.Asked.{Asked, default, build, check, query, ask, audit, upgrade}
 use Rattle.exit_status.specs.Statuses.{status_of}
 use Rattle.exit_status.specs.declared.fault.Fault.{Fault}
 use Rattle.exit_status.specs.declared.fault.Fault.TheVariants.{Open, File, Read, Write, Memory, Turns, OverBound}
 use Rattle.exit_status.specs.declared.fault.Fault.TheVariants.{Refused, NotOld}
 use Rattle.bearoff_cli.specs.FileAnswers.{IsReadFrom}
-use Rattle.bearoff_cli.specs.Kinds.{file_of, greatest}
+use Rattle.bearoff_cli.specs.Kinds.{file_of, greatest, stated_file}
 
--- the first fault of a file, a board file's in the words of a database's
+-- the first fault of a file
 abbrev pub IsFirstBy : AnyFile → CheckFault → Type 0
 IsFirstBy (database_file f) cause = IsFirst f cause
-IsFirstBy (board_file f) cause =
-    (fault : BoardFault) × IsFirstOnBoard f fault × (cause ≡ told_as fault)
+IsFirstBy (board_file f) cause = IsFirstOnBoard f cause
 
 -- the file is a right database of version 2
 abbrev pub IsNotOld : AnyFile → Type 0
@@ -50,6 +47,7 @@ IsOwnFault kind remaining fault = (status_of fault ≡ 1)
 abbrev pub IsFaultOf : {F : Type 0} → (F → Option (List ℕ)) → Asked → Fault → Type 0
 IsFaultOf remaining (check kind path) = IsOwnFault (file_of kind) remaining
 IsFaultOf remaining (query kind path None) = IsOwnFault (file_of kind) remaining
+IsFaultOf remaining (ask path lines) = IsOwnFault stated_file remaining
 IsFaultOf remaining (audit kind path) = IsOwnFault (file_of kind) remaining
 IsFaultOf remaining (upgrade before after) = IsOwnFault database_file remaining
 IsFaultOf remaining _ = λ fault. Unit {0}
@@ -109,5 +107,6 @@ CanEnd default = IsAnswerFault
 CanEnd (build kind pips path) = IsBoundFault (greatest kind) pips
 CanEnd (check kind path) = IsCheckFault
 CanEnd (query kind path records) = IsQueryFault
+CanEnd (ask path lines) = IsQueryFault
 CanEnd (audit kind path) = IsCheckFault
 CanEnd (upgrade before after) = IsUpgradeFault

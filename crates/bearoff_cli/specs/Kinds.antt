@@ -1,11 +1,12 @@
 -- What is said of both kinds of file. Source: this project's profile.
-use Rattle.std.specs.Prelude.{◌≡◌, ◌≤◌, ℕ, List, Option}
+use Rattle.std.specs.Prelude.{◌≡◌, ◌≤◌, ◌==◌, if◌then◌else◌, ℕ, List, Option}
+use Rattle.std.specs.Int.{w16, from_be_bytes}
 use Rattle.std.specs.Io.KnownBytes.{Appends}
 use Rattle.race_model.specs.BuiltFile.{IsBuilt}
-use Rattle.race_model.specs.Files.{version_of}
+use Rattle.race_model.specs.Files.{bytes_at, version_of}
 use Rattle.race_model.specs.Versions.{version_number}
 use Rattle.retrograde.specs.UsualVersion.{usual_version}
-use Rattle.board_build.specs.BuiltBoards.{IsBuiltBoard}
+use Rattle.retrograde.specs.BuiltBoards.{IsBuiltBoard}
 use Rattle.book.specs.declared.database.Accepted.{Accepted}
 use Rattle.epc_query.specs.AnyFiles.{AnyFile, database_file, board_file}
 use Rattle.command_line.specs.declared.words.FileKind.{FileKind}
@@ -15,6 +16,15 @@ use Rattle.command_line.specs.declared.words.FileKind.TheVariants.{Database, Boa
 abbrev pub file_of : FileKind → List ℕ → AnyFile
 file_of Database = database_file
 file_of Board = board_file
+
+-- the kind that the header of a file states: a board file where its version is 3, and else a
+-- database
+unfoldable pub stated_kind : List ℕ → FileKind
+stated_kind f = if from_be_bytes w16 (bytes_at f 8 2) == 3 then Board else Database
+
+-- the file of that kind that has these bytes
+abbrev pub stated_file : List ℕ → AnyFile
+stated_file f = file_of (stated_kind f) f
 
 -- the greatest pip bound of a file of this kind
 abbrev pub greatest : FileKind → ℕ

@@ -3,18 +3,18 @@
 use Rattle.std.specs.Prelude.{◌≡◌, ℕ, ◌<◌, ◌≤◌, List, [], ◌∷◌, Option, Some, None, codes}
 use Rattle.std.specs.Io.KnownBytes.{Appends}
 use Rattle.race_model.specs.Ranks.{count_to}
-use Rattle.command_line.specs.Asked.{Asked, IsPlain, Writes, flagged}
-use Rattle.command_line.specs.Asked.{default, build, check, query, audit, upgrade}
+use Rattle.command_line.specs.Asked.{Asked, ArePlain, IsPlain, Writes, as_input, flagged}
+use Rattle.command_line.specs.Asked.{default, build, check, query, ask, audit, upgrade}
 use Rattle.command_line.specs.declared.words.FileKind.TheVariants.{Database, Board}
 use Rattle.db_reader.specs.Telling.{WhereTold}
 use Rattle.bearoff_cli.specs.InputAnswers.{AreAnsweredOver}
 use Rattle.bearoff_cli.specs.FileAnswers.{AreAnsweredFrom, IsHandedTo, SaysRight, SaysUpgraded, SaysLevels}
 use Rattle.bearoff_cli.specs.FileAnswers.{count_line}
-use Rattle.bearoff_cli.specs.Kinds.{WritesBuiltOf, file_of, greatest}
+use Rattle.bearoff_cli.specs.Kinds.{WritesBuiltOf, file_of, greatest, stated_file}
 use Rattle.bearoff_cli.specs.declared.act.Done.TheVariants.{Built}
 
 -- the words are these of the request: the name of the command, `--board` for a board file or an
--- option with its number before the file, and files whose names don't begin with a hyphen
+-- option with its number before the file, and files and lines that don't begin with a hyphen
 abbrev pub Asks : List (List ℕ) → Asked → Type 0
 Asks words default = words ≡ []
 Asks words (build Database pips path) = (digits : List ℕ) × Writes pips digits × (pips < 256)
@@ -28,13 +28,16 @@ Asks words (query Database path (Some records)) = (digits : List ℕ) × Writes 
     × (1 ≤ records) × (records < 65536) × IsPlain path
     × (words ≡ codes "query" ∷ codes "--cache" ∷ digits ∷ path ∷ [])
 Asks words (query Board path (Some records)) = ⊥
+Asks words (ask path text) = (line : List ℕ) × (lines : List (List ℕ)) × IsPlain path
+    × ArePlain (line ∷ lines) × (text ≡ as_input (line ∷ lines))
+    × (words ≡ codes "ask" ∷ path ∷ line ∷ lines)
 Asks words (audit kind path) = IsPlain path × (words ≡ codes "audit" ∷ flagged kind (path ∷ []))
 Asks words (upgrade before after) = IsPlain before × IsPlain after
     × (words ≡ codes "upgrade" ∷ before ∷ after ∷ [])
 
 -- what was read of the input and of an opened file and written to the output, where the request was
 -- fulfilled. Nothing is said of the answers by pages: what a seek and a read give, no contract of
--- the library says together
+-- the library says together. Where lines are words of the request the input is left alone
 abbrev pub IsDone : {F W : Type 0} → (F → Option (List ℕ)) → (W → Option (List ℕ)) → Asked
     → Option (List ℕ) → Option (List ℕ) → Option (List ℕ) → Option (List ℕ) → Type 0
 IsDone remaining contents default input left old new =
@@ -47,6 +50,8 @@ IsDone remaining contents (check kind path) input left old new =
 IsDone remaining contents (query kind path None) input left old new =
     WhereTold input (λ given. AreAnsweredFrom (file_of kind) remaining given left old new)
 IsDone remaining contents (query kind path (Some records)) input left old new = Unit {0}
+IsDone remaining contents (ask path lines) input left old new =
+    (left ≡ input) × AreAnsweredFrom stated_file remaining lines (Some []) old new
 IsDone remaining contents (audit kind path) input left old new =
     SaysLevels (file_of kind) remaining old new
 IsDone remaining contents (upgrade before after) input left old new =

@@ -12,12 +12,12 @@ use Rattle.epc_query.specs.AnyFiles.{AnyFile, database_file, bound_by, IsRightBy
 use Rattle.epc_query.specs.AnyFiles.{IsLevelLineBy}
 use Rattle.epc_query.specs.Runs.{IsRunStopped}
 use Rattle.epc_query.specs.declared.run_fault.RunFault.{RunFault}
-use Rattle.command_line.specs.Asked.{Asked, default, build, check, query, audit, upgrade}
+use Rattle.command_line.specs.Asked.{Asked, default, build, check, query, ask, audit, upgrade}
 use Rattle.exit_status.specs.Causes.{of_run}
 use Rattle.exit_status.specs.declared.fault.Fault.{Fault}
 use Rattle.bearoff_cli.specs.Faults.{CanEnd, IsFaultOf}
 use Rattle.bearoff_cli.specs.FileAnswers.{AreLevelLines, IsReadFrom, count_line}
-use Rattle.bearoff_cli.specs.Kinds.{file_of}
+use Rattle.bearoff_cli.specs.Kinds.{file_of, stated_file}
 use Rattle.bearoff_cli.specs.Turns.{UsesTurns}
 use Rattle.bearoff_cli.specs.declared.act.Done.TheVariants.{Built, Checked, Upgraded}
 use Rattle.bearoff_cli.specs.declared.act.ProgramFault.{ProgramFault}
@@ -81,7 +81,8 @@ LeavesLevels kind remaining old new =
     IsNothingOr kind remaining (λ file. WritesLevelsPart (kind file) old new) old new
 
 -- what was written for a request where the program ended with this fault. Of the answers by pages
--- nothing is said
+-- nothing is said. Where lines are words of the request the input is left alone, and they are read
+-- as one
 abbrev pub Leaves : {F : Type 0} → (F → Option (List ℕ)) → Asked → Option (List ℕ)
     → Option (List ℕ) → Option (List ℕ) → Option (List ℕ) → Fault → Type 0
 Leaves remaining default input left old new fault = WhereTold input (λ given. (new ≡ old)
@@ -94,17 +95,25 @@ Leaves remaining (check kind path) input left old new fault =
 Leaves remaining (query kind path None) input left old new fault =
     LeavesReplies (file_of kind) remaining input left old new fault
 Leaves remaining (query kind path (Some records)) input left old new fault = Unit {0}
+Leaves remaining (ask path lines) input left old new fault = (left ≡ input)
+    × ((rest : Option (List ℕ)) × UsesTurns (Some lines) rest fault
+    × LeavesReplies stated_file remaining (Some lines) rest old new fault)
 Leaves remaining (audit kind path) input left old new fault =
     LeavesLevels (file_of kind) remaining old new
 Leaves remaining (upgrade before after) input left old new fault =
     IsNothingOr database_file remaining (λ file. SaysUpgradedPart file old new) old new
+
+-- how much was read of the input where the reads ran out. `Leaves` says so of lines that are words
+abbrev pub RunsOut : Asked → Option (List ℕ) → Option (List ℕ) → Fault → Type 0
+RunsOut (ask path lines) input left fault = Unit {0}
+RunsOut _ input left fault = UsesTurns input left fault
 
 -- a request ended so: with a fault that it can end with, which comes where it is said to, and with
 -- what was read and written by then
 abbrev pub IsEndOf : {F : Type 0} → (F → Option (List ℕ)) → Asked → Option (List ℕ)
     → Option (List ℕ) → Option (List ℕ) → Option (List ℕ) → Fault → Type 0
 IsEndOf remaining asked input left old new fault = CanEnd asked fault
-    × IsFaultOf remaining asked fault × UsesTurns input left fault
+    × IsFaultOf remaining asked fault × RunsOut asked input left fault
     × Leaves remaining asked input left old new fault
 
 -- .. as a refusal: its words are not wrong

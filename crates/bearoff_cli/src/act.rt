@@ -1,5 +1,6 @@
 //! The whole program, over the files of a system, a reader and two writers.
-ghost use Rattle.std.specs.Prelude.{◌≡◌, ℕ, ◌<◌, ◌≤◌, ◌⊎◌, List, map, Some, Ok, Err, IfOk, IfErr, OnOk, OnErr};
+ghost use Rattle.std.specs.Prelude.{◌≡◌, ℕ, ◌<◌, ◌≤◌, ◌⊎◌, List, [], map, Option, Some, Ok, Err};
+ghost use Rattle.std.specs.Prelude.{IfOk, IfErr, OnOk, OnErr};
 ghost use Rattle.std.specs.Io.KnownBytes.{Appends};
 ghost use Rattle.race_model.specs.BuiltFile.{IsBuilt};
 ghost use Rattle.epc_query.specs.AnyFiles.{database_file, IsRightBy};
@@ -24,18 +25,18 @@ ghost use Rattle.whole_file.specs.Puts.{Puts};
 ghost use Rattle.bearoff_cli.specs.PutFiles.{PutsFor, PutsUpgrade};
 ghost use Rattle.retrograde.specs.UsualVersion.{usual_version};
 ghost use Rattle.bearoff_cli.specs.FileAnswers.{count_line};
-ghost use Rattle.bearoff_cli.specs.Kinds.{IsBuiltOf, WritesBuiltOf, file_of, greatest};
+ghost use Rattle.bearoff_cli.specs.Kinds.{IsBuiltOf, WritesBuiltOf, file_of, greatest, stated_file};
 ghost use Rattle.bearoff_cli.specs.RefusedFiles.{KeepsIfRefused, KeepsIfTold};
 ghost use Rattle.bearoff_cli.specs.Requests.{Asks, IsDone};
 ghost use Rattle.bearoff_cli.specs.StoppedRuns.{AreStopped, IsEndOf, IsNothingOr, IsRefusalOf, Leaves, LeavesLevels};
-ghost use Rattle.bearoff_cli.specs.StoppedRuns.{LeavesLine, LeavesReplies, SaysUpgradedPart};
+ghost use Rattle.bearoff_cli.specs.StoppedRuns.{LeavesLine, LeavesReplies, RunsOut, SaysUpgradedPart};
 ghost use Rattle.bearoff_cli.specs.declared.act.Done.TheVariants.{Built};
 ghost use Rattle.bearoff_cli.specs.declared.act.ProgramFault.TheVariants.{Failed};
 
 use crate::files::{
     affordable, build_file, flush, probe_stack, read_file, stack_room, upgrade_file,
 };
-use crate::kinds::{TURNS, accept, answer, greatest, handed_on, write_levels};
+use crate::kinds::{TURNS, accept, answer, greatest, handed_on, stated_kind, write_levels};
 use arrayvec::ArrayString;
 use certificate::{CheckFault, Checked, check};
 use clap::Error;
@@ -243,7 +244,8 @@ fn fulfil<D: Disk, I: Read, O: Write>(
     ensures cause { IfErr result (CanEnd (asked_by request.entry)) }
     ensures fault { IfErr result
         (λ fault. IsFaultOf D.Reader.remaining (asked_by request.entry) fault) }
-    ensures turns { IfErr result (UsesTurns (I.remaining input.old) (I.remaining input.new)) }
+    ensures turns { IfErr result (RunsOut (asked_by request.entry)
+        (I.remaining input.old) (I.remaining input.new)) }
     ensures left { IfErr result (Leaves D.Reader.remaining (asked_by request.entry)
         (I.remaining input.old) (I.remaining input.new)
         (O.contents output.old) (O.contents output.new)) }
@@ -267,6 +269,7 @@ fn fulfil<D: Disk, I: Read, O: Write>(
             cache: Some(records),
             ..
         } => answer_pages(disk, alloc, path, records, input, output),
+        Request::Ask { path, lines } => ask_file(disk, alloc, path, lines.as_str(), output),
         Request::Audit { kind, path } => audit_file(disk, alloc, kind, path, output),
         Request::Upgrade { old, new } => upgrade_database(disk, alloc, old, new, output),
     }
@@ -319,6 +322,32 @@ fn answer_file<D: Disk, I: Read, O: Write>(
 {
     let file = read_file(disk, alloc, path)?;
     answer_bytes(alloc, kind, file.as_slice(), input, output)
+}
+
+/// Answers lines over a file of the kind that its header states, which is read whole. They are read
+/// as an input is that has their text.
+#[inline(never)]
+fn ask_file<D: Disk, O: Write>(
+    disk: &mut D,
+    alloc: Global,
+    path: &str,
+    lines: &str,
+    output: &mut O,
+) -> Result<(), Fault>
+    ensures refused { KeepsIfRefused result (O.contents output.old) (O.contents output.new) }
+    ensures cause { IfErr result IsQueryFault }
+    ensures fault { IfErr result (λ fault. IsOwnFault stated_file D.Reader.remaining fault) }
+    ensures left { IfErr result (λ fault. (rest : Option (List ℕ))
+        × UsesTurns (Some lines.now) rest fault
+        × LeavesReplies stated_file D.Reader.remaining (Some lines.now) rest
+        (O.contents output.old) (O.contents output.new) fault) }
+    ensures answers { OnOk result (AreAnsweredFrom stated_file D.Reader.remaining lines.now
+        (Some []) (O.contents output.old) (O.contents output.new)) }
+{
+    let file = read_file(disk, alloc, path)?;
+    let bytes = file.as_slice();
+    let mut input = lines.as_bytes();
+    answer_bytes(alloc, stated_kind(bytes), bytes, &mut input, output)
 }
 
 /// Answers each line of the input over the database in a file, of which at most so many records

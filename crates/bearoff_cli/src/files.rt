@@ -3,7 +3,7 @@ ghost use Rattle.std.specs.Prelude.{◌≡◌, ◌≤◌, length, take, Ok, Err,
 ghost use Rattle.std.specs.Io.KnownBytes.{Consumes, IsAtEnd, Keeps};
 ghost use Rattle.exit_status.specs.Statuses.{status_of};
 ghost use Rattle.exit_status.specs.declared.fault.Fault.TheVariants.{File, Write, Memory};
-ghost use Rattle.board_build.specs.BuiltBoards.{IsBuiltBoard};
+ghost use Rattle.retrograde.specs.BuiltBoards.{IsBuiltBoard};
 ghost use Rattle.bearoff_cli.specs.Faults.{IsBuildFault, IsReadFault, IsUpgradeFault};
 ghost use Rattle.bearoff_cli.specs.FileAnswers.{IsHandedTo, IsReadFrom};
 ghost use Rattle.bearoff_cli.specs.Kinds.{IsBuiltOf, WritesBuiltOf, greatest};
@@ -16,14 +16,12 @@ ghost use Rattle.std.specs.Io.Buffered.{writer_contents};
 ghost use Rattle.whole_file.specs.Drafts.{IsBegun, IsPut};
 ghost use Rattle.whole_file.specs.Puts.{Puts};
 
-use board_build::build_board;
-use board_layout::BoardHeader;
 use certificate::Checked;
 use command_line::FileKind;
-use db_layout::write_bytes;
+use db_layout::{BoardHeader, write_bytes};
 use db_reader::Table;
 use exit_status::Fault;
-use retrograde::ReadyBuild;
+use retrograde::{ReadyBuild, build_board};
 use std::alloc::Global;
 use std::io::{BufWriter, Read, Write};
 use whole_file::{Disk, Draft, DraftFault, begin};

@@ -13,15 +13,15 @@ ghost use Rattle.exit_status.specs.declared.fault.Fault.TheVariants.{Write};
 ghost use Rattle.bearoff_cli.specs.Faults.{IsAnswerFault, IsFirstBy};
 ghost use Rattle.bearoff_cli.specs.FileAnswers.{WritesLevel, WritesLevels};
 ghost use Rattle.bearoff_cli.specs.InputAnswers.{AreAnswered};
-ghost use Rattle.bearoff_cli.specs.Kinds.{IsKept, file_of, greatest};
+ghost use Rattle.bearoff_cli.specs.Kinds.{IsKept, file_of, greatest, stated_kind};
 ghost use Rattle.bearoff_cli.specs.StoppedRuns.{AreStopped, WritesLevelPart, WritesLevelsPart};
 ghost use Rattle.bearoff_cli.specs.Turns.{UsesTurns};
 
 use crate::files::flush;
-use board_check::check_board;
-use board_layout::{BOARD_BOUND, BOARD_VERSION, BoardHeader};
 use book::{Accepted, Board, BoardLines, BoardText, Database, board_level, put_board_level};
+use certificate::check_board;
 use command_line::FileKind;
+use db_layout::{BOARD_BOUND, BOARD_VERSION, BoardHeader, read_short};
 use epc_query::laws::law_level_text;
 use epc_query::{RunFault, run_lines, write_line};
 use exit_status::Fault;
@@ -33,6 +33,12 @@ use std::io::{Read, Write};
 /// How many reads of standard input there are at most.
 pub const TURNS: u64 = 1 << 40;
 
+/// Where the two bytes of the version stand in a header.
+const VERSION_PLACE: usize = 8;
+
+/// .. and where they end.
+const VERSION_END: usize = VERSION_PLACE + 2;
+
 /// The greatest pip bound of a file of a kind.
 pub fn greatest(kind: FileKind) -> u8
     ensures { result ≡ greatest kind }
@@ -40,6 +46,21 @@ pub fn greatest(kind: FileKind) -> u8
     match kind {
         FileKind::Database => MAX_BOUND,
         FileKind::Board => BOARD_BOUND,
+    }
+}
+
+/// The kind that the header of a file states: a board file where its version is 3, and else, also
+/// where it has no version, a database.
+#[tactic(auto, unfolding(crate::specs::Kinds::stated_kind))]
+pub fn stated_kind(bytes: &[u8]) -> FileKind
+    ensures { result ≡ stated_kind bytes.now }
+{
+    if bytes.len() < VERSION_END {
+        return FileKind::Database;
+    }
+    match read_short(bytes, VERSION_PLACE) {
+        BOARD_VERSION => FileKind::Board,
+        _ => FileKind::Database,
     }
 }
 

@@ -6,12 +6,12 @@
 //! - none: it builds the file of 15 pips, and damages each record of it.
 //!
 //! `tests/test_boards.py` compares what it writes and prints with what was counted outside. It
-//! rests on `board_build` and `board_check`; nothing stands on it.
+//! rests on `retrograde` and `certificate`; nothing stands on it.
 #![tactic(auto)]
 
-use board_build::{BoardBuildFault, build_board};
-use board_check::check_board;
-use board_layout::BoardHeader;
+use certificate::check_board;
+use db_layout::BoardHeader;
+use retrograde::{BoardBuildFault, build_board};
 use std::alloc::{AllocError, Global};
 use std::{env, fs, io};
 

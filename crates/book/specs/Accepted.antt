@@ -3,7 +3,7 @@ use Rattle.std.specs.Prelude.{◌≡◌, ℕ, List}
 use Rattle.race_model.specs.Ranks.{count_to}
 use Rattle.race_model.specs.Files.{bound_of}
 use Rattle.race_model.specs.RightFiles.{IsRightBoard}
-use Rattle.board_layout.specs.declared.header.BoardHeader.{BoardHeader}
+use Rattle.db_layout.specs.declared.board_header.BoardHeader.{BoardHeader}
 use Rattle.ranking.specs.declared.rank_table.RankTable.{RankTable}
 use Rattle.ranking.specs.Tables.{IsRankTable}
 

@@ -1,6 +1,6 @@
 //! A database in bytes that somebody lends, and what it says of a position.
 ghost use Rattle.std.specs.Prelude.{◌≡◌, ℕ, ◌≤◌, ◌↔◌, [], ◌∷◌, ◌++◌, Err, IsOk, IfOk, IfErr, Some};
-ghost use Rattle.std.specs.Prelude.{IsSome, IfSome, slice_index};
+ghost use Rattle.std.specs.Prelude.{IsSome, IfSome, All, map, slice_index};
 ghost use Rattle.arrayvec.specs.ArrayString.{array_string_len};
 ghost use Rattle.race_model.specs.Positions.{IsPosition, pips as pips_of};
 ghost use Rattle.race_model.specs.Ranks.{rank as rank_of, count_to};
@@ -11,7 +11,7 @@ ghost use Rattle.race_model.specs.Fractions.{IsFraction};
 ghost use Rattle.race_model.specs.Files.{version_of, bound_of, book_of, record_at, mean as mean_of};
 ghost use Rattle.race_model.specs.Files.{mean_at, play as play_of, spread as spread_of};
 ghost use Rattle.race_model.specs.LocalEquations.{whole, recorded};
-ghost use Rattle.race_model.specs.Losses.{loss as loss_of, IsLoss};
+ghost use Rattle.race_model.specs.Losses.{loss as loss_of, IsLoss, IsMoveListIn};
 ghost use Rattle.race_model.specs.Replies.{IsReply};
 ghost use Rattle.race_model.specs.RightFiles.{IsRightDatabase, follow};
 ghost use Rattle.race_model.specs.Strategies.{IsLeast, count_of};
@@ -20,19 +20,20 @@ ghost use Rattle.ranking.specs.Tables.{IsRankTable};
 ghost use Rattle.certificate.specs.CheckFaults.{IsFirst};
 ghost use Rattle.epc_query.specs.AnyFiles.{database_file};
 ghost use Rattle.epc_query.specs.LevelMeans.{HasLevel};
+ghost use Rattle.book.specs.Choices.{result_of};
 ghost use Rattle.book.specs.Opened.{IsOpened};
 
 use crate::answers::answer;
 use crate::lent::{Lent, Replies};
 use crate::lent_records::LentRecords;
 use crate::levels::find_level;
-use crate::moves::put_list;
+use crate::moves::{Choice, list, put_list};
 use crate::turns;
 use arrayvec::{ArrayString, ArrayVec};
 use certificate::{CheckFault, check, spread_in};
 use db_layout::{RecordView, WriteFault, offset_of};
 use db_reader::Whole;
-use epc_query::{Answers, Level, RunFault, Text, put_dist, write_line};
+use epc_query::{Answers, Level, MOST_RESULTS, RunFault, Text, put_dist, write_line};
 use fixed_fraction::{Fraction, Scaled, Spread, mean};
 use home_board::Position;
 use legal_plays::{Play, Roll};
@@ -286,6 +287,29 @@ impl<'a> Database<'a> {
         let _pips = position.pips();
         let lost = turns::loss(self, position, roll, to)?;
         Some(mean(lost))
+    }
+
+    /// Every result of a roll from a position of at most the bound once, by rising loss and then by
+    /// rising rank, each with its rank and its loss.
+    // so that its room is not part of its caller's
+    #[inline(never)]
+    pub fn moves(
+        &self,
+        position: &Position,
+        roll: Roll,
+    ) -> Option<ArrayVec<Choice<Scaled>, MOST_RESULTS>>
+        requires { pips_of position.now ≤ bound_of self.now }
+        ensures some { IsSome result }
+        ensures listed { IfSome result (λ choices. IsMoveListIn (book_of self.now)
+            position.now roll (map result_of choices.items)) }
+        ensures losses { IfSome result (λ choices. All (λ choice. choice.loss
+            ≡ loss_of self.now position.now roll choice.to) choices.items) }
+        ensures ranks { IfSome result (λ choices. All (λ choice. choice.rank
+            ≡ rank_of choice.to) choices.items) }
+    {
+        let mut choices = ArrayVec::new();
+        list(self, position, roll, &mut choices)?;
+        Some(choices)
     }
 
     /// How many positions have a pip count of at most the bound, and the least and the greatest of

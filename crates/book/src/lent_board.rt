@@ -6,7 +6,7 @@ ghost use Rattle.race_model.specs.Positions.{pips};
 ghost use Rattle.race_model.specs.Ranks.{at_rank};
 ghost use Rattle.race_model.specs.BoardFiles.{board_place, board_record};
 
-use board_layout::{BoardHeader, BoardRecord};
+use db_layout::{BoardHeader, BoardRecord};
 
 /// Bytes that somebody lends, at least as many as a board file with a header has. No fact is kept
 /// of what they are, and no function asks for one.

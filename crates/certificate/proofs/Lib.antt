@@ -11,3 +11,6 @@ pub mod Sevens
 pub mod FileTests
 pub mod Upgrades
 pub mod Databases
+pub mod BoardNumberTests
+pub mod BoardPositionTests
+pub mod BoardRecordTests

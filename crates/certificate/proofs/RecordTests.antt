@@ -23,9 +23,9 @@ use Rattle.least_plays.proofs.FirstRefused.{refused_test, first_refused}
 use Rattle.least_plays.specs.declared.recorded.RefusedPlay.{RefusedPlay}
 use Rattle.least_plays.specs.declared.recorded.PlayFault.{PlayFault}
 use Rattle.least_plays.specs.declared.recorded.PlayFault.TheVariants.{NotLegal, NotLeast as NotLeastPlay}
-use Rattle.certificate.specs.RecordFaults.{IsFirstAt, IsFirstFaultAt, IsNumberFault, of_record}
-use Rattle.certificate.specs.declared.record_check.RecordFault.{RecordFault}
-use Rattle.certificate.specs.declared.record_check.RecordFault.TheVariants.{Play, NotLeast, Mean, Spread, Read}
+use Rattle.certificate.specs.RecordFaults.{IsFirstAt, IsFirstFaultAt, IsNumberFault, of_refused}
+use Rattle.certificate.specs.declared.check_fault.RecordFault.{RecordFault}
+use Rattle.certificate.specs.declared.check_fault.RecordFault.TheVariants.{Play, NotLeast, Mean, Spread, Read}
 
 -- the position of a rank under the count
 module _ (bound r : ℕ) (lt : r < count_to bound) where
@@ -46,13 +46,13 @@ module _ (bound r : ℕ) (lt : r < count_to bound) where
 module _ (f : List ℕ) (r : ℕ) (lt : r < count_to (bound_of f)) where
   -- a refused play is the first fault of the record
   pub first-refused : (refused : RefusedPlay) → IsFirstRefusedIn (book_of f) (at_rank r) refused
-      → IsFirstFaultAt f r (of_record refused.roll refused.fault)
+      → IsFirstFaultAt f r (of_refused refused.roll refused.fault)
   first-refused refused first = by refused.fault
       (first_refused (book_of f) (Holds f) r lt (λ i. (λ h. h, λ h. h)) (λ i. (λ h. h, λ h. h))
       refused first)
     where
       by : (fault : PlayFault) → IsFirstAt f r (refused_test r refused.roll fault) →
-          IsFirstFaultAt f r (of_record refused.roll fault)
+          IsFirstFaultAt f r (of_refused refused.roll fault)
       by NotLegal is = is
       by NotLeastPlay is = is
 

@@ -10,3 +10,5 @@ pub mod Upgrades
 pub mod Databases
 pub mod Sevens
 pub mod StoredSevens
+pub mod BoardTests
+pub mod BoardFaults

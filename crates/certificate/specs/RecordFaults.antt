@@ -8,8 +8,16 @@ use Rattle.fixed_fraction.specs.Totals.{Totals}
 use Rattle.certificate.specs.RecordNumbers.{IsMeanOf, IsFirstWrong}
 use Rattle.least_plays.specs.declared.recorded.PlayFault.{PlayFault}
 use Rattle.least_plays.specs.declared.recorded.PlayFault.TheVariants.{NotLegal, NotLeast as NotLeastPlay}
-use Rattle.certificate.specs.declared.record_check.RecordFault.{RecordFault}
-use Rattle.certificate.specs.declared.record_check.RecordFault.TheVariants.{Play, NotLeast, Mean, Spread, Read}
+use Rattle.certificate.specs.declared.check_fault.RecordFault.{RecordFault}
+use Rattle.certificate.specs.declared.check_fault.RecordFault.TheVariants.{Play, NotLeast, Mean, Spread, Read}
+
+-- what a fault of the record of a rank says: something of a question, or of a failed read
+abbrev pub SaysOf : (Test → Type 0) → Type 0 → ℕ → RecordFault → Type 0
+SaysOf Is Unread rank (Play roll) = Is (play_test rank roll)
+SaysOf Is Unread rank (NotLeast roll) = Is (least_test rank roll)
+SaysOf Is Unread rank Mean = Is (mean_test rank)
+SaysOf Is Unread rank (Spread k) = Is (spread_test rank k)
+SaysOf Is Unread rank Read = Unread
 
 -- of the questions about the record of a rank, this is the first whose answer is no
 abbrev pub IsFirstAt : List ℕ → ℕ → Test → Type 0
@@ -17,16 +25,12 @@ IsFirstAt f = IsFirstInRecord (Asks f) (Holds f)
 
 -- the fault is the first of the record of a rank; nothing is said where a read failed
 abbrev pub IsFirstFaultAt : List ℕ → ℕ → RecordFault → Type 0
-IsFirstFaultAt f rank (Play roll) = IsFirstAt f rank (play_test rank roll)
-IsFirstFaultAt f rank (NotLeast roll) = IsFirstAt f rank (least_test rank roll)
-IsFirstFaultAt f rank Mean = IsFirstAt f rank (mean_test rank)
-IsFirstFaultAt f rank (Spread k) = IsFirstAt f rank (spread_test rank k)
-IsFirstFaultAt f rank Read = Unit {0}
+IsFirstFaultAt f rank = SaysOf (IsFirstAt f rank) (Unit {0}) rank
 
 -- a refused play of a roll, as a fault of the record
-abbrev pub of_record : ℕ → PlayFault → RecordFault
-of_record roll NotLegal = Play roll
-of_record roll NotLeastPlay = NotLeast roll
+abbrev pub of_refused : ℕ → PlayFault → RecordFault
+of_refused roll NotLegal = Play roll
+of_refused roll NotLeastPlay = NotLeast roll
 
 -- the fault is the first of the numbers in the bytes of a record, by these sums
 abbrev pub IsNumberFault : Board → List ℕ → Totals → RecordFault → Type 0

@@ -6,7 +6,7 @@ ghost use Rattle.race_model.specs.Files.{mean_of, share_of};
 ghost use Rattle.certificate.specs.RecordNumbers.{IsMeanOf, IsShareOf, HasNumbers};
 ghost use Rattle.certificate.specs.RecordFaults.{IsNumberFault};
 
-use crate::record_check::RecordFault;
+use crate::check_fault::RecordFault;
 use crate::record_sums::RecordSums;
 use db_layout::RecordView;
 use fixed_fraction::WHOLE;

@@ -1,13 +1,17 @@
-//! The checker: whether a table has a right database, with the first fault where it hasn't, and
-//! the answers of one that has. It rests on `db_reader` for the records of a table, on
-//! `least_plays` for the best plays, on `legal_plays` and `ranking` for whether another number is
-//! the rank of a result, on `fixed_fraction` for exact sums, and on `race_model` for the theorem
-//! that the local equations, which test each record against records of lower rank alone, hold
-//! exactly where a database is right. The crates above may use that an accepted table answers the
-//! least mean over all strategies; the builder of a database is not trusted.
+//! The checkers: whether a table has a right database, with the first fault where it hasn't, and
+//! the answers of one that has; whether bytes are a right board file, with their first fault where
+//! they aren't; and whether they are a right file of any version. They rest on `db_reader` for the
+//! records of a table, on `db_layout` for bytes, on `least_plays` for the best plays, on
+//! `legal_plays` and `ranking` for whether another number is the rank of a result, on
+//! `fixed_fraction` for exact sums, and on `race_model` for the theorem that the local equations,
+//! which test each record against records of lower rank alone, hold exactly where a file is right.
+//! The crates above may use that an accepted table or board file has the least mean over all
+//! strategies; whoever built a file is not trusted.
 #![tactic(auto)]
 
 mod addends;
+pub mod board_checker;
+mod board_numbers;
 mod check_fault;
 mod checked;
 mod checker;
@@ -21,6 +25,7 @@ mod record_sums;
 mod upgrade_fault;
 mod upgrading;
 
+pub use board_checker::{check_board, is_right};
 pub use check_fault::CheckFault;
 pub use checked::{Checked, check};
 pub use lines::fault_line;

@@ -18,9 +18,10 @@ ghost use Rattle.certificate.specs.LowerRecords.{IsLower};
 ghost use Rattle.certificate.specs.RecordNumbers.{AreSumsOf};
 ghost use Rattle.certificate.specs.Sevens.{AreSevenAdded};
 ghost use Rattle.race_model.specs.Horizon.{most_rolls};
-ghost use Rattle.certificate.specs.RecordFaults.{IsFirstFaultAt, of_record};
+ghost use Rattle.certificate.specs.RecordFaults.{IsFirstFaultAt};
 
 use crate::addends::Addends;
+use crate::check_fault::{RecordFault, of_refused};
 use crate::equations::check_numbers;
 use crate::kept::LowerRecords;
 use crate::numbers::plays_in;
@@ -28,44 +29,9 @@ use crate::record_sums::RecordSums;
 use db_layout::{Header, RecordView, most_rolls};
 use db_reader::{ReadFault, Record, Table};
 use home_board::Position;
-use least_plays::{PlayFault, RefusedPlay, check_plays};
+use least_plays::check_plays;
 use race_model::laws;
 use ranking::Ranks;
-use thiserror::Error;
-
-/// The first fault of a record.
-#[derive(Clone, Copy, Debug, PartialEq, Eq, Error)]
-pub enum RecordFault {
-    /// What is recorded for this roll, by its index, is no legal result.
-    #[error("roll {roll}: no legal play")]
-    Play { roll: u8 },
-
-    /// A legal result of this roll has a smaller mean than the recorded one.
-    #[error("roll {roll}: not the least mean")]
-    NotLeast { roll: u8 },
-
-    /// The mean is not the expected one.
-    #[error("the mean")]
-    Mean,
-
-    /// The share of exactly `k` rolls is not the expected one.
-    #[error("{k} rolls: the share")]
-    Spread { k: u8 },
-
-    /// A record could not be read.
-    #[error("a record could not be read")]
-    Read,
-}
-
-/// A refused play as a fault of the record.
-fn of_record(refused: RefusedPlay) -> RecordFault
-    ensures { result ≡ of_record refused.roll refused.fault }
-{
-    match refused.fault {
-        PlayFault::NotLegal => RecordFault::Play { roll: refused.roll },
-        PlayFault::NotLeast => RecordFault::NotLeast { roll: refused.roll },
-    }
-}
 
 /// A position of at most 58 pips whose record is tested, and the numbers of rolls at which a play
 /// from it can have a share: from one on, since a roll takes at most four checkers off, and before
@@ -261,7 +227,7 @@ pub fn check_record<T: Table, const ROOM: usize, const ROWS: usize>(
     let best = lower.best_plays(ranks, &position);
     let recorded = plays_in(&table.lend(rank, own));
     if let Err(refused) = check_plays(&lower.means, ranks, &position, &recorded, &best) {
-        return Err(of_record(refused));
+        return Err(of_refused(refused));
     }
     let sums = match sum_plays(table, &position, &recorded, rooms) {
         Ok(sums) => sums,

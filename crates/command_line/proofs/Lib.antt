@@ -3,3 +3,4 @@ mod PlainWords
 mod Numbers
 mod OptionWords
 mod BoardWords
+mod LineWords

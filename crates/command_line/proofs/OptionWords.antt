@@ -81,7 +81,8 @@ module _ (digits path : Text) (digits_plain : IsPlain digits)
     unfolding clap_on_literals
     build_flag = refl
 
-    build_flag_turn : turn_passes build_built.top [] (walk_from nothing_held) (codes "--pips") ≡ true
+    build_flag_turn : turn_passes build_built.top [] (walk_from nothing_held) (codes "--pips")
+        ≡ true
     unfolding clap_on_literals
     build_flag_turn = refl
 
@@ -122,7 +123,8 @@ module _ (digits path : Text) (digits_plain : IsPlain digits)
     build_takes = ap₂ (taken build_built) build_passes build_walked
 
     pub build_path : first_of (codes "FILE") (matches_of build_app build_words) ≡ Some path
-    build_path = ap (λ (w : Walk). first_of (codes "FILE") (finished build_rules w.held)) build_walked
+    build_path = ap (λ (w : Walk). first_of (codes "FILE") (finished build_rules w.held))
+        build_walked
 
     pub build_one : one_of (codes "pips") (matches_of build_app build_words)
         ≡ Some (without_minus digits)
@@ -147,7 +149,8 @@ module _ (digits path : Text) (digits_plain : IsPlain digits)
     unfolding clap_on_literals
     query_flag = refl
 
-    query_flag_turn : turn_passes query_built.top [] (walk_from nothing_held) (codes "--cache") ≡ true
+    query_flag_turn : turn_passes query_built.top [] (walk_from nothing_held) (codes "--cache")
+        ≡ true
     unfolding clap_on_literals
     query_flag_turn = refl
 
@@ -179,18 +182,21 @@ module _ (digits path : Text) (digits_plain : IsPlain digits)
 
     query_walked : walk query_rules [] nothing_held query_words ≡ query_walk
     query_walked =
-        three_walked query_app (codes "--cache") digits path _ _ _ query_flag query_number query_file
+        three_walked query_app
+        (codes "--cache") digits path _ _ _ query_flag query_number query_file
 
     query_passes : walk_passes query_built.top [] (walk_from nothing_held) query_words ≡ true
     query_passes =
-        three_passes query_app (codes "--cache") digits path _ _ _ query_flag query_number query_file
+        three_passes query_app
+        (codes "--cache") digits path _ _ _ query_flag query_number query_file
         query_flag_turn query_number_turn query_file_turn
 
     pub query_takes : takes query_app query_words ≡ true
     query_takes = ap₂ (taken query_built) query_passes query_walked
 
     pub query_path : first_of (codes "FILE") (matches_of query_app query_words) ≡ Some path
-    query_path = ap (λ (w : Walk). first_of (codes "FILE") (finished query_rules w.held)) query_walked
+    query_path = ap (λ (w : Walk). first_of (codes "FILE") (finished query_rules w.held))
+        query_walked
 
     pub query_one : one_of (codes "cache") (matches_of query_app query_words)
         ≡ Some (without_minus digits)

@@ -5,19 +5,19 @@ use Rattle.std.proofs.Common.{IsOk, codes}
 use Rattle.std.specs.List.{Contains}
 use Rattle.std.specs.Str.{bytes_eq}
 use Rattle.clap.specs.Lexer.{long_of, long_of_rest, short_of, short_of_rest, strip_byte}
-use Rattle.clap.specs.Words.{Text, one_of, one_text, first_of, first_value, found_of, is_simple, matches_of, takes}
-use Rattle.clap.specs.Words.{HasMatchesOf, App, built}
+use Rattle.clap.specs.Words.{Text, all_of, one_of, one_text, first_of, first_value, found_of, is_simple, matched_of}
+use Rattle.clap.specs.Words.{HasMatchesOf, App, built, matches_of, raw_values, takes}
 use Rattle.clap.specs.Simple.{Shape, entered, names_of}
-use Rattle.std.specs.Prelude.{option_and_then}
+use Rattle.std.specs.Prelude.{option_and_then, option_map}
 use Rattle.std.specs.Option.{option_map_or}
 use Rattle.std.specs.List.{list_all}
-use Rattle.clap.specs.Walk.{Held, Rule, Step, Walk, idle, value, trailing, after_step, arg_by_index, finished}
-use Rattle.clap.specs.Walk.{long_or_other, nothing_held, short_or_plain, to_positional, walk, walk_from, walked}
-use Rattle.clap.specs.Walk.{word_met}
-use Rattle.clap.specs.Takes.{bundle_passes, default_passes, entered_passes, flag_word_passes, is_valid, settle_passes}
-use Rattle.clap.specs.Takes.{step_passes, turn_passes, walk_passes, word_passes}
+use Rattle.clap.specs.Walk.{Held, Rule, Step, Waiting, Walk, idle, value, trailing, after_step, arg_by_index, finished}
+use Rattle.clap.specs.Walk.{long_or_other, nothing_held, plain_word, short_or_plain, subcommand_met}
+use Rattle.clap.specs.Walk.{subcommand_or_other, to_positional, walk, walk_from, walked, word_met}
+use Rattle.clap.specs.Takes.{bundle_passes, default_passes, entered_passes, flag_word_passes, is_valid, other_passes}
+use Rattle.clap.specs.Takes.{settle_passes, step_passes, turn_passes, walk_passes, word_passes}
 use Rattle.clap.specs.declared.parser.matches.ArgMatches.{ArgMatches}
-use Rattle.clap.proofs.WalkLemmas.{first_value-rows, one_text-rows}
+use Rattle.clap.proofs.WalkLemmas.{first_value-rows, one_text-rows, raw_values-rows}
 use Rattle.command_line.specs.Asked.{IsPlain}
 use Rattle.command_line.specs.Commands.{build_app, file_app, query_app, upgrade_app}
 use Rattle.command_line.proofs.WalkValues.{Each, first_is_word}
@@ -61,13 +61,18 @@ abbrev pub walk_at : Held → ℕ → Walk
 walk_at h n = record { held = h; waiting = idle; position = n; is_trailing = false; stopped = None }
 
 module _ (word : Text) (plain : IsPlain word) where
+  -- it is a value, where no option waits for one
+  pub any_met : (w : Waiting) (c : List Rule) (n : ℕ) (h : Held) → subcommand_met [] w word ≡ None
+      → plain_word c w word h ≡ (h, value) → word_met c [] false w n word h ≡ (h, value)
+  any_met w c n h none is = ap (λ o. subcommand_or_other c o w n word h) none
+      ∙ ap (λ b. cond b (h, trailing n) (long_or_other c w word (long_of word) h))
+      (no_dashes word plain)
+      ∙ ap (λ o. long_or_other c w word o h) (no_long word plain)
+      ∙ ap (λ o. short_or_plain c w word o h) (no_short word plain) ∙ is
+
   pub plain_met : (c : List Rule) (n : ℕ) (h : Held) → word_met c [] false idle n word h
       ≡ (h, value)
-  plain_met c n h =
-      ap (λ b. cond b (h, trailing n) (long_or_other c idle word (long_of word) h))
-      (no_dashes word plain)
-      ∙ ap (λ o. long_or_other c idle word o h) (no_long word plain)
-      ∙ ap (λ o. short_or_plain c idle word o h) (no_short word plain)
+  plain_met c n h = any_met idle c n h refl refl
 
   pub plain_walked : (c : List Rule) (n : ℕ) (h : Held) → walked c [] (walk_at h n) word
       ≡ to_positional c (arg_by_index c n) word (walk_at h n) h
@@ -75,9 +80,10 @@ module _ (word : Text) (plain : IsPlain word) where
   plain_walked c n h =
       ap (λ (met : Held × Step). after_step c word (walk_at h n) met.0 met.1) (plain_met c n h)
 
-  plain_passes : (s : Shape) (h : Held) → word_passes s [] false idle word h ≡ true
-  plain_passes s h =
-      ap (λ b. b || flag_word_passes s.rules s.args_override_self (long_of word) word h)
+  pub plain_passes : (w : Waiting) (s : Shape) (h : Held) → subcommand_met [] w word ≡ None
+      → word_passes s [] false w word h ≡ true
+  plain_passes w s h none = ap (λ o. other_passes s o word h) none
+      ∙ ap (λ b. b || flag_word_passes s.rules s.args_override_self (long_of word) word h)
       (no_dashes word plain)
       ∙ ap (λ o. flag_word_passes s.rules s.args_override_self o word h) (no_long word plain)
       ∙ ap (λ o. option_map_or (λ flags. bundle_passes s.rules s.args_override_self flags h) o
@@ -86,7 +92,7 @@ module _ (word : Text) (plain : IsPlain word) where
   pub plain_turn : (s : Shape) (n : ℕ) (h : Held) → turn_passes s [] (walk_at h n) word
       ≡ step_passes s n h value
   plain_turn s n h =
-      ap₂ (λ b (met : Held × Step). b && step_passes s n met.0 met.1) (plain_passes s h)
+      ap₂ (λ b (met : Held × Step). b && step_passes s n met.0 met.1) (plain_passes idle s h refl)
       (plain_met s.rules n h)
 
 -- `takes` of a simple command, by its walk
@@ -293,3 +299,12 @@ pub one_from : (a b : App) (words given : List Text) (m : ArgMatches) (id : Text
     → one_of id (matches_of b given) ≡ one → one_text (found_of m) id ≡ one
 one_from a b words given m id one same simple has are is =
     one_read a b words m id same simple has ∙ ap (λ ws. one_of id (matches_of b ws)) are ∙ is
+
+pub all_from : (a b : App) (words given : List Text) (m : ArgMatches) (id : Text)
+    (values : List Text) → a ≡ b → is_simple b ≡ true → HasMatchesOf a words m → words ≡ given
+    → all_of id (matches_of b given) ≡ Some values
+    → option_map raw_values (matched_of (found_of m) id) ≡ Some values
+all_from a b words given m id values same simple has are is = raw_values-rows (found_of m) id
+    ∙ ap (all_of id)
+    ((has (ap is_simple same ∙ simple)).0 ∙ ap (λ (x : App). matches_of x words) same)
+    ∙ ap (λ ws. all_of id (matches_of b ws)) are ∙ is

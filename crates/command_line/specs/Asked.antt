@@ -1,8 +1,9 @@
 -- What words ask for.
-use Rattle.std.specs.Prelude.{◌≡◌, ◌⊎◌, ◌==◌, ℕ, Bool, true, not, cond, List, [], ◌∷◌}
+use Rattle.std.specs.Prelude.{◌≡◌, ◌⊎◌, ◌==◌, ℕ, Bool, true, not, cond, List, [], ◌∷◌, ◌++◌}
 use Rattle.std.specs.Str.Parse.{IsNumeral, digits_value}
-use Rattle.std.specs.Prelude.{Option, Result, IfOk, IfErr, codes}
-use Rattle.std.specs.List.{Contains}
+use Rattle.std.specs.Prelude.{Option, Result, IfOk, IfErr, codes, flat_map}
+use Rattle.std.specs.List.{Contains, list_all}
+use Rattle.std.specs.String.{string_bytes}
 use Rattle.std.specs.Str.{bytes_eq}
 use Rattle.clap.specs.Words.{Text, kind_of}
 use Rattle.clap.specs.declared.error.Error.{Error}
@@ -10,14 +11,17 @@ use Rattle.clap.specs.declared.error.kind.ErrorKind.TheVariants.{OutOfMemory}
 use Rattle.command_line.specs.declared.words.FileKind.{FileKind}
 use Rattle.command_line.specs.declared.words.FileKind.TheVariants.{Database, Board}
 use Rattle.command_line.specs.declared.words.Request.{Request}
-use Rattle.command_line.specs.declared.words.Request.TheVariants.{Default, Build, Check, Query, Audit, Upgrade}
+use Rattle.command_line.specs.declared.words.Request.TheVariants.{Default, Build, Check, Query, Ask}
+use Rattle.command_line.specs.declared.words.Request.TheVariants.{Audit, Upgrade}
 
--- a request with each of its texts as bytes, wherever they lie
+-- a request with each of its texts as bytes, wherever they lie; the lines of `ask` are the text of
+-- an input
 pub data Asked : Type 0 where
   default : Asked
   build : FileKind → ℕ → Text → Asked
   check : FileKind → Text → Asked
   query : FileKind → Text → Option ℕ → Asked
+  ask : Text → Text → Asked
   audit : FileKind → Text → Asked
   upgrade : Text → Text → Asked
 
@@ -27,6 +31,7 @@ asked_by Default = default
 asked_by (Build kind pips path) = build kind pips path.now
 asked_by (Check kind path) = check kind path.now
 asked_by (Query kind path cache) = query kind path.now cache
+asked_by (Ask path lines) = ask path.now (string_bytes lines)
 asked_by (Audit kind path) = audit kind path.now
 asked_by (Upgrade old new) = upgrade old.now new.now
 
@@ -38,6 +43,14 @@ is_plain (x ∷ xs) = not (x == 45)
 -- the text does not begin with a hyphen
 abbrev pub IsPlain : Text → Type 0
 IsPlain text = is_plain text ≡ true
+
+-- no text of these begins with a hyphen
+abbrev pub ArePlain : List Text → Type 0
+ArePlain texts = list_all is_plain texts ≡ true
+
+-- lines as the text of an input: a line feed, 10, ends each
+abbrev pub as_input : List Text → Text
+as_input = flat_map (λ line. line ++ 10 ∷ [])
 
 -- the text is one digit or more, which write n
 abbrev pub Writes : ℕ → Text → Type 0
@@ -83,6 +96,7 @@ IsAskedBy words default = HasNoCommand words
 IsAskedBy words (build kind pips path) = FollowsFor kind (codes "build") words path
 IsAskedBy words (check kind path) = FollowsFor kind (codes "check") words path
 IsAskedBy words (query kind path cache) = FollowsFor kind (codes "query") words path
+IsAskedBy words (ask path lines) = Follows (codes "ask") words path
 IsAskedBy words (audit kind path) = FollowsFor kind (codes "audit") words path
 IsAskedBy words (upgrade old new) =
     Follows (codes "upgrade") words old × Follows (codes "upgrade") words new

@@ -2,7 +2,7 @@
 use Rattle.std.specs.Prelude.{◌≡◌, true, codes, Some, pos}
 use Rattle.clap.specs.Words.{App, Rule, Text, new_app, new_rule, with_rule}
 use Rattle.clap.specs.Simple.{on_top}
-use Rattle.clap.specs.declared.builder.action.ArgAction.TheVariants.{SetTrue}
+use Rattle.clap.specs.declared.builder.action.ArgAction.TheVariants.{Append, SetTrue}
 use Rattle.clap.specs.declared.builder.value_parser.ValueParser.TheVariants as vp
 
 -- a required word
@@ -25,6 +25,15 @@ file_app name = with_rule (with_rule (bare_app name) board_rule) (word_rule (cod
 -- .. of some name
 abbrev pub IsFileApp : App → Type 0
 IsFileApp a = (name : Text) × (a ≡ file_app name)
+
+-- a required word, or more of them, which are one argument
+abbrev pub words_rule : Text → Rule
+words_rule id = record (word_rule id) { action = Some Append }
+
+-- `ask FILE LINE..`
+abbrev pub ask_app : App
+ask_app = with_rule (with_rule (bare_app (codes "ask")) (word_rule (codes "FILE")))
+    (words_rule (codes "LINE"))
 
 -- `upgrade OLD NEW`
 abbrev pub upgrade_app : App

@@ -1,14 +1,16 @@
 //! The words of the command line, and its help.
 ghost use Rattle.std.specs.Prelude.{◌≡◌, ◌∷◌, [], ℕ, List, length, map, codes, Ok, IfOk, IsOk, IsErr, Some, None, ◌<◌};
-ghost use Rattle.std.specs.Prelude.{◌≤◌};
+ghost use Rattle.std.specs.Prelude.{◌≤◌, option_map};
 ghost use Rattle.std.specs.List.{Contains};
-ghost use Rattle.clap.specs.Words.{app_of, first_value, found_of};
+ghost use Rattle.std.specs.String.{string_bytes};
+ghost use Rattle.clap.specs.Words.{app_of, first_value, found_of, matched_of, raw_values};
 ghost use Rattle.command_line.specs.declared.words.FileKind.{FileKind};
 ghost use Rattle.command_line.specs.declared.words.FileKind.TheVariants.{Database, Board};
 ghost use Rattle.command_line.specs.declared.words.Request.TheVariants.{Default};
-ghost use Rattle.command_line.specs.Asked.{Gives, IsAskedBy, IsFor, IsPlain, Writes, asked_by, flagged, kind_in};
-ghost use Rattle.command_line.specs.Asked.{build, check, query, audit, upgrade};
-ghost use Rattle.command_line.specs.Commands.{IsFileApp, bare_app, build_app, file_app, query_app, upgrade_app};
+ghost use Rattle.command_line.specs.Asked.{ArePlain, Gives, IsAskedBy, IsFor, IsPlain, Writes, as_input, asked_by};
+ghost use Rattle.command_line.specs.Asked.{flagged, kind_in, build, check, query, ask, audit, upgrade};
+ghost use Rattle.command_line.specs.Commands.{IsFileApp, ask_app, bare_app, build_app, file_app, query_app};
+ghost use Rattle.command_line.specs.Commands.{upgrade_app};
 
 use clap::error::ErrorKind;
 use clap::{Arg, ArgAction, ArgMatches, Command, Error, value_parser};
@@ -29,7 +31,7 @@ pub enum FileKind {
 }
 
 /// What the words of the command line ask for.
-#[derive(Clone, Copy, Debug, PartialEq, Eq)]
+#[derive(Debug, Drop)]
 pub enum Request<'a> {
     /// No word: answer standard input over the database of 8 pips, which is built in memory.
     Default,
@@ -55,6 +57,13 @@ pub enum Request<'a> {
         cache: Option<u16>,
     },
 
+    /// Check a file, of the kind that its header states, and answer lines over it, each of which
+    /// ends with a line feed.
+    Ask {
+        path: &'a str,
+        lines: String,
+    },
+
     /// Check a file, and tell the least and the greatest mean of each pip count.
     Audit {
         kind: FileKind,
@@ -78,6 +87,7 @@ const EXAMPLES: &str = "Examples:
   bearoff build --pips 44 race.db        write the database of 44 pips (11 MB; of 58, 15 MB)
   bearoff check race.db                  is every mean in it the least?
   bearoff query race.db <lines           answer each line
+  bearoff ask race.db 'mean 2,2,2,2,2,2' answer lines that are words, over a file of any kind
   bearoff audit race.db                  least and greatest mean of each pip count
   bearoff upgrade race.db new.db         the same database as a file of version 2 (8 MB)
   bearoff build --board board.db         write the whole home board, to 90 pips (15 MB)
@@ -103,6 +113,10 @@ const STATUSES: &str =
 are wrong; 3 the file was refused, and standard error says why. A board file is refused with
 `header bad-version` where `--board` is missing, and a database where it stands.";
 
+const ASK_STATUSES: &str =
+    "Exit status: 0 each LINE has its reply, which may be an error of the line; 1 FILE, the output
+or memory failed; 2 the words are wrong; 3 FILE was refused, and standard error says why.";
+
 const BUILD_STATUSES: &str =
     "Exit status: 0 the file was written; 1 it, the output or memory failed (FILE is the old file,
 or the whole new one); 2 the words are wrong or N is over the greatest bound.";
@@ -118,6 +132,8 @@ const BUILD: &str = "Writes all positions of at most N pips, or of the home boar
 const CHECK: &str = "Checks that every mean in FILE is the least over all strategies";
 
 const QUERY: &str = "Checks FILE, then answers each line of standard input";
+
+const ASK: &str = "Checks FILE, a database or a board file, then answers each LINE";
 
 const AUDIT: &str = "Checks FILE, then tells the least and the greatest mean of each pip count";
 
@@ -145,6 +161,10 @@ pub fn read_words<'a, S: AsStr>(alloc: Global, words: &'a [S]) -> Result<Request
         → IsPlain path
         → map S.text words.entry.now ≡ codes "query" ∷ codes "--cache" ∷ digits ∷ path ∷ []
         → Gives result (IsFor (query Database path (Some n))) }
+    ensures ask { (path line : List ℕ) (lines : List (List ℕ)) → IsPlain path
+        → ArePlain (line ∷ lines)
+        → map S.text words.entry.now ≡ codes "ask" ∷ path ∷ line ∷ lines
+        → Gives result (IsFor (ask path (as_input (line ∷ lines)))) }
     ensures audit { (kind : FileKind) (path : List ℕ) → IsPlain path
         → map S.text words.entry.now ≡ codes "audit" ∷ flagged kind (path ∷ [])
         → Gives result (IsFor (audit kind path)) }
@@ -160,6 +180,7 @@ pub fn read_words<'a, S: AsStr>(alloc: Global, words: &'a [S]) -> Result<Request
         "build" => read_build(alloc, kind, rest),
         "check" => read_check(alloc, kind, rest),
         "query" => read_query(alloc, kind, rest),
+        "ask" => read_ask(alloc, rest),
         "audit" => read_audit(alloc, kind, rest),
         "upgrade" => read_upgrade(alloc, rest),
         "--" if rest.is_empty() => Ok(Request::Default),
@@ -316,6 +337,45 @@ fn read_query<'a, S: AsStr>(
     Ok(Request::Query { kind, path, cache })
 }
 
+/// What the words after `ask` ask for.
+fn read_ask<'a, S: AsStr>(alloc: Global, words: &'a [S]) -> Result<Request<'a>, Error>
+    ensures asked { IfOk result
+        (λ r. IsAskedBy (codes "ask" ∷ map S.text words.entry.now) (asked_by r)) }
+    ensures given { (path line : List ℕ) (lines : List (List ℕ)) → IsPlain path
+        → ArePlain (line ∷ lines) → map S.text words.entry.now ≡ path ∷ line ∷ lines
+        → Gives result (IsFor (ask path (as_input (line ∷ lines)))) }
+{
+    let matches = ask_command(alloc)?.try_get_matches_from(words)?;
+    let path = value_of(alloc, &matches, "FILE")?;
+    let lines = lines_in(alloc, &matches)?;
+    Ok(Request::Ask { path, lines })
+}
+
+/// The lines of `ask`, each with a line feed at its end.
+fn lines_in(alloc: Global, matches: &ArgMatches<'_>) -> Result<String, AllocError>
+    ensures { (lines : List (List ℕ))
+        → option_map raw_values (matched_of (found_of matches.now) (codes "LINE")) ≡ Some lines
+        → IfOk result (λ text. string_bytes text ≡ as_input lines) }
+{
+    match matches.get_strs("LINE") {
+        Some(lines) => ended(alloc, lines),
+        None => Ok(String::new(alloc)),
+    }
+}
+
+/// Lines, each with a line feed at its end.
+fn ended(alloc: Global, lines: &[&str]) -> Result<String, AllocError>
+    ensures { IfOk result
+        (λ text. string_bytes text ≡ as_input (map (λ line. line.now) lines.now)) }
+{
+    let mut text = String::new(alloc);
+    for line in lines {
+        text.push_str(line)?;
+        text.push('\n')?;
+    }
+    Ok(text)
+}
+
 /// The first value of an argument.
 fn value_of<'a>(alloc: Global, matches: &ArgMatches<'a>, id: &str) -> Result<&'a str, Error>
     ensures read { IfOk result (λ text. first_value (found_of matches.now) id.now ≡ Some text.now) }
@@ -353,6 +413,7 @@ fn command<'a>(alloc: Global) -> Result<Command<'a>, AllocError> {
         .subcommand(build_command(alloc)?)?
         .subcommand(file_command(alloc, "check", CHECK, FILE_HELP, STATUSES)?)?
         .subcommand(query_command(alloc)?)?
+        .subcommand(ask_command(alloc)?)?
         .subcommand(file_command(alloc, "audit", AUDIT, FILE_HELP, STATUSES)?)?
         .subcommand(upgrade_command(alloc)?)
 }
@@ -382,6 +443,20 @@ fn query_command<'a>(alloc: Global) -> Result<Command<'a>, AllocError>
             "Keeps at most N records in memory, 1 to 65535; these answers are tested, not proved",
         );
     file_command(alloc, "query", QUERY, FILE_HELP, STATUSES)?.arg(cache)
+}
+
+/// `ask FILE LINE..`.
+fn ask_command<'a>(alloc: Global) -> Result<Command<'a>, AllocError>
+    ensures { IfOk result (λ c. app_of c ≡ ask_app) }
+{
+    let file = Arg::new(alloc, "FILE").required(true).help(FILE_HELP);
+    let line = Arg::new(alloc, "LINE")
+        .required(true)
+        .action(ArgAction::Append)
+        .help("A line as `query` reads it, in quotes: 'mean 0,0,0,0,0,1'");
+    bare_command(alloc, "ask", ASK, ASK_STATUSES)?
+        .arg(file)?
+        .arg(line)
 }
 
 /// `upgrade OLD NEW`.

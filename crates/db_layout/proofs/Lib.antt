@@ -5,3 +5,12 @@ pub mod Prefixes
 pub mod RecordPlaces
 pub mod KnownStarts
 pub mod WholeFiles
+pub mod ByteParts
+pub mod BoardStarts
+pub mod BoardPlaces
+pub mod SameFronts
+pub mod SameRecords
+pub mod KnownRecords
+pub mod Weighted
+pub mod BoardSums
+pub mod WordSums

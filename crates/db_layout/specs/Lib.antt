@@ -3,3 +3,7 @@ pub mod Records
 pub mod StoredShares
 pub mod WholeFiles
 pub mod Writes
+pub mod BoardRecords
+pub mod LowerRecords
+pub mod BoardWords
+pub mod Layouts

@@ -11,20 +11,9 @@ ghost use Rattle.db_layout.specs.HeaderFaults.{test_of};
 ghost use Rattle.db_layout.specs.Records.{IsVersion, IsHeld};
 
 use crate::places::{most_rolls, record_length};
-use crate::record::{HEADER_BYTES, read_short, read_word};
+use crate::stated::{COMPACT_VERSION, Kind, read_header};
 use fixed_fraction::{Spread, WHOLE};
-use home_board::{MAX_BOUND, OLD_BOUND};
 use thiserror::Error;
-
-/// The first eight bytes of a database file (this project's profile).
-pub const MAGIC: [u8; 8] = *b"EPCTABLE";
-
-/// The version of a file whose records store all shares (this project's profile).
-pub const VERSION: u16 = 1;
-
-/// The version of a file whose records leave out the
-/// shares that are known without being stored (this project's profile).
-pub const COMPACT_VERSION: u16 = 2;
 
 /// Why a header is refused, in the order of the tests.
 #[derive(Clone, Copy, Debug, PartialEq, Eq, Error)]
@@ -37,11 +26,11 @@ pub enum HeaderFault {
     #[error("bad magic")]
     BadMagic,
 
-    /// The version is not 1 or 2.
+    /// The version is none of the kind of file: 1 or 2 of a database, and 3 of a board file.
     #[error("bad version")]
     BadVersion,
 
-    /// The pip bound is over the greatest of the version: 44, or 58 for version 2.
+    /// The pip bound is over the greatest of the version: 44, 58 for version 2, or 90 for 3.
     #[error("bad bound")]
     BadBound,
 
@@ -49,7 +38,7 @@ pub enum HeaderFault {
     #[error("bad count")]
     BadCount,
 
-    /// The field for record bytes is not 426, or 0 for version 2.
+    /// The field for record bytes is not 426, or 0 for versions 2 and 3.
     #[error("bad record bytes")]
     BadRecordBytes,
 
@@ -86,7 +75,7 @@ impl Header {
         ensures version { IfSome result (λ header. header.version ≡ version) }
         ensures bound { IfSome result (λ header. header.bound ≡ bound) }
     {
-        if bound > greatest_bound(version)? {
+        if bound > Kind::Database.greatest_bound(version)? {
             return None;
         }
         Some(Header::of_version(version, bound))
@@ -103,7 +92,7 @@ impl Header {
             version,
             bound,
             count: ranking::count_to(bound),
-            record_bytes: if version == COMPACT_VERSION { 0 } else { 426 },
+            record_bytes: Kind::Database.stated_bytes(version),
         }
     }
 
@@ -162,18 +151,6 @@ fn is_told(version: u16, pips: u8, k: u8, spread: &Spread) -> bool
     k <= most_rolls(pips) || spread.at(k) == 0
 }
 
-/// The greatest bound of the files of a version; none where there is no such version.
-fn greatest_bound(version: u16) -> Option<u8>
-    ensures some { IsSome result ↔ IsVersion version }
-    ensures value { IfSome result (λ most. most ≡ greatest_bound (version_by version)) }
-{
-    match version {
-        VERSION => Some(OLD_BOUND),
-        COMPACT_VERSION => Some(MAX_BOUND),
-        _ => None,
-    }
-}
-
 /// The header that stands in the first bytes of a file of this
 /// length, or the first fault in the order of `HeaderFault`.
 #[tactic(auto, unfolding(race_model::specs::Files::bound_of, race_model::specs::Files::version_of))]
@@ -183,32 +160,8 @@ pub fn parse_header(front: &[u8], length: u64) -> Result<Header, HeaderFault>
         × (version_by header.version ≡ version_of front.now)) }
     ensures fault { IfErr result (λ fault. IsFirstHeaderFault front.now length (test_of fault)) }
 {
-    if front.len() < HEADER_BYTES || length < 32 {
-        return Err(HeaderFault::TooShort);
+    match read_header(Kind::Database, front, length) {
+        Ok(stated) => Ok(Header::of_version(stated.version, stated.bound)),
+        Err(fault) => Err(fault),
     }
-    if &front[..8] != MAGIC.as_slice() {
-        return Err(HeaderFault::BadMagic);
-    }
-    let version = read_short(front, 8);
-    let Some(most) = greatest_bound(version) else {
-        return Err(HeaderFault::BadVersion);
-    };
-    let bound = read_short(front, 10);
-    if bound > u16::from(most) {
-        return Err(HeaderFault::BadBound);
-    }
-    let header = Header::of_version(version, bound as u8);
-    if read_word(front, 12) != u32::from(header.count) {
-        return Err(HeaderFault::BadCount);
-    }
-    if read_word(front, 16) != header.record_bytes {
-        return Err(HeaderFault::BadRecordBytes);
-    }
-    if &front[20..32] != [0; 12].as_slice() {
-        return Err(HeaderFault::BadReserved);
-    }
-    if length != header.end() {
-        return Err(HeaderFault::BadLength);
-    }
-    Ok(header)
 }

@@ -7,7 +7,8 @@ ghost use Rattle.race_model.specs.Horizon.{most_rolls};
 ghost use Rattle.race_model.specs.Versions.{version_by, full, compact, first_share, share_count, record_length};
 ghost use Rattle.race_model.specs.Files.{record_place};
 
-use crate::header::{COMPACT_VERSION, Header};
+use crate::header::Header;
+use crate::stated::{COMPACT_VERSION, Kind};
 use home_board::MAX_BOUND;
 use ranking::{first_of, pips_of};
 
@@ -73,7 +74,7 @@ impl Header {
     pub fn end(&self) -> u64
         ensures { result ≡ record_place (version_by self.now.version) self.now.count }
     {
-        offset_of(self.version, self.bound, self.count)
+        Kind::Database.end_of(self.version, self.bound)
     }
 }
 

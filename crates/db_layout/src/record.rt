@@ -7,8 +7,9 @@ ghost use Rattle.race_model.specs.ToldShares.{told_share};
 ghost use Rattle.std.specs.Int.{w16, w32, w64, w128, from_be_bytes};
 ghost use Rattle.db_layout.specs.StoredShares.{stored_share};
 
-use crate::header::{COMPACT_VERSION, Header};
+use crate::header::Header;
 use crate::places::{first_share, most_rolls, record_length, share_count};
+use crate::stated::COMPACT_VERSION;
 use crate::stored_shares::StoredShares;
 use fixed_fraction::WHOLE;
 use legal_plays::Roll;

@@ -8,9 +8,10 @@ ghost use Rattle.db_layout.specs.Records.{record_of, IsHeld, IsRecordOf};
 ghost use Rattle.db_layout.specs.Writes.{AppendsPart};
 ghost use Rattle.std.specs.Int.{w128, to_be_bytes};
 
-use crate::header::{Header, MAGIC};
+use crate::header::Header;
 use crate::places::{first_share, share_count};
 use crate::record::{HEADER_BYTES, RECORD_BYTES};
+use crate::stated::{Kind, header_with};
 use crate::write_fault::WriteFault;
 use arrayvec::ArrayVec;
 use fixed_fraction::{Scaled, Spread};
@@ -24,7 +25,7 @@ pub fn write_header<W: Write>(header: &Header, writer: &mut W) -> Result<(), Wri
     ensures part { OnErr result (AppendsPart (W.contents writer.old) (W.contents writer.new)
         (header_of (version_by header.now.version) header.now.bound)) }
 {
-    write_bytes(header_bytes(header).as_slice(), writer)
+    write_bytes(&header_bytes(header), writer)
 }
 
 /// Writes the record of a position of so many pips: the mean, the ranks that are played to with
@@ -85,17 +86,10 @@ pub fn write_bytes<W: Write>(bytes: &[u8], writer: &mut W) -> Result<(), WriteFa
 }
 
 /// The 32 bytes of a header.
-pub fn header_bytes(header: &Header) -> ArrayVec<u8, HEADER_BYTES>
-    ensures { result.items ≡ header_of (version_by header.now.version) header.now.bound }
+pub fn header_bytes(header: &Header) -> [u8; HEADER_BYTES]
+    ensures { result ≡ header_of (version_by header.now.version) header.now.bound }
 {
-    let mut bytes = ArrayVec::new();
-    add_bytes(&mut bytes, &MAGIC);
-    add_bytes(&mut bytes, &header.version.to_be_bytes());
-    add_bytes(&mut bytes, &u16::from(header.bound).to_be_bytes());
-    add_bytes(&mut bytes, &u32::from(header.count).to_be_bytes());
-    add_bytes(&mut bytes, &header.record_bytes.to_be_bytes());
-    add_bytes(&mut bytes, &[0; 12]);
-    bytes
+    header_with(Kind::Database, header.version, header.bound)
 }
 
 /// The bytes of the record of a position of so many pips: the mean, the ranks that are played to

@@ -2,7 +2,6 @@
 //! standard error.
 ghost use Rattle.std.specs.Prelude.{◌≡◌, ◌≤◌, length, OnOk};
 ghost use Rattle.std.specs.Io.KnownBytes.{Appends};
-ghost use Rattle.board_check.specs.Faults.{told_as};
 ghost use Rattle.db_layout.specs.Writes.{AppendsPart};
 ghost use Rattle.exit_status.specs.Causes.{of_check, of_build, of_upgrade, of_run};
 ghost use Rattle.exit_status.specs.Lines.{word_of, error_line};
@@ -10,7 +9,6 @@ ghost use Rattle.exit_status.specs.Statuses.{status_of};
 ghost use Rattle.exit_status.specs.declared.fault.Fault.TheVariants.{Memory, Refused};
 
 use arrayvec::ArrayString;
-use board_check::BoardFault;
 use certificate::{CheckFault, UpgradeFault, fault_line};
 use db_layout::{WriteFault, write_bytes};
 use epc_query::RunFault;
@@ -109,14 +107,6 @@ impl From<CheckFault> for Fault {
             CheckFault::Read => Fault::File,
             refused => Fault::Refused(refused),
         }
-    }
-}
-
-impl From<BoardFault> for Fault {
-    ghost from_gives = { λ cause fault. fault ≡ Refused (told_as cause) };
-
-    fn from(fault: BoardFault) -> Self {
-        Fault::Refused(CheckFault::from(fault))
     }
 }
 

@@ -118,9 +118,14 @@ fn rooms_that_are_lent(rt: HostRuntime) -> Result<(), Fail> {
         let (room, _) = lent.split_at_mut((count + 1).min(50000));
         let (small, _) = room.split_at_mut(count.min(room.len()));
         let (small, _) = small.split_at_mut(count.saturating_sub(1).min(small.len()));
-        assert_eq!(rt; build_in_room(&header, small), None);
+        let mut held = [9; 50000];
+        let (work, _) = held.split_at_mut(count.min(50000));
+        assert_eq!(rt; build_in_room(&header, work, small), None);
         assert!(rt; small.iter().all(|byte| *byte == 7));
-        assert_eq!(rt; build_in_room(&header, room), Some(count));
+        let (short, _) = work.split_at_mut(count.saturating_sub(1).min(work.len()));
+        assert_eq!(rt; build_in_room(&header, short, room), None);
+        assert!(rt; room.iter().all(|byte| *byte == 7));
+        assert_eq!(rt; build_in_room(&header, work, room), Some(count));
         assert!(rt; room.starts_with(file.as_slice()));
         assert_eq!(rt; room.last(), Some(&7));
     }

@@ -2,14 +2,13 @@
 ghost use Rattle.std.specs.Prelude.{◌≡◌, length};
 
 use crate::given::{WHOLE_BYTES, accepted};
-use board_build::build_board;
-use board_check::is_right;
-use certificate::{CheckFault, QueryFault, check, fault_line};
+use certificate::{CheckFault, QueryFault, check, fault_line, is_right};
 use db_layout::HeaderFault;
 use db_reader::trial::FailOnce;
 use db_reader::{Table, Whole};
 use home_board::Position;
 use legal_plays::{Roll, write_play};
+use retrograde::build_board;
 use std::test::Fail;
 
 /// The file of bound 1: the finished position, and one checker on the ace point, whose mean is

@@ -3,13 +3,13 @@ use Rattle.std.proofs.Common.{◌≡◌, ℕ, suc, ◌+◌, ◌*◌, ◌^◌, �
 use Rattle.std.proofs.Common.{map, sum_by, sum, refl, sym, ap, subst, ◌∙◌, arith}
 use Rattle.std.proofs.lemmas.List.{take_all, get_or-map}
 use Rattle.std.proofs.lemmas.List.Sums.{sum_by-cons, sum_by_more, sum_by-take-le}
-use Rattle.race_model.specs.Dice.{Throw, one, all_rolls, roll_at, roll_index, weight}
+use Rattle.race_model.specs.Dice.{Throw, one, all_rolls, roll_at, roll_index, weight, weighted}
 use Rattle.race_model.specs.LocalEquations.{whole}
 use Rattle.race_model.proofs.Dice.RollSums.{length-all_rolls, sum_by-weight, roll_index-range}
 use Rattle.race_model.proofs.Dice.Throws.{roll_of_index}
 use Rattle.race_model.proofs.Numbers.Sums.{sum_by-map, sum_by-equal, sum_by-zero}
 use Rattle.fixed_fraction.specs.Shares.{weighted_share}
-use Rattle.fixed_fraction.specs.Totals.{weighted_at}
+use Rattle.fixed_fraction.specs.Totals.{weighted_at, sum_at}
 use Rattle.fixed_fraction.proofs.Pulls.{part_small}
 use Rattle.fixed_fraction.proofs.Shares.{sum_upto, sum_upto-same, sum_upto-zero, sum_upto-linear}
 use Rattle.fixed_fraction.proofs.Shares.{sum_upto-weighted_share}
@@ -98,6 +98,22 @@ weights-by_index i lt =
 rolls-alike : (n : ℕ) → sum_by (λ v. weight v * n) all_rolls ≡ 36 * n
 unfolding all_rolls
 rolls-alike n = omega arith
+
+-- numbers that go by the index of the roll, added up by the weights: those of the rolls that are no
+-- doubles twice, and those of the doubles
+pub weighted-by_index : (g : ℕ → ℕ) → weighted (λ v. g (roll_index v))
+    ≡ 2 * sum_by g
+    (1 ∷ 3 ∷ 4 ∷ 6 ∷ 7 ∷ 8 ∷ 10 ∷ 11 ∷ 12 ∷ 13 ∷ 15 ∷ 16 ∷ 17 ∷ 18 ∷ 19 ∷ [])
+    + sum_by g (0 ∷ 2 ∷ 5 ∷ 9 ∷ 14 ∷ 20 ∷ [])
+unfolding all_rolls
+weighted-by_index g = omega arith
+
+-- the shares of exactly k rolls of some rolls, and that of one roll more
+pub sum_at-more : (spreads : List (List ℕ)) (indices : List ℕ) (j k : ℕ) → j < length indices →
+    sum_at spreads (take (j + 1) indices) k
+    ≡ sum_at spreads (take j indices) k + get_or (get_or spreads (get_or indices j 0) []) k 0
+sum_at-more spreads indices j k lt =
+    sum_by_more (λ i. get_or (get_or spreads i []) k 0) indices j 0 lt
 
 -- where no roll leads to a share of exactly k rolls, their sum is none
 pub weighted_at-zero : (spreads : List (List ℕ)) (k : ℕ)

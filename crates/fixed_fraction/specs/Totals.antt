@@ -1,5 +1,5 @@
 -- Sums over the 21 rolls of what each leads to, each counted with the weight of its roll.
-use Rattle.std.specs.Prelude.{◌≡◌, ℕ, ◌*◌, ◌≤◌, List, [], length, slice_index, slice_index_or, sum}
+use Rattle.std.specs.Prelude.{◌≡◌, ℕ, ◌*◌, ◌≤◌, List, [], length, slice_index, slice_index_or, sum, sum_by}
 use Rattle.race_model.specs.Dice.{roll_index, weighted}
 use Rattle.race_model.specs.LocalEquations.{whole}
 
@@ -20,3 +20,7 @@ pub record AreSmall (totals : Totals) : Type 0 where
 -- of the shares that the rolls lead to, by their index, the weighted sum of those of k rolls
 abbrev pub weighted_at : List (List ℕ) → ℕ → ℕ
 weighted_at spreads k = weighted (λ v. slice_index (slice_index_or spreads (roll_index v) []) k)
+
+-- .. and the sum of those that the rolls with these indices lead to, each counted once
+abbrev pub sum_at : List (List ℕ) → List ℕ → ℕ → ℕ
+sum_at spreads indices k = sum_by (λ i. slice_index (slice_index_or spreads i []) k) indices

@@ -1,10 +1,10 @@
 //! Weighted sums over the 21 rolls.
-ghost use Rattle.std.specs.Prelude.{◌≡◌, ℕ, suc, ◌+◌, ◌*◌, ◌%◌, ◌^◌, ◌<◌, ◌≤◌, ◌↔◌};
+ghost use Rattle.std.specs.Prelude.{◌≡◌, ◌≢◌, ℕ, suc, ◌+◌, ◌*◌, ◌%◌, ◌^◌, ◌<◌, ◌≤◌, ◌↔◌};
 ghost use Rattle.std.specs.Prelude.{List, [], length, map, slice_index, slice_index_or, sum};
-ghost use Rattle.std.specs.Prelude.{IsSome, IfSome};
+ghost use Rattle.std.specs.Prelude.{IsSome, IfSome, All};
 ghost use Rattle.race_model.specs.Dice.{roll_index, weighted};
 ghost use Rattle.race_model.specs.LocalEquations.{whole};
-ghost use Rattle.fixed_fraction.specs.Totals.{weighted_at};
+ghost use Rattle.fixed_fraction.specs.Totals.{weighted_at, sum_at};
 
 use crate::scaled::{Scaled, WHOLE};
 use crate::spread::Spread;
@@ -19,36 +19,33 @@ pub const WEIGHTS: [u8; 21] = [
     1, 2, 1, 2, 2, 1, 2, 2, 2, 1, 2, 2, 2, 2, 1, 2, 2, 2, 2, 2, 1,
 ];
 
+/// The rolls that are no doubles, by their indices.
+const OTHERS: [u8; 15] = [1, 3, 4, 6, 7, 8, 10, 11, 12, 13, 15, 16, 17, 18, 19];
+
+/// The doubles, by their indices.
+const DOUBLES: [u8; 6] = [0, 2, 5, 9, 14, 20];
+
 /// How the number of rolls is spread, wherever the shares lie, for whoever adds them up.
 pub trait Distribution: Copy {
     // the 23 shares, that of 0 rolls first
     ghost shares: { Self → List ℕ };
 
-    // there is none of so many rolls or more, but that of 0 rolls
+    // there is none of so many rolls or more
     ghost end: { Self → ℕ };
 
-    /// The share of exactly `k` rolls, as a numerator over 36 ^ 22. All add up to the whole.
-    fn share(self, k: u8) -> u128
-        requires { k ≤ 22 }
-        ensures value { result ≡ slice_index (shares self) k }
+    /// A number of rolls from which on there is no share. All shares add up to the whole.
+    fn end(self) -> u8
+        ensures end { result ≡ end self }
+        ensures few { end self ≤ 23 }
+        ensures none { (k : ℕ) → end self ≤ k → slice_index (shares self) k ≡ 0 }
         ensures total { sum (shares self) ≡ whole }
         ensures len { length (shares self) ≡ 23 };
 
-    /// A number of rolls from which on there is no share, and before which each but that of 0 rolls
-    /// is read without a test.
-    fn end(self) -> u8
-        ensures end { result ≡ end self }
-        ensures none { (k : ℕ) → 1 ≤ k → end self ≤ k → slice_index (shares self) k ≡ 0 };
-
-    /// The share of exactly `k` rolls, without a test.
-    fn stored(self, k: u8) -> u128
-        requires some { 1 ≤ k }
-        requires few { k ≤ 22 }
+    /// The share of exactly `k` rolls, as a numerator over 36 ^ 22.
+    fn share(self, k: u8) -> u128
         requires stored { k < end self }
+        requires few { k ≤ 22 }
         ensures { result ≡ slice_index (shares self) k };
-
-    /// Whether shares lie ready as numbers. What is told is the same, in another order.
-    fn are_ready() -> bool;
 }
 
 impl<'a> Distribution for &'a Spread {
@@ -57,24 +54,14 @@ impl<'a> Distribution for &'a Spread {
     ghost end = { λ _. 23 };
 
     #[inline(always)]
-    fn share(self, k: u8) -> u128 {
-        self.at(k)
-    }
-
-    #[inline(always)]
     fn end(self) -> u8 {
         let _start = self.at(0);
         23
     }
 
     #[inline(always)]
-    fn stored(self, k: u8) -> u128 {
+    fn share(self, k: u8) -> u128 {
         self.at(k)
-    }
-
-    #[inline(always)]
-    fn are_ready() -> bool {
-        true
     }
 }
 
@@ -107,6 +94,7 @@ impl Model for Sums {
 impl Sums {
     /// The sums of the means and of the shares that the rolls lead to, in the order of their
     /// indices. None of them has a share of so many rolls or more.
+    #[inline(always)]
     pub fn of<S: Distribution>(means: &[Scaled; 21], spreads: &[S; 21], rolls: u8) -> Self
         requires few { rolls ≤ 23 }
         requires beyond { (i k : ℕ) → i < 21 → rolls ≤ k →
@@ -117,7 +105,10 @@ impl Sums {
             ≡ weighted_at (map S.shares spreads.now) k }
     {
         law_spreads(spreads);
-        let shares = sums_of_shares(spreads, rolls);
+        let mut shares = [0; 23];
+        add_plays(&mut shares, spreads, &OTHERS, rolls);
+        double(&mut shares);
+        add_plays(&mut shares, spreads, &DOUBLES, rolls);
         Sums {
             mean: sum_of_means(means),
             shares,
@@ -185,7 +176,7 @@ fn law_spreads<S: Distribution>(spreads: &[S; 21])
         length (slice_index_or (map S.shares spreads.now) i []) ≡ 23 }
 {
     for spread in spreads {
-        let _start = spread.share(0);
+        let _end = spread.end();
     }
 }
 
@@ -203,113 +194,142 @@ fn sum_of_means(means: &[Scaled; 21]) -> u128
     total
 }
 
-/// The sums of their shares. None of them has a share of so many rolls or more.
+/// Adds the shares of the plays of these rolls, by their indices, none of which has one of so many
+/// rolls or more. As long as all of them may have one, those of one number of rolls are added up
+/// after the other, so that each sum is read and written once.
 #[inline(always)]
-fn sums_of_shares<S: Distribution>(spreads: &[S; 21], rolls: u8) -> [u128; 23]
+fn add_plays<S: Distribution>(shares: &mut [u128; 23], spreads: &[S; 21], indices: &[u8], rolls: u8)
+    requires indices { All (λ i. i < 21) indices.now }
     requires few { rolls ≤ 23 }
     requires beyond { (i k : ℕ) → i < 21 → rolls ≤ k →
         slice_index (slice_index_or (map S.shares spreads.now) i []) k ≡ 0 }
-    ensures len { length result ≡ 23 }
-    ensures sums { (k : ℕ) → k < 23 → slice_index result k
-        ≡ weighted_at (map S.shares spreads.now) k }
-    ensures none { (k : ℕ) → rolls ≤ k → slice_index result k ≡ 0 }
+    requires room { (k : ℕ) → k < 23 →
+        slice_index shares.old k + length indices.now * whole < 2 ^ 128 }
+    ensures len { length shares.new ≡ 23 }
+    ensures added { (k : ℕ) → k < 23 → slice_index shares.new k
+        ≡ slice_index shares.old k + sum_at (map S.shares spreads.now) indices.now k }
+    ensures small { (k : ℕ) → k < 23 → slice_index shares.new k
+        ≤ slice_index shares.old k + length indices.now * whole }
 {
-    if S::are_ready() {
-        sums_by_rolls(spreads, rolls)
-    } else {
-        sums_by_plays(spreads, rolls)
-    }
+    let end = least_end(spreads, indices, rolls);
+    add_common(shares, spreads, indices, end);
+    add_rest(shares, spreads, indices, end, rolls);
 }
 
-/// The same, of one number of rolls after the other.
+/// Adds the shares of these plays of fewer than `end` rolls, which all of them may have.
+// the loop begins at 0, since the compiler moves a pointer for each play where it may begin later
 #[inline(always)]
-fn sums_by_rolls<S: Distribution>(spreads: &[S; 21], rolls: u8) -> [u128; 23]
-    requires few { rolls ≤ 23 }
-    requires beyond { (i k : ℕ) → i < 21 → rolls ≤ k →
-        slice_index (slice_index_or (map S.shares spreads.now) i []) k ≡ 0 }
-    ensures len { length result ≡ 23 }
-    ensures sums { (k : ℕ) → k < 23 → slice_index result k
-        ≡ weighted_at (map S.shares spreads.now) k }
-    ensures none { (k : ℕ) → rolls ≤ k → slice_index result k ≡ 0 }
-{
-    let mut shares = [0; 23];
-    for k in 0..rolls.min(23) {
-        shares[usize::from(k)] = sum_of_shares(spreads, k);
-    }
-    shares
-}
-
-/// The same, of one play after the other, so that a place is found once for all of its shares.
-#[inline(always)]
-fn sums_by_plays<S: Distribution>(spreads: &[S; 21], rolls: u8) -> [u128; 23]
-    requires few { rolls ≤ 23 }
-    requires beyond { (i k : ℕ) → i < 21 → rolls ≤ k →
-        slice_index (slice_index_or (map S.shares spreads.now) i []) k ≡ 0 }
-    ensures len { length result ≡ 23 }
-    ensures sums { (k : ℕ) → k < 23 → slice_index result k
-        ≡ weighted_at (map S.shares spreads.now) k }
-    ensures none { (k : ℕ) → rolls ≤ k → slice_index result k ≡ 0 }
+fn add_common<S: Distribution>(shares: &mut [u128; 23], spreads: &[S; 21], indices: &[u8], end: u8)
+    requires indices { All (λ i. i < 21) indices.now }
+    requires few { end ≤ 23 }
+    requires stored { (k : ℕ) → k < end → (j : ℕ) → j < length indices.now →
+        k < slice_index (map S.end spreads.now) (slice_index indices.now j) }
+    requires room { (k : ℕ) → k < end →
+        slice_index shares.old k + length indices.now * whole < 2 ^ 128 }
+    ensures len { length shares.new ≡ 23 }
+    ensures added { (k : ℕ) → k < end → slice_index shares.new k
+        ≡ slice_index shares.old k + sum_at (map S.shares spreads.now) indices.now k }
+    ensures small { (k : ℕ) → k < end → slice_index shares.new k
+        ≤ slice_index shares.old k + length indices.now * whole }
+    ensures beyond { (k : ℕ) → end ≤ k → slice_index shares.new k ≡ slice_index shares.old k }
 {
     law_spreads(spreads);
-    let mut shares = [0; 23];
-    for index in 0..21 {
-        add_shares(&mut shares, spreads[index], WEIGHTS[index], rolls);
+    for k in 0..end {
+        shares[usize::from(k)] += sum_of_shares(spreads, indices, k);
     }
-    shares
 }
 
-/// Adds the shares of one play with its weight. It has none of so many rolls or more. The loop of a
-/// weight of one and of two has no product.
+/// Adds the shares of these plays of `from` rolls and more. None of them has one of `rolls` or
+/// more.
 #[inline(always)]
-fn add_shares<S: Distribution>(shares: &mut [u128; 23], spread: S, weight: u8, rolls: u8)
-    requires len { length shares.old ≡ 23 }
+fn add_rest<S: Distribution>(
+    shares: &mut [u128; 23],
+    spreads: &[S; 21],
+    indices: &[u8],
+    from: u8,
+    rolls: u8,
+)
+    requires indices { All (λ i. i < 21) indices.now }
     requires few { rolls ≤ 23 }
-    requires none { (k : ℕ) → rolls ≤ k → slice_index (S.shares spread) k ≡ 0 }
-    requires room { (k : ℕ) → k < 23 →
-        slice_index shares.old k + weight * slice_index (S.shares spread) k < 2 ^ 128 }
+    requires beyond { (i k : ℕ) → i < 21 → rolls ≤ k →
+        slice_index (slice_index_or (map S.shares spreads.now) i []) k ≡ 0 }
+    requires room { (k : ℕ) → from ≤ k → k < 23 →
+        slice_index shares.old k + length indices.now * whole < 2 ^ 128 }
     ensures len { length shares.new ≡ 23 }
-    ensures added { (k : ℕ) → k < 23 → slice_index shares.new k
-        ≡ slice_index shares.old k + weight * slice_index (S.shares spread) k }
+    ensures added { (k : ℕ) → from ≤ k → k < 23 → slice_index shares.new k
+        ≡ slice_index shares.old k + sum_at (map S.shares spreads.now) indices.now k }
+    ensures small { (k : ℕ) → from ≤ k → k < 23 → slice_index shares.new k
+        ≤ slice_index shares.old k + length indices.now * whole }
+    ensures before { (k : ℕ) → k < from → slice_index shares.new k ≡ slice_index shares.old k }
 {
-    if weight == 1 {
-        add_weighed(shares, spread, 1, rolls);
-    } else if weight == 2 {
-        add_weighed(shares, spread, 2, rolls);
-    } else {
-        add_weighed(shares, spread, weight, rolls);
+    law_spreads(spreads);
+    for place in 0..indices.len() {
+        add_shares(shares, spreads[usize::from(indices[place])], from, rolls);
     }
 }
 
-/// The same, where the weight is known.
+/// A number of rolls, at most so many, up to which each of these plays may have a share.
 #[inline(always)]
-fn add_weighed<S: Distribution>(shares: &mut [u128; 23], spread: S, weight: u8, rolls: u8)
-    requires len { length shares.old ≡ 23 }
-    requires few { rolls ≤ 23 }
-    requires none { (k : ℕ) → rolls ≤ k → slice_index (S.shares spread) k ≡ 0 }
-    requires room { (k : ℕ) → k < 23 →
-        slice_index shares.old k + weight * slice_index (S.shares spread) k < 2 ^ 128 }
-    ensures len { length shares.new ≡ 23 }
-    ensures added { (k : ℕ) → k < 23 → slice_index shares.new k
-        ≡ slice_index shares.old k + weight * slice_index (S.shares spread) k }
+fn least_end<S: Distribution>(spreads: &[S; 21], indices: &[u8], rolls: u8) -> u8
+    requires indices { All (λ i. i < 21) indices.now }
+    ensures few { result ≤ rolls }
+    ensures least { (j : ℕ) → j < length indices.now →
+        result ≤ slice_index (map S.end spreads.now) (slice_index indices.now j) }
 {
-    shares[0] += u128::from(weight) * spread.share(0);
-    for k in 1..spread.end().min(rolls) {
-        shares[usize::from(k)] += u128::from(weight) * spread.stored(k);
+    let mut least = rolls;
+    for place in 0..indices.len() {
+        least = least.min(spreads[usize::from(indices[place])].end());
     }
+    least
 }
 
-/// The sum of the shares of exactly `k` rolls that the rolls lead to, with the weights of these.
-/// The loop has no test and no number but the weights, so that the compiler makes a straight line
-/// of it.
+/// The sum of the shares of exactly `k` rolls of the plays of these rolls. The loop has no test, so
+/// that the compiler makes a straight line of it.
 #[inline(always)]
-#[tactic(auto, unfolding(race_model::specs::LocalEquations::whole))]
-fn sum_of_shares<S: Distribution>(spreads: &[S; 21], k: u8) -> u128
-    requires { k ≤ 22 }
-    ensures { result ≡ weighted_at (map S.shares spreads.now) k }
+fn sum_of_shares<S: Distribution>(spreads: &[S; 21], indices: &[u8], k: u8) -> u128
+    requires indices { All (λ i. i < 21) indices.now }
+    requires few { k ≤ 22 }
+    requires stored { (j : ℕ) → j < length indices.now →
+        k < slice_index (map S.end spreads.now) (slice_index indices.now j) }
+    requires room { length indices.now * whole < 2 ^ 128 }
+    requires wholes { (i : ℕ) → i < 21 →
+        sum (slice_index_or (map S.shares spreads.now) i []) ≡ whole }
+    ensures sum { result ≡ sum_at (map S.shares spreads.now) indices.now k }
+    ensures small { result ≤ length indices.now * whole }
 {
     let mut total = 0;
-    for index in 0..21 {
-        total += u128::from(WEIGHTS[index]) * spreads[index].share(k);
+    for place in 0..indices.len() {
+        total += spreads[usize::from(indices[place])].share(k);
     }
     total
+}
+
+/// Doubles all sums.
+#[inline(always)]
+fn double(shares: &mut [u128; 23])
+    requires room { (k : ℕ) → k < 23 → 2 * slice_index shares.old k < 2 ^ 128 }
+    ensures len { length shares.new ≡ 23 }
+    ensures doubled { (k : ℕ) → k < 23 → slice_index shares.new k
+        ≡ 2 * slice_index shares.old k }
+{
+    for k in 0..23 {
+        shares[k] *= 2;
+    }
+}
+
+/// Adds the shares of one play of `from` rolls and more. It has none of `rolls` or more.
+#[inline(always)]
+fn add_shares<S: Distribution>(shares: &mut [u128; 23], spread: S, from: u8, rolls: u8)
+    requires few { rolls ≤ 23 }
+    requires beyond { (k : ℕ) → rolls ≤ k → slice_index (S.shares spread) k ≡ 0 }
+    requires room { (k : ℕ) → from ≤ k → k < 23 →
+        slice_index shares.old k + slice_index (S.shares spread) k < 2 ^ 128 }
+    ensures len { length shares.new ≡ 23 }
+    ensures added { (k : ℕ) → from ≤ k → k < 23 → slice_index shares.new k
+        ≡ slice_index shares.old k + slice_index (S.shares spread) k }
+    ensures before { (k : ℕ) → k < from → slice_index shares.new k ≡ slice_index shares.old k }
+{
+    for k in from..spread.end().min(rolls) {
+        shares[usize::from(k)] += spread.share(k);
+    }
 }

@@ -6,16 +6,15 @@ use crate::plain_board::{
     number_at,
 };
 use crate::random::{Parts, Random, Takes, add_lines, damage};
-use board_build::build_board;
-use board_check::check_board;
 use book::{Board, BoardLines};
-use certificate::Checked;
+use certificate::{Checked, check_board};
 use db_reader::Whole;
 use epc_query::{run, run_lines};
 use home_board::Position;
 use legal_plays::Roll;
 use plain_model::legal_positions;
 use ranking::Ranks;
+use retrograde::build_board;
 use std::alloc::{AllocError, Global};
 
 /// The built board file of a bound, in a room of just as many bytes.

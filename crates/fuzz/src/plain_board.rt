@@ -1,5 +1,5 @@
 //! A plain checker of board files: where the records stand, and the first fault of a file.
-use board_check::BoardFault;
+use certificate::CheckFault;
 use db_layout::HeaderFault;
 use fixed_fraction::WHOLE;
 use home_board::Position;
@@ -182,10 +182,10 @@ impl<'a> PlainBoard<'a> {
         &self,
         alloc: Global,
         right: &PlainBoard<'_>,
-    ) -> Result<Result<u8, BoardFault>, AllocError> {
+    ) -> Result<Result<u8, CheckFault>, AllocError> {
         let bound = match self.bound() {
             Ok(bound) => bound,
-            Err(fault) => return Ok(Err(BoardFault::Header(fault))),
+            Err(fault) => return Ok(Err(CheckFault::Header(fault))),
         };
         let mut is_same = true;
         for rank in 0..self.ranks.count_to(bound) {
@@ -239,18 +239,18 @@ impl<'a> PlainBoard<'a> {
         &self,
         alloc: Global,
         rank: u16,
-    ) -> Result<Option<BoardFault>, AllocError> {
+    ) -> Result<Option<CheckFault>, AllocError> {
         for roll in (0..21).filter_map(Roll::from_index) {
             if let Some(fault) = self.play_fault(alloc, rank, roll)? {
                 return Ok(Some(fault));
             }
         }
         if !self.has_mean(rank) {
-            return Ok(Some(BoardFault::Mean { rank }));
+            return Ok(Some(CheckFault::Mean { rank }));
         }
         for k in 1..most_throws(self.position(rank).pips()).saturating_add(1) {
             if self.count(rank, k) != self.count_of_plays(rank, k.saturating_sub(1)) {
-                return Ok(Some(BoardFault::Spread { rank, k }));
+                return Ok(Some(CheckFault::Spread { rank, k }));
             }
         }
         Ok(None)
@@ -262,7 +262,7 @@ impl<'a> PlainBoard<'a> {
         alloc: Global,
         rank: u16,
         roll: Roll,
-    ) -> Result<Option<BoardFault>, AllocError> {
+    ) -> Result<Option<CheckFault>, AllocError> {
         let play = self.play(rank, roll);
         let results = legal_positions(alloc, &self.position(rank), roll.low(), roll.high())?;
         let roll = roll.index();
@@ -271,12 +271,12 @@ impl<'a> PlainBoard<'a> {
             None => false,
         };
         if !is_result {
-            return Ok(Some(BoardFault::Play { rank, roll }));
+            return Ok(Some(CheckFault::Play { rank, roll }));
         }
         let mean = self.mean(play);
         for result in results.as_slice() {
             if self.mean(self.ranks.rank(result)) < mean {
-                return Ok(Some(BoardFault::NotLeast { rank, roll }));
+                return Ok(Some(CheckFault::NotLeast { rank, roll }));
             }
         }
         Ok(None)

@@ -67,7 +67,8 @@ module _ (x : Board) (at : IsPosition x) (v : Throw) where
       IsResult x v r → IsLeastOfAll one x v r → IsLeastOfAll other x v r
   least-agree one other agree r is all z legal = ⊎_elim
       (λ end.
-      let same = ap other (one_result end r (rank z) is (result-of_legal (rank z) (z, legal, refl))) in
+      let same = ap other (one_result end r (rank z) is
+      (result-of_legal (rank z) (z, legal, refl))) in
       omega (arith, same))
       (λ unfinished.
       let low = all z legal in

@@ -8,6 +8,14 @@ pub mod Levels
 pub mod Next
 pub mod Placed
 pub mod Prefixes
-pub mod Told
+pub mod KeptShares
+pub mod RankShares
 pub mod Turns
 pub mod Unique
+pub mod BoardResults
+pub mod BoardCounts
+pub mod NextBoardRecords
+pub mod BoardParts
+pub mod BoardFiles
+pub mod SameBytes
+pub mod UniqueBoards

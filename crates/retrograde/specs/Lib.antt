@@ -3,5 +3,7 @@ pub mod BuiltBytes
 pub mod BuiltRecords
 pub mod KeptRecords
 pub mod RecordBytes
-pub mod StoredRecords
+pub mod KeptShares
 pub mod UsualVersion
+pub mod NextBoardRecord
+pub mod BuiltBoards

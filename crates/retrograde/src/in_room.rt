@@ -7,24 +7,29 @@ ghost use Rattle.race_model.specs.Files.{record_place};
 ghost use Rattle.race_model.specs.BuiltFile.{IsBuilt};
 ghost use Rattle.retrograde.specs.RecordBytes.{record_by};
 
+use crate::kept_shares::{KeptRecords, keep};
 use crate::made_record::MadeRecord;
 use crate::pulling::next_record;
-use crate::stored::StoredRecords;
-use db_layout::{HEADER_BYTES, Header, header_bytes, record_bytes};
+use db_layout::{HEADER_BYTES, Header, header_bytes, most_rolls, record_bytes};
 use fixed_fraction::Scaled;
 use least_plays::{LeastPlays, ROWS_TO_8, ROWS_TO_90};
 use ranking::Ranks;
 
-/// How many positions have at most 58 pips.
-const POSITIONS: usize = 46062;
+/// One more than how many positions have at most 8 pips.
+const PLACES_TO_8: usize = ROWS_TO_8 + 1;
+
+/// One more than how many have at most 58.
+const PLACES_TO_58: usize = 46063;
 
 /// Builds the database of the version and the bound of a header in the first bytes of a room, and
-/// says how many they are; none exactly where the room is smaller than the file, and then it is as
-/// it was. It takes no memory but the stack, of which it needs less than 1.5 MB, and less than
-/// 128 KB to 8 pips.
-pub fn build_in_room(header: &Header, room: &mut [u8]) -> Option<usize>
+/// says how many they are; none exactly where one of the two rooms is smaller than the file, and
+/// then `room` is as it was. While it builds, `work` holds the shares as numbers that are read
+/// without being turned round. It takes no memory but the stack, of which it needs less than 1.5
+/// MB, and less than 128 KB to 8 pips.
+pub fn build_in_room(header: &Header, work: &mut [u8], room: &mut [u8]) -> Option<usize>
     ensures some { IsSome result
-        ↔ (record_place (version_by header.now.version) header.now.count ≤ length room.old) }
+        ↔ ((record_place (version_by header.now.version) header.now.count ≤ length work.old)
+        × (record_place (version_by header.now.version) header.now.count ≤ length room.old)) }
     ensures count { IfSome result
         (λ count. count ≡ record_place (version_by header.now.version) header.now.count) }
     ensures built { IfSome result (λ count.
@@ -34,26 +39,28 @@ pub fn build_in_room(header: &Header, room: &mut [u8]) -> Option<usize>
     ensures kept { IfNone result (room.new ≡ room.old) }
 {
     let count = header.end() as usize;
-    if room.len() < count {
+    if work.len() < count || room.len() < count {
         return None;
     }
     if usize::from(header.count) <= ROWS_TO_8 {
-        fill::<ROWS_TO_8, ROWS_TO_8>(header, room);
+        fill::<ROWS_TO_8, PLACES_TO_8>(header, work, room);
     } else {
-        fill::<ROWS_TO_90, POSITIONS>(header, room);
+        fill::<ROWS_TO_90, PLACES_TO_58>(header, work, room);
     }
     Some(count)
 }
 
 /// Builds the file with this header in a room that is no smaller, with so many rows for the best
-/// plays and so many means.
+/// plays, and fewer means than there are places.
 // so that no more of them are on the stack than are needed
 #[inline(never)]
-fn fill<const ROWS: usize, const COUNT: usize>(header: &Header, room: &mut [u8])
+fn fill<const ROWS: usize, const PLACES: usize>(header: &Header, work: &mut [u8], room: &mut [u8])
     requires few { ROWS ≤ 11452 }
     requires rows { (header.now.count ≤ ROWS) ⊎ (ROWS ≡ 11452) }
-    requires means { header.now.count ≤ COUNT }
-    requires positions { COUNT ≤ 46062 }
+    requires places { header.now.count < PLACES }
+    requires positions { PLACES ≤ 46063 }
+    requires work { record_place (version_by header.now.version) header.now.count
+        ≤ length work.old }
     requires room { record_place (version_by header.now.version) header.now.count
         ≤ length room.old }
     ensures len { length room.new ≡ length room.old }
@@ -62,20 +69,23 @@ fn fill<const ROWS: usize, const COUNT: usize>(header: &Header, room: &mut [u8])
     ensures rest { drop (record_place (version_by header.now.version) header.now.count) room.new
         ≡ drop (record_place (version_by header.now.version) header.now.count) room.old }
 {
-    room[..HEADER_BYTES].copy_from_slice(header_bytes(header).as_slice());
+    room[..HEADER_BYTES].copy_from_slice(&header_bytes(header));
     let ranks = Ranks::new();
     let mut least: LeastPlays<ROWS> = LeastPlays::new();
-    let mut means = [Scaled::ZERO; COUNT];
+    let mut means = [Scaled::ZERO; PLACES];
+    let mut places = [0; PLACES];
     for rank in 0..header.count {
         let index = usize::from(rank);
         let position = ranks.unrank(rank).unwrap();
-        let lower = StoredRecords {
-            header,
+        let lower = KeptRecords {
             means: &means[..index],
-            bytes: room,
+            places: &places,
+            room: work,
         };
         let made = next_record(&ranks, &position, &lower, &mut least);
         means[index] = made.mean;
+        let end = most_rolls(position.pips()) + 1;
+        keep(work, &mut places, rank, end, &made.spread);
         put_record(header, rank, &made, room);
     }
 }

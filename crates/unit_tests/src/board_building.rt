@@ -1,5 +1,5 @@
 //! A board file in the first bytes of a room, and the refusals of its builder.
-use board_build::{BoardBuildFault, build_board};
+use retrograde::{BoardBuildFault, build_board};
 use std::process::Abort;
 
 /// The board file of bound 1: from the ace point one checker is off with the first of all 36

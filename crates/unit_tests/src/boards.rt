@@ -1,6 +1,7 @@
 //! Headers of board files, and where their records stand.
-use board_layout::{BoardHeader, BoardRecord, board_length, count_place, parse_board_header};
-use db_layout::HeaderFault;
+use db_layout::{
+    BoardHeader, BoardRecord, HeaderFault, board_length, count_place, parse_board_header,
+};
 use std::process::Abort;
 
 /// The board file of bound 0: its header, and the record of the finished position.

@@ -1,7 +1,7 @@
 //! Tests of positions, plays, ranks, fractions, least plays, the layout of records and the builder
 //! of the board file, each by its public functions. They stand in a crate of their own since the
 //! gate proves a crate a second time for its tests; those of whole files are in `file_tests`. It
-//! rests on the crates from `home_board` up to `board_build`; nothing stands on it, and it has no
+//! rests on the crates from `home_board` up to `retrograde`; nothing stands on it, and it has no
 //! function but its tests and their helpers.
 #![tactic(auto)]
 

@@ -114,7 +114,8 @@ end_err paths names bytes first now past rest since told ended fault apart is al
         told_is = step.1 ∙ ap (λ l. Some (next ∷ l)) along;
         each = (
           less_old place bytes first now next (λ e may.
-              ⊎_elim (λ before. before) (λ gone. absurd (apart (sym gone.0))) (step.2.crash place e may))
+              ⊎_elim (λ before. before) (λ gone. absurd (apart (sym gone.0)))
+              (step.2.crash place e may))
               step.2.sure whole,
           each,
         );
@@ -141,7 +142,8 @@ pub end_unsettled : {T : Type 0} (paths : Paths) (names : Names) (bytes : List �
 end_unsettled paths names bytes first past begun settled ended fault draft is same gone =
     let place = place_of paths (string_bytes names.place) in
     end_err paths names bytes first first past past []
-    settled ended fault draft.apart (same ∙ is) refl tt (old_itself place bytes first) (inl refl) gone
+    settled ended fault draft.apart (same ∙ is) refl tt (old_itself place bytes first)
+    (inl refl) gone
 
 -- the file could not be given its last name
 pub end_unnamed : {T : Type 0} (paths : Paths) (names : Names) (bytes : List ℕ)
@@ -158,7 +160,8 @@ end_unnamed paths names bytes first past begun settled named ended fault draft i
     let step = steps first past is in
     let whole = settled_old paths names bytes first step.0 draft step.2 in
     end_err paths names bytes first step.0 past
-    (first ∷ past) (step.0 ∷ []) named ended fault draft.apart (same ∙ step.1) refl (whole, tt) whole
+    (first ∷ past) (step.0 ∷ []) named ended fault draft.apart (same ∙ step.1) refl
+    (whole, tt) whole
     (inl (ap (λ at. at place) step.2.at)) gone
 
 -- how the draft stands once it has its last name
@@ -191,7 +194,8 @@ named_so paths names bytes first past begun settled named draft is steps renames
       settled = step.0;
       is = rename.1;
       first_whole = whole;
-      whole = renamed_old from place bytes draft.file first step.0 rename.0 draft.apart at sure rename.2
+      whole = renamed_old from place bytes draft.file first step.0 rename.0 draft.apart at sure
+          rename.2
           whole;
       holds = (draft.file, rename.2.moved ∙ at, ap (λ s. s draft.file) rename.2.sure ∙ sure);
     }
@@ -218,7 +222,8 @@ end_unsure paths names bytes first past begun settled named ended fault draft is
       };
       ends = λ last before e.
           subst (λ m. (m.at place ≡ first.at place) ⊎ Holds m place bytes)
-          (sym (last_of so.now last (so.settled ∷ first ∷ past) before (same ∙ so.is) e)) (inr so.holds);
+          (sym (last_of so.now last (so.settled ∷ first ∷ past) before (same ∙ so.is) e))
+          (inr so.holds);
     }
 
 -- all went well

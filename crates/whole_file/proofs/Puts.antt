@@ -60,7 +60,8 @@ put_beside {T} paths path to names begun written old mid new Whole bytes done fi
     (ready.0 last.0 last.1 last.2)) in
     let place = place_of paths to in
     record {
-      goes = runs_on (IsOldOrWhole place Whole) (old_twice place Whole) first past goes.since mid new
+      goes = runs_on (IsOldOrWhole place Whole)
+          (old_twice place Whole) first past goes.since mid new
           goes.told_is
           (each_so (IsSameBehind paths path first) (IsOldOrWhole place Whole first)
           (λ m same. same_old place Whole first m (same to leads)) goes.since goes.each)
@@ -72,7 +73,8 @@ put_beside {T} paths path to names begun written old mid new Whole bytes done fi
           (record {
             since = finishes.goes.since;
             told_is = finishes.goes.told_is;
-            each = each_so (IsOldOrWhole place (λ b. b ≡ bytes) last.0) (IsOldOrWhole place Whole last.0)
+            each = each_so (IsOldOrWhole place (λ b. b ≡ bytes) last.0)
+                (IsOldOrWhole place Whole last.0)
                 (λ m either left may. ⊎_elim (λ before. inl before)
                 (λ so. inr (so.0, so.1, subst Whole (sym so.2) whole)) (either left may))
                 finishes.goes.since finishes.goes.each;
@@ -91,7 +93,8 @@ pub puts : {S T E : Type 0} (paths : Paths) (path : List ℕ) (names : Option Na
     → IfErr written (λ fault. result ≡ Err fault)
     → OnOk result (IsPut {T = Unit {0}} paths names handed mid new (Ok tt))
     → OnOk result (Puts paths path Whole old new)
-puts paths path names begun handed old mid new Whole written (Err fault) is_begun whole failed is_put
+puts paths path names begun handed old mid new Whole written
+    (Err fault) is_begun whole failed is_put
     = tt
 puts paths path names begun handed old mid new Whole (Err fault) (Ok done) is_begun whole failed
     is_put = absurd (cc)
@@ -101,5 +104,6 @@ puts paths path None begun handed old mid new Whole (Ok x) (Ok done) is_begun wh
     inl (is_put begun.0, begun.1)
 puts paths path (Some names) begun handed old mid new Whole (Ok x) (Ok done) is_begun whole failed
     is_put = λ first past is to leads.
-    inr (put_beside {T = Unit {0}} paths path to names begun handed old mid new Whole whole.0 tt first
+    inr (put_beside {T = Unit {0}} paths path to names begun handed old mid new Whole whole.0 tt
+    first
     past is_begun whole.1 whole.2 is_put is leads)

@@ -14,7 +14,8 @@ none_below : (c : ℕ) (text : List ℕ) (n : ℕ)
     → ((i : ℕ) → i < n → get_or text i 0 ≡ c → ⊥) → rfind_below c text n ≡ None
 none_below c text zero h = refl
 none_below c text (suc n) h =
-    cond-false _ _ _ (ne_eqb _ c (h n (omega arith))) ∙ none_below c text n (λ i l. h i (omega arith))
+    cond-false _ _ _ (ne_eqb _ c (h n (omega arith)))
+    ∙ none_below c text n (λ i l. h i (omega arith))
 
 -- the last byte that is c
 last_below : (c : ℕ) (text : List ℕ) (k n : ℕ) → k < n → get_or text k 0 ≡ c
@@ -22,14 +23,16 @@ last_below : (c : ℕ) (text : List ℕ) (k n : ℕ) → k < n → get_or text k
 last_below c text k zero l at h = absurd (omega arith)
 last_below c text k (suc n) l at h =
     ⊎_elim
-    (λ e. cond-true _ _ _ (eq-eqb _ c (ap (λ j. get_or text j 0) (sym e) ∙ at)) ∙ ap (λ j. Some j) (sym e))
+    (λ e. cond-true _ _ _ (eq-eqb _ c (ap (λ j. get_or text j 0) (sym e) ∙ at))
+    ∙ ap (λ j. Some j) (sym e))
     (λ other. cond-false _ _ _ (ne_eqb _ c (h n (omega arith) (omega arith)))
     ∙ last_below c text k n (omega arith) at (λ i a b. h i a (omega arith)))
     (cases_eq k n)
 
 -- what `rsplit_once` answers at an ASCII character
 pub split_at_last : (c : ℕ) (text : List ℕ) (r : Option (Bor (List ℕ) × Bor (List ℕ)))
-    → MatchOption r (RFindsChar c text None) (λ x. (i : ℕ) × (j : ℕ) × RFindsChar c text (Some (i, j))
+    → MatchOption r (RFindsChar c text None)
+    (λ x. (i : ℕ) × (j : ℕ) × RFindsChar c text (Some (i, j))
     × (x.0.now ≡ take i text) × (x.1.now ≡ drop j text) × (i ≤ j) × (length x.0.now ≡ i)
     × (length x.1.now + j ≡ length text))
     → c < 128 → option_map (λ x. (x.0.now, x.1.now)) r ≡ rsplit_once c text

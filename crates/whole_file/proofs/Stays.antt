@@ -142,7 +142,8 @@ path_stays_twice paths path old mid new first second now past is =
 
 -- a new file that was made beside a place is a draft for it
 pub ready : (paths : Paths) (names : Names) (contents : Option (List ℕ))
-    (old new : Option (List Moment)) → string_bytes names.folder ≡ folder_of (string_bytes names.place)
+    (old new : Option (List Moment)) → string_bytes names.folder
+    ≡ folder_of (string_bytes names.place)
     → place_of paths (string_bytes names.new) ≢ place_of paths (string_bytes names.place)
     → Steps (Creates (place_of paths (string_bytes names.new))) old new
     → ((moments : List Moment) → old ≡ Some moments → contents ≡ Some [])
@@ -209,7 +210,8 @@ stays_dropped paths names place contents old mid new same stays is_ready gone fi
     let draft = (is_ready first past is).0 last.0 last.1 last.2 in
     let apart : place_of paths (string_bytes names.new) ≢ place_of paths place =
     λ e. draft.apart (e ∙ ap (place_of paths) (sym same)) in
-    stays_twice (place_of paths place) old mid new stays (stays_gone _ _ mid new apart gone) first past
+    stays_twice (place_of paths place) old mid new stays
+    (stays_gone _ _ mid new apart gone) first past
     is
 
 -- a draft stays one with its writer

@@ -85,7 +85,8 @@ same_question w (spread_test r i) (mean_test q) a b e h = absurd (omega (arith))
 same_question w (spread_test r i) (spread_test q j) a b e h = ap₂ spread_test e (omega arith)
 
 -- there is at most one first answer that is no
-pub one_fault : (b : Book) (holds : Test → Type 0) (t u : Test) → IsFirstFailing (AsksIn b) holds t →
+pub one_fault : (b : Book) (holds : Test → Type 0) (t u : Test)
+    → IsFirstFailing (AsksIn b) holds t →
     IsFirstFailing (AsksIn b) holds u → t ≡ u
 one_fault b holds t u first second = ⊎_elim
     (λ earlier. absurd (first.fails (second.earlier t first.is_asked earlier)))

@@ -2,7 +2,7 @@ use Rattle.std.proofs.Common.{◌≡◌, ℕ, ◌≤◌, List, length, take, sym
 use Rattle.std.proofs.lemmas.List.{length-take-le}
 use Rattle.race_model.specs.Ranks.{count_to}
 use Rattle.race_model.specs.BoardFiles.{board_place}
-use Rattle.board_build.specs.BuiltBoards.{IsBuiltBoard}
+use Rattle.retrograde.specs.BuiltBoards.{IsBuiltBoard}
 use Rattle.bearoff_c.proofs.board_building.bearoff_board_build.Goals as goal
 
 -- a built board file has a bound of at most 90

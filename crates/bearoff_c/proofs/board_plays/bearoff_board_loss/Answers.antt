@@ -1,34 +1,37 @@
--- Whether the roll leads to the result decides, once nothing else refuses.
-use Rattle.std.proofs.Common.{sym, arith, rules}
+use Rattle.std.proofs.Common.{◌≡◌, ◌↔◌, ℕ, Bool, List, None, ap, sym, subst, subst₂, ◌∙◌}
 use Rattle.race_model.specs.Plays.{Legal}
-use Rattle.bearoff_c.proofs.Refusing.{loss_told}
+use Rattle.race_model.specs.Files.{bound_of}
+use Rattle.race_model.specs.BoardFiles.{board_book}
+use Rattle.race_model.specs.Losses.{loss_in, IsLossIn}
+use Rattle.legal_plays.specs.Faces.{face, roll_of}
+use Rattle.bearoff_c.specs.Refusals.{loss_refusal, status_of}
+use Rattle.bearoff_c.proofs.Refusing.{open_known}
 use Rattle.bearoff_c.proofs.board_plays.bearoff_board_loss.Goals as goal
 
-pub returns-then-is_none-clause-not_legal : goal.returns-then-is_none-clause-not_legal
-returns-then-is_none-clause-not_legal c =
-    let read = c.in-Ok.ensures {u = tt} in
-    let told = c.in-Ok-find_board_turn.ensures {u = tt} in
-    let not : ¬ Legal c.in-Ok-find_board_turn.turn.position c.in-Ok-find_board_turn.turn.roll c.in-Ok.ends.after =
-    search rules in (
-      λ e. (
-        loss_told c.args.board.now.is_open c.args.board.now.bound
-            c.args.position.now.points c.args.one c.args.other c.args.to.now.points
-            (sym read.refusal) (sym told.refusal),
-        λ legal. not (rw (told.position, told.roll, read.after) legal),
-      ),
-      λ both. c.status-then-is_none.ensures.value,
-    )
+pub returns-in-Ok-clause-not_legal : goal.returns-in-Ok-clause-not_legal
+returns-in-Ok-clause-not_legal c =
+    let told = c.in-Ok.ensures {u = tt} in
+    let x = c.args.position.now.points in
+    let y = c.args.to.now.points in
+    subst₂ (λ (opened : Bool) (bound : ℕ). (c.tell_loss.result ≡ 6)
+    ↔ ((loss_refusal opened bound x c.args.one c.args.other y ≡ None)
+    × (¬ Legal x (roll_of (face c.args.one) (face c.args.other)) y)))
+    (open_known c.args.board.now.is_open told.refusal) (ap bound_of told.bytes ∙ sym told.bound)
+    c.tell_loss.ensures.not_legal
 
-pub loss-requires-clause-legal : goal.loss-requires-clause-legal
-loss-requires-clause-legal c = c.play_to.ensures.legal.0 (c.if-is_none.ensures {u = tt})
+pub returns-in-Ok-clause-status : goal.returns-in-Ok-clause-status
+returns-in-Ok-clause-status c = λ other.
+    let told = c.in-Ok.ensures {u = tt} in
+    subst₂ (λ (opened : Bool) (bound : ℕ). c.tell_loss.result ≡ status_of
+    (loss_refusal opened bound c.args.position.now.points c.args.one c.args.other
+    c.args.to.now.points))
+    (open_known c.args.board.now.is_open told.refusal) (ap bound_of told.bytes ∙ sym told.bound)
+    (c.tell_loss.ensures.status other)
 
-pub returns-clause-not_legal : goal.returns-clause-not_legal
-returns-clause-not_legal c =
-    let read = c.in-Ok.ensures {u = tt} in
-    let told = c.in-Ok-find_board_turn.ensures {u = tt} in
-    let found : Legal c.in-Ok-find_board_turn.turn.position c.in-Ok-find_board_turn.turn.roll c.in-Ok.ends.after =
-    c.play_to.ensures.legal.0 (c.if-is_none.ensures {u = tt}) in
-    let legal = rw (told.position, told.roll, read.after) at found in (
-      λ e. absurd (omega (arith, e)),
-      λ both. absurd (both.1 legal),
-    )
+pub returns-in-Ok-clause-lost : goal.returns-in-Ok-clause-lost
+returns-in-Ok-clause-lost c = λ ok.
+    let x = c.args.position.now.points in
+    let v = roll_of (face c.args.one) (face c.args.other) in
+    let y = c.args.to.now.points in
+    subst (λ (f : List ℕ). IsLossIn 33 x v y (loss_in (board_book f) x v y))
+    (c.in-Ok.ensures {u = tt}).bytes (c.tell_loss.ensures.lost ok)

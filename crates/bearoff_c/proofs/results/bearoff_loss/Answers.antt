@@ -8,7 +8,8 @@ pub returns-then-is_none-clause-not_legal : goal.returns-then-is_none-clause-not
 returns-then-is_none-clause-not_legal c =
     let read = c.in-Ok.ensures {u = tt} in
     let told = c.in-Ok-find_turn.ensures {u = tt} in
-    let not : ¬ Legal c.in-Ok-find_turn.turn.position c.in-Ok-find_turn.turn.roll c.in-Ok.ends.after =
+    let not : ¬ Legal c.in-Ok-find_turn.turn.position c.in-Ok-find_turn.turn.roll
+    c.in-Ok.ends.after =
     search rules in (
       λ e. (
         loss_told c.args.database.now.is_open c.args.database.now.bound
@@ -26,7 +27,8 @@ pub returns-clause-not_legal : goal.returns-clause-not_legal
 returns-clause-not_legal c =
     let read = c.in-Ok.ensures {u = tt} in
     let told = c.in-Ok-find_turn.ensures {u = tt} in
-    let found : Legal c.in-Ok-find_turn.turn.position c.in-Ok-find_turn.turn.roll c.in-Ok.ends.after =
+    let found : Legal c.in-Ok-find_turn.turn.position c.in-Ok-find_turn.turn.roll
+    c.in-Ok.ends.after =
     c.play_to.ensures.legal.0 (c.if-is_none.ensures {u = tt}) in
     let legal = rw (told.position, told.roll, read.after) at found in (
       λ e. absurd (omega (arith, e)),

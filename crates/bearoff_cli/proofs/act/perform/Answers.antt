@@ -19,12 +19,13 @@ read : (g : Over) (c : After-read_words g) (asked : Asked)
 read g c =
     let words = c.read_words.ensures in
     read_as g.S.AsStr.text c.args.words.now c.read_words.result words.nothing words.build
-    words.build_board words.check words.query words.query_by words.audit words.upgrade
+    words.build_board words.check words.query words.query_by words.ask words.audit
+    words.upgrade
 
 pub returns-in-Err-clause-fault : goal.returns-in-Err-clause-fault
 returns-in-Err-clause-fault g c asked asks =
     memory_end g.D.Reader.Read.remaining asked (g.I.Read.remaining c.args.input.now)
-    (g.I.Read.remaining c.args.input.now) (g.O.Write.contents c.args.output.now)
+    (g.O.Write.contents c.args.output.now)
 
 pub returns-in-Ok-clause-done : goal.returns-in-Ok-clause-done
 returns-in-Ok-clause-done g c asked asks =

@@ -17,5 +17,6 @@ pub returns-clause-put : goal.returns-clause-put
 returns-clause-put g c file told =
     puts (g.D.Disk.paths c.args.disk.now) c.args.path.now c.in_ok-draft.draft.names _ _
     (g.D.Disk.told c.args.disk.now) _ _ (IsUpgrade file) c.upgrade_into-written.result
-    c.finish_file.result c.in_ok-draft.ensures.begun (c.upgrade_into-written.ensures.upgraded file told) c.finish_file.ensures.fault
+    c.finish_file.result c.in_ok-draft.ensures.begun
+    (c.upgrade_into-written.ensures.upgraded file told) c.finish_file.ensures.fault
     (rw c.in_ok-draft.ensures.paths at c.finish_file.ensures.put)

@@ -1,11 +1,12 @@
 -- The records are checked by rising rank; each is accepted or has the first fault.
 use Rattle.std.proofs.Common.{◌+◌, Err, sym, ap, subst, ◌∙◌, arith, rules}
 use Rattle.race_model.specs.Ranks.{count_to}
+use Rattle.race_model.specs.LocalEquations.{IsLocalAt}
 use Rattle.certificate.specs.CheckFaults.{IsFirst}
 use Rattle.certificate.specs.KeptMeans.{kept_mean}
 use Rattle.certificate.specs.LowerRecords.{IsLower}
 use Rattle.db_reader.proofs.Failures.{err-same, table_first, table_then, table_as, table_more}
-use Rattle.certificate.proofs.FileTests.{fault-of_file, fault-read, accepted-more, accepted-all}
+use Rattle.certificate.proofs.FileTests.{fault-of_file, fault-read, accepted-more, local-of_all}
 use Rattle.certificate.proofs.checker.check_with_room.Goals as goal
 
 pub check_record-requires : goal.check_record-requires
@@ -65,7 +66,7 @@ loop-rank-preserved g c =
       kept =
           subst (λ told. IsLower told c.check_record.new.lower (c.loop-rank.rank + 1))
           before.stays.told fine.kept;
-      lower = λ file told. accepted-more file c.loop-rank.rank (before.lower file told)
+      lower = λ file told. accepted-more (IsLocalAt file) c.loop-rank.rank (before.lower file told)
           (fine.local file (before.stays.told ∙ told));
     }
 
@@ -73,7 +74,7 @@ pub returns-clause-local : goal.returns-clause-local
 returns-clause-local g c file told =
     let said = c.requires.file file told in
     let count = c.args.header.counted ∙ ap count_to said.bound_is in
-    accepted-all file c.loop-rank.rank said.file (omega (arith, count, c.loop-rank-test.false))
+    local-of_all file c.loop-rank.rank said.file (omega (arith, count, c.loop-rank-test.false))
     (c.loop-rank.invariant.lower file told)
 
 pub loop-rank-init : goal.loop-rank-init

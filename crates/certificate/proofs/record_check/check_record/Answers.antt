@@ -18,8 +18,8 @@ use Rattle.race_model.specs.Files.{book_of}
 use Rattle.least_plays.specs.Recorded.{IsLeastPlay, IsFirstRefusedIn}
 use Rattle.least_plays.specs.declared.recorded.PlayFault.{PlayFault}
 use Rattle.least_plays.specs.declared.recorded.PlayFault.TheVariants.{NotLegal, NotLeast}
-use Rattle.certificate.specs.declared.record_check.RecordFault.{RecordFault}
-use Rattle.certificate.specs.declared.record_check.RecordFault.TheVariants.{Read as ReadRecord}
+use Rattle.certificate.specs.declared.check_fault.RecordFault.{RecordFault}
+use Rattle.certificate.specs.declared.check_fault.RecordFault.TheVariants.{Read as ReadRecord}
 use Rattle.db_layout.proofs.Bounds.{bound-most}
 use Rattle.least_plays.specs.Known.{HasRows, Knows}
 use Rattle.db_reader.specs.TableStays.{TableStays}
@@ -29,7 +29,7 @@ use Rattle.std.proofs.lemmas.Bool.{false≢true}
 use Rattle.certificate.specs.KeptMeans.{kept_mean}
 use Rattle.fixed_fraction.specs.Totals.{Totals}
 use Rattle.certificate.specs.RecordNumbers.{HasNumbers}
-use Rattle.certificate.specs.RecordFaults.{IsFirstFaultAt, IsNumberFault, of_record}
+use Rattle.certificate.specs.RecordFaults.{IsFirstFaultAt, IsNumberFault, of_refused}
 use Rattle.certificate.proofs.Accepted.{play-of_lent}
 use Rattle.certificate.proofs.RecordBytes.{mean-of_record, get_or-plays_of}
 use Rattle.certificate.specs.Addends.{IsAddend}
@@ -166,7 +166,8 @@ sum_plays-requires-clause-have g c i lt =
     let r = slice_index c.plays_in-recorded.result i in
     let y = legal_position c.unwrap-position.result (roll_at i) (at_rank r) (at g here) is.0 in
     let fewer = legal_pips c.unwrap-position.result (roll_at i) (at_rank r) is.0 in
-    let under = (rank_bound (at_rank r) c.args.header.bound y).1 (omega (arith, fewer, low g here)) in
+    let under = (rank_bound (at_rank r) c.args.header.bound y).1
+    (omega (arith, fewer, low g here)) in
     subst (λ accepted. HasRecord accepted r)
     (sym ((c.in_default.ensures {u = tt}).accepted ∙ c.requires.header))
     (omega (arith, c.args.header.counted, under, is.1))
@@ -197,12 +198,12 @@ returns-in-Err-check_plays-clause-first g c file told =
     (slice_index c.plays_in-recorded.result) (kept-is g here file told)
     (recorded_at g here file ((c.in_default.ensures {u = tt}).stays ∙ told)) refused
     (c.in-Err-check_plays.ensures {u = tt}).fault in
-    subst (IsFirstFaultAt file c.args.rank) (sym c.of_record.ensures)
+    subst (IsFirstFaultAt file c.args.rank) (sym c.of_refused.ensures)
     (first-refused file c.args.rank lt refused
     (subst (λ (x : Board). IsFirstRefusedIn (book_of file) x refused) same first))
 
 -- a refused play is no failed read
-play-unread : (roll : ℕ) (fault : PlayFault) → of_record roll fault ≡ ReadRecord → ⊥
+play-unread : (roll : ℕ) (fault : PlayFault) → of_refused roll fault ≡ ReadRecord → ⊥
 play-unread roll NotLegal e = cc
 play-unread roll NotLeast e = cc
 
@@ -215,7 +216,7 @@ returns-in-Err-check_plays-clause-stays g c =
       accepted = loaded.accepted;
       cause = λ file told. rose_as (loaded.cause file told)
           (λ e. absurd (play-unread refused.roll refused.fault
-          (sym c.of_record.ensures ∙ err-same e)))
+          (sym c.of_refused.ensures ∙ err-same e)))
           (λ no. absurd (false≢true no));
     }
 

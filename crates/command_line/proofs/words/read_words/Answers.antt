@@ -25,3 +25,9 @@ returns-in-upgrade-clause-upgrade g c old new old_plain new_plain words_are =
     let parts : map g.S.AsStr.text c.args.words.now ≡ c.as_str.result.now
     ∷ map g.S.AsStr.text c.in-Some.rest.now = search rules in
     c.read_upgrade.ensures.given old new old_plain new_plain (ap (drop 1) (sym parts ∙ words_are))
+
+pub returns-in-ask-clause-ask : goal.returns-in-ask-clause-ask
+returns-in-ask-clause-ask g c path line lines plain all words_are =
+    let parts : map g.S.AsStr.text c.args.words.now ≡ c.as_str.result.now
+    ∷ map g.S.AsStr.text c.in-Some.rest.now = search rules in
+    c.read_ask.ensures.given path line lines plain all (ap (drop 1) (sym parts ∙ words_are))

@@ -16,13 +16,13 @@ loop-spread-preserved g c =
       wholes = λ i lt. ⊎_elim (λ less. c.loop-spread.invariant.wholes i less)
           (λ same.
           ap (λ j. sum (get_or (map g.S.Distribution.shares c.args.spreads.now) j [])) same
-          ∙ (ap sum here ∙ c.share-start.ensures.total))
+          ∙ (ap sum here ∙ c.end-end.ensures.total))
           (split i n lt);
       lengths = λ i lt. ⊎_elim (λ less. c.loop-spread.invariant.lengths i less)
           (λ same.
           ap (λ j. length (get_or (map g.S.Distribution.shares c.args.spreads.now) j []))
           same
-          ∙ (ap length here ∙ c.share-start.ensures.len))
+          ∙ (ap length here ∙ c.end-end.ensures.len))
           (split i n lt);
     }
 

@@ -1,73 +1,76 @@
-use Rattle.std.proofs.Common.{◌≡◌, ℕ, ◌+◌, ◌*◌, ◌≤◌, List, [], map, get_or, sum_by, take, sym, ap}
-use Rattle.std.proofs.Common.{◌∙◌, arith}
+-- By the loop over the plays, each of which has at most the whole.
+use Rattle.std.proofs.Common.{◌≡◌, ℕ, ◌<◌, ◌≤◌, List, [], map, get_or, sym, ap, ◌∙◌, arith}
+use Rattle.std.specs.Int.{w128}
+use Rattle.std.proofs.Math.Facts.{Fits-of_lt}
 use Rattle.std.proofs.lemmas.List.{get_or-map}
-use Rattle.race_model.specs.Dice.{all_rolls, roll_index, weight}
+use Rattle.std.proofs.lemmas.List.Elements.{All-get_or}
 use Rattle.race_model.specs.LocalEquations.{whole}
 use Rattle.fixed_fraction.proofs.Shares.{share_at_most_sum}
-use Rattle.fixed_fraction.proofs.RollSums.{roll-added, roll-bound, rolls-fit, rolls-done}
-use Rattle.fixed_fraction.proofs.RollSums.{weights-by_index}
+use Rattle.fixed_fraction.proofs.RollSums.{sum_at-more}
 use Rattle.fixed_fraction.proofs.sums.sum_of_shares.Given.{Over}
+use Rattle.fixed_fraction.proofs.sums.sum_of_shares.Goals.{After-share-total}
 use Rattle.fixed_fraction.proofs.sums.sum_of_shares.Goals as goal
 
--- the share that a roll leads to, by its index
-share : List (List ℕ) → ℕ → ℕ → ℕ
-share spreads k r = get_or (get_or spreads r []) k 0
+-- the play that comes next
+module _ (g : Over) (c : After-share-total g) where
+  abbrev spreads : List (List ℕ)
+  spreads = map g.S.Distribution.shares c.args.spreads.now
 
--- that of the next roll
-next : (g : Over) (c : goal.After-share g) → c.share.result
-    ≡ share (map g.S.Distribution.shares c.args.spreads.now) c.args.k c.loop-index.index
-unfolding share
-next g c =
-    c.share.ensures.value
-    ∙ ap (λ (xs : List ℕ). get_or xs c.args.k 0)
-    (sym (get_or-map g.S.Distribution.shares c.args.spreads.now c.loop-index.index
-    c.index-spreads-index.result []
-    (omega (arith, c.told-spreads, c.loop-index-test.true))))
+  inside : c.from.result < 21
+  inside =
+      omega (
+        arith,
+        c.from.ensures,
+        All-get_or (λ i. i < 21) c.args.indices.now c.loop-place.place 0 c.loop-place-test.true
+            c.requires.indices,
+      )
 
--- .. is no more than 22 wholes
-small : (g : Over) (c : goal.After-share g) → c.share.result ≤ 22 * whole
-small g c =
-    let most =
-    share_at_most_sum
-    (g.S.Distribution.shares
-    (get_or c.args.spreads.now c.loop-index.index c.index-spreads-index.result)) c.args.k in
-    omega (arith, most, c.share.ensures.value, c.share.ensures.total)
+  -- its share
+  next : c.share-total.result
+      ≡ get_or (get_or spreads (get_or c.args.indices.now c.loop-place.place 0) []) c.args.k 0
+  next =
+      c.share-total.ensures
+      ∙ ap (λ (xs : List ℕ). get_or xs c.args.k 0)
+      (sym (get_or-map g.S.Distribution.shares c.args.spreads.now c.from.result
+      c.index-spreads-from.result [] (omega (arith, c.told-spreads, inside)))
+      ∙ ap (λ i. get_or spreads i []) c.from.ensures)
 
--- the sum with the next roll is within the bound by the weights
-bounded : (g : Over) (c : goal.After-share g) →
-    c.loop-index.total + c.from.result * c.share.result
-    ≤ sum_by weight (take (c.loop-index.index + 1) all_rolls) * (22 * whole)
-unfolding share
-bounded g c =
-    roll-bound (share (map g.S.Distribution.shares c.args.spreads.now) c.args.k)
-    c.loop-index.index c.share.result c.from.result c.loop-index.total (22 * whole) c.loop-index-test.true (next g c) (small g c)
-    (c.from.ensures ∙ weights-by_index c.loop-index.index c.loop-index-test.true)
-    c.loop-index.invariant.total c.loop-index.invariant.small
-
-pub overflow_mul-total : goal.overflow_mul-total
-overflow_mul-total g c =
-    let fits = rolls-fit c.loop-index.index _ c.loop-index-test.true (bounded g c) in omega arith
+  -- .. is no more than the whole
+  most : c.share-total.result ≤ whole
+  most =
+      let i = get_or c.args.indices.now c.loop-place.place 0 in
+      omega (
+        arith,
+        next,
+        share_at_most_sum (get_or spreads i []) c.args.k,
+        c.requires.wholes i (omega (arith, inside, c.from.ensures)),
+      )
 
 pub overflow_add-total : goal.overflow_add-total
+unfolding whole
 overflow_add-total g c =
-    let fits = rolls-fit c.loop-index.index _ c.loop-index-test.true (bounded g c) in omega arith
+    let here = (goal.at.overflow_add-total g c).After-share-total in
+    Fits-of_lt {w = w128}
+    (omega (
+      arith,
+      most g here,
+      c.loop-place.invariant.small,
+      c.requires.room,
+      c.loop-place-test.true,
+    ))
 
-pub loop-index-preserved : goal.loop-index-preserved
-unfolding share
-loop-index-preserved g c = record {
-  total =
-      roll-added (share (map g.S.Distribution.shares c.args.spreads.now) c.args.k)
-      c.loop-index.index c.share.result c.from.result c.loop-index.total (22 * whole) c.loop-index-test.true (next g c) (small g c)
-      (c.from.ensures ∙ weights-by_index c.loop-index.index c.loop-index-test.true)
-      c.loop-index.invariant.total c.loop-index.invariant.small;
-  small = bounded g c;
-}
-
-pub returns : goal.returns
-unfolding share
-returns g c =
-    rolls-done
-    (λ v.
-    weight v * share (map g.S.Distribution.shares c.args.spreads.now) c.args.k (roll_index v))
-    c.loop-index.index c.loop-index.total (omega (arith, c.loop-index-test.false))
-    c.loop-index.invariant.total
+pub loop-place-preserved : goal.loop-place-preserved
+unfolding whole
+loop-place-preserved g c =
+    let here = (goal.at.loop-place-preserved g c).After-share-total in
+    record {
+      total =
+          omega (
+            arith,
+            next g here,
+            c.loop-place.invariant.total,
+            sum_at-more (spreads g here) c.args.indices.now c.loop-place.place c.args.k
+                c.loop-place-test.true,
+          );
+      small = omega (arith, most g here, c.loop-place.invariant.small);
+    }

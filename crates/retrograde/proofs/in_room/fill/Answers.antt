@@ -1,27 +1,32 @@
-use Rattle.std.proofs.Common.{◌≡◌, inl, inr, ⊎_elim, suc, ◌+◌, ◌-◌, ◌<◌, ◌≤◌, length, take, drop}
-use Rattle.std.proofs.Common.{sym, ap, ◌∙◌, arith, rules, add-one}
+use Rattle.std.proofs.Common.{◌≡◌, inl, inr, ⊎_elim, ℕ, suc, ◌+◌, ◌-◌, ◌*◌, ◌<◌, ◌≤◌, List, length, take, drop}
+use Rattle.std.proofs.Common.{sym, ap, ◌∙◌, arith, rules, add-one, refl, replicate, sum}
 use Rattle.std.specs.Prelude.{slice_index, slice_set}
 use Rattle.std.proofs.Common.{get_or-set_other, get_or-set_same}
 use Rattle.std.proofs.lemmas.Bool.{cases_lt}
-use Rattle.std.proofs.lemmas.List.{length-take, length-drop, length-append, length-set, length-replicate, get_or-take}
+use Rattle.std.proofs.lemmas.List.{length-take, length-drop, length-append, length-set, length-replicate}
+use Rattle.std.proofs.lemmas.List.{get_or-take, get_or-replicate}
 use Rattle.std.proofs.lemmas.Slice.{drop-append-drop}
 use Rattle.race_model.specs.Positions.{pips}
-use Rattle.race_model.specs.Ranks.{rank}
-use Rattle.race_model.proofs.Ranks.PositionTotals.{at_rank_under}
-use Rattle.race_model.specs.Versions.{version_by}
+use Rattle.race_model.specs.Ranks.{rank, at_rank, count_to}
+use Rattle.race_model.proofs.Ranks.PositionTotals.{at_rank_under, count_to-58}
+use Rattle.race_model.specs.Horizon.{most_rolls}
+use Rattle.race_model.specs.Versions.{Version, version_by}
+use Rattle.race_model.proofs.Strategies.Horizons.{most_rolls-most}
 use Rattle.race_model.specs.Files.{record_place}
 use Rattle.race_model.proofs.RightFiles.Places.{header_before, record_place-rises, record_place-next}
 use Rattle.least_plays.specs.Known.{HasRows, Knows}
 use Rattle.db_layout.proofs.Bounds.{rank-most}
 use Rattle.db_layout.proofs.WholeFiles.{header-length}
-use Rattle.retrograde.specs.AllRecords.{mean_of_rank, bytes_of_rank}
+use Rattle.retrograde.specs.AllRecords.{mean_of_rank, shares_of_rank, bytes_of_rank}
+use Rattle.retrograde.specs.KeptShares.{shares_kept}
 use Rattle.retrograde.specs.RecordBytes.{record_by}
 use Rattle.retrograde.proofs.Existence.{all-records}
 use Rattle.retrograde.proofs.Placed.{bytes-of_record, begins-first, begins-built}
 use Rattle.retrograde.proofs.Placed.{length-bytes_of_rank, next-length, next-rest, next-begins}
-use Rattle.retrograde.proofs.Told.{stored-shares, stored-whole}
+use Rattle.retrograde.proofs.KeptShares.{kept-short}
+use Rattle.retrograde.proofs.RankShares.{none-of_rank, whole-of_rank}
 use Rattle.retrograde.proofs.in_room.fill.Given.{Over}
-use Rattle.retrograde.proofs.in_room.fill.Goals.{After-from-index, After-next_record-made}
+use Rattle.retrograde.proofs.in_room.fill.Goals.{After-from-index, After-next_record-made, After-most_rolls-end}
 use Rattle.retrograde.proofs.in_room.fill.Goals as goal
 
 pub slice_bounds-copy_from_slice-end : goal.slice_bounds-copy_from_slice-end
@@ -47,7 +52,7 @@ copy_from_slice-requires g c =
       c.requires.room,
       header_before (version_by header.version) header.count,
       length-take 32 c.args.room.now,
-      ap length (c.as_slice.ensures.value ∙ c.header_bytes.ensures),
+      ap length c.header_bytes.ensures,
       header-length (version_by header.version) header.bound,
     )
 
@@ -58,8 +63,10 @@ loop-rank-init g c =
     let version = version_by header.version in
     let bytes = c.copy_from_slice.new.self in
     let is =
-    c.copy_from_slice.ensures.after ∙ c.as_slice.ensures.value ∙ c.header_bytes.ensures in
+    c.copy_from_slice.ensures.after ∙ c.header_bytes.ensures in
     let long : length bytes ≡ 32 = ap length is ∙ header-length version header.bound in
+    let start : slice_index (replicate g.row.PLACES 0) 0 ≡ 0 =
+    get_or-replicate {A = ℕ} g.row.PLACES 0 0 0 (omega (arith, c.requires.places)) in
     record {
       len =
           omega (
@@ -70,15 +77,30 @@ loop-rank-init g c =
             c.requires.room,
             header_before version header.count,
           );
-      many = length-replicate g.row.COUNT 0;
+      work_len = refl;
+      many = length-replicate g.row.PLACES 0;
+      places_len = length-replicate g.row.PLACES 0;
       means_are = λ r under. absurd (omega arith);
       written =
           begins-first version all-records header.bound bytes (drop 32 room) is long;
+      placed = record {
+        next = λ r under. absurd (omega arith);
+        few = λ r under. absurd (omega arith);
+        parts = λ r under. absurd (omega arith);
+        rise = λ r le. omega (arith, ap (slice_index (replicate g.row.PLACES 0)) (none r le));
+        inside = omega (arith, start);
+      };
+      before = omega (arith, start);
+      small = omega (arith, start);
+      kept = λ r under. absurd (omega arith);
       known = c.new-least.ensures (mean_of_rank all-records);
       rest =
           drop-append-drop 32 room bytes (record_place version header.count)
           (header_before version header.count) long;
     }
+  where
+    none : (r : ℕ) → r ≤ 0 → r ≡ 0
+    none r le = omega arith
 
 -- the means that are handed on are those of all lower ranks
 means_made : (g : Over) (c : After-from-index g) →
@@ -88,7 +110,7 @@ means_made g c =
       arith,
       c.from-index.ensures,
       c.loop-rank-test.true,
-      c.requires.means,
+      c.requires.places,
       c.loop-rank.invariant.many,
       length-take c.from-index.result c.loop-rank.means,
     )
@@ -99,13 +121,15 @@ invariant_of-lower g c =
     let version = version_by header.version in
     let n = c.loop-rank.rank in
     let made = means_made g (goal.at.invariant_of-lower g c).After-from-index in
+    let kept = c.loop-rank.invariant in
+    let under = rank-most header n c.loop-rank-test.true in
     record {
-      few = omega (arith, made, c.loop-rank-test.true);
-      long = omega (arith, c.requires.room, c.loop-rank.invariant.len);
-      wholes = λ r under.
-          stored-whole version all-records header.bound n
-          (omega (arith, rank-most header n c.loop-rank-test.true)) c.loop-rank.room
-          c.loop-rank.invariant.written r (omega (arith, made, under));
+      few = omega (arith, made, under, count_to-58);
+      more = omega (arith, made, kept.places_len, c.requires.places, c.loop-rank-test.true);
+      placed = rw made kept.placed;
+      wholes = λ r lt.
+          ap sum (kept.kept r (omega (arith, made, lt)))
+          ∙ whole-of_rank all-records r (omega (arith, made, lt, under));
     }
 
 pub next_record-made-requires : goal.next_record-made-requires
@@ -142,10 +166,7 @@ next_record-made-requires g c κs within =
                           get_or-take c.from-index.result c.loop-rank.means r 0
                           (omega (arith, lt, made, c.from-index.ensures))
                           ∙ kept.means_are r (omega (arith, lt, made));
-                      shares_are = λ r from lt.
-                          stored-shares (version_by header.version) all-records header.bound n
-                          (omega (arith, under)) c.loop-rank.room kept.written r
-                          (omega (arith, lt, made));
+                      shares_are = λ r from lt. kept.kept r (omega (arith, lt, made));
                     },
                     (
                       ranked ∙ sym made,
@@ -206,6 +227,99 @@ module _ (g : Over) (c : After-next_record-made g) where
         ap (record_place version) parts,
       )
 
+-- the shares of the rank have room where they are kept
+module _ (g : Over) (c : After-most_rolls-end g) where
+  abbrev version : Version
+  version = version_by c.args.header.now.version
+
+  under : c.loop-rank.rank < count_to 58
+  under = rank-most c.args.header.now c.loop-rank.rank c.loop-rank-test.true
+
+  position_is : c.unwrap-position.result ≡ at_rank c.loop-rank.rank
+  position_is = rw c.unwrap-position.ensures at c.unrank.ensures.value
+
+  low : pips (at_rank c.loop-rank.rank) ≤ 58
+  low = (at_rank_under 58 c.loop-rank.rank under).1
+
+  end_is : c.most_rolls-end.result ≡ most_rolls (pips (at_rank c.loop-rank.rank))
+  end_is = c.most_rolls-end.ensures ∙ ap most_rolls (c.pips.ensures.value ∙ ap pips position_is)
+
+  -- .. before the next record begins
+  next_before : slice_index c.loop-rank.places c.loop-rank.rank
+      + 16 * (c.most_rolls-end.result + 1)
+      ≤ record_place version (c.loop-rank.rank + 1)
+  next_before =
+      omega (
+        arith,
+        c.loop-rank.invariant.before,
+        kept-short version (pips (at_rank c.loop-rank.rank)) low,
+        end_is,
+        record_place-next version c.loop-rank.rank,
+        ap (record_place version) (add-one c.loop-rank.rank),
+      )
+
+  -- .. and so inside the room
+  next_inside : record_place version (c.loop-rank.rank + 1)
+      ≤ record_place version c.args.header.now.count
+  next_inside =
+      let n = c.loop-rank.rank in
+      let count = c.args.header.now.count in
+      let parts : suc n + (count - suc n) ≡ count = omega (arith, c.loop-rank-test.true) in
+      omega (
+        arith,
+        record_place-next version n,
+        record_place-rises version n (count - suc n),
+        ap (record_place version) parts,
+        ap (record_place version) (add-one n),
+      )
+
+  -- .. and there are no others
+  no_more : (k : ℕ) → c.most_rolls-end.result + 1 ≤ k →
+      slice_index c.next_record-made.result.spread k ≡ 0
+  no_more k past =
+      ap (λ (xs : List ℕ). slice_index xs k)
+      (c.next_record-made.ensures.record_is.shares_are
+      ∙ ap (shares_of_rank all-records) (rw c.unwrap-position.ensures at c.unrank.ensures.ranked))
+      ∙ none-of_rank all-records c.loop-rank.rank under k (omega (arith, past, end_is))
+
+pub keep-requires : goal.keep-requires
+keep-requires g c =
+    let here = (goal.at.keep-requires g c).After-most_rolls-end in
+    let kept = c.loop-rank.invariant in
+    let few = most_rolls-most (pips (at_rank c.loop-rank.rank)) (low g here) in (
+      omega (arith, c.requires.positions),
+      (
+        kept.placed,
+        (
+          omega (arith, few, end_is g here),
+          (
+            omega (arith, c.loop-rank-test.true, c.requires.places),
+            (
+              omega (
+                arith,
+                kept.small,
+                few,
+                end_is g here,
+                c.loop-rank-test.true,
+                c.requires.places,
+                c.requires.positions,
+              ),
+              (
+                omega (
+                  arith,
+                  next_before g here,
+                  next_inside g here,
+                  c.requires.work,
+                  kept.work_len,
+                ),
+                no_more g here,
+              ),
+            ),
+          ),
+        ),
+      ),
+    )
+
 pub put_record-requires-clause-room : goal.put_record-requires-clause-room
 put_record-requires-clause-room g c =
     let header = c.args.header.now in
@@ -215,6 +329,7 @@ put_record-requires-clause-room g c =
 pub loop-rank-preserved : goal.loop-rank-preserved
 loop-rank-preserved g c =
     let here = (goal.at.loop-rank-preserved g c).After-next_record-made in
+    let last = (goal.at.loop-rank-preserved g c).After-most_rolls-end in
     let header = c.args.header.now in
     let version = version_by header.version in
     let n = c.loop-rank.rank in
@@ -225,12 +340,34 @@ loop-rank-preserved g c =
     let parts : suc n + (header.count - suc n) ≡ header.count =
     omega (arith, c.loop-rank-test.true) in
     let at : c.from-index.result < length c.loop-rank.means =
-    omega (arith, c.from-index.ensures, c.loop-rank-test.true, c.requires.means, kept.many) in
+    omega (arith, c.from-index.ensures, c.loop-rank-test.true, c.requires.places, kept.many) in
     record {
       len =
           next-length version all-records header.bound n under c.loop-rank.room bytes
           c.put_record.new.room (inside g here) record_is c.put_record.ensures
           ∙ kept.len;
+      work_len = c.keep.ensures.room ∙ kept.work_len;
+      places_len = c.keep.ensures.places;
+      placed = c.keep.ensures.placed;
+      before = omega (arith, c.keep.ensures.next, next_before g last);
+      small =
+          omega (
+            arith,
+            c.keep.ensures.next,
+            kept.small,
+            end_is g last,
+            most_rolls-most (pips (at_rank n)) (low g last),
+          );
+      kept = λ r less. ⊎_elim
+          (λ earlier. c.keep.ensures.others r earlier ∙ kept.kept r earlier)
+          (λ here.
+          let e : r ≡ n = omega (arith, less, here) in
+          ap (shares_kept c.keep.new.room c.keep.new.places) e
+          ∙ c.keep.ensures.kept
+          ∙ c.next_record-made.ensures.record_is.shares_are
+          ∙ ap (shares_of_rank all-records)
+          (rw c.unwrap-position.ensures at c.unrank.ensures.ranked ∙ sym e))
+          (cases_lt r n);
       many =
           length-set c.loop-rank.means c.from-index.result c.next_record-made.result.mean
           ∙ kept.many;

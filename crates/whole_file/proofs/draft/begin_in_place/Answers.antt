@@ -7,16 +7,20 @@ use Rattle.whole_file.proofs.draft.begin_in_place.Goals as goal
 pub returns-in_err-draft-clause-stays : goal.returns-in_err-draft-clause-stays
 returns-in_err-draft-clause-stays g c =
     let leads = rw c.in-Some.is at c.in_ok-place.ensures.leads in
-    let paths = c.can_be_replaced.ensures.paths ∙ c.facts_at.ensures.paths ∙ c.find_place.ensures.paths in
-    let told = c.can_be_replaced.ensures.stays ∙ c.facts_at.ensures.stays ∙ c.find_place.ensures.stays in
+    let paths = c.can_be_replaced.ensures.paths ∙ c.facts_at.ensures.paths
+    ∙ c.find_place.ensures.paths in
+    let told = c.can_be_replaced.ensures.stays ∙ c.facts_at.ensures.stays
+    ∙ c.find_place.ensures.stays in
     path_stays _ _ (string_bytes c.in-Some.place) _ _ leads
     (rw (paths, told) at c.begin_beside.ensures.stays)
 
 pub returns-in-Some-2-clause-begun : goal.returns-in-Some-2-clause-begun
 returns-in-Some-2-clause-begun g c =
     let leads = rw c.in-Some.is at c.in_ok-place.ensures.leads in
-    let paths = c.can_be_replaced.ensures.paths ∙ c.facts_at.ensures.paths ∙ c.find_place.ensures.paths in
-    let told = c.can_be_replaced.ensures.stays ∙ c.facts_at.ensures.stays ∙ c.find_place.ensures.stays in
+    let paths = c.can_be_replaced.ensures.paths ∙ c.facts_at.ensures.paths
+    ∙ c.find_place.ensures.paths in
+    let told = c.can_be_replaced.ensures.stays ∙ c.facts_at.ensures.stays
+    ∙ c.find_place.ensures.stays in
     begun_beside _ _ (string_bytes c.in-Some.place) _ _ _ _ leads
     (rw (paths, told) at c.begin_beside.ensures.stays)
     (rw (c.in-Some-2.is, paths, told) at c.in_ok-draft.ensures.ready)
@@ -24,16 +28,20 @@ returns-in-Some-2-clause-begun g c =
 pub returns-in-Some-2-clause-stays : goal.returns-in-Some-2-clause-stays
 returns-in-Some-2-clause-stays g c =
     let leads = rw c.in-Some.is at c.in_ok-place.ensures.leads in
-    let paths = c.can_be_replaced.ensures.paths ∙ c.facts_at.ensures.paths ∙ c.find_place.ensures.paths in
-    let told = c.can_be_replaced.ensures.stays ∙ c.facts_at.ensures.stays ∙ c.find_place.ensures.stays in
+    let paths = c.can_be_replaced.ensures.paths ∙ c.facts_at.ensures.paths
+    ∙ c.find_place.ensures.paths in
+    let told = c.can_be_replaced.ensures.stays ∙ c.facts_at.ensures.stays
+    ∙ c.find_place.ensures.stays in
     path_stays _ _ (string_bytes c.in-Some.place) _ _ leads
     (rw (paths, told) at c.begin_beside.ensures.stays)
 
 pub returns-in-None-clause-stays : goal.returns-in-None-clause-stays
 returns-in-None-clause-stays g c =
     let leads = rw c.in-Some.is at c.in_ok-place.ensures.leads in
-    let paths = c.can_be_replaced.ensures.paths ∙ c.facts_at.ensures.paths ∙ c.find_place.ensures.paths in
-    let told = c.can_be_replaced.ensures.stays ∙ c.facts_at.ensures.stays ∙ c.find_place.ensures.stays in
+    let paths = c.can_be_replaced.ensures.paths ∙ c.facts_at.ensures.paths
+    ∙ c.find_place.ensures.paths in
+    let told = c.can_be_replaced.ensures.stays ∙ c.facts_at.ensures.stays
+    ∙ c.find_place.ensures.stays in
     path_stays _ _ (string_bytes c.in-Some.place) _ _ leads
     (rw (paths, told) at c.begin_beside.ensures.stays)
 

@@ -16,7 +16,8 @@ links-preserved g c =
           let before = inv.2 moments told in
           let answer = rw (inv.0, c.as_str-in-links.ensures.value) at
           (c.in-Ok-To.ensures.link moments (inv.1 ∙ told)) in
-          let link = subst (AnswersLink (paths.link (string_bytes c.links.place))) c.in-Ok-To.field-0-is
+          let link = subst (AnswersLink (paths.link (string_bytes c.links.place)))
+          c.in-Ok-To.field-0-is
           answer in
           rw add-one (subst (LeadsBy (suc c.links._followed) paths c.args.path.now)
           (sym (c.in_ok-place-in-Ok-To.ensures

@@ -2,7 +2,7 @@ use Rattle.std.proofs.Common.{◌≡◌, ap, ◌∙◌, arith}
 use Rattle.race_model.specs.Ranks.{rank}
 use Rattle.race_model.specs.BoardFiles.{board_record, count_at}
 use Rattle.std.proofs.lemmas.List.{length-set}
-use Rattle.board_layout.specs.Stored.{Stored}
+use Rattle.db_layout.specs.BoardRecords.{Stored}
 use Rattle.book.proofs.Counts.{told_at, one_more_cell}
 use Rattle.book.proofs.BoardKnown.{known_counts, known_count}
 use Rattle.book.proofs.whole_board.Board.counts.Goals as goal

@@ -1,6 +1,6 @@
 use Rattle.std.proofs.Common.{ap, ◌∙◌, arith}
 use Rattle.race_model.specs.BoardFiles.{mean_parts}
-use Rattle.board_layout.specs.Stored.{Stored}
+use Rattle.db_layout.specs.BoardRecords.{Stored}
 use Rattle.book.proofs.BoardKnown.{known_written, known_mean}
 use Rattle.book.proofs.whole_board.Board.mean_ranked.Goals as goal
 

@@ -4,7 +4,7 @@ use Rattle.race_model.specs.Ranks.{at_rank}
 use Rattle.race_model.specs.Files.{bound_of}
 use Rattle.race_model.specs.BoardFiles.{board_record}
 use Rattle.race_model.proofs.Ranks.RankOrder.{rank_within, at_rank-rank, count_to-rises}
-use Rattle.board_layout.specs.Stored.{Stored}
+use Rattle.db_layout.specs.BoardRecords.{Stored}
 use Rattle.book.proofs.whole_board.Board.record_ranked.Goals as goal
 
 pub record_at-requires : goal.record_at-requires

@@ -1,7 +1,7 @@
 use Rattle.std.proofs.Common.{ap, ◌∙◌}
 use Rattle.race_model.specs.Dice.{roll_index}
 use Rattle.race_model.specs.BoardFiles.{board_play_of}
-use Rattle.board_layout.specs.Stored.{Stored}
+use Rattle.db_layout.specs.BoardRecords.{Stored}
 use Rattle.book.proofs.whole_board.BoardLent.recorded.Goals as goal
 
 pub returns-clause-recorded : goal.returns-clause-recorded

@@ -160,9 +160,11 @@ added c =
     (λ k low high. stored_sum-of c.of-seven.result c.args.addends.now.records.now k are
     (range.stored k low high))
     c.add_stored.ensures in
-    let front = added-join more c.args.addends.now.first from to c.self.inside.shares c.add_told.new.shares
+    let front = added-join more c.args.addends.now.first from to c.self.inside.shares
+    c.add_told.new.shares
     c.add_stored.new.shares range.within.0 range.within.1 c.add_told.ensures stored in
-    let rest = added-same (rest_sum c.of-seven.result) more to c.args.addends.now.end c.add_stored.new.shares
+    let rest = added-same
+    (rest_sum c.of-seven.result) more to c.args.addends.now.end c.add_stored.new.shares
     c.add_rest.new.shares
     (λ k low high. rest_sum-of c.of-seven.result c.args.addends.now.records.now k are
     (omega (arith, high, c.args.addends.now.few)) (range.begun k low high))

@@ -48,5 +48,6 @@ pub returns : goal.returns
 returns g c = λ mean. record {
   long = c.loop-index.invariant.len;
   each = λ d j lt.
-      c.loop-index.invariant.each mean d (omega (arith, number_most d, c.loop-index-test.false)) j lt;
+      c.loop-index.invariant.each mean d
+      (omega (arith, number_most d, c.loop-index-test.false)) j lt;
 }

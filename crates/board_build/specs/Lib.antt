@@ -1,2 +1,0 @@
-pub mod NextRecord
-pub mod BuiltBoards

@@ -1,3 +1,0 @@
-pub mod NumberTests
-pub mod PositionTests
-pub mod RecordTests

@@ -1,4 +1,0 @@
-pub mod KnownStarts
-pub mod BoardPlaces
-pub mod Prefixes
-pub mod SameRecords

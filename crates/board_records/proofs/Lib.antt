@@ -1,4 +1,0 @@
-pub mod Known
-pub mod Weighted
-pub mod Sums
-pub mod WordSums

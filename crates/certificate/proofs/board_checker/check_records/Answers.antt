@@ -1,0 +1,169 @@
+-- The records are checked by rising rank; each is accepted or has the first fault.
+use Rattle.std.proofs.Common.{◌≡◌, ◌+◌, ◌<◌, ◌≤◌, length, take, length-take, length-set}
+use Rattle.std.proofs.Common.{sym, ap, subst, ◌∙◌, arith, w32}
+use Rattle.std.proofs.lemmas.List.{get_or-take}
+use Rattle.std.proofs.Math.Facts.{Fits-of_lt}
+use Rattle.race_model.specs.Positions.{pips}
+use Rattle.race_model.specs.Ranks.{at_rank, count_to}
+use Rattle.race_model.specs.Files.{bound_of}
+use Rattle.race_model.specs.BoardFiles.{board_place, board_length}
+use Rattle.race_model.specs.BoardEquations.{IsLocalOnBoard}
+use Rattle.race_model.proofs.Numbers.Members.{set_next}
+use Rattle.race_model.proofs.Ranks.PositionTotals.{count_to-most}
+use Rattle.db_layout.proofs.BoardPlaces.{board_place-most, board_place-rises}
+use Rattle.least_plays.specs.Known.{Knows}
+use Rattle.db_layout.specs.LowerRecords.{AreRecords, AreLocalTo, board_mean}
+use Rattle.certificate.specs.CheckFaults.{IsFirstOnBoard}
+use Rattle.certificate.specs.BoardFaults.{IsFirstFaultOnBoardAt}
+use Rattle.certificate.proofs.FileTests.{accepted-more}
+use Rattle.certificate.proofs.BoardRecordTests.{fault-of_file, local-of_all}
+use Rattle.certificate.proofs.board_checker.check_records.Goals.{After-from}
+use Rattle.certificate.proofs.board_checker.check_records.Goals as goal
+
+pub slice_bounds-offsets-end : goal.slice_bounds-offsets-end
+slice_bounds-offsets-end c =
+    omega (
+      arith,
+      c.from.ensures,
+      c.from.array_long,
+      c.loop-rank-test.true,
+      c.args.header.counted,
+      count_to-most c.args.header.bound,
+    )
+
+-- the offsets so far
+module _ (c : After-from) where
+  few : c.loop-rank.rank < 54264
+  few =
+      omega (
+        arith,
+        c.loop-rank-test.true,
+        c.args.header.counted,
+        count_to-most c.args.header.bound,
+      )
+
+  long : length (take c.from.result c.loop-rank.offsets) ≡ c.loop-rank.rank
+  long =
+      omega (
+        arith,
+        length-take c.from.result c.loop-rank.offsets,
+        c.from.ensures,
+        c.from.array_long,
+        few,
+      )
+
+  -- all records lie within the bytes
+  count-is : c.args.header.count ≡ count_to (bound_of c.args.bytes.now)
+  count-is = c.args.header.counted ∙ ap count_to c.requires.bound
+
+  end : length c.args.bytes.now ≡ board_place c.args.header.count
+  end = c.requires.file.whole ∙ ap board_place (sym count-is)
+
+  inside : board_place c.loop-rank.rank + board_length (pips (at_rank c.loop-rank.rank))
+      ≤ length c.args.bytes.now
+  inside =
+      omega (
+        arith,
+        end,
+        board_place-rises c.loop-rank.rank c.args.header.count c.loop-rank-test.true,
+      )
+
+  are : AreRecords c.args.bytes.now (take c.from.result c.loop-rank.offsets)
+  are = record {
+    few = omega (arith, long, few);
+    long = omega (arith, ap board_place long, inside);
+    begin = λ r lt.
+        get_or-take c.from.result c.loop-rank.offsets r 0 (omega (arith, lt, long, c.from.ensures))
+        ∙ c.loop-rank.invariant.begin r (omega (arith, lt, long));
+    local = subst (AreLocalTo c.args.bytes.now) (sym long) c.loop-rank.invariant.local;
+  }
+
+pub slice_bounds-new-end : goal.slice_bounds-new-end
+slice_bounds-new-end c =
+    let here = (goal.at.slice_bounds-new-end c).After-from in
+    c.from.ensures ∙ sym (long here)
+
+pub new-lower-requires : goal.new-lower-requires
+new-lower-requires c = are (goal.at.new-lower-requires c).After-from
+
+pub record_at-record-requires-clause-within : goal.record_at-record-requires-clause-within
+record_at-record-requires-clause-within c =
+    let here = (goal.at.record_at-record-requires-clause-within c).After-from in
+    omega (arith, c.find-place.ensures.offset, c.find-place.ensures.length, inside here)
+
+pub check_record-requires-clause-rank : goal.check_record-requires-clause-rank
+check_record-requires-clause-rank c =
+    let here = (goal.at.check_record-requires-clause-rank c).After-from in
+    sym (c.new-lower.ensures.count ∙ long here)
+
+pub check_record-requires-clause-below : goal.check_record-requires-clause-below
+check_record-requires-clause-below c =
+    few (goal.at.check_record-requires-clause-below c).After-from
+
+pub returns-in-Err-clause-first : goal.returns-in-Err-clause-first
+returns-in-Err-clause-first c =
+    let here = (goal.at.returns-in-Err-clause-first c).After-from in
+    let bytes = c.new-lower.ensures.bytes in
+    let said = (c.in-Err.ensures {u = tt}).first
+    (omega (
+      arith,
+      c.loop-rank-test.true,
+      count-is here,
+      ap (λ f. count_to (bound_of f)) bytes,
+    )) in
+    subst (IsFirstOnBoard c.args.bytes.now) (sym c.fault_at.ensures)
+    (fault-of_file c.args.bytes.now c.loop-rank.rank c.in-Err.fault c.requires.file
+    c.loop-rank.invariant.local
+    (subst (λ f. IsFirstFaultOnBoardAt f c.loop-rank.rank c.in-Err.fault) bytes said))
+
+pub overflow_cast-offsets : goal.overflow_cast-offsets
+overflow_cast-offsets c =
+    let here = (goal.at.overflow_cast-offsets c).After-from in
+    Fits-of_lt {w = w32}
+    (omega (
+      arith,
+      c.find-place.ensures.offset,
+      board_place-most c.loop-rank.rank,
+      few here,
+    ))
+
+pub bounds-offsets-from : goal.bounds-offsets-from
+bounds-offsets-from c =
+    omega (
+      arith,
+      c.from-in-loop-rank.ensures,
+      few (goal.at.bounds-offsets-from c).After-from,
+    )
+
+pub loop-rank-preserved : goal.loop-rank-preserved
+loop-rank-preserved c =
+    let here = (goal.at.loop-rank-preserved c).After-from in
+    let kept = c.loop-rank.invariant in
+    let bytes = c.new-lower.ensures.bytes in
+    let fine = c.in_default.ensures {u = tt} in
+    record {
+      len =
+          length-set c.loop-rank.offsets c.from-in-loop-rank.result c.find-place.result.offset
+          ∙ kept.len;
+      begin =
+          set_next (λ r offset. offset ≡ board_place r) c.loop-rank.offsets c.loop-rank.rank
+          c.from-in-loop-rank.result c.find-place.result.offset 0 c.from-in-loop-rank.ensures
+          (omega (arith, kept.len, few here)) kept.begin c.find-place.ensures.offset;
+      local =
+          accepted-more (IsLocalOnBoard c.args.bytes.now) c.loop-rank.rank kept.local
+          (subst (λ f. IsLocalOnBoard f (at_rank c.loop-rank.rank)) bytes fine.local);
+      known =
+          subst (λ f. Knows (board_mean f) c.check_record.new.plays (c.loop-rank.rank + 1)) bytes
+          fine.known;
+    }
+
+pub returns-clause-local : goal.returns-clause-local
+returns-clause-local c =
+    local-of_all c.args.bytes.now c.loop-rank.rank c.requires.file
+    (omega (
+      arith,
+      c.loop-rank-test.false,
+      c.args.header.counted,
+      ap count_to c.requires.bound,
+    ))
+    c.loop-rank.invariant.local

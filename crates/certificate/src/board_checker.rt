@@ -1,0 +1,128 @@
+//! The check of all records of a board file, by rising rank.
+ghost use Rattle.std.specs.Prelude.{◌≡◌, ℕ, ◌+◌, ◌<◌, ◌≤◌, ◌↔◌, IsOk, IfOk, IfErr, IsTrue, OnOk, length, slice_index};
+ghost use Rattle.race_model.specs.Positions.{pips};
+ghost use Rattle.race_model.specs.Ranks.{at_rank, count_to};
+ghost use Rattle.race_model.specs.Files.{bound_of, bytes_at};
+ghost use Rattle.race_model.specs.BoardFiles.{board_length, board_record};
+ghost use Rattle.race_model.specs.BoardFiles.{IsBoardFile};
+ghost use Rattle.race_model.specs.RightFiles.{IsRight, IsRightBoard};
+ghost use Rattle.race_model.specs.BoardEquations.{IsLocalOnBoard, IsLocalBoard};
+ghost use Rattle.least_plays.specs.Known.{Knows};
+ghost use Rattle.db_layout.specs.LowerRecords.{board_mean};
+ghost use Rattle.certificate.specs.CheckFaults.{IsFirstOnBoard};
+ghost use Rattle.certificate.specs.BoardFaults.{IsFirstFaultOnBoardAt};
+
+use crate::board_numbers::{check_numbers, plays_in};
+use crate::check_fault::{CheckFault, RecordFault, fault_at, of_refused};
+use crate::checked::check;
+use db_layout::{BoardHeader, BoardPlace, BoardRecord, LowerRecords, parse_board_header};
+use db_reader::Whole;
+use least_plays::{LeastPlays, ROWS_TO_90, check_plays};
+use race_model::laws;
+use ranking::Ranks;
+
+/// How many positions there are.
+const POSITIONS: usize = 54264;
+
+/// Checks bytes: they are accepted exactly where they are a right board file, of at most 90 pips,
+/// and else refused with their first fault. Its header is given. It takes no memory but its own
+/// stack, some 650 KB. (What is checked is a one-sided database of the GNU Backgammon manual; the
+/// file is this project's profile.)
+// so that its room is not part of its caller's
+#[inline(never)]
+pub fn check_board(bytes: &[u8]) -> Result<BoardHeader, CheckFault>
+    ensures right { IsOk result ↔ IsRightBoard bytes.now }
+    ensures bound { IfOk result (λ header. header.bound ≡ bound_of bytes.now) }
+    ensures fault { IfErr result (IsFirstOnBoard bytes.now) }
+{
+    laws::law_boards();
+    laws::law_header();
+    let header = match parse_board_header(bytes) {
+        Ok(header) => header,
+        Err(fault) => return Err(CheckFault::Header(fault)),
+    };
+    match check_records(bytes, header) {
+        Ok(()) => Ok(header),
+        Err(fault) => Err(fault),
+    }
+}
+
+/// Whether some bytes are a right file, of whichever version their header states: whether they have
+/// its form, every mean in them is the least over all strategies, also those that look at the
+/// history, the recorded plays reach it, and the recorded shares are those of these plays. (What is
+/// checked is a one-sided database of the GNU Backgammon manual; the file is this project's
+/// profile.)
+pub fn is_right(bytes: &[u8]) -> bool
+    ensures { IsTrue result ↔ IsRight bytes.now }
+{
+    laws::law_versions();
+    check(Whole::new(bytes)).is_ok() || check_board(bytes).is_ok()
+}
+
+/// Tests the records of a file with this header.
+#[inline(never)]
+fn check_records(bytes: &[u8], header: BoardHeader) -> Result<(), CheckFault>
+    requires file { IsBoardFile bytes.now }
+    requires bound { header.bound ≡ bound_of bytes.now }
+    ensures local { OnOk result (IsLocalBoard bytes.now) }
+    ensures first { IfErr result (IsFirstOnBoard bytes.now) }
+{
+    let ranks = Ranks::new();
+    let mut plays: LeastPlays<ROWS_TO_90> = LeastPlays::new();
+    let mut offsets = [0; POSITIONS];
+    for rank in 0..header.count {
+        let place = header.find(rank);
+        let lower = LowerRecords::new(bytes, &offsets[..usize::from(rank)]);
+        let record = record_at(bytes, &place);
+        if let Err(fault) = check_record(&lower, &record, &ranks, rank, &mut plays) {
+            return Err(fault_at(rank, fault));
+        }
+        offsets[usize::from(rank)] = place.offset as u32;
+    }
+    Ok(())
+}
+
+/// The record that stands at a place.
+fn record_at<'a>(bytes: &'a [u8], place: &BoardPlace) -> BoardRecord<'a>
+    requires within { place.now.offset + place.now.length ≤ length bytes.now }
+    requires low { place.now.pips ≤ 90 }
+    requires length { place.now.length ≡ board_length (place.now.pips) }
+    ensures pips { result.pips ≡ place.now.pips }
+    ensures bytes { result.bytes ≡ bytes_at bytes.now place.now.offset place.now.length }
+{
+    let end = place.offset + place.length;
+    let stored = &bytes[place.offset..end];
+    BoardRecord::new(stored, place.pips).unwrap()
+}
+
+/// Tests the record of a rank, where each of lower rank was accepted. The plays of the position
+/// after it can be found then.
+#[inline(never)]
+fn check_record(
+    lower: &LowerRecords<'_>,
+    stored: &BoardRecord<'_>,
+    ranks: &Ranks,
+    rank: u16,
+    plays: &mut LeastPlays<ROWS_TO_90>,
+) -> Result<(), RecordFault>
+    requires rank { rank ≡ lower.now.count }
+    requires below { rank < 54264 }
+    requires pips { stored.now.pips ≡ pips (at_rank rank) }
+    requires bytes { stored.now.bytes ≡ board_record lower.now.bytes rank }
+    requires known { Knows (board_mean lower.now.bytes) plays.old rank }
+    ensures known { Knows (board_mean lower.now.bytes) plays.new (rank + 1) }
+    ensures local { OnOk result (IsLocalOnBoard lower.now.bytes (at_rank rank)) }
+    ensures first { rank < count_to (bound_of lower.now.bytes) →
+        IfErr result (IsFirstFaultOnBoardAt lower.now.bytes rank) }
+{
+    let position = ranks.unrank(rank).unwrap();
+    let best = plays.advance(ranks, &position, lower);
+    let recorded = plays_in(stored);
+    if let Err(refused) = check_plays(lower, ranks, &position, &recorded, &best) {
+        return Err(of_refused(refused));
+    }
+    match check_numbers(lower, stored, &position, &recorded) {
+        Ok(()) => Ok(()),
+        Err(fault) => Err(fault),
+    }
+}

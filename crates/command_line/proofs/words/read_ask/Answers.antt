@@ -1,0 +1,44 @@
+-- The file and the lines that stand among the words.
+use Rattle.std.proofs.Common.{◌∙◌, ◌∷◌, rules, ap₂, sym, map, codes, refl}
+use Rattle.clap.specs.Words.{takes}
+use Rattle.command_line.specs.Asked.{ask}
+use Rattle.command_line.specs.Commands.{ask_app}
+use Rattle.command_line.proofs.LineWords.{ask_file, ask_is_word, ask_lines, ask_takes}
+use Rattle.command_line.proofs.PlainWords.{all_from, first_from, first_read}
+use Rattle.command_line.proofs.words.read_ask.Goals as goal
+
+pub returns-in_err-matches-clause-given : goal.returns-in_err-matches-clause-given
+returns-in_err-matches-clause-given g c path line lines plain all words_are =
+    let kind = c.in_err-matches.ensures.passes
+    (ap₂ takes c.in_ok-ask_command.ensures words_are ∙ ask_takes path plain line lines all) in
+    search rules
+
+pub returns-in_err-path-clause-given : goal.returns-in_err-path-clause-given
+returns-in_err-path-clause-given g c path line lines plain all words_are =
+    let words = map g.S.AsStr.text c.args.words.now in
+    let m = c.in_ok-matches.matches in
+    let same = first_from _ ask_app words _ m (codes "FILE") path
+    c.in_ok-ask_command.ensures refl
+    c.in_ok-matches.ensures.matches words_are (ask_file path plain line lines all) in
+    let read = c.value_of.ensures.some path same in
+    search rules
+
+pub returns-clause-asked : goal.returns-clause-asked
+returns-clause-asked g c =
+    let words = map g.S.AsStr.text c.args.words.now in
+    let read = first_read _ ask_app words c.in_ok-matches.matches (codes "FILE")
+    c.in_ok-ask_command.ensures refl c.in_ok-matches.ensures.matches in
+    (words, refl, ask_is_word words c.in_ok-path.path.now (sym read ∙ c.in_ok-path.ensures.read))
+
+pub returns-clause-given : goal.returns-clause-given
+returns-clause-given g c path line lines plain all words_are =
+    let words = map g.S.AsStr.text c.args.words.now in
+    let m = c.in_ok-matches.matches in
+    let app = c.in_ok-ask_command.ensures in
+    let has = c.in_ok-matches.ensures.matches in
+    let file = first_from _ ask_app words _ m (codes "FILE") path app refl has words_are
+    (ask_file path plain line lines all) in
+    let text = c.in_ok-lines.ensures (line ∷ lines)
+    (all_from _ ask_app words _ m (codes "LINE") (line ∷ lines) app refl has words_are
+    (ask_lines path plain line lines all)) in
+    (ap₂ ask (c.in_ok-path.ensures.some path file).0 text, tt)

@@ -1,0 +1,113 @@
+-- What is read in the first bytes of a list is the same in each list that begins with these; and
+-- what ends alike.
+use Rattle.std.proofs.Common.{◌≡◌, ◌⊎◌, ⊎_elim, ℕ, ◌+◌, ◌-◌, ◌*◌, ◌<◌, ◌≤◌, List, take, drop}
+use Rattle.std.proofs.Common.{refl, ap, ap₂, sym, ◌∙◌, arith, take-take}
+use Rattle.std.proofs.lemmas.Bool.{le-leb, lt-leb}
+use Rattle.std.proofs.lemmas.List.{drop-drop, drop-take}
+use Rattle.std.specs.Int.{w16, w64, w128, from_be_bytes}
+use Rattle.race_model.specs.Files.{bytes_at}
+use Rattle.race_model.specs.BoardFiles.{Parts, count_place, mean_parts, board_play_of, count_parts}
+use Rattle.db_layout.proofs.ByteParts.{bytes_at-agree, front-agree}
+use Rattle.db_layout.specs.BoardRecords.{KeepsBefore}
+
+-- what stays before a place stays before a lower one, and what stays twice stays
+pub keeps_twice : (m n : ℕ) (old mid new : List ℕ) → m ≤ n → KeepsBefore m old mid →
+    KeepsBefore n mid new → KeepsBefore m old new
+keeps_twice m n old mid new le first second = record {
+  bytes = front-agree new mid m n le second.bytes ∙ first.bytes;
+  len = second.len ∙ first.len;
+}
+
+-- what ends alike from a place on does so from a later one
+pub rest-agree : (f g : List ℕ) (m n : ℕ) → m ≤ n → drop m f ≡ drop m g → drop n f ≡ drop n g
+rest-agree f g m n le same =
+    ap (λ k. drop k f) (parts m n le)
+    ∙ sym (drop-drop (n - m) m f)
+    ∙ ap (drop (n - m)) same
+    ∙ drop-drop (n - m) m g
+    ∙ ap (λ k. drop k g) (sym (parts m n le))
+  where
+    parts : (m n : ℕ) → m ≤ n → n ≡ m + (n - m)
+    parts m n le = omega (arith, le)
+
+-- .. and what stays twice stays
+pub rest_stays : (m n : ℕ) (old mid new : List ℕ) → m ≤ n → drop m mid ≡ drop m old →
+    drop n new ≡ drop n mid → drop n new ≡ drop n old
+rest_stays m n old mid new le first second = second ∙ rest-agree mid old m n le first
+
+-- the count in the bytes of a record, to 11 throws, to 22 and to 33
+pub count-short : (bs : List ℕ) (k : ℕ) → k ≤ 11 →
+    count_parts bs k
+    ≡ record { upper = 0; lower = from_be_bytes w64 (bytes_at bs (count_place k) 8) }
+unfolding count_parts
+count-short bs k few = rw (le-leb k 11 few) refl
+
+pub count-middle : (bs : List ℕ) (k : ℕ) → 11 < k → k ≤ 22 →
+    count_parts bs k
+    ≡ record {
+      upper = from_be_bytes w64 (bytes_at bs (count_place k) 8);
+      lower = from_be_bytes w64 (bytes_at bs (count_place k + 8) 8);
+    }
+unfolding count_parts
+count-middle bs k many few = rw (lt-leb k 11 many, le-leb k 22 few) refl
+
+pub count-long : (bs : List ℕ) (k : ℕ) → 22 < k →
+    count_parts bs k
+    ≡ record {
+      upper = from_be_bytes w128 (bytes_at bs (count_place k) 16);
+      lower = from_be_bytes w64 (bytes_at bs (count_place k + 16) 8);
+    }
+unfolding count_parts
+count-long bs k many = rw (lt-leb k 11 (omega arith), lt-leb k 22 many) refl
+
+-- two parts
+abbrev pub parts_of : ℕ → ℕ → Parts
+parts_of upper lower = record { upper = upper; lower = lower }
+
+-- .. that are alike
+pub same_parts : {a b c d : ℕ} → a ≡ b → c ≡ d → parts_of a c ≡ parts_of b d
+same_parts e r = ap₂ parts_of e r
+
+-- what a record says in its first bytes, in two lists that begin alike
+module _ (f g : List ℕ) (n : ℕ) (same : take n f ≡ take n g) where
+  -- the mean
+  pub mean-agree : 24 ≤ n → mean_parts f ≡ mean_parts g
+  unfolding mean_parts
+  mean-agree within =
+      same_parts
+      (ap (from_be_bytes w128) (bytes_at-agree f g n 0 16 same (omega arith)))
+      (ap (from_be_bytes w64) (bytes_at-agree f g n 16 8 same (omega arith)))
+
+  -- a play
+  pub play-agree : (roll : ℕ) → 26 + 2 * roll ≤ n → board_play_of f roll ≡ board_play_of g roll
+  unfolding board_play_of
+  play-agree roll within =
+      ap (from_be_bytes w16) (bytes_at-agree f g n (24 + 2 * roll) 2 same (omega arith))
+
+  -- a count
+  pub count-agree : (k : ℕ) → 1 ≤ k → count_place (k + 1) ≤ n → count_parts f k ≡ count_parts g k
+  count-agree k some within = ⊎_elim
+      (λ few.
+      count-short f k few
+      ∙ same_parts refl (word (count_place k) (omega arith))
+      ∙ sym (count-short g k few))
+      (λ many. ⊎_elim
+      (λ few.
+      count-middle f k many few
+      ∙ same_parts (word (count_place k) (omega arith)) (word (count_place k + 8) (omega arith))
+      ∙ sym (count-middle g k many few))
+      (λ more.
+      count-long f k more
+      ∙ same_parts
+      (ap (from_be_bytes w128) (bytes_at-agree f g n (count_place k) 16 same (omega arith)))
+      (word (count_place k + 16) (omega arith))
+      ∙ sym (count-long g k more))
+      (split k 22))
+      (split k 11)
+    where
+      word : (place : ℕ) → place + 8 ≤ n →
+          from_be_bytes w64 (bytes_at f place 8) ≡ from_be_bytes w64 (bytes_at g place 8)
+      word place inside = ap (from_be_bytes w64) (bytes_at-agree f g n place 8 same inside)
+
+      split : (a b : ℕ) → (a ≤ b) ⊎ (b < a)
+      split a b = grind arith

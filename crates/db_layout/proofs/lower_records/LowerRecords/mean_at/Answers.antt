@@ -1,0 +1,76 @@
+-- The mean stands at the front of the record.
+use Rattle.std.proofs.Common.{◌≡◌, ◌+◌, ◌*◌, ◌^◌, ◌<◌, ◌≤◌, length, slice_index, ap, ◌∙◌, arith}
+use Rattle.std.specs.Prelude.{IsSome}
+use Rattle.race_model.specs.Positions.{pips}
+use Rattle.race_model.specs.Ranks.{at_rank}
+use Rattle.race_model.specs.BoardFiles.{board_length, board_place, board_record, mean_parts}
+use Rattle.db_layout.specs.LowerRecords.{Lower, board_mean}
+use Rattle.db_layout.proofs.KnownRecords.{mean-written, mean-most, mean-upper, mean-lower, record-inside, of_some}
+use Rattle.db_layout.proofs.lower_records.LowerRecords.mean_at.Goals.{After-self, After-unwrap_or}
+use Rattle.db_layout.proofs.lower_records.LowerRecords.mean_at.Goals as goal
+
+-- where the record of the rank stands
+module _ (c : After-self) where
+  below : c.args.rank < length c.self.inside.offsets.now
+  below = omega (arith, c.requires, ap (λ (l : Lower). l.count) c.self.view_is)
+
+  begins : slice_index c.self.inside.offsets.now c.from.result ≡ board_place c.args.rank
+  begins =
+      c.self.invariant.begin c.from.result (omega (arith, below, c.from.ensures))
+      ∙ ap board_place c.from.ensures
+
+  inside : board_place c.args.rank + board_length (pips (at_rank c.args.rank))
+      ≤ length c.self.inside.bytes.now
+  inside =
+      record-inside c.self.inside.bytes.now c.self.inside.offsets.now c.self.invariant c.args.rank
+      below
+
+  long : 66 ≤ board_length (pips (at_rank c.args.rank))
+  long = omega arith
+
+pub read_wide-upper-requires : goal.read_wide-upper-requires
+read_wide-upper-requires c =
+    let here = (goal.at.read_wide-upper-requires c).After-self in
+    omega (arith, begins here, inside here, long here)
+
+pub read_long-lower-requires : goal.read_long-lower-requires
+read_long-lower-requires c =
+    let here = (goal.at.read_long-lower-requires c).After-self in
+    omega (arith, begins here, inside here, long here)
+
+-- what was read is the mean of the record
+module _ (c : After-unwrap_or) where
+  abbrev here : After-self
+  here = (goal.at.returns c).After-self
+
+  upper_is : c.read_wide-upper.result
+      ≡ (mean_parts (board_record c.self.inside.bytes.now c.args.rank)).upper
+  upper_is =
+      c.read_wide-upper.ensures
+      ∙ mean-upper c.self.inside.bytes.now (slice_index c.self.inside.offsets.now c.from.result)
+      c.args.rank (begins here)
+
+  lower_is : c.read_long-lower.result
+      ≡ (mean_parts (board_record c.self.inside.bytes.now c.args.rank)).lower
+  lower_is =
+      c.read_long-lower.ensures
+      ∙ mean-lower c.self.inside.bytes.now (slice_index c.self.inside.offsets.now c.from.result)
+      c.args.rank (begins here)
+
+  is_mean : IsSome c.new.result
+  is_mean =
+      let known = c.self.invariant in
+      let written = mean-written c.self.inside.bytes.now (length c.self.inside.offsets.now)
+      known.few known.local c.args.rank (below here) in
+      let most = mean-most c.self.inside.bytes.now (length c.self.inside.offsets.now)
+      known.few known.local c.args.rank (below here) in
+      c.new.ensures.some.1
+      (omega (arith, written, lower_is), omega (arith, most, lower_is, upper_is))
+
+pub returns : goal.returns
+returns c =
+    c.unwrap_or.ensures
+    ∙ of_some (λ mean. mean ≡ c.read_wide-upper.result * 36 ^ 11 + c.read_long-lower.result)
+    c.new.result 0 (is_mean c) c.new.ensures.value
+    ∙ omega (arith, upper_is c, lower_is c)
+    ∙ ap (λ (l : Lower). board_mean l.bytes c.args.rank) c.self.view_is

@@ -1,0 +1,17 @@
+-- The layout of a file of a kind, by the number of its version. Source: this project's profile.
+use Rattle.std.specs.Prelude.{ℕ, List}
+use Rattle.std.specs.Int.{w16, from_be_bytes}
+use Rattle.race_model.specs.Versions.{version_by}
+use Rattle.race_model.specs.Files.{Layout, layout_of, bytes_at}
+use Rattle.race_model.specs.BoardFiles.{board_layout}
+use Rattle.db_layout.specs.declared.stated.Kind.{Kind}
+use Rattle.db_layout.specs.declared.stated.Kind.TheVariants.{Database, Board}
+
+-- the layout of a version of a kind
+abbrev pub layout_in : Kind → ℕ → Layout
+layout_in Database number = layout_of (version_by number)
+layout_in Board number = board_layout
+
+-- the number of the version that a header states
+abbrev pub number_of : List ℕ → ℕ
+number_of front = from_be_bytes w16 (bytes_at front 8 2)
