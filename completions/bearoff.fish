@@ -3,6 +3,7 @@ complete -c bearoff -n __fish_use_subcommand -f -a build -d 'write the database 
 complete -c bearoff -n __fish_use_subcommand -f -a check -d 'check a database'
 complete -c bearoff -n __fish_use_subcommand -f -a query -d 'check a database, and answer standard input'
 complete -c bearoff -n __fish_use_subcommand -f -a ask -d 'check a database or a board file, and answer lines that are words'
+complete -c bearoff -n __fish_use_subcommand -f -a about -d 'check a database or a board file, and tell what it is'
 complete -c bearoff -n __fish_use_subcommand -f -a audit -d 'check a database, and tell its least and greatest means'
 complete -c bearoff -n __fish_use_subcommand -f -a upgrade -d 'check an old database, and write it as a smaller file'
 complete -c bearoff -n __fish_use_subcommand -f -a help -d 'print the help of a command'
@@ -14,4 +15,4 @@ complete -c bearoff -n '__fish_seen_subcommand_from query' -l cache -x -d 'how m
 complete -c bearoff -n '__fish_seen_subcommand_from check' -l board -d 'the file is a board file'
 complete -c bearoff -n '__fish_seen_subcommand_from query' -l board -d 'the file is a board file'
 complete -c bearoff -n '__fish_seen_subcommand_from audit' -l board -d 'the file is a board file'
-complete -c bearoff -n '__fish_seen_subcommand_from help' -f -a 'build check query ask audit upgrade'
+complete -c bearoff -n '__fish_seen_subcommand_from help' -f -a 'build check query ask about audit upgrade'

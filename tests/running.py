@@ -79,6 +79,28 @@ def expect_that(is_so, done, wanted):
         pytest.fail(f"{told(done)}\nwanted: {wanted}", pytrace=False)
 
 
+# what the first fault of a file means in the words of `about`
+MEANINGS = {
+    "header too-short": "is shorter than a header, which has 32 bytes",
+    "header bad-magic": "does not begin as a database or a board file does",
+    "header bad-version": "states a version other than 1, 2 and 3",
+    "header bad-bound": "states more pips than a file of its version has",
+    "header bad-count": "states another number of positions than its pips have",
+    "header bad-record-bytes": "states records of another length than its version has",
+    "header bad-reserved": "has a reserved byte in its header that is not 0",
+    "header bad-length": "is shorter or longer than its header and its records",
+    "play": "records a play that the rules do not allow",
+    "not-least": "records a play that is not the best one",
+    "mean": "records a mean that is not that of its plays",
+    "spread": "records a chance that is not that of its plays",
+}
+
+
+def explained(line, path):
+    """What `about` says of a file that is refused by a line, without the last line feed."""
+    return f"bearoff: refused {line}\n{path}: {MEANINGS[line.partition(' rank')[0]]}"
+
+
 def succeed(*words, **how):
     """Runs a command that has to end with status 0, and tells what it wrote."""
     __tracebackhide__ = True

@@ -11,7 +11,7 @@ from fractions import Fraction
 
 import pytest
 
-from running import HERE, expect, expect_same, expect_that, run
+from running import HERE, expect, expect_same, expect_that, explained, run
 
 PART = 36**11
 
@@ -306,6 +306,10 @@ def expect_refusal(program, path, fault):
     for command in ("check", "query", "audit"):
         done = run(program, command, "--board", path, input="mean 0,0,0,0,0,1\n")
         expect(done, status=3, errors=f"bearoff: refused {fault}\n")
+    # of another version it is no board file to `about`, but a database
+    if fault != "header bad-version":
+        errors = explained(fault, path) + "\n"
+        expect(run(program, "about", path), status=3, errors=errors)
 
 
 HEADERS = [

@@ -266,9 +266,10 @@ PLANTED = [
     (
         "the_first_block_of_a_file_is_dropped",
         FILES,
-        "    read_bytes(alloc, &mut file)\n}",
-        "    let mut block = [0; BLOCK];\n    let _ = read_block(&mut file, &mut block)?;\n"
-        "    read_bytes(alloc, &mut file)\n}",
+        "        Ok(mut file) => read_bytes(alloc, &mut file),",
+        "        Ok(mut file) => {\n            let mut block = [0; BLOCK];\n"
+        "            let _ = read_block(&mut file, &mut block)?;\n"
+        "            read_bytes(alloc, &mut file)\n        }",
         "bearoff_cli check BUILT",
     ),
     (
@@ -292,10 +293,10 @@ PLANTED = [
         ACT,
         "            path,\n"
         "            cache: None,\n"
-        "        } => answer_file(disk, alloc, kind, path, input, output),",
+        "        } => refused(answer_file(disk, alloc, kind, path, input, output)),",
         "            path: _,\n"
         "            cache: None,\n"
-        '        } => answer_file(disk, alloc, kind, "race.db", input, output),',
+        '        } => refused(answer_file(disk, alloc, kind, "race.db", input, output)),',
         "rows TestCommands",
     ),
     (
@@ -460,11 +461,11 @@ PLANTED = [
     (
         "the_query_of_a_board_reads_another_file",
         ACT,
-        "        } => answer_file(disk, alloc, kind, path, input, output),",
-        "        } => match kind {\n"
+        "        } => refused(answer_file(disk, alloc, kind, path, input, output)),",
+        "        } => refused(match kind {\n"
         "            FileKind::Database => answer_file(disk, alloc, kind, path, input, output),\n"
         '            FileKind::Board => answer_file(disk, alloc, kind, "eight", input, output),\n'
-        "        },",
+        "        }),",
         "rows TestBoards::test_query[kinds]",
     ),
     (
@@ -551,6 +552,20 @@ PLANTED = [
         "    for place in &mut standing {",
         "    for place in &mut standing[..2] {",
         "rows TestClosedStreams::test_what_stands_in[012]",
+    ),
+    (
+        "about_leaves_out_what_the_system_says",
+        ACT,
+        '        let _ = write!(text, "{error}");\n',
+        "        let _ = error;\n",
+        "rows TestAbout::test_faults",
+    ),
+    (
+        "about_reads_another_file",
+        ACT,
+        "    let file = match read_file(disk, alloc, path) {",
+        '    let file = match read_file(disk, alloc, "eight") {',
+        "rows TestAbout::test_files",
     ),
     (
         "a_help_that_is_asked_for_is_told_as_wrong_words",

@@ -27,6 +27,7 @@ from running import (
     expect,
     expect_same,
     expect_that,
+    explained,
     run,
     succeed,
 )
@@ -239,6 +240,11 @@ class TestCommands:
             "ask --board eight help",
             "ask eight help -x",
             "ask eight --cache 3 help",
+            "about",
+            "about --",
+            "about eight eight",
+            "about --board eight",
+            "about -- eight eight",
             "nothing",
             "build --board",
             "build --board --",
@@ -353,6 +359,7 @@ class TestCommands:
             "check one",
             "query one",
             "ask one help",
+            "about one",
             "audit one",
             "build --pips 1 other",
             "upgrade eight other",
@@ -1084,6 +1091,79 @@ class TestAsk:
         expect(ask(["ask", file, "help"]), 1, "", f"bearoff: {error}")
 
 
+class TestAbout:
+    """What a file is, of each kind, and why it is refused, in words."""
+
+    @pytest.mark.parametrize(
+        "file, kind, version",
+        [("eight", "database", 1), ("new", "database", 2), ("board", "board file", 3)],
+    )
+    @pytest.mark.parametrize("words", [["about"], ["about", "--"]])
+    def test_files(self, files, ask, board, words, file, kind, version):
+        shutil.copy(board(8), "board")
+        expect(ask([*words, file]), 0, f"kind {kind}\nversion {version}\npips 8\npositions 64")
+
+    def test_the_whole_board(self, files, ask, whole):
+        expect(ask(["about", whole]), 0, "kind board file\nversion 3\npips 90\npositions 54264")
+
+    def test_the_input_stays(self, files, program):
+        Path("lines").write_text(THREE)
+        with open("lines", "rb", buffering=0) as lines:
+            done = subprocess.run([program, "about", "eight"], stdin=lines, capture_output=True)
+            assert (done.returncode, done.stderr) == (0, b"")
+            assert lines.read() == THREE.encode()
+
+    @pytest.mark.parametrize("which", [*HEADERS, *RECORDS])
+    def test_refusals(self, files, ask, built, which):
+        shutil.copy(built(1, is_new=True), "one_new")
+        make, line = {**HEADERS, **RECORDS}[which]
+        make()
+        # a header of version 3 is that of a board file
+        line = "header bad-record-bytes" if which == "version 3" else line
+        expect(ask("about bad"), 3, "", explained(line, "bad"))
+
+    @pytest.mark.parametrize("file", ["new", "board"])
+    @pytest.mark.parametrize(
+        "place, values, line",
+        [
+            (0, b"F", "bad-magic"),
+            (8, b"\0\4", "bad-version"),
+            (8, b"\3\0", "bad-version"),
+            (10, b"\xff\xff", "bad-bound"),
+            (12, b"\xff", "bad-count"),
+            (16, b"\xff", "bad-record-bytes"),
+            (31, b"\1", "bad-reserved"),
+        ],
+    )
+    def test_headers(self, files, ask, board, file, place, values, line):
+        shutil.copy(board(8), "board")
+        damage("bad", file, place, *values)
+        expect(ask("about bad"), 3, "", explained(f"header {line}", "bad"))
+
+    @pytest.mark.parametrize("size", [0, 9, 10, 31, 32, 33])
+    @pytest.mark.parametrize("name", ["eight", "new", "board"])
+    def test_files_that_are_cut(self, files, ask, board, name, size):
+        shutil.copy(board(8), "board")
+        Path("cut").write_bytes(Path(name).read_bytes()[:size])
+        fault = "too-short" if size < 32 else "bad-length"
+        expect(ask("about cut"), 3, "", explained(f"header {fault}", "cut"))
+
+    # the first line and the status are those of `check`, and the second has the path as it was given
+    @pytest.mark.parametrize(
+        "file, line, meaning",
+        [
+            ("nothing", "open", "cannot be opened: No such file or directory (os error 2)"),
+            ("eight/in", "open", "cannot be opened: Not a directory (os error 20)"),
+            ("no/such", "open", "cannot be opened: No such file or directory (os error 2)"),
+            (".", "file", "cannot be read: Is a directory (os error 21)"),
+            ("\u00e9" * 300, "open", "cannot be opened: File name too long (os error 36)"),
+        ],
+    )
+    def test_faults(self, files, ask, file, line, meaning):
+        expect(ask(["about", file]), 1, "", f"bearoff: {line}\n{file}: {meaning}")
+        expect(ask(["check", file]), 1, "", f"bearoff: {line}")
+
+
 class TestAudits:
     def test_of_8(self, ask, built):
         expect_audit(
@@ -1224,6 +1304,13 @@ class TestSmallStack:
 
     def test_ask(self, ask_it, built):
         expect(ask_it(["ask", str(built(58)), *self.LINES.split("\n")]), 0, self.TOLD)
+
+    def test_about(self, ask_it, built):
+        expect(
+            ask_it(["about", str(built(58))]),
+            0,
+            "kind database\nversion 2\npips 58\npositions 46062",
+        )
 
     def test_no_words(self, ask_it):
         expect(ask_it("", self.LINES.split("\n")[0]), 0, self.TOLD.split("\n")[0])

@@ -10,6 +10,7 @@ and the root folder can't be opened to stand in for it, nothing else is opened."
 
 import errno
 import os
+import re
 import shutil
 import subprocess
 from pathlib import Path
@@ -95,6 +96,7 @@ COMMANDS = {
         ["growth", "seek", *OPENED, *LOADED, *GIVEN, *TOLD],
     ),
     "ask": ("ask eight help", ["growth", *OPENED, *LOADED, *TOLD]),
+    "about": ("about eight", ["growth", *OPENED, *LOADED, *TOLD]),
     "audit": ("audit eight", ["growth", *OPENED, *LOADED, *TOLD]),
     "upgrade": ("upgrade eight made", ["growth", *OPENED, *LOADED, *STORED, *TOLD]),
     "help": ("--help", ["growth", "output", "interrupted-output"]),
@@ -158,6 +160,16 @@ def is_whole(kind, old, whole):
     return made() in stands and not [name for name in os.listdir() if name.endswith(".tmp")]
 
 
+def is_told(name, errors, lines):
+    """Whether one of these lines was written. Behind that of a fault of its file `about` writes
+    what it means, and what the system says."""
+    line, _, more = errors.partition(b"\n")
+    if name == "about" and line in (b"bearoff: open", b"bearoff: file"):
+        told = re.fullmatch(rb"eight: cannot be (opened|read): .+\n", more)
+        return told is not None and line + b"\n" in lines
+    return errors in lines
+
+
 def came(name, which, got):
     return (
         f"{name}: with {which} refused it ends with status {got.status},"
@@ -200,7 +212,7 @@ def test_program(program, refusing, note, name, kind):
                 wrong.append(came(name, which, got))
         elif not (
             got.status == 1
-            and got.errors in lines
+            and is_told(name, got.errors, lines)
             and is_prefix
             and is_lines
             and is_whole(kind, refusing.old, whole)

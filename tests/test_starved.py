@@ -55,6 +55,7 @@ for bound in (8, 20, 44, 58):
             f"db_{bound}",
         ]
     COMMANDS[f"ask of {bound} pips"] = ["ask", f"db_{bound}", "mean 0,0,0,0,0,1"]
+    COMMANDS[f"about of {bound} pips"] = ["about", f"db_{bound}"]
     COMMANDS[f"audit of {bound} pips"] = ["audit", f"db_{bound}"]
 for bound in (8, 20, 44):
     COMMANDS[f"upgrade of {bound} pips"] = ["upgrade", f"db_{bound}", "made"]
@@ -67,6 +68,7 @@ for bound in (8, 20, 90):
         COMMANDS[f"{command} of a board file of {bound} pips"] = words
     words = ["ask", f"board_{bound}", "mean 0,0,0,0,0,1"]
     COMMANDS[f"ask of a board file of {bound} pips"] = words
+    COMMANDS[f"about of a board file of {bound} pips"] = ["about", f"board_{bound}"]
 
 # what docs/using.md promises with the least address space
 PROMISED = (
@@ -76,6 +78,7 @@ PROMISED = (
     "check of 8 pips",
     "query of 8 pips",
     "ask of 8 pips",
+    "about of 8 pips",
     "audit of 8 pips",
     "query of 8 pips by pages of 100 records",
     "query of 44 pips by pages of 100 records",

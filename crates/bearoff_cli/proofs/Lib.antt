@@ -1,4 +1,5 @@
 mod CommandFaults
+mod Explained
 mod Levels
 mod OpenedFiles
 mod Requests

@@ -7,7 +7,7 @@ use Rattle.clap.specs.declared.error.Error.{Error}
 use Rattle.clap.specs.declared.error.kind.ErrorKind.{ErrorKind}
 use Rattle.clap.specs.declared.error.kind.ErrorKind.TheVariants.{OutOfMemory, DisplayHelp, DisplayVersion}
 use Rattle.command_line.specs.Asked.{Asked, ArePlain, Gives, IsFor, IsPlain, Writes, as_input, flagged}
-use Rattle.command_line.specs.Asked.{default, build, check, query, ask, audit, upgrade}
+use Rattle.command_line.specs.Asked.{default, build, check, query, ask, about, audit, upgrade}
 use Rattle.command_line.specs.declared.words.FileKind.{FileKind}
 use Rattle.command_line.specs.declared.words.FileKind.TheVariants.{Database, Board}
 use Rattle.command_line.specs.declared.words.Request.{Request}
@@ -43,6 +43,8 @@ module _ {S : Type 0} (text : S → List ℕ) (given : List S) (result : Result 
     (ask_of : (path line : List ℕ) (lines : List (List ℕ)) → IsPlain path → ArePlain (line ∷ lines)
     → map text given ≡ codes "ask" ∷ path ∷ line ∷ lines
     → Gives result (IsFor (ask path (as_input (line ∷ lines)))))
+    (about_of : (path : List ℕ) → IsPlain path → map text given ≡ codes "about" ∷ path ∷ []
+    → Gives result (IsFor (about path)))
     (audit_of : (kind : FileKind) (path : List ℕ) → IsPlain path
     → map text given ≡ codes "audit" ∷ flagged kind (path ∷ [])
     → Gives result (IsFor (audit kind path)))
@@ -68,6 +70,7 @@ module _ {S : Type 0} (text : S → List ℕ) (given : List S) (result : Result 
   read_as (ask path lines) (line, more, plain, all, same, are) =
       subst (λ text. Gives result (IsFor (ask path text))) (sym same)
       (ask_of path line more plain all are)
+  read_as (about path) is = about_of path is.0 is.1
   read_as (audit kind path) is = audit_of kind path is.0 is.1
   read_as (upgrade before after) is = upgrade_of before after is.0 is.1 is.2
 

@@ -1,6 +1,7 @@
 -- What the faults of the parts say of a file.
-use Rattle.std.proofs.Common.{◌≡◌, ℕ, List, Option, Result, Ok, Err, IfOk, IfErr, Some, None, inl, inr}
-use Rattle.std.proofs.Common.{refl, subst, sym, ◌∙◌, ◌<◌, arith}
+use Rattle.std.proofs.Common.{◌≡◌, ℕ, List, [], ◌++◌, Option, Result, Ok, Err, IfOk, IfErr, Some, None}
+use Rattle.std.proofs.Common.{◌⊎◌, inl, inr, refl, ap, subst, sym, ◌∙◌, ◌<◌, ◌≤◌, arith}
+use Rattle.std.proofs.lemmas.Bool.{cases_lt}
 use Rattle.std.specs.Prelude.{◌↔◌, OnOk}
 use Rattle.race_model.specs.Versions.{Version, full, compact}
 use Rattle.certificate.specs.declared.upgrade_fault.UpgradeFault.{UpgradeFault}
@@ -16,17 +17,19 @@ use Rattle.epc_query.specs.declared.run_fault.RunFault.TheVariants.{Memory as No
 use Rattle.epc_query.specs.AnyFiles.{AnyFile}
 use Rattle.exit_status.specs.Causes.{of_check, of_run, of_upgrade}
 use Rattle.exit_status.specs.Lines.{error_line}
+use Rattle.exit_status.specs.Meanings.{meaning_line}
 use Rattle.exit_status.specs.Statuses.{status_of}
 use Rattle.exit_status.specs.declared.fault.Fault.{Fault}
 use Rattle.exit_status.specs.declared.fault.Fault.TheVariants.{Open, File, Read, Write, Memory, Turns, OverBound}
 use Rattle.exit_status.specs.declared.fault.Fault.TheVariants.{Refused, NotOld}
 use Rattle.bearoff_cli.specs.FileAnswers.{IsReadFrom}
-use Rattle.command_line.specs.Asked.{Asked, default, build, check, query, ask, audit, upgrade}
-use Rattle.bearoff_cli.specs.Faults.{CanEnd, IsFaultIn, IsFirstBy, IsOwnFault, IsFaultOf}
-use Rattle.bearoff_cli.specs.StoppedRuns.{IsEndOf, IsRefusalOf, Leaves, RunsOut}
-use Rattle.bearoff_cli.specs.Tellings.{IsToldBy}
+use Rattle.command_line.specs.Asked.{Asked, default, build, check, query, ask, about, audit, upgrade}
+use Rattle.bearoff_cli.specs.Faults.{CanEnd, IsBoundFault, IsFaultIn, IsFirstBy, IsOwnFault, IsFaultOf}
+use Rattle.bearoff_cli.specs.StoppedRuns.{IsBare, IsEndOf, IsOfFile, IsRefusalOf, Leaves, RunsOut}
+use Rattle.bearoff_cli.specs.Tellings.{ExplainsBy, IsExplainedFor, IsReasonOf, IsToldBy, MayTell, Tells}
+use Rattle.bearoff_cli.specs.Turns.{UsesTurns}
 use Rattle.bearoff_cli.specs.declared.act.ProgramFault.{ProgramFault}
-use Rattle.bearoff_cli.specs.declared.act.ProgramFault.TheVariants.{Words, Failed}
+use Rattle.bearoff_cli.specs.declared.act.ProgramFault.TheVariants.{Words, Failed, Explained}
 
 -- the first fault that a check found
 pub check_in : (file : AnyFile) (cause : CheckFault) → IsFirstBy file cause
@@ -94,6 +97,7 @@ memory_of remaining (check kind path) = inl refl
 memory_of remaining (query kind path None) = inl refl
 memory_of remaining (query kind path (Some records)) = tt
 memory_of remaining (ask path lines) = inl refl
+memory_of remaining (about path) = inl refl
 memory_of remaining (audit kind path) = inl refl
 memory_of remaining (upgrade before after) = inl refl
 
@@ -107,6 +111,7 @@ nothing_of remaining (query kind path None) input old = λ given told. inl refl
 nothing_of remaining (query kind path (Some records)) input old = tt
 nothing_of remaining (ask path lines) input old =
     (refl, (Some lines, (λ given told. tt), (λ given told. inl refl)))
+nothing_of remaining (about path) input old = inl refl
 nothing_of remaining (audit kind path) input old = inl refl
 nothing_of remaining (upgrade before after) input old = inl refl
 
@@ -126,6 +131,7 @@ memory_end remaining asked input old = (
     none_out (check kind path) = λ given told. tt
     none_out (query kind path records) = λ given told. tt
     none_out (ask path lines) = tt
+    none_out (about path) = λ given told. tt
     none_out (audit kind path) = λ given told. tt
     none_out (upgrade before after) = λ given told. tt
 
@@ -135,22 +141,40 @@ memory_end remaining asked input old = (
     can_want (check kind path) = tt
     can_want (query kind path records) = tt
     can_want (ask path lines) = tt
+    can_want (about path) = tt
     can_want (audit kind path) = tt
     can_want (upgrade before after) = tt
 
--- the fault of a request is the refusal
+-- .. with no explanation
+pub memory_refusal : {F : Type 0} (remaining : F → Option (List ℕ)) (asked : Asked)
+    (input old : Option (List ℕ))
+    → IsRefusalOf remaining asked input input old old (Failed Memory)
+memory_refusal remaining asked input old = (bare asked, memory_end remaining asked input old)
+  where
+    bare : (asked : Asked) → IsBare asked Memory
+    bare default = tt
+    bare (build kind pips path) = tt
+    bare (check kind path) = tt
+    bare (query kind path records) = tt
+    bare (ask path lines) = tt
+    bare (about path) = tt
+    bare (audit kind path) = tt
+    bare (upgrade before after) = tt
+
+-- the fault of a request that explains none is the refusal
 pub ended_refusal : {A F : Type 0} (remaining : F → Option (List ℕ)) (asked : Asked)
-    (input left old new : Option (List ℕ)) (ended : Result A Fault) (r : Result A ProgramFault)
+    (bare : (fault : Fault) → IsBare asked fault) (input left old new : Option (List ℕ))
+    (ended : Result A Fault) (r : Result A ProgramFault)
     → IfErr ended (λ fault. CanEnd asked fault)
     → IfErr ended (λ fault. IsFaultOf remaining asked fault)
     → IfErr ended (λ fault. RunsOut asked input left fault)
     → IfErr ended (λ fault. Leaves remaining asked input left old new fault)
     → IfOk ended (λ done. r ≡ Ok done) → IfErr ended (λ fault. r ≡ Err (Failed fault))
     → IfErr r (λ refusal. IsRefusalOf remaining asked input left old new refusal)
-ended_refusal remaining asked input left old new (Ok x) r can fault turns leaves done failed =
+ended_refusal remaining asked bare input left old new (Ok x) r can fault turns leaves done failed =
     rw done tt
-ended_refusal remaining asked input left old new (Err e) r can fault turns leaves done failed =
-    rw failed (can, fault, turns, leaves)
+ended_refusal remaining asked bare input left old new (Err e) r can fault turns leaves done failed =
+    rw failed (bare e, (can, fault, turns, leaves))
 
 -- what was done where no refusal came is done
 pub done_if : {A P Q : Type 0} (ended : Result A Fault) (r : Result A ProgramFault) → OnOk ended P
@@ -159,6 +183,100 @@ done_if (Ok x) (Ok y) p f failed = f p
 done_if (Ok x) (Err e) p f failed = tt
 done_if (Err e) r p f failed = rw failed tt
 
+-- no read ran out where none can
+pub no_turns : {A : Type 0} (Can : Fault → Type 0) → (Can Turns → ⊥)
+    → (input left : Option (List ℕ)) (r : Result A Fault) → IfErr r Can
+    → IfErr r (λ fault. UsesTurns input left fault)
+no_turns Can never input left (Ok x) is = tt
+no_turns Can never input left (Err fault) is = none_at fault is
+  where
+    none_at : (fault : Fault) → Can fault → UsesTurns input left fault
+    none_at Open is = λ given told. tt
+    none_at File is = λ given told. tt
+    none_at Read is = λ given told. tt
+    none_at Write is = λ given told. tt
+    none_at Memory is = λ given told. tt
+    none_at Turns is = absurd (never is)
+    none_at OverBound is = λ given told. tt
+    none_at (Refused cause) is = λ given told. tt
+    none_at NotOld is = λ given told. tt
+
+abbrev IsTurns : Fault → Type 0
+IsTurns Turns = Unit {0}
+IsTurns _ = ⊥
+
+-- .. as in a build
+pub no_turns_built : (most pips : ℕ) → IsBoundFault most pips Turns → ⊥
+no_turns_built most pips is = by (cases_lt most pips)
+  where
+    other : (Turns ≡ OverBound) ⊎ (Turns ≡ Memory) → ⊥
+    other (inl same) = subst (λ f. IsTurns f) same tt
+    other (inr same) = subst (λ f. IsTurns f) same tt
+
+    by : (most < pips) ⊎ (pips ≤ most) → ⊥
+    by (inl over) = other (is.over over)
+    by (inr within) = is.within within
+
+-- nothing is said of a fault
+pub any_fault : {A : Type 0} (r : Result A Fault) → IfErr r (λ fault. Unit {0})
+any_fault (Ok x) = tt
+any_fault (Err fault) = tt
+
+-- the line of a fault that is not explained is what is told of it
+bare_text : (asked : Asked) (fault : Fault) → IsBare asked fault
+    → Tells asked fault (error_line fault)
+bare_text default fault is = refl
+bare_text (build kind pips path) fault is = refl
+bare_text (check kind path) fault is = refl
+bare_text (query kind path records) fault is = refl
+bare_text (ask path lines) fault is = refl
+bare_text (about path) Open is = absurd is
+bare_text (about path) File is = absurd is
+bare_text (about path) Read is = absurd is
+bare_text (about path) Write is = refl
+bare_text (about path) Memory is = refl
+bare_text (about path) Turns is = absurd is
+bare_text (about path) OverBound is = absurd is
+bare_text (about path) (Refused cause) is = absurd is
+bare_text (about path) NotOld is = absurd is
+bare_text (audit kind path) fault is = refl
+bare_text (upgrade before after) fault is = refl
+
+-- .. and that of a file's fault with what it means
+explained_text : {E : Type 0} (path : List ℕ) (fault : Fault) (error : Option E) (reason : List ℕ)
+    → IsReasonOf error reason → IsOfFile fault error
+    → ExplainsBy path fault (error_line fault ++ meaning_line path fault reason)
+explained_text path Open error reason is of = (reason, refl)
+explained_text path File error reason is of = (reason, refl)
+explained_text path Read error reason is of = absurd of
+explained_text path Write error reason is of = absurd of
+explained_text path Memory error reason is of = absurd of
+explained_text path Turns error reason is of = absurd of
+explained_text path OverBound error reason is of = absurd of
+explained_text path (Refused cause) error reason is of =
+    let none : reason ≡ [] = subst (λ e. IsReasonOf e reason) of is in
+    ap (λ r. error_line (Refused cause) ++ meaning_line path (Refused cause) r) none
+explained_text path NotOld error reason is of = absurd of
+
+-- what is told of any end that is no mistake in the words
+pub told_any : {A : Type 0} (words : List (List ℕ)) (r : Result A ProgramFault) (status : ℕ)
+    (Line : List ℕ → Type 0) (Same : Type 0) → OnOk r ((status ≡ 0) × Same)
+    → IfErr r (λ refusal. IsToldBy refusal status Line)
+    → IfErr r (λ refusal. IsExplainedFor words refusal) → 0 < status → ¬ (status ≡ 2)
+    → (fault : Fault) × (text : List ℕ) × ((status ≡ status_of fault)
+    × MayTell words fault text × Line text)
+told_any words (Ok x) status Line Same silent told for some other =
+    absurd (omega (arith, silent.0, some))
+told_any words (Err (Words e)) status Line Same silent told for some other = absurd (other told)
+told_any words (Err (Failed e)) status Line Same silent told for some other =
+    (e, error_line e, (told.0, inl refl, told.1))
+told_any words (Err (Explained it)) status Line Same silent told for some other =
+    let more = meaning_line it.path.now it.fault told.1.0 in (
+      it.fault,
+      error_line it.fault ++ more,
+      (told.0, inr (for.0, more, for.1, refl), told.1.2),
+    )
+
 -- the end of a request that was refused, as it was told
 pub told_end : {A F : Type 0} (remaining : F → Option (List ℕ)) (asked : Asked)
     (input left old new : Option (List ℕ)) (r : Result A ProgramFault) (status : ℕ)
@@ -166,8 +284,8 @@ pub told_end : {A F : Type 0} (remaining : F → Option (List ℕ)) (asked : Ask
     → IfErr r (λ refusal. IsToldBy refusal status Line)
     → IfErr r (λ refusal. IsRefusalOf remaining asked input left old new refusal)
     → 0 < status
-    → (fault : Fault) × ((status ≡ status_of fault) × Line (error_line fault)
-    × IsEndOf remaining asked input left old new fault)
+    → (fault : Fault) × (text : List ℕ) × ((status ≡ status_of fault) × Tells asked fault text
+    × Line text × IsEndOf remaining asked input left old new fault)
 told_end remaining asked input left old new (Ok x) status Line Same silent told refusal some =
     absurd (omega (arith, silent.0, some))
 told_end remaining asked input left old new (Err (Words e)) status Line Same silent told refusal
@@ -175,4 +293,17 @@ told_end remaining asked input left old new (Err (Words e)) status Line Same sil
     absurd refusal
 told_end remaining asked input left old new (Err (Failed e)) status Line Same silent told refusal
     some =
-    (e, (told.0, told.1, refusal))
+    (e, error_line e, (told.0, bare_text asked e refusal.0, told.1, refusal.1))
+told_end remaining asked input left old new (Err (Explained it)) status Line Same silent told
+    refusal some =
+    let text = error_line it.fault ++ meaning_line it.path.now it.fault told.1.0 in
+    let tells = explained_text it.path.now it.fault it.reason told.1.0 told.1.1 refusal.1 in (
+      it.fault,
+      text,
+      (
+        told.0,
+        subst (λ a. Tells a it.fault text) (sym refusal.0) tells,
+        told.1.2,
+        refusal.2,
+      ),
+    )

@@ -6,13 +6,15 @@ use Rattle.race_model.specs.RightFiles.{IsRightDatabase}
 use Rattle.certificate.specs.CheckFaults.{IsFirst, IsFirstOnBoard}
 use Rattle.certificate.specs.declared.check_fault.CheckFault.{CheckFault}
 use Rattle.epc_query.specs.AnyFiles.{AnyFile, database_file, board_file}
-use Rattle.command_line.specs.Asked.{Asked, default, build, check, query, ask, audit, upgrade}
+use Rattle.command_line.specs.Asked.{Asked, default, build, check, query, ask, about, audit, upgrade}
 use Rattle.exit_status.specs.Statuses.{status_of}
 use Rattle.exit_status.specs.declared.fault.Fault.{Fault}
 use Rattle.exit_status.specs.declared.fault.Fault.TheVariants.{Open, File, Read, Write, Memory, Turns, OverBound}
 use Rattle.exit_status.specs.declared.fault.Fault.TheVariants.{Refused, NotOld}
 use Rattle.bearoff_cli.specs.FileAnswers.{IsReadFrom}
 use Rattle.bearoff_cli.specs.Kinds.{file_of, greatest, stated_file}
+use Rattle.bearoff_cli.specs.declared.files.Unread.{Unread}
+use Rattle.bearoff_cli.specs.declared.files.Unread.TheVariants as unread
 
 -- the first fault of a file
 abbrev pub IsFirstBy : AnyFile → CheckFault → Type 0
@@ -48,6 +50,7 @@ abbrev pub IsFaultOf : {F : Type 0} → (F → Option (List ℕ)) → Asked → 
 IsFaultOf remaining (check kind path) = IsOwnFault (file_of kind) remaining
 IsFaultOf remaining (query kind path None) = IsOwnFault (file_of kind) remaining
 IsFaultOf remaining (ask path lines) = IsOwnFault stated_file remaining
+IsFaultOf remaining (about path) = IsOwnFault stated_file remaining
 IsFaultOf remaining (audit kind path) = IsOwnFault (file_of kind) remaining
 IsFaultOf remaining (upgrade before after) = IsOwnFault database_file remaining
 IsFaultOf remaining _ = λ fault. Unit {0}
@@ -58,6 +61,12 @@ IsBuildFault Open = Unit {0}
 IsBuildFault Write = Unit {0}
 IsBuildFault Memory = Unit {0}
 IsBuildFault _ = ⊥
+
+-- the fault of a file that was not read
+abbrev pub of_unread : Unread → Fault
+of_unread unread.Memory = Memory
+of_unread (unread.Open error) = Open
+of_unread (unread.Read error) = File
 
 -- .. one that reads a file whole, before it tells anything of it
 abbrev pub IsReadFault : Fault → Type 0
@@ -108,5 +117,6 @@ CanEnd (build kind pips path) = IsBoundFault (greatest kind) pips
 CanEnd (check kind path) = IsCheckFault
 CanEnd (query kind path records) = IsQueryFault
 CanEnd (ask path lines) = IsQueryFault
+CanEnd (about path) = IsCheckFault
 CanEnd (audit kind path) = IsCheckFault
 CanEnd (upgrade before after) = IsUpgradeFault

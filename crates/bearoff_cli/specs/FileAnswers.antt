@@ -2,13 +2,16 @@
 use Rattle.std.specs.Prelude.{◌≡◌, ℕ, zero, suc, List, [], ◌∷◌, ◌++◌, take, Option, codes, decimal}
 use Rattle.std.specs.Io.KnownBytes.{Appends}
 use Rattle.race_model.specs.Ranks.{count_to}
-use Rattle.race_model.specs.Versions.{full}
+use Rattle.race_model.specs.Versions.{full, version_number}
 use Rattle.race_model.specs.Files.{version_of, bound_of}
 use Rattle.race_model.specs.RightFiles.{IsRightDatabase}
 use Rattle.db_reader.specs.Telling.{WhereTold}
 use Rattle.certificate.specs.Upgrades.{WritesUpgrade}
-use Rattle.epc_query.specs.AnyFiles.{AnyFile, bound_by, IsRightBy, IsLevelLineBy}
+use Rattle.epc_query.specs.AnyFiles.{AnyFile, database_file, board_file, bound_by, IsRightBy, IsLevelLineBy}
+use Rattle.command_line.specs.declared.words.FileKind.{FileKind}
+use Rattle.command_line.specs.declared.words.FileKind.TheVariants.{Database, Board}
 use Rattle.bearoff_cli.specs.InputAnswers.{AreAnswered}
+use Rattle.bearoff_cli.specs.Kinds.{stated_file, stated_kind}
 use Rattle.bearoff_cli.specs.declared.act.Done.{Done}
 use Rattle.bearoff_cli.specs.declared.act.Done.TheVariants.{Built, Checked, Upgraded}
 
@@ -51,6 +54,36 @@ pub record SaysRight {F : Type 0} (kind : List ℕ → AnyFile) (remaining : F �
   pub right : IsRightBy (kind file)
   pub written : Appends old new
       (count_line Checked (bound_by (kind file)) (count_to (bound_by (kind file))))
+
+-- the version of a file
+abbrev pub version_in : AnyFile → ℕ
+version_in (database_file f) = version_number (version_of f)
+version_in (board_file f) = 3
+
+-- the words for a kind of file
+abbrev pub kind_text : FileKind → List ℕ
+kind_text Database = codes "database"
+kind_text Board = codes "board file"
+
+-- the lines of what a file is
+abbrev pub about_text : FileKind → ℕ → ℕ → ℕ → List ℕ
+about_text kind version pips positions =
+    codes "kind " ++ kind_text kind ++ codes "\nversion " ++ decimal version ++ codes "\npips "
+    ++ decimal pips ++ codes "\npositions " ++ decimal positions ++ codes "\n"
+
+-- .. of the file that has these bytes, of the kind that its header states
+abbrev pub about_file : List ℕ → List ℕ
+about_file f = about_text (stated_kind f) (version_in (stated_file f)) (bound_by (stated_file f))
+    (count_to (bound_by (stated_file f)))
+
+-- what an accepted file is was written: an opened file of the kind that its header states is right,
+-- and is this
+pub record SaysAbout {F : Type 0} (remaining : F → Option (List ℕ))
+    (old new : Option (List ℕ)) : Type 0 where
+  pub file : List ℕ
+  pub read : IsReadFrom remaining file
+  pub right : IsRightBy (stated_file file)
+  pub written : Appends old new (about_file file)
 
 -- the line of an upgraded database was written: an opened file is right and of version 1, and has
 -- this bound, and its upgrade was handed to the writer of a file

@@ -5,7 +5,7 @@ use Rattle.race_model.specs.Files.{version_of}
 use Rattle.race_model.specs.RightFiles.{IsRightDatabase}
 use Rattle.race_model.specs.Upgrades.{IsUpgrade}
 use Rattle.race_model.specs.Versions.{full}
-use Rattle.command_line.specs.Asked.{Asked, default, build, check, query, ask, audit, upgrade}
+use Rattle.command_line.specs.Asked.{Asked, default, build, check, query, ask, about, audit, upgrade}
 use Rattle.whole_file.specs.Disks.{Moment}
 use Rattle.whole_file.specs.Paths.{Paths}
 use Rattle.whole_file.specs.Puts.{Puts}
@@ -23,5 +23,6 @@ PutsFor paths (build kind pips path) old new = Puts paths path (IsBuiltOf kind p
 PutsFor paths (check kind path) old new = Unit {0}
 PutsFor paths (query kind path records) old new = Unit {0}
 PutsFor paths (ask path lines) old new = Unit {0}
+PutsFor paths (about path) old new = Unit {0}
 PutsFor paths (audit kind path) old new = Unit {0}
 PutsFor paths (upgrade before after) old new = PutsUpgrade paths after old new

@@ -3,7 +3,7 @@ use Rattle.std.specs.Prelude.{◌≡◌, ℕ, ◌<◌, List, Option, Result, IfE
 use Rattle.exit_status.specs.Statuses.{status_of}
 use Rattle.exit_status.specs.declared.fault.Fault.{Fault}
 use Rattle.bearoff_cli.specs.declared.act.ProgramFault.{ProgramFault}
-use Rattle.bearoff_cli.specs.declared.act.ProgramFault.TheVariants.{Words, Failed}
+use Rattle.bearoff_cli.specs.declared.act.ProgramFault.TheVariants.{Words, Failed, Explained}
 
 -- the output is as it was where the program ends with the status of a bound that is too large, or
 -- of a refused database
@@ -15,6 +15,7 @@ KeepsIfRefused result old new = IfErr result (λ fault. 1 < status_of fault → 
 abbrev pub KeepsAt : Option (List ℕ) → Option (List ℕ) → ProgramFault → Type 0
 KeepsAt old new (Words error) = new ≡ old
 KeepsAt old new (Failed fault) = 1 < status_of fault → new ≡ old
+KeepsAt old new (Explained it) = 1 < status_of it.fault → new ≡ old
 
 -- where the result is a refusal, the output is as `KeepsAt` says
 abbrev pub KeepsIfTold : {T : Type 0} →

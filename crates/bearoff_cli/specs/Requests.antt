@@ -4,12 +4,12 @@ use Rattle.std.specs.Prelude.{◌≡◌, ℕ, ◌<◌, ◌≤◌, List, [], ◌�
 use Rattle.std.specs.Io.KnownBytes.{Appends}
 use Rattle.race_model.specs.Ranks.{count_to}
 use Rattle.command_line.specs.Asked.{Asked, ArePlain, IsPlain, Writes, as_input, flagged}
-use Rattle.command_line.specs.Asked.{default, build, check, query, ask, audit, upgrade}
+use Rattle.command_line.specs.Asked.{default, build, check, query, ask, about, audit, upgrade}
 use Rattle.command_line.specs.declared.words.FileKind.TheVariants.{Database, Board}
 use Rattle.db_reader.specs.Telling.{WhereTold}
 use Rattle.bearoff_cli.specs.InputAnswers.{AreAnsweredOver}
-use Rattle.bearoff_cli.specs.FileAnswers.{AreAnsweredFrom, IsHandedTo, SaysRight, SaysUpgraded, SaysLevels}
-use Rattle.bearoff_cli.specs.FileAnswers.{count_line}
+use Rattle.bearoff_cli.specs.FileAnswers.{AreAnsweredFrom, IsHandedTo, SaysAbout, SaysRight, SaysUpgraded}
+use Rattle.bearoff_cli.specs.FileAnswers.{SaysLevels, count_line}
 use Rattle.bearoff_cli.specs.Kinds.{WritesBuiltOf, file_of, greatest, stated_file}
 use Rattle.bearoff_cli.specs.declared.act.Done.TheVariants.{Built}
 
@@ -31,6 +31,7 @@ Asks words (query Board path (Some records)) = ⊥
 Asks words (ask path text) = (line : List ℕ) × (lines : List (List ℕ)) × IsPlain path
     × ArePlain (line ∷ lines) × (text ≡ as_input (line ∷ lines))
     × (words ≡ codes "ask" ∷ path ∷ line ∷ lines)
+Asks words (about path) = IsPlain path × (words ≡ codes "about" ∷ path ∷ [])
 Asks words (audit kind path) = IsPlain path × (words ≡ codes "audit" ∷ flagged kind (path ∷ []))
 Asks words (upgrade before after) = IsPlain before × IsPlain after
     × (words ≡ codes "upgrade" ∷ before ∷ after ∷ [])
@@ -52,6 +53,7 @@ IsDone remaining contents (query kind path None) input left old new =
 IsDone remaining contents (query kind path (Some records)) input left old new = Unit {0}
 IsDone remaining contents (ask path lines) input left old new =
     (left ≡ input) × AreAnsweredFrom stated_file remaining lines (Some []) old new
+IsDone remaining contents (about path) input left old new = SaysAbout remaining old new
 IsDone remaining contents (audit kind path) input left old new =
     SaysLevels (file_of kind) remaining old new
 IsDone remaining contents (upgrade before after) input left old new =

@@ -12,16 +12,17 @@ use Rattle.epc_query.specs.AnyFiles.{AnyFile, database_file, bound_by, IsRightBy
 use Rattle.epc_query.specs.AnyFiles.{IsLevelLineBy}
 use Rattle.epc_query.specs.Runs.{IsRunStopped}
 use Rattle.epc_query.specs.declared.run_fault.RunFault.{RunFault}
-use Rattle.command_line.specs.Asked.{Asked, default, build, check, query, ask, audit, upgrade}
+use Rattle.command_line.specs.Asked.{Asked, default, build, check, query, ask, about, audit, upgrade}
 use Rattle.exit_status.specs.Causes.{of_run}
 use Rattle.exit_status.specs.declared.fault.Fault.{Fault}
-use Rattle.bearoff_cli.specs.Faults.{CanEnd, IsFaultOf}
-use Rattle.bearoff_cli.specs.FileAnswers.{AreLevelLines, IsReadFrom, count_line}
+use Rattle.exit_status.specs.declared.fault.Fault.TheVariants.{Open, File, Write, Memory, Refused}
+use Rattle.bearoff_cli.specs.Faults.{CanEnd, IsFaultOf, IsOwnFault}
+use Rattle.bearoff_cli.specs.FileAnswers.{AreLevelLines, IsReadFrom, about_file, count_line}
 use Rattle.bearoff_cli.specs.Kinds.{file_of, stated_file}
 use Rattle.bearoff_cli.specs.Turns.{UsesTurns}
 use Rattle.bearoff_cli.specs.declared.act.Done.TheVariants.{Built, Checked, Upgraded}
 use Rattle.bearoff_cli.specs.declared.act.ProgramFault.{ProgramFault}
-use Rattle.bearoff_cli.specs.declared.act.ProgramFault.TheVariants.{Words, Failed}
+use Rattle.bearoff_cli.specs.declared.act.ProgramFault.TheVariants.{Words, Failed, Explained}
 
 -- the replies to the lines of an input, over a right file, stopped so: what was written is what
 -- `run` says of the fault's cause
@@ -74,6 +75,12 @@ abbrev pub LeavesLine : {F : Type 0} → (List ℕ → AnyFile) → (F → Optio
 LeavesLine kind remaining old new =
     IsNothingOr kind remaining (λ file. SaysRightPart (kind file) old new) old new
 
+-- .. of the lines of what it is
+abbrev pub LeavesAbout : {F : Type 0} → (F → Option (List ℕ)) → Option (List ℕ)
+    → Option (List ℕ) → Type 0
+LeavesAbout remaining old new =
+    IsNothingOr stated_file remaining (λ file. AppendsPart old new (about_file file)) old new
+
 -- .. and of the lines of its pip counts
 abbrev pub LeavesLevels : {F : Type 0} → (List ℕ → AnyFile) → (F → Option (List ℕ))
     → Option (List ℕ) → Option (List ℕ) → Type 0
@@ -98,6 +105,7 @@ Leaves remaining (query kind path (Some records)) input left old new fault = Uni
 Leaves remaining (ask path lines) input left old new fault = (left ≡ input)
     × ((rest : Option (List ℕ)) × UsesTurns (Some lines) rest fault
     × LeavesReplies stated_file remaining (Some lines) rest old new fault)
+Leaves remaining (about path) input left old new fault = LeavesAbout remaining old new
 Leaves remaining (audit kind path) input left old new fault =
     LeavesLevels (file_of kind) remaining old new
 Leaves remaining (upgrade before after) input left old new fault =
@@ -116,9 +124,44 @@ IsEndOf remaining asked input left old new fault = CanEnd asked fault
     × IsFaultOf remaining asked fault × RunsOut asked input left fault
     × Leaves remaining asked input left old new fault
 
+-- a fault is not that of a file
+abbrev pub IsNoFile : Fault → Type 0
+IsNoFile Write = Unit {0}
+IsNoFile Memory = Unit {0}
+IsNoFile _ = ⊥
+
+-- it is that of a file, of which the system says something only where it failed
+abbrev pub IsOfFile : {E : Type 0} → Fault → Option E → Type 0
+IsOfFile Open reason = Unit {0}
+IsOfFile File reason = Unit {0}
+IsOfFile (Refused cause) reason = reason ≡ None
+IsOfFile _ reason = ⊥
+
+-- a fault is not explained: `about` explains those of its file
+abbrev pub IsBare : Asked → Fault → Type 0
+IsBare (about path) fault = IsNoFile fault
+IsBare _ fault = Unit {0}
+
+-- a file that was not read ends `about` so
+abbrev pub IsUnreadEnd : List ℕ → ProgramFault → Type 0
+IsUnreadEnd path (Words error) = ⊥
+IsUnreadEnd path (Failed fault) = fault ≡ Memory
+IsUnreadEnd path (Explained it) = (it.path.now ≡ path) × ((it.fault ≡ Open) ⊎ (it.fault ≡ File))
+
+-- .. and a file of any kind so
+abbrev pub IsAboutEnd : {F : Type 0} → (F → Option (List ℕ)) → List ℕ → Option (List ℕ)
+    → Option (List ℕ) → ProgramFault → Type 0
+IsAboutEnd remaining path old new (Words error) = ⊥
+IsAboutEnd remaining path old new (Failed fault) = IsNoFile fault × LeavesAbout remaining old new
+IsAboutEnd remaining path old new (Explained it) = (it.path.now ≡ path)
+    × IsOfFile it.fault it.reason × IsOwnFault stated_file remaining it.fault
+    × LeavesAbout remaining old new
+
 -- .. as a refusal: its words are not wrong
 abbrev pub IsRefusalOf : {F : Type 0} → (F → Option (List ℕ)) → Asked → Option (List ℕ)
     → Option (List ℕ) → Option (List ℕ) → Option (List ℕ) → ProgramFault → Type 0
 IsRefusalOf remaining asked input left old new (Words error) = ⊥
 IsRefusalOf remaining asked input left old new (Failed fault) =
-    IsEndOf remaining asked input left old new fault
+    IsBare asked fault × IsEndOf remaining asked input left old new fault
+IsRefusalOf remaining asked input left old new (Explained it) = (asked ≡ about it.path.now)
+    × IsOfFile it.fault it.reason × IsEndOf remaining asked input left old new it.fault

@@ -1,5 +1,5 @@
 //! The whole program, over the files of a system, a reader and two writers.
-ghost use Rattle.std.specs.Prelude.{◌≡◌, ℕ, ◌<◌, ◌≤◌, ◌⊎◌, List, [], map, Option, Some, Ok, Err};
+ghost use Rattle.std.specs.Prelude.{◌≡◌, ℕ, ◌<◌, ◌≤◌, ◌⊎◌, List, [], ◌++◌, map, Option, Some, Ok, Err};
 ghost use Rattle.std.specs.Prelude.{IfOk, IfErr, OnOk, OnErr};
 ghost use Rattle.std.specs.Io.KnownBytes.{Appends};
 ghost use Rattle.race_model.specs.BuiltFile.{IsBuilt};
@@ -9,18 +9,20 @@ ghost use Rattle.db_reader.specs.Telling.{WhereTold};
 ghost use Rattle.db_layout.specs.Writes.{AppendsPart};
 ghost use Rattle.exit_status.specs.Causes.{of_check};
 ghost use Rattle.exit_status.specs.Lines.{error_line};
+ghost use Rattle.exit_status.specs.Meanings.{meaning_line};
 ghost use Rattle.exit_status.specs.Statuses.{status_of};
 ghost use Rattle.exit_status.specs.declared.fault.Fault.{Fault};
 ghost use Rattle.exit_status.specs.declared.fault.Fault.TheVariants.{OverBound, Write};
 ghost use Rattle.command_line.specs.Asked.{Asked, asked_by};
 ghost use Rattle.certificate.specs.CheckFaults.{IsFirst};
 ghost use Rattle.certificate.specs.declared.check_fault.CheckFault.{CheckFault};
-ghost use Rattle.bearoff_cli.specs.Tellings.{IsToldBy, IsWritten};
+ghost use Rattle.bearoff_cli.specs.Tellings.{IsExplainedFor, IsReasonOf, IsToldBy, IsWritten, MayTell, Tells};
 ghost use Rattle.bearoff_cli.specs.Turns.{UsesTurns};
-ghost use Rattle.bearoff_cli.specs.Faults.{CanEnd, IsAnswerFault, IsBoundFault, IsCheckFault};
-ghost use Rattle.bearoff_cli.specs.Faults.{IsFaultIn, IsFaultOf, IsOwnFault, IsQueryFault, IsUpgradeFault};
+ghost use Rattle.bearoff_cli.specs.Faults.{IsAnswerFault, IsBoundFault, IsCheckFault, IsFaultIn};
+ghost use Rattle.bearoff_cli.specs.Faults.{IsOwnFault, IsQueryFault, IsUpgradeFault};
 ghost use Rattle.bearoff_cli.specs.InputAnswers.{AreAnswered, AreAnsweredOver};
-ghost use Rattle.bearoff_cli.specs.FileAnswers.{AreAnsweredFrom, IsHandedTo, SaysRight, SaysUpgraded, SaysLevels};
+ghost use Rattle.bearoff_cli.specs.FileAnswers.{AreAnsweredFrom, IsHandedTo, SaysAbout, SaysRight, SaysUpgraded};
+ghost use Rattle.bearoff_cli.specs.FileAnswers.{SaysLevels, about_text};
 ghost use Rattle.whole_file.specs.Puts.{Puts};
 ghost use Rattle.bearoff_cli.specs.PutFiles.{PutsFor, PutsUpgrade};
 ghost use Rattle.retrograde.specs.UsualVersion.{usual_version};
@@ -28,15 +30,17 @@ ghost use Rattle.bearoff_cli.specs.FileAnswers.{count_line};
 ghost use Rattle.bearoff_cli.specs.Kinds.{IsBuiltOf, WritesBuiltOf, file_of, greatest, stated_file};
 ghost use Rattle.bearoff_cli.specs.RefusedFiles.{KeepsIfRefused, KeepsIfTold};
 ghost use Rattle.bearoff_cli.specs.Requests.{Asks, IsDone};
-ghost use Rattle.bearoff_cli.specs.StoppedRuns.{AreStopped, IsEndOf, IsNothingOr, IsRefusalOf, Leaves, LeavesLevels};
-ghost use Rattle.bearoff_cli.specs.StoppedRuns.{LeavesLine, LeavesReplies, RunsOut, SaysUpgradedPart};
+ghost use Rattle.bearoff_cli.specs.StoppedRuns.{AreStopped, IsAboutEnd, IsEndOf, IsNothingOr, IsRefusalOf};
+ghost use Rattle.bearoff_cli.specs.StoppedRuns.{IsUnreadEnd, LeavesLevels, LeavesLine, LeavesReplies, SaysUpgradedPart};
 ghost use Rattle.bearoff_cli.specs.declared.act.Done.TheVariants.{Built};
 ghost use Rattle.bearoff_cli.specs.declared.act.ProgramFault.TheVariants.{Failed};
 
 use crate::files::{
-    affordable, build_file, flush, probe_stack, read_file, stack_room, upgrade_file,
+    Unread, affordable, build_file, flush, probe_stack, read_file, stack_room, upgrade_file,
 };
-use crate::kinds::{TURNS, accept, answer, greatest, handed_on, stated_kind, write_levels};
+use crate::kinds::{
+    TURNS, accept, answer, greatest, handed_on, stated_kind, version, write_levels,
+};
 use arrayvec::ArrayString;
 use certificate::{CheckFault, Checked, check};
 use clap::Error;
@@ -45,12 +49,14 @@ use command_line::{FileKind, Request, read_words};
 use db_layout::{COMPACT_VERSION, WriteFault, write_bytes};
 use db_reader::{FileSource, Paged, Table, Whole};
 use epc_query::run;
-use exit_status::{Fault, write_fault};
+use exit_status::{Fault, Reason, write_fault, write_meaning};
 use itoa::Buffer;
 use ranking::Ranks;
 use retrograde::build;
 use std::alloc::Global;
 use std::convert::AsStr;
+use std::fmt::Write as _;
+use std::io;
 use std::io::{BufWriter, Read, Write};
 use std::rt::Files;
 use whole_file::{Disk, SystemDisk, SystemFile};
@@ -63,8 +69,9 @@ const DEFAULT_BOUND: u8 = 8;
 /// database of 8 pips, which it builds. 0: done; 1: a file, the input, an output or memory failed;
 /// 2: the words are wrong, or the bound is over the greatest one; 3: the database was refused, or
 /// is to be upgraded and is no old one. At 1 and 3, and for a bound over the greatest one, one line
-/// is written to `errors`; for words that are wrong it is the text of `clap`. At 2 and 3 nothing
-/// was written to `output`. (The words, the statuses and the lines are this project's profile.)
+/// is written to `errors`, and for `about` one more where its file failed; for words that are wrong
+/// it is the text of `clap`. At 2 and 3 nothing was written to `output`. (The words, the statuses
+/// and the lines are this project's profile.)
 pub fn act<R: Files, S: AsStr, I: Read, O: Write, E: Write>(
     rt: &R,
     alloc: Global,
@@ -76,12 +83,14 @@ pub fn act<R: Files, S: AsStr, I: Read, O: Write, E: Write>(
 where
     R::File: SystemFile,
     ensures silent { result ≡ 0 → E.contents errors.new ≡ E.contents errors.old }
-    ensures told { 0 < result → ¬ (result ≡ 2) → (fault : Fault) × ((result ≡ status_of fault)
-        × AppendsPart (E.contents errors.old) (E.contents errors.new) (error_line fault)) }
+    ensures told { 0 < result → ¬ (result ≡ 2) → (fault : Fault) × (text : List ℕ)
+        × ((result ≡ status_of fault) × MayTell (map S.text words.entry.now) fault text
+        × AppendsPart (E.contents errors.old) (E.contents errors.new) text) }
     ensures refused { 1 < result → O.contents output.new ≡ O.contents output.old }
     ensures fault { (asked : Asked) → Asks (map S.text words.entry.now) asked → 0 < result
-        → (fault : Fault) × ((result ≡ status_of fault)
-        × AppendsPart (E.contents errors.old) (E.contents errors.new) (error_line fault)
+        → (fault : Fault) × (text : List ℕ) × ((result ≡ status_of fault)
+        × Tells asked fault text
+        × AppendsPart (E.contents errors.old) (E.contents errors.new) text
         × IsEndOf R.File.remaining asked (I.remaining input.old) (I.remaining input.new)
         (O.contents output.old) (O.contents output.new) fault) }
     ensures done { (asked : Asked) → Asks (map S.text words.entry.now) asked → result ≡ 0
@@ -113,13 +122,14 @@ pub fn act_on<D: Disk, S: AsStr, I: Read, O: Write, E: Write>(
 ) -> Told
     ensures silent { result.status ≡ 0 → E.contents errors.new ≡ E.contents errors.old }
     ensures told { 0 < result.status → ¬ (result.status ≡ 2) → (fault : Fault)
-        × ((result.status ≡ status_of fault) × IsWritten result.line
-        (E.contents errors.old) (E.contents errors.new) (error_line fault)) }
+        × (text : List ℕ) × ((result.status ≡ status_of fault)
+        × MayTell (map S.text words.entry.now) fault text × IsWritten result.line
+        (E.contents errors.old) (E.contents errors.new) text) }
     ensures refused { 1 < result.status → O.contents output.new ≡ O.contents output.old }
     ensures fault { (asked : Asked) → Asks (map S.text words.entry.now) asked
-        → 0 < result.status → (fault : Fault)
-        × ((result.status ≡ status_of fault) × IsWritten result.line
-        (E.contents errors.old) (E.contents errors.new) (error_line fault)
+        → 0 < result.status → (fault : Fault) × (text : List ℕ)
+        × ((result.status ≡ status_of fault) × Tells asked fault text × IsWritten result.line
+        (E.contents errors.old) (E.contents errors.new) text
         × IsEndOf D.Reader.remaining asked (I.remaining input.old) (I.remaining input.new)
         (O.contents output.old) (O.contents output.new) fault) }
     ensures done { (asked : Asked) → Asks (map S.text words.entry.now) asked
@@ -140,16 +150,16 @@ pub struct Told {
     /// The exit status.
     pub status: u8,
 
-    /// Whether the line on the errors, where there is one, was written.
+    /// Whether the text on the errors, where there is one, was written.
     pub line: Result<(), WriteFault>,
 }
 
 /// Tells the end of the program: nothing where it did what was asked for, and else why it didn't,
-/// by a line or, of wrong words, by the text of `clap`.
-fn tell<E: Write>(ended: Result<(), ProgramFault>, errors: &mut E) -> Told
-    ensures silent { OnOk ended
+/// by a line, by a second one where it is explained, or, of wrong words, by the text of `clap`.
+fn tell<E: Write>(ended: Result<(), ProgramFault<'_>>, errors: &mut E) -> Told
+    ensures silent { OnOk ended.entry
         ((result.status ≡ 0) × (E.contents errors.new ≡ E.contents errors.old)) }
-    ensures told { IfErr ended (λ refusal. IsToldBy refusal result.status
+    ensures told { IfErr ended.entry (λ refusal. IsToldBy refusal result.status
         (IsWritten result.line (E.contents errors.old) (E.contents errors.new))) }
 {
     match ended {
@@ -168,32 +178,76 @@ fn tell<E: Write>(ended: Result<(), ProgramFault>, errors: &mut E) -> Told
             status: fault.status(),
             line: write_fault(&fault, errors),
         },
+        Err(ProgramFault::Explained(explained)) => Told {
+            status: explained.fault.status(),
+            line: write_explained(&explained, errors),
+        },
     }
+}
+
+/// Writes the line of a fault of a file, and behind it a line of what it means.
+fn write_explained<E: Write>(explained: &FileFault<'_>, errors: &mut E) -> Result<(), WriteFault>
+    ensures { (reason : List ℕ) × IsReasonOf explained.now.reason reason
+        × IsWritten result (E.contents errors.old) (E.contents errors.new)
+        (error_line explained.now.fault
+        ++ meaning_line explained.now.path.now explained.now.fault reason) }
+{
+    let reason = reason_text(&explained.reason);
+    write_fault(&explained.fault, errors)?;
+    write_meaning(&explained.fault, explained.path, &reason, errors)
+}
+
+/// What the system says, as far as there is room for it.
+fn reason_text(reason: &Option<io::Error>) -> Reason
+    ensures { IsReasonOf reason.now result.bytes }
+{
+    let mut text = Reason::new();
+    if let Some(error) = reason {
+        let _ = write!(text, "{error}");
+    }
+    text
 }
 
 /// Why the program ends with another status than 0.
 #[derive(Drop)]
-enum ProgramFault {
+enum ProgramFault<'a> {
     /// The words are wrong.
     Words(Error),
 
     /// What they ask for failed.
     Failed(Fault),
+
+    /// What was to be told about a file failed, by a fault of the file.
+    Explained(FileFault<'a>),
+}
+
+/// A fault of a file, with what is told beside its line.
+#[derive(Drop)]
+struct FileFault<'a> {
+    /// The fault.
+    fault: Fault,
+
+    /// The path of the file.
+    path: &'a str,
+
+    /// What the system says of it, where it failed there.
+    reason: Option<io::Error>,
 }
 
 /// Does what the words ask for. A help text that they ask for is written to the output.
-fn perform<D: Disk, S: AsStr, I: Read, O: Write>(
+fn perform<'a, D: Disk, S: AsStr, I: Read, O: Write>(
     disk: &mut D,
     alloc: Global,
-    words: &[S],
+    words: &'a [S],
     input: &mut I,
     output: &mut O,
-) -> Result<(), ProgramFault>
+) -> Result<(), ProgramFault<'a>>
     ensures refused { KeepsIfTold result (O.contents output.old) (O.contents output.new) }
     ensures fault { (asked : Asked) → Asks (map S.text words.entry.now) asked
         → IfErr result (λ refusal. IsRefusalOf D.Reader.remaining asked
         (I.remaining input.old) (I.remaining input.new)
         (O.contents output.old) (O.contents output.new) refusal) }
+    ensures explained { IfErr result (IsExplainedFor (map S.text words.entry.now)) }
     ensures done { (asked : Asked) → Asks (map S.text words.entry.now) asked
         → OnOk result (IsDone D.Reader.remaining ⟦<BufWriter<D::File> as Write>⟧.contents asked
         (I.remaining input.old) (I.remaining input.new)
@@ -202,7 +256,7 @@ fn perform<D: Disk, S: AsStr, I: Read, O: Write>(
         → OnOk result (PutsFor (D.paths disk.old) asked (D.told disk.old) (D.told disk.new)) }
 {
     match read_words(alloc, words) {
-        Ok(request) => refused(fulfil(disk, alloc, request, input, output)),
+        Ok(request) => fulfil(disk, alloc, request, input, output),
         Err(error) if error.kind() == ErrorKind::OutOfMemory => {
             Err(ProgramFault::Failed(Fault::Memory))
         }
@@ -212,7 +266,7 @@ fn perform<D: Disk, S: AsStr, I: Read, O: Write>(
 }
 
 /// A fault as a refusal.
-fn refused(ended: Result<(), Fault>) -> Result<(), ProgramFault>
+fn refused<'a>(ended: Result<(), Fault>) -> Result<(), ProgramFault<'a>>
     ensures done { IfOk ended (λ done. result ≡ Ok done) }
     ensures fault { IfErr ended (λ fault. result ≡ Err (Failed fault)) }
 {
@@ -233,20 +287,15 @@ fn write_help<O: Write>(error: &Error, output: &mut O) -> Result<(), Fault>
 }
 
 /// Does what is asked for.
-fn fulfil<D: Disk, I: Read, O: Write>(
+fn fulfil<'a, D: Disk, I: Read, O: Write>(
     disk: &mut D,
     alloc: Global,
-    request: Request<'_>,
+    request: Request<'a>,
     input: &mut I,
     output: &mut O,
-) -> Result<(), Fault>
-    ensures refused { KeepsIfRefused result (O.contents output.old) (O.contents output.new) }
-    ensures cause { IfErr result (CanEnd (asked_by request.entry)) }
-    ensures fault { IfErr result
-        (λ fault. IsFaultOf D.Reader.remaining (asked_by request.entry) fault) }
-    ensures turns { IfErr result (RunsOut (asked_by request.entry)
-        (I.remaining input.old) (I.remaining input.new)) }
-    ensures left { IfErr result (Leaves D.Reader.remaining (asked_by request.entry)
+) -> Result<(), ProgramFault<'a>>
+    ensures refused { KeepsIfTold result (O.contents output.old) (O.contents output.new) }
+    ensures fault { IfErr result (IsRefusalOf D.Reader.remaining (asked_by request.entry)
         (I.remaining input.old) (I.remaining input.new)
         (O.contents output.old) (O.contents output.new)) }
     ensures done { OnOk result (IsDone D.Reader.remaining
@@ -256,22 +305,27 @@ fn fulfil<D: Disk, I: Read, O: Write>(
         (D.told disk.old) (D.told disk.new)) }
 {
     match request {
-        Request::Default => answer_default(alloc, input, output),
-        Request::Build { kind, pips, path } => write_built(disk, alloc, kind, pips, path, output),
-        Request::Check { kind, path } => check_file(disk, alloc, kind, path, output),
+        Request::Default => refused(answer_default(alloc, input, output)),
+        Request::Build { kind, pips, path } => {
+            refused(write_built(disk, alloc, kind, pips, path, output))
+        }
+        Request::Check { kind, path } => refused(check_file(disk, alloc, kind, path, output)),
         Request::Query {
             kind,
             path,
             cache: None,
-        } => answer_file(disk, alloc, kind, path, input, output),
+        } => refused(answer_file(disk, alloc, kind, path, input, output)),
         Request::Query {
             path,
             cache: Some(records),
             ..
-        } => answer_pages(disk, alloc, path, records, input, output),
-        Request::Ask { path, lines } => ask_file(disk, alloc, path, lines.as_str(), output),
-        Request::Audit { kind, path } => audit_file(disk, alloc, kind, path, output),
-        Request::Upgrade { old, new } => upgrade_database(disk, alloc, old, new, output),
+        } => refused(answer_pages(disk, alloc, path, records, input, output)),
+        Request::Ask { path, lines } => {
+            refused(ask_file(disk, alloc, path, lines.as_str(), output))
+        }
+        Request::About { path } => about_file(disk, alloc, path, output),
+        Request::Audit { kind, path } => refused(audit_file(disk, alloc, kind, path, output)),
+        Request::Upgrade { old, new } => refused(upgrade_database(disk, alloc, old, new, output)),
     }
 }
 
@@ -508,6 +562,96 @@ fn check_file<D: Disk, O: Write>(
     let bytes = read_file(disk, alloc, path)?;
     let kept = accept(kind, bytes.as_slice())?;
     write_count(Done::Checked, kept.bound, output)
+}
+
+/// Checks a file of the kind that its header states, and tells what it is. Where that fails by a
+/// fault of the file, the refusal says what it means.
+#[inline(never)]
+fn about_file<'a, D: Disk, O: Write>(
+    disk: &mut D,
+    alloc: Global,
+    path: &'a str,
+    output: &mut O,
+) -> Result<(), ProgramFault<'a>>
+    ensures refused { KeepsIfTold result (O.contents output.old) (O.contents output.new) }
+    ensures fault { IfErr result (IsAboutEnd D.Reader.remaining path.now
+        (O.contents output.old) (O.contents output.new)) }
+    ensures about { OnOk result (SaysAbout D.Reader.remaining
+        (O.contents output.old) (O.contents output.new)) }
+{
+    let file = match read_file(disk, alloc, path) {
+        Ok(file) => file,
+        Err(unread) => return Err(explained(path, unread)),
+    };
+    let bytes = file.as_slice();
+    let kind = stated_kind(bytes);
+    match accept(kind, bytes) {
+        Ok(kept) => refused(write_about(kind, version(kind, kept), kept.bound, output)),
+        Err(fault) => Err(ProgramFault::Explained(FileFault {
+            fault,
+            path,
+            reason: None,
+        })),
+    }
+}
+
+/// Why a file that was not read can't be told about.
+fn explained<'a>(path: &'a str, unread: Unread) -> ProgramFault<'a>
+    ensures { IsUnreadEnd path.now result }
+{
+    let (fault, error) = match unread {
+        Unread::Memory => return ProgramFault::Failed(Fault::Memory),
+        Unread::Open(error) => (Fault::Open, error),
+        Unread::Read(error) => (Fault::File, error),
+    };
+    ProgramFault::Explained(FileFault {
+        fault,
+        path,
+        reason: Some(error),
+    })
+}
+
+/// Writes what an accepted file is.
+// so that the room of the ranks is not part of its caller's
+#[inline(never)]
+fn write_about<O: Write>(
+    kind: FileKind,
+    version: u16,
+    pips: u8,
+    output: &mut O,
+) -> Result<(), Fault>
+    ensures cause { IfErr result (λ fault. fault ≡ Write) }
+    ensures part { OnErr result (AppendsPart (O.contents output.old) (O.contents output.new)
+        (about_text kind version pips (count_to pips))) }
+    ensures all { OnOk result (Appends (O.contents output.old) (O.contents output.new)
+        (about_text kind version pips (count_to pips))) }
+{
+    let text = about_text(kind, version, pips, Ranks::new().count_to(pips));
+    if write_bytes(text.as_str().as_bytes(), output).is_err() {
+        return Err(Fault::Write);
+    }
+    flush(output)
+}
+
+/// What a file is: its kind, its version, its pip bound and its number of positions, each on a
+/// line.
+fn about_text(kind: FileKind, version: u16, pips: u8, positions: u16) -> ArrayString<96>
+    ensures { result.bytes ≡ about_text kind version pips positions }
+{
+    let mut text: ArrayString<96> = ArrayString::new();
+    text.push_str("kind ");
+    text.push_str(match kind {
+        FileKind::Database => "database",
+        FileKind::Board => "board file",
+    });
+    text.push_str("\nversion ");
+    text.push_str(Buffer::new().format(version));
+    text.push_str("\npips ");
+    text.push_str(Buffer::new().format(pips));
+    text.push_str("\npositions ");
+    text.push_str(Buffer::new().format(positions));
+    text.push_str("\n");
+    text
 }
 
 /// Checks a file, and writes a line for each pip count.

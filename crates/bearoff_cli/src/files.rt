@@ -4,7 +4,7 @@ ghost use Rattle.std.specs.Io.KnownBytes.{Consumes, IsAtEnd, Keeps};
 ghost use Rattle.exit_status.specs.Statuses.{status_of};
 ghost use Rattle.exit_status.specs.declared.fault.Fault.TheVariants.{File, Write, Memory};
 ghost use Rattle.retrograde.specs.BuiltBoards.{IsBuiltBoard};
-ghost use Rattle.bearoff_cli.specs.Faults.{IsBuildFault, IsReadFault, IsUpgradeFault};
+ghost use Rattle.bearoff_cli.specs.Faults.{IsBuildFault, IsReadFault, IsUpgradeFault, of_unread};
 ghost use Rattle.bearoff_cli.specs.FileAnswers.{IsHandedTo, IsReadFrom};
 ghost use Rattle.bearoff_cli.specs.Kinds.{IsBuiltOf, WritesBuiltOf, greatest};
 ghost use Rattle.command_line.specs.declared.words.FileKind.TheVariants.{Database, Board};
@@ -22,7 +22,8 @@ use db_layout::{BoardHeader, write_bytes};
 use db_reader::Table;
 use exit_status::Fault;
 use retrograde::{ReadyBuild, build_board};
-use std::alloc::Global;
+use std::alloc::{AllocError, Global};
+use std::io;
 use std::io::{BufWriter, Read, Write};
 use whole_file::{Disk, Draft, DraftFault, begin};
 
@@ -42,25 +43,56 @@ const KEPT_RECORD: usize = 640;
 /// (this project's profile).
 const MOST_BYTES: usize = 20_000_001;
 
+/// Why a file was not read, with what the system says of it.
+#[derive(Drop)]
+pub enum Unread {
+    /// There was no memory.
+    Memory,
+
+    /// It can't be opened.
+    Open(io::Error),
+
+    /// A read failed.
+    Read(io::Error),
+}
+
+impl From<Unread> for Fault {
+    ghost from_gives = { λ unread fault. (fault ≡ of_unread unread) × IsReadFault fault };
+
+    fn from(unread: Unread) -> Self {
+        match unread {
+            Unread::Memory => Fault::Memory,
+            Unread::Open(_) => Fault::Open,
+            Unread::Read(_) => Fault::File,
+        }
+    }
+}
+
+impl From<AllocError> for Unread {
+    fn from(_error: AllocError) -> Self {
+        Unread::Memory
+    }
+}
+
 /// The bytes of a file, at most 20,000,001 of them. `Memory` where there is no room for the stack
-/// that a check needs, `Open` where the file can't be opened, `File` where a read fails, and
+/// that a check needs, `Open` where the file can't be opened, `Read` where a read fails, and
 /// `Memory` where there is no room for the bytes.
-pub fn read_file<D: Disk>(disk: &mut D, alloc: Global, path: &str) -> Result<Vec<u8>, Fault>
-    ensures cause { IfErr result IsReadFault }
+pub fn read_file<D: Disk>(disk: &mut D, alloc: Global, path: &str) -> Result<Vec<u8>, Unread>
     ensures read { IfOk result (λ bytes. IsReadFrom D.Reader.remaining bytes.items) }
     ensures paths { D.paths disk.new ≡ D.paths disk.old }
     ensures stays { D.told disk.new ≡ D.told disk.old }
 {
-    let _room = stack_room(alloc)?;
-    let Ok(mut file) = disk.open_to_read(path) else {
-        return Err(Fault::Open);
+    let Ok(_room) = stack_room(alloc) else {
+        return Err(Unread::Memory);
     };
-    read_bytes(alloc, &mut file)
+    match disk.open_to_read(path) {
+        Ok(mut file) => read_bytes(alloc, &mut file),
+        Err(error) => Err(Unread::Open(error)),
+    }
 }
 
 /// The bytes that a reader has left, at most 20,000,001 of them.
-fn read_bytes<F: Read>(alloc: Global, file: &mut F) -> Result<Vec<u8>, Fault>
-    ensures cause { IfErr result IsReadFault }
+fn read_bytes<F: Read>(alloc: Global, file: &mut F) -> Result<Vec<u8>, Unread>
     ensures read { WhereTold (F.remaining file.old)
         (λ left. IfOk result (λ bytes. bytes.items ≡ take 20000001 left)) }
 {
@@ -119,15 +151,15 @@ fn has_room(alloc: Global, bytes: usize) -> bool {
 }
 
 /// What one read gives; nothing at the end of the file.
-fn read_block<'a, F: Read>(file: &mut F, block: &'a mut [u8; BLOCK]) -> Result<&'a [u8], Fault>
-    ensures fault { IfErr result (λ fault. fault ≡ File) }
+fn read_block<'a, F: Read>(file: &mut F, block: &'a mut [u8; BLOCK]) -> Result<&'a [u8], Unread>
+    ensures fault { IfErr result (λ unread. of_unread unread ≡ File) }
     ensures read { IfOk result
         (λ bytes. Consumes (F.remaining file.old) (F.remaining file.new) bytes.now) }
     ensures end { IfOk result (λ bytes. length bytes.now ≡ 0 → IsAtEnd (F.remaining file.new)) }
 {
     match file.read(block) {
         Ok(count) => Ok(&block[..count]),
-        Err(_) => Err(Fault::File),
+        Err(error) => Err(Unread::Read(error)),
     }
 }
 

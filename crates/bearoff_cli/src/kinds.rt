@@ -11,7 +11,7 @@ ghost use Rattle.epc_query.specs.UsedReads.{HasUsed};
 ghost use Rattle.exit_status.specs.Causes.{of_check};
 ghost use Rattle.exit_status.specs.declared.fault.Fault.TheVariants.{Write};
 ghost use Rattle.bearoff_cli.specs.Faults.{IsAnswerFault, IsFirstBy};
-ghost use Rattle.bearoff_cli.specs.FileAnswers.{WritesLevel, WritesLevels};
+ghost use Rattle.bearoff_cli.specs.FileAnswers.{WritesLevel, WritesLevels, version_in};
 ghost use Rattle.bearoff_cli.specs.InputAnswers.{AreAnswered};
 ghost use Rattle.bearoff_cli.specs.Kinds.{IsKept, file_of, greatest, stated_kind};
 ghost use Rattle.bearoff_cli.specs.StoppedRuns.{AreStopped, WritesLevelPart, WritesLevelsPart};
@@ -85,6 +85,16 @@ pub fn accept(kind: FileKind, bytes: &[u8]) -> Result<Accepted, Fault>
             }),
             Err(refused) => Err(Fault::from(refused)),
         },
+    }
+}
+
+/// The version of bytes that were accepted.
+pub fn version(kind: FileKind, kept: Accepted) -> u16
+    ensures { (file : List ℕ) → IsKept kind kept file → result ≡ version_in (file_of kind file) }
+{
+    match kind {
+        FileKind::Database => kept.version,
+        FileKind::Board => BOARD_VERSION,
     }
 }
 

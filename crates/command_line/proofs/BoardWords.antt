@@ -1,5 +1,5 @@
 -- `--board`, and then a file.
-use Rattle.std.proofs.Common.{◌≡◌, ◌∙◌, ◌==◌, ◌&&◌, cond, ℕ, true, false, refl, ap, ap₂, List}
+use Rattle.std.proofs.Common.{◌≡◌, ◌∙◌, ◌==◌, ◌&&◌, cond, ℕ, true, refl, ap, ap₂, List}
 use Rattle.std.proofs.Common.{[], ◌∷◌, Some, None, codes}
 use Rattle.std.specs.Str.{bytes_eq}
 use Rattle.clap.specs.Words.{App, Text, built, first_of, matches_of, one_of, takes}

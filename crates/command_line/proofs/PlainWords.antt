@@ -19,7 +19,7 @@ use Rattle.clap.specs.Takes.{settle_passes, step_passes, turn_passes, walk_passe
 use Rattle.clap.specs.declared.parser.matches.ArgMatches.{ArgMatches}
 use Rattle.clap.proofs.WalkLemmas.{first_value-rows, one_text-rows, raw_values-rows}
 use Rattle.command_line.specs.Asked.{IsPlain}
-use Rattle.command_line.specs.Commands.{build_app, file_app, query_app, upgrade_app}
+use Rattle.command_line.specs.Commands.{about_app, build_app, file_app, query_app, upgrade_app}
 use Rattle.command_line.proofs.WalkValues.{Each, first_is_word}
 
 pub each_contains : {X : Type 0} (xs : List X) (P : X → Type 0) → ((x : X) → Contains xs x → P x)
@@ -158,6 +158,39 @@ file_is_word name words text e =
     words text (
       (λ same. absurd (true≢false (sym same))),
       ((λ _. (refl, refl, refl, refl)), ((λ same. absurd (true≢false (sym same))), tt)),
+    )
+    (each_contains words (Contains words) (λ x c. c)) e
+
+-- ---- a file of any kind
+
+module _ (path : Text) (plain : IsPlain path) where
+  abbrev about_built : App
+  about_built = built about_app
+
+  abbrev about_walk : Walk
+  about_walk = to_positional about_built.top.rules (arg_by_index about_built.top.rules 1) path
+      (walk_at nothing_held 1) nothing_held
+
+  about_walked : walk about_built.top.rules [] nothing_held (path ∷ []) ≡ about_walk
+  about_walked = plain_walked path plain about_built.top.rules 1 nothing_held
+
+  about_passes : walk_passes about_built.top [] (walk_from nothing_held) (path ∷ []) ≡ true
+  unfolding walk_passes
+  about_passes = ap (λ b. b && true) (plain_turn path plain about_built.top 1 nothing_held)
+
+  pub about_takes : takes about_app (path ∷ []) ≡ true
+  about_takes = ap₂ (taken about_built) about_passes about_walked
+
+  pub about_first : first_of (codes "FILE") (matches_of about_app (path ∷ [])) ≡ Some path
+  about_first = ap (λ (w : Walk). first_of (codes "FILE") (finished about_built.top.rules w.held))
+      about_walked
+
+pub about_is_word : (words : List Text) (text : Text)
+    → first_of (codes "FILE") (matches_of about_app words) ≡ Some text → Contains words text
+about_is_word words text e =
+    first_is_word (codes "FILE") (Contains words) (built about_app).top.rules [] words text (
+      (λ _. (refl, refl, refl, refl)),
+      ((λ same. absurd (true≢false (sym same))), tt),
     )
     (each_contains words (Contains words) (λ x c. c)) e
 

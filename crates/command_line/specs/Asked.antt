@@ -12,7 +12,7 @@ use Rattle.command_line.specs.declared.words.FileKind.{FileKind}
 use Rattle.command_line.specs.declared.words.FileKind.TheVariants.{Database, Board}
 use Rattle.command_line.specs.declared.words.Request.{Request}
 use Rattle.command_line.specs.declared.words.Request.TheVariants.{Default, Build, Check, Query, Ask}
-use Rattle.command_line.specs.declared.words.Request.TheVariants.{Audit, Upgrade}
+use Rattle.command_line.specs.declared.words.Request.TheVariants.{About, Audit, Upgrade}
 
 -- a request with each of its texts as bytes, wherever they lie; the lines of `ask` are the text of
 -- an input
@@ -22,6 +22,7 @@ pub data Asked : Type 0 where
   check : FileKind → Text → Asked
   query : FileKind → Text → Option ℕ → Asked
   ask : Text → Text → Asked
+  about : Text → Asked
   audit : FileKind → Text → Asked
   upgrade : Text → Text → Asked
 
@@ -32,6 +33,7 @@ asked_by (Build kind pips path) = build kind pips path.now
 asked_by (Check kind path) = check kind path.now
 asked_by (Query kind path cache) = query kind path.now cache
 asked_by (Ask path lines) = ask path.now (string_bytes lines)
+asked_by (About path) = about path.now
 asked_by (Audit kind path) = audit kind path.now
 asked_by (Upgrade old new) = upgrade old.now new.now
 
@@ -97,6 +99,7 @@ IsAskedBy words (build kind pips path) = FollowsFor kind (codes "build") words p
 IsAskedBy words (check kind path) = FollowsFor kind (codes "check") words path
 IsAskedBy words (query kind path cache) = FollowsFor kind (codes "query") words path
 IsAskedBy words (ask path lines) = Follows (codes "ask") words path
+IsAskedBy words (about path) = Follows (codes "about") words path
 IsAskedBy words (audit kind path) = FollowsFor kind (codes "audit") words path
 IsAskedBy words (upgrade old new) =
     Follows (codes "upgrade") words old × Follows (codes "upgrade") words new

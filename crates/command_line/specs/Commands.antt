@@ -35,6 +35,10 @@ abbrev pub ask_app : App
 ask_app = with_rule (with_rule (bare_app (codes "ask")) (word_rule (codes "FILE")))
     (words_rule (codes "LINE"))
 
+-- `about FILE`
+abbrev pub about_app : App
+about_app = with_rule (bare_app (codes "about")) (word_rule (codes "FILE"))
+
 -- `upgrade OLD NEW`
 abbrev pub upgrade_app : App
 upgrade_app = with_rule (with_rule (bare_app (codes "upgrade")) (word_rule (codes "OLD")))

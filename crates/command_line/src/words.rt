@@ -8,9 +8,9 @@ ghost use Rattle.command_line.specs.declared.words.FileKind.{FileKind};
 ghost use Rattle.command_line.specs.declared.words.FileKind.TheVariants.{Database, Board};
 ghost use Rattle.command_line.specs.declared.words.Request.TheVariants.{Default};
 ghost use Rattle.command_line.specs.Asked.{ArePlain, Gives, IsAskedBy, IsFor, IsPlain, Writes, as_input, asked_by};
-ghost use Rattle.command_line.specs.Asked.{flagged, kind_in, build, check, query, ask, audit, upgrade};
-ghost use Rattle.command_line.specs.Commands.{IsFileApp, ask_app, bare_app, build_app, file_app, query_app};
-ghost use Rattle.command_line.specs.Commands.{upgrade_app};
+ghost use Rattle.command_line.specs.Asked.{flagged, kind_in, build, check, query, ask, about, audit, upgrade};
+ghost use Rattle.command_line.specs.Commands.{IsFileApp, about_app, ask_app, bare_app, build_app, file_app};
+ghost use Rattle.command_line.specs.Commands.{query_app, upgrade_app};
 
 use clap::error::ErrorKind;
 use clap::{Arg, ArgAction, ArgMatches, Command, Error, value_parser};
@@ -64,6 +64,11 @@ pub enum Request<'a> {
         lines: String,
     },
 
+    /// Check a file, of the kind that its header states, and tell what it is, or why it is refused.
+    About {
+        path: &'a str,
+    },
+
     /// Check a file, and tell the least and the greatest mean of each pip count.
     Audit {
         kind: FileKind,
@@ -88,6 +93,7 @@ const EXAMPLES: &str = "Examples:
   bearoff check race.db                  is every mean in it the least?
   bearoff query race.db <lines           answer each line
   bearoff ask race.db 'mean 2,2,2,2,2,2' answer lines that are words, over a file of any kind
+  bearoff about race.db                  what a file of any kind is, or why it is refused
   bearoff audit race.db                  least and greatest mean of each pip count
   bearoff upgrade race.db new.db         the same database as a file of version 2 (8 MB)
   bearoff build --board board.db         write the whole home board, to 90 pips (15 MB)
@@ -121,6 +127,10 @@ const BUILD_STATUSES: &str =
     "Exit status: 0 the file was written; 1 it, the output or memory failed (FILE is the old file,
 or the whole new one); 2 the words are wrong or N is over the greatest bound.";
 
+const ABOUT_STATUSES: &str =
+    "Exit status: 0 FILE was accepted; 1 it, the output or memory failed; 2 the words are wrong;
+3 FILE was refused. Standard error says why, as `check` does, and then once more in words.";
+
 const UPGRADE_STATUSES: &str =
     "Exit status: 0 NEW was written; 1 a file, the output or memory failed (NEW is the old file, or
 the whole new one); 2 the words are wrong; 3 OLD was refused, or is new already.";
@@ -134,6 +144,8 @@ const CHECK: &str = "Checks that every mean in FILE is the least over all strate
 const QUERY: &str = "Checks FILE, then answers each line of standard input";
 
 const ASK: &str = "Checks FILE, a database or a board file, then answers each LINE";
+
+const ABOUT_FILE: &str = "Checks FILE, a database or a board file, then tells what it is";
 
 const AUDIT: &str = "Checks FILE, then tells the least and the greatest mean of each pip count";
 
@@ -165,6 +177,9 @@ pub fn read_words<'a, S: AsStr>(alloc: Global, words: &'a [S]) -> Result<Request
         → ArePlain (line ∷ lines)
         → map S.text words.entry.now ≡ codes "ask" ∷ path ∷ line ∷ lines
         → Gives result (IsFor (ask path (as_input (line ∷ lines)))) }
+    ensures about { (path : List ℕ) → IsPlain path
+        → map S.text words.entry.now ≡ codes "about" ∷ path ∷ []
+        → Gives result (IsFor (about path)) }
     ensures audit { (kind : FileKind) (path : List ℕ) → IsPlain path
         → map S.text words.entry.now ≡ codes "audit" ∷ flagged kind (path ∷ [])
         → Gives result (IsFor (audit kind path)) }
@@ -181,6 +196,7 @@ pub fn read_words<'a, S: AsStr>(alloc: Global, words: &'a [S]) -> Result<Request
         "check" => read_check(alloc, kind, rest),
         "query" => read_query(alloc, kind, rest),
         "ask" => read_ask(alloc, rest),
+        "about" => read_about(alloc, rest),
         "audit" => read_audit(alloc, kind, rest),
         "upgrade" => read_upgrade(alloc, rest),
         "--" if rest.is_empty() => Ok(Request::Default),
@@ -351,6 +367,18 @@ fn read_ask<'a, S: AsStr>(alloc: Global, words: &'a [S]) -> Result<Request<'a>, 
     Ok(Request::Ask { path, lines })
 }
 
+/// What the words after `about` ask for.
+fn read_about<'a, S: AsStr>(alloc: Global, words: &'a [S]) -> Result<Request<'a>, Error>
+    ensures asked { IfOk result
+        (λ r. IsAskedBy (codes "about" ∷ map S.text words.entry.now) (asked_by r)) }
+    ensures given { (path : List ℕ) → IsPlain path → map S.text words.entry.now ≡ path ∷ []
+        → Gives result (IsFor (about path)) }
+{
+    let matches = about_command(alloc)?.try_get_matches_from(words)?;
+    let path = value_of(alloc, &matches, "FILE")?;
+    Ok(Request::About { path })
+}
+
 /// The lines of `ask`, each with a line feed at its end.
 fn lines_in(alloc: Global, matches: &ArgMatches<'_>) -> Result<String, AllocError>
     ensures { (lines : List (List ℕ))
@@ -414,6 +442,7 @@ fn command<'a>(alloc: Global) -> Result<Command<'a>, AllocError> {
         .subcommand(file_command(alloc, "check", CHECK, FILE_HELP, STATUSES)?)?
         .subcommand(query_command(alloc)?)?
         .subcommand(ask_command(alloc)?)?
+        .subcommand(about_command(alloc)?)?
         .subcommand(file_command(alloc, "audit", AUDIT, FILE_HELP, STATUSES)?)?
         .subcommand(upgrade_command(alloc)?)
 }
@@ -457,6 +486,14 @@ fn ask_command<'a>(alloc: Global) -> Result<Command<'a>, AllocError>
     bare_command(alloc, "ask", ASK, ASK_STATUSES)?
         .arg(file)?
         .arg(line)
+}
+
+/// `about FILE`.
+fn about_command<'a>(alloc: Global) -> Result<Command<'a>, AllocError>
+    ensures { IfOk result (λ c. app_of c ≡ about_app) }
+{
+    let file = Arg::new(alloc, "FILE").required(true).help(FILE_HELP);
+    bare_command(alloc, "about", ABOUT_FILE, ABOUT_STATUSES)?.arg(file)
 }
 
 /// `upgrade OLD NEW`.

@@ -7,7 +7,7 @@ use crate::events;
 use crate::events::Event;
 use std::alloc::{AllocError, Global};
 use std::io;
-use std::io::{Empty, Write};
+use std::io::{Empty, ErrorKind, Write};
 use whole_file::{Disk, DiskFault, FileFacts, Link, Made, name_of};
 
 /// A file of a disk in memory that is being written. Its bytes are on no disk before they are made
@@ -168,8 +168,8 @@ impl Disk for MemoryDisk {
     }
 
     /// No file of this disk is read by path.
-    fn open_to_read(&mut self, _path: &str) -> Result<Empty, DiskFault> {
-        Err(DiskFault)
+    fn open_to_read(&mut self, _path: &str) -> io::Result<Empty> {
+        Err(ErrorKind::Unsupported.into())
     }
 
     fn facts(&mut self, file: &MemoryFile) -> Result<FileFacts, DiskFault> {

@@ -7,6 +7,7 @@ ghost use Rattle.whole_file.specs.Paths.{Paths, folder_of, place_of};
 ghost use Rattle.whole_file.specs.Calls.{AnswersLink, AnswersMade, AnswersSettled, IsAllowed};
 
 use std::alloc::{AllocError, Global};
+use std::io;
 use std::io::{Read, Seek, Write};
 
 /// A call of the disk failed.
@@ -82,8 +83,8 @@ pub trait Disk {
         ensures paths { paths self.new ≡ paths self.old }
         ensures stays { told self.new ≡ told self.old };
 
-    /// Opens a file to be read.
-    fn open_to_read(&mut self, path: &str) -> Result<Self::Reader, DiskFault>
+    /// Opens a file to be read, or says why it can't be.
+    fn open_to_read(&mut self, path: &str) -> io::Result<Self::Reader>
         ensures paths { paths self.new ≡ paths self.old }
         ensures stays { told self.new ≡ told self.old };
 

@@ -74,8 +74,8 @@ where
         }
     }
 
-    fn open_to_read(&mut self, path: &str) -> Result<R::File, DiskFault> {
-        fs::open(self.files, path).map_err(|_| DiskFault)
+    fn open_to_read(&mut self, path: &str) -> io::Result<R::File> {
+        fs::open(self.files, path)
     }
 
     fn facts(&mut self, file: &R::File) -> Result<FileFacts, DiskFault> {

@@ -4,9 +4,9 @@ use Rattle.bearoff_cli.proofs.act.act.Goals as goal
 pub returns-clause-told : goal.returns-clause-told
 returns-clause-told g c some other =
     let told = c.act_on-told.ensures.told some other in
-    (told.0, (told.1.0, told.1.1.0))
+    (told.0, told.1, (told.2.0, told.2.1, told.2.2.0))
 
 pub returns-clause-fault : goal.returns-clause-fault
 returns-clause-fault g c asked asks some =
     let told = c.act_on-told.ensures.fault asked asks some in
-    (told.0, (told.1.0, told.1.1.0, told.1.2))
+    (told.0, told.1, (told.2.0, told.2.1, told.2.2.0, told.2.3))

@@ -1,7 +1,15 @@
 -- The end of a request that was refused is told.
+use Rattle.std.proofs.Common.{map}
 use Rattle.bearoff_cli.specs.Tellings.{IsWritten}
-use Rattle.bearoff_cli.proofs.ToldFaults.{told_end}
+use Rattle.bearoff_cli.proofs.ToldFaults.{told_any, told_end}
 use Rattle.bearoff_cli.proofs.act.act_on.Goals as goal
+
+pub returns-clause-told : goal.returns-clause-told
+returns-clause-told g c some other =
+    told_any (map g.S.AsStr.text c.args.words.now) c.perform.result c.tell.result.status
+    (λ text. IsWritten c.tell.result.line (g.E.Write.contents c.args.errors.now)
+    (g.E.Write.contents c.tell.new.errors) text) _ c.tell.ensures.silent c.tell.ensures.told
+    c.perform.ensures.explained some other
 
 pub returns-clause-fault : goal.returns-clause-fault
 returns-clause-fault g c asked asks some =

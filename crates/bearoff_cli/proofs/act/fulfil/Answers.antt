@@ -1,20 +1,156 @@
--- What is done for a request is what its function did.
+-- What is done for a request is what its function did, and what it failed by is told.
+use Rattle.std.proofs.Common.{◌≡◌, IfErr, None, Some, refl, rules, subst}
+use Rattle.std.proofs.lemmas.Result.{IfErr-weaker}
+use Rattle.command_line.specs.Asked.{asked_by, default, build, check, query, ask, audit, upgrade}
+use Rattle.bearoff_cli.specs.Faults.{IsBoundFault, IsCheckFault, IsUpgradeFault}
+use Rattle.bearoff_cli.specs.Kinds.{greatest}
+use Rattle.bearoff_cli.specs.StoppedRuns.{IsRefusalOf}
+use Rattle.bearoff_cli.proofs.Explained.{about_refusal}
 use Rattle.bearoff_cli.proofs.OpenedFiles.{all_ok}
 use Rattle.bearoff_cli.proofs.Requests.{told_done, told_left}
+use Rattle.bearoff_cli.proofs.ToldFaults.{any_fault, done_if, ended_refusal, no_turns, no_turns_built}
 use Rattle.bearoff_cli.proofs.act.fulfil.Goals as goal
 
 pub returns-in-Default-clause-done : goal.returns-in-Default-clause-done
 returns-in-Default-clause-done g c =
-    rw c.in-Default.is (told_done c.answer_default.result _ _ c.answer_default.ensures.answers)
+    rw c.in-Default.is (done_if c.answer_default.result c.refused.result
+    (told_done c.answer_default.result _ _ c.answer_default.ensures.answers) (λ done. done)
+    c.refused.ensures.fault)
 
-pub returns-in-Default-clause-left : goal.returns-in-Default-clause-left
-returns-in-Default-clause-left g c =
-    rw c.in-Default.is (told_left c.answer_default.result _ _ c.answer_default.ensures.left)
+pub returns-in-Default-clause-fault : goal.returns-in-Default-clause-fault
+returns-in-Default-clause-fault g c =
+    let it = c.answer_default.ensures in
+    rw c.in-Default.is (ended_refusal g.D.Reader.Read.remaining default (λ fault. tt) _ _ _ _
+    c.answer_default.result c.refused.result it.cause (any_fault c.answer_default.result) it.turns
+    (told_left c.answer_default.result _ _ it.left)
+    c.refused.ensures.done c.refused.ensures.fault)
 
 pub returns-in-Build-clause-done : goal.returns-in-Build-clause-done
 returns-in-Build-clause-done g c =
     let built = c.write_built.ensures in
-    rw c.in-Build.is (all_ok c.write_built.result _ _ _ built.within built.handed built.built)
+    rw c.in-Build.is (done_if c.write_built.result c.refused-in-Build.result
+    (all_ok c.write_built.result _ _ _ built.within built.handed built.built) (λ done. done)
+    c.refused-in-Build.ensures.fault)
+
+pub returns-in-Build-clause-fault : goal.returns-in-Build-clause-fault
+returns-in-Build-clause-fault g c =
+    let it = c.write_built.ensures in
+    let most = greatest c.in-Build.kind in
+    let pips = c.in-Build.pips in
+    rw c.in-Build.is (ended_refusal g.D.Reader.Read.remaining
+    (build c.in-Build.kind pips c.in-Build.path.now) (λ fault. tt) _ _ _ _
+    c.write_built.result c.refused-in-Build.result it.cause (any_fault c.write_built.result)
+    (no_turns (IsBoundFault most pips) (no_turns_built most pips) _ _ c.write_built.result it.cause)
+    it.left c.refused-in-Build.ensures.done c.refused-in-Build.ensures.fault)
+
+pub returns-in-Build-clause-put : goal.returns-in-Build-clause-put
+returns-in-Build-clause-put g c =
+    rw c.in-Build.is (done_if c.write_built.result c.refused-in-Build.result
+    c.write_built.ensures.put
+    (λ put. put) c.refused-in-Build.ensures.fault)
+
+pub returns-in-Check-clause-done : goal.returns-in-Check-clause-done
+returns-in-Check-clause-done g c =
+    rw c.in-Check.is (done_if c.check_file.result c.refused-in-Check.result
+    c.check_file.ensures.right
+    (λ done. done) c.refused-in-Check.ensures.fault)
+
+pub returns-in-Check-clause-fault : goal.returns-in-Check-clause-fault
+returns-in-Check-clause-fault g c =
+    let it = c.check_file.ensures in
+    rw c.in-Check.is (ended_refusal g.D.Reader.Read.remaining
+    (check c.in-Check.kind c.in-Check.path.now) (λ fault. tt) _ _ _ _
+    c.check_file.result c.refused-in-Check.result it.cause it.fault
+    (no_turns IsCheckFault (λ is. is) _ _ c.check_file.result it.cause)
+    it.left c.refused-in-Check.ensures.done c.refused-in-Check.ensures.fault)
+
+pub returns-in-Audit-clause-done : goal.returns-in-Audit-clause-done
+returns-in-Audit-clause-done g c =
+    rw c.in-Audit.is (done_if c.audit_file.result c.refused-in-Audit.result
+    c.audit_file.ensures.levels
+    (λ done. done) c.refused-in-Audit.ensures.fault)
+
+pub returns-in-Audit-clause-fault : goal.returns-in-Audit-clause-fault
+returns-in-Audit-clause-fault g c =
+    let it = c.audit_file.ensures in
+    rw c.in-Audit.is (ended_refusal g.D.Reader.Read.remaining
+    (audit c.in-Audit.kind c.in-Audit.path.now) (λ fault. tt) _ _ _ _
+    c.audit_file.result c.refused-in-Audit.result it.cause it.fault
+    (no_turns IsCheckFault (λ is. is) _ _ c.audit_file.result it.cause)
+    it.left c.refused-in-Audit.ensures.done c.refused-in-Audit.ensures.fault)
+
+pub returns-in-Upgrade-clause-done : goal.returns-in-Upgrade-clause-done
+returns-in-Upgrade-clause-done g c =
+    rw c.in-Upgrade.is (done_if c.upgrade_database.result c.refused-in-Upgrade.result
+    c.upgrade_database.ensures.upgraded (λ done. done) c.refused-in-Upgrade.ensures.fault)
+
+pub returns-in-Upgrade-clause-fault : goal.returns-in-Upgrade-clause-fault
+returns-in-Upgrade-clause-fault g c =
+    let it = c.upgrade_database.ensures in
+    rw c.in-Upgrade.is (ended_refusal g.D.Reader.Read.remaining
+    (upgrade c.in-Upgrade.old.now c.in-Upgrade.new.now) (λ fault. tt) _ _ _ _
+    c.upgrade_database.result c.refused-in-Upgrade.result it.cause it.fault
+    (no_turns IsUpgradeFault (λ is. is) _ _ c.upgrade_database.result it.cause)
+    it.left c.refused-in-Upgrade.ensures.done c.refused-in-Upgrade.ensures.fault)
 
 pub returns-in-Upgrade-clause-put : goal.returns-in-Upgrade-clause-put
-returns-in-Upgrade-clause-put g c = rw c.in-Upgrade.is c.upgrade_database.ensures.put
+returns-in-Upgrade-clause-put g c =
+    rw c.in-Upgrade.is (done_if c.upgrade_database.result c.refused-in-Upgrade.result
+    c.upgrade_database.ensures.put (λ put. put) c.refused-in-Upgrade.ensures.fault)
+
+pub returns-in-About-clause-fault : goal.returns-in-About-clause-fault
+returns-in-About-clause-fault g c =
+    rw c.in-About.is (about_refusal g.D.Reader.Read.remaining c.in-About.path.now _ _ _ _
+    c.about_file.result c.about_file.ensures.fault)
+
+pub returns-in-Query-default-default-None-clause-done :
+    goal.returns-in-Query-default-default-None-clause-done
+returns-in-Query-default-default-None-clause-done g c =
+    let it = c.in-Query-default-default-None in
+    let asked : asked_by c.args.request ≡ query it.kind it.path.now None = search rules in
+    rw asked (done_if c.answer_file.result c.refused-in-Query-default-default-None.result
+    c.answer_file.ensures.answers (λ done. done)
+    c.refused-in-Query-default-default-None.ensures.fault)
+
+pub returns-in-Query-default-default-None-clause-fault :
+    goal.returns-in-Query-default-default-None-clause-fault
+returns-in-Query-default-default-None-clause-fault g c =
+    let at = c.in-Query-default-default-None in
+    let it = c.answer_file.ensures in
+    let asked : asked_by c.args.request ≡ query at.kind at.path.now None = search rules in
+    rw asked (ended_refusal g.D.Reader.Read.remaining (query at.kind at.path.now None)
+    (λ fault. tt) _ _ _ _ c.answer_file.result c.refused-in-Query-default-default-None.result
+    it.cause it.fault it.turns it.left c.refused-in-Query-default-default-None.ensures.done
+    c.refused-in-Query-default-default-None.ensures.fault)
+
+pub returns-in-Query-default-default-Some-clause-fault :
+    goal.returns-in-Query-default-default-Some-clause-fault
+returns-in-Query-default-default-Some-clause-fault g c =
+    let at = c.in-Query-default-default-Some in
+    let it = c.answer_pages.ensures in
+    let asked : asked_by c.args.request ≡ query at.kind at.path.now (Some at.records) =
+    search rules in
+    rw asked (ended_refusal g.D.Reader.Read.remaining
+    (query at.kind at.path.now (Some at.records)) (λ fault. tt) _ _
+    (g.O.Write.contents c.args.output.now) (g.O.Write.contents c.answer_pages.new.output)
+    c.answer_pages.result
+    c.refused-in-Query-default-default-Some.result it.cause (any_fault c.answer_pages.result)
+    it.turns (any_fault c.answer_pages.result)
+    c.refused-in-Query-default-default-Some.ensures.done
+    c.refused-in-Query-default-default-Some.ensures.fault)
+
+pub returns-in-Ask-clause-fault : goal.returns-in-Ask-clause-fault
+returns-in-Ask-clause-fault g c =
+    let remaining = g.D.Reader.Read.remaining in
+    let input = g.I.Read.remaining c.args.input.now in
+    let old = g.O.Write.contents c.args.output.now in
+    let new = g.O.Write.contents c.ask_file.new.output in
+    let path = c.in-Ask.path.now in
+    let it = c.ask_file.ensures in
+    rw c.in-Ask.is (subst (λ lines. IfErr c.refused-in-Ask.result
+    (λ refusal. IsRefusalOf remaining (ask path lines) input input old new refusal))
+    c.as_str.ensures.value
+    (ended_refusal remaining (ask path c.as_str.result.now) (λ fault. tt) input input old new
+    c.ask_file.result c.refused-in-Ask.result it.cause it.fault (any_fault c.ask_file.result)
+    (IfErr-weaker c.ask_file.result _ _ (λ fault leaves. (refl, leaves)) it.left)
+    c.refused-in-Ask.ensures.done c.refused-in-Ask.ensures.fault))

@@ -1,14 +1,15 @@
 -- The words ask for a request, and so it is the one that was read and fulfilled.
-use Rattle.std.proofs.Common.{◌≡◌, Global, IfOk, IfErr, true, map, subst, sym, ◌∙◌}
+use Rattle.std.proofs.Common.{◌≡◌, Global, IfOk, IfErr, OnOk, true, map, subst, sym, ◌∙◌}
 use Rattle.clap.specs.Words.{kind_of}
 use Rattle.clap.specs.declared.error.kind.ErrorKind.TheVariants.{OutOfMemory}
 use Rattle.std.specs.Io.Buffered.{writer_contents}
-use Rattle.command_line.specs.Asked.{Asked, Gives, IsFor, asked_by}
+use Rattle.command_line.specs.Asked.{Asked, Gives, IsAskedBy, IsFor, asked_by}
 use Rattle.bearoff_cli.specs.PutFiles.{PutsFor}
 use Rattle.bearoff_cli.specs.Requests.{Asks, IsDone}
 use Rattle.bearoff_cli.specs.StoppedRuns.{IsRefusalOf}
 use Rattle.bearoff_cli.proofs.Requests.{IsNot, read_as, no_help}
-use Rattle.bearoff_cli.proofs.ToldFaults.{done_if, ended_refusal, memory_end}
+use Rattle.bearoff_cli.proofs.Explained.{explained_for}
+use Rattle.bearoff_cli.proofs.ToldFaults.{memory_refusal}
 use Rattle.bearoff_cli.proofs.act.perform.Given.{Over}
 use Rattle.bearoff_cli.proofs.act.perform.Goals.{After-read_words}
 use Rattle.bearoff_cli.proofs.act.perform.Goals as goal
@@ -19,38 +20,41 @@ read : (g : Over) (c : After-read_words g) (asked : Asked)
 read g c =
     let words = c.read_words.ensures in
     read_as g.S.AsStr.text c.args.words.now c.read_words.result words.nothing words.build
-    words.build_board words.check words.query words.query_by words.ask words.audit
+    words.build_board words.check words.query words.query_by words.ask words.about words.audit
     words.upgrade
 
 pub returns-in-Err-clause-fault : goal.returns-in-Err-clause-fault
 returns-in-Err-clause-fault g c asked asks =
-    memory_end g.D.Reader.Read.remaining asked (g.I.Read.remaining c.args.input.now)
+    memory_refusal g.D.Reader.Read.remaining asked (g.I.Read.remaining c.args.input.now)
     (g.O.Write.contents c.args.output.now)
 
 pub returns-in-Ok-clause-done : goal.returns-in-Ok-clause-done
 returns-in-Ok-clause-done g c asked asks =
     let gives = read g (goal.at.returns-in-Ok-clause-done g c).After-read_words asked asks in
     let same = subst (λ r. IfOk r (IsFor asked)) c.in-Ok.is gives.0 in
-    done_if c.fulfil.result c.refused.result c.fulfil.ensures.done
-    (subst (λ a. IsDone g.D.Reader.Read.remaining
+    subst (λ a. OnOk c.fulfil.result (IsDone g.D.Reader.Read.remaining
     (writer_contents {A = Global} g.D.File.Write.contents) a
     (g.I.Read.remaining c.args.input.now) (g.I.Read.remaining c.fulfil.new.input)
-    (g.O.Write.contents c.args.output.now) (g.O.Write.contents c.fulfil.new.output)) same)
-    c.refused.ensures.fault
+    (g.O.Write.contents c.args.output.now) (g.O.Write.contents c.fulfil.new.output))) same
+    c.fulfil.ensures.done
 
 pub returns-in-Ok-clause-fault : goal.returns-in-Ok-clause-fault
 returns-in-Ok-clause-fault g c asked asks =
     let gives = read g (goal.at.returns-in-Ok-clause-fault g c).After-read_words asked asks in
     let same = subst (λ r. IfOk r (IsFor asked)) c.in-Ok.is gives.0 in
-    subst (λ a. IfErr c.refused.result (λ refusal. IsRefusalOf g.D.Reader.Read.remaining a
+    subst (λ a. IfErr c.fulfil.result (λ refusal. IsRefusalOf g.D.Reader.Read.remaining a
     (g.I.Read.remaining c.args.input.now) (g.I.Read.remaining c.fulfil.new.input)
     (g.O.Write.contents c.args.output.now) (g.O.Write.contents c.fulfil.new.output) refusal)) same
-    (ended_refusal g.D.Reader.Read.remaining (asked_by c.in-Ok.request)
-    (g.I.Read.remaining c.args.input.now) (g.I.Read.remaining c.fulfil.new.input)
-    (g.O.Write.contents c.args.output.now) (g.O.Write.contents c.fulfil.new.output)
-    c.fulfil.result c.refused.result c.fulfil.ensures.cause c.fulfil.ensures.fault
-    c.fulfil.ensures.turns c.fulfil.ensures.left
-    c.refused.ensures.done c.refused.ensures.fault)
+    c.fulfil.ensures.fault
+
+-- what is explained is of `about`
+pub returns-in-Ok-clause-explained : goal.returns-in-Ok-clause-explained
+returns-in-Ok-clause-explained g c =
+    let asked = subst (λ r. IfOk r (λ request.
+    IsAskedBy (map g.S.AsStr.text c.args.words.now) (asked_by request))) c.in-Ok.is
+    c.read_words.ensures.asked in
+    explained_for g.D.Reader.Read.remaining (asked_by c.in-Ok.request)
+    (map g.S.AsStr.text c.args.words.now) _ _ _ _ c.fulfil.result asked c.fulfil.ensures.fault
 
 -- words that ask for a request are not wrong
 pub returns-in-Err-2-clause-fault : goal.returns-in-Err-2-clause-fault
@@ -78,10 +82,9 @@ pub returns-in-Ok-clause-put : goal.returns-in-Ok-clause-put
 returns-in-Ok-clause-put g c asked asks =
     let gives = read g (goal.at.returns-in-Ok-clause-put g c).After-read_words asked asks in
     let same = subst (λ r. IfOk r (IsFor asked)) c.in-Ok.is gives.0 in
-    done_if c.fulfil.result c.refused.result c.fulfil.ensures.put
-    (subst (λ a. PutsFor (g.D.Disk.paths c.args.disk.now) a (g.D.Disk.told c.args.disk.now)
-    (g.D.Disk.told c.fulfil.new.disk)) same)
-    c.refused.ensures.fault
+    subst (λ a. OnOk c.fulfil.result (PutsFor (g.D.Disk.paths c.args.disk.now) a
+    (g.D.Disk.told c.args.disk.now) (g.D.Disk.told c.fulfil.new.disk))) same
+    c.fulfil.ensures.put
 
 pub returns-in-Err-3-clause-put : goal.returns-in-Err-3-clause-put
 returns-in-Err-3-clause-put g c asked asks =

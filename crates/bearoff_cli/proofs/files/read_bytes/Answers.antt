@@ -5,22 +5,28 @@ use Rattle.epc_query.proofs.Runs.{read_more}
 use Rattle.bearoff_cli.proofs.OpenedFiles.{all_read, first_read, no_bytes}
 use Rattle.bearoff_cli.proofs.files.read_bytes.Goals as goal
 
-pub returns-then-is_empty-clause-read : goal.returns-then-is_empty-clause-read
-returns-then-is_empty-clause-read g c file told =
+pub returns-then-is_empty : goal.returns-then-is_empty
+returns-then-is_empty g c =
     let none : length c.in_ok-read.read.now ≡ 0 = search rules in
     let nothing = subst (λ bs. Consumes (g.F.Read.remaining c.loop-turn.file)
     (g.F.Read.remaining c.read_block.new.file) bs) (no_bytes _ none) c.in_ok-read.ensures.read in
-    all_read file _ _ _ 20000001 (c.loop-turn.invariant.read file told) nothing
-    (c.in_ok-read.ensures.end none) (omega (arith, c.loop-turn.invariant.short))
+    record {
+      read = λ file told. all_read file _ _ _ 20000001 (c.loop-turn.invariant.read file told)
+          nothing (c.in_ok-read.ensures.end none) (omega (arith, c.loop-turn.invariant.short));
+    }
 
-pub returns-then-len-ge-MOST_BYTES-clause-read : goal.returns-then-len-ge-MOST_BYTES-clause-read
-returns-then-len-ge-MOST_BYTES-clause-read g c file told =
+pub returns-then-len-ge-MOST_BYTES : goal.returns-then-len-ge-MOST_BYTES
+returns-then-len-ge-MOST_BYTES g c =
     let mid = g.F.Read.remaining c.loop-turn.file in
     let new = g.F.Read.remaining c.read_block.new.file in
     let bytes = c.extend_from_slice.new.self.items in
-    let all : Consumes (Some file) new bytes = rw c.in_ok-extend_from_slice.ensures.items
-    (read_more file mid new _ _ (c.loop-turn.invariant.read file told) c.in_ok-read.ensures.read) in
-    c.truncate.ensures.items ∙ first_read file new bytes 20000001 all (omega arith)
+    record {
+      read = λ file told.
+          let all : Consumes (Some file) new bytes = rw c.in_ok-extend_from_slice.ensures.items
+          (read_more file mid new _ _ (c.loop-turn.invariant.read file told)
+          c.in_ok-read.ensures.read) in
+          c.truncate.ensures.items ∙ first_read file new bytes 20000001 all (omega arith);
+    }
 
 pub loop-turn-preserved : goal.loop-turn-preserved
 loop-turn-preserved g c =

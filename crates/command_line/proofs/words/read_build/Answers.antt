@@ -1,7 +1,7 @@
 -- The file and the number that stand among the words.
 use Rattle.std.proofs.Common.{rules, ap, ap₂, sym, ◌≡◌, ◌<◌, ◌∙◌, ◌∷◌, [], ℕ, List, map, codes, Some, None, refl, arith}
 use Rattle.std.specs.Str.Parse.{ExplainsUnsignedError, HasUnsignedDigitsIfOk, ParsesUnsigned}
-use Rattle.clap.specs.Words.{first_value, found_of, one_text, takes}
+use Rattle.clap.specs.Words.{first_value, found_of, takes}
 use Rattle.command_line.specs.Asked.{IsPlain, Writes}
 use Rattle.command_line.specs.Commands.{build_app}
 use Rattle.command_line.proofs.PlainWords.{build_is_word, first_from, first_read, one_from}

@@ -26,6 +26,12 @@ returns-in-upgrade-clause-upgrade g c old new old_plain new_plain words_are =
     ∷ map g.S.AsStr.text c.in-Some.rest.now = search rules in
     c.read_upgrade.ensures.given old new old_plain new_plain (ap (drop 1) (sym parts ∙ words_are))
 
+pub returns-in-about-clause-about : goal.returns-in-about-clause-about
+returns-in-about-clause-about g c path plain words_are =
+    let parts : map g.S.AsStr.text c.args.words.now ≡ c.as_str.result.now
+    ∷ map g.S.AsStr.text c.in-Some.rest.now = search rules in
+    c.read_about.ensures.given path plain (ap (drop 1) (sym parts ∙ words_are))
+
 pub returns-in-ask-clause-ask : goal.returns-in-ask-clause-ask
 returns-in-ask-clause-ask g c path line lines plain all words_are =
     let parts : map g.S.AsStr.text c.args.words.now ≡ c.as_str.result.now
