@@ -1,10 +1,10 @@
 """The library for C under callers in C, C++ and Python: every position of 8 pips, and a thousand
 of 44 and of 58, give what the program's own lines give, and so do the lines that the library
 answers itself, good and bad; each refusal gives its status and leaves the rest of the caller's
-memory alone (under valgrind, and with AddressSanitizer in the caller), bytes that are changed
-after they were opened lead no call outside them, rooms of exactly the size of a file are enough
-and smaller ones aren't, so are the rooms that the header names for any list of results and any
-reply, each status has its text, texts are read as positions and refused as the grammar has it,
+memory alone (under valgrind, and with AddressSanitizer in the caller), bytes that are cut or are
+changed after they were opened lead no call outside them, rooms of exactly the size of a file are
+enough and smaller ones aren't, so are the rooms that the header names for any list of results and
+any reply, each status has its text, texts are read as positions and refused as the grammar has it,
 threads with a database each answer the same, each call has a status while another thread changes
 its bytes and takes no more stack than the header says, and both libraries export what the header
 declares and nothing else. The package for Python passes its own tests, is accepted
@@ -287,11 +287,25 @@ def test_lines_under_valgrind(caller, program, built, asked, with_bad, words):
     expect(run(*words, input=lines, timeout=600), 0, replies)
 
 
-@pytest.mark.parametrize("bound, times", [(8, 4000), (44, 100)])
-@pytest.mark.parametrize("is_new", [False, True], ids=["version 1", "version 2"])
-def test_changed_bytes(caller, built, bound, times, is_new):
-    """Bytes that are changed after they were opened."""
-    succeed(caller("reads_outside"), built(bound, is_new), times, timeout=600)
+@pytest.mark.parametrize("bound, times", [(0, 500), (8, 4000), (44, 100)])
+@pytest.mark.parametrize("kind", ["version 1", "version 2", "board"])
+def test_changed_bytes(caller, built, board, note, kind, bound, times):
+    """Bytes that are cut, and those that are changed after they were opened."""
+    file = board(bound) if kind == "board" else built(bound, kind == "version 2")
+    done = run(caller("reads_outside"), file, times, timeout=600)
+    expect_that(done.status == 0, done, "no call that reads or writes outside")
+    note(f"reads outside, {kind} of {bound} pips: {done.output.decode().partition(':')[0]}")
+
+
+def test_changed_bytes_of_every_call():
+    """Each export that opens bytes, or is given what was opened, is tried on changed ones."""
+    header = (ROOT / "c/bearoff.h").read_text(encoding="utf-8")
+    names = re.findall(
+        r"(?m)^uint32_t (bearoff_\w+)\(const bearoff_(?:database|board|file) \*", header
+    )
+    names += re.findall(r"(?m)^uint32_t (bearoff_\w*open)\(", header)
+    tried = re.findall(r"\bbearoff_\w+", (CALLERS / "reads_outside.c").read_text())
+    assert names and {*names} <= {*tried}
 
 
 @pytest.fixture(scope="session")
