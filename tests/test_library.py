@@ -287,11 +287,21 @@ def test_lines_under_valgrind(caller, program, built, asked, with_bad, words):
     expect(run(*words, input=lines, timeout=600), 0, replies)
 
 
-@pytest.mark.parametrize("bound, times", [(0, 500), (8, 4000), (44, 100)])
-@pytest.mark.parametrize("kind", ["version 1", "version 2", "board"])
+@pytest.mark.parametrize(
+    "kind, bound, times",
+    [
+        *((kind, 0, 500) for kind in ("version 1", "version 2", "board")),
+        *((kind, 8, 4000) for kind in ("version 1", "version 2", "board")),
+        ("version 1", 44, 100),
+        ("version 2", 58, 100),
+        ("board", 90, 100),
+    ],
+)
 def test_changed_bytes(caller, built, board, note, kind, bound, times):
     """Bytes that are cut, and those that are changed after they were opened."""
-    file = board(bound) if kind == "board" else built(bound, kind == "version 2")
+    # a database of more than 44 pips is of version 2 as it is built
+    is_new = kind == "version 2" and bound <= 44
+    file = board(bound) if kind == "board" else built(bound, is_new)
     done = run(caller("reads_outside"), file, times, timeout=600)
     expect_that(done.status == 0, done, "no call that reads or writes outside")
     note(f"reads outside, {kind} of {bound} pips: {done.output.decode().partition(':')[0]}")

@@ -212,7 +212,7 @@ static uint32_t take(uint32_t status, uint32_t allowed) {
         fail(&writes, "wrote beside its answer", status);
     for (size_t i = 0; hole < hole_end && i < written; i += element)
         memset(answer.lent + i + hole, 0, hole_end - hole);
-    digest = (digest ^ status) * 1099511628211u;
+    digest = ((digest ^ status) * 1099511628211u ^ count) * 1099511628211u;
     for (size_t i = 0; i < written; i += sizeof digest) {
         uint64_t word = 0;
         memcpy(&word, answer.lent + i, less(sizeof word, written - i));
@@ -222,8 +222,8 @@ static uint32_t take(uint32_t status, uint32_t allowed) {
     return status;
 }
 
-/* makes a call, whose name is told where something is wrong: any; one about a position, or about
- * ranks, that is told what is asked by these names */
+/* makes a call, whose name is told where something is wrong; a call about the position that is
+ * asked, and one about ranks */
 #define TAKE(call, allowed, ...) (now = #call, take(call(__VA_ARGS__), allowed))
 #define OF_POSITION(call, allowed, type) TAKE(call, allowed, by, at, (type *)lend(sizeof(type)))
 #define OF_RANKS(call, allowed, type) \
