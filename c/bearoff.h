@@ -20,17 +20,17 @@
  *
  * Stack. bearoff_open and bearoff_upgrade need less than BEAROFF_OPEN_STACK bytes of stack,
  * bearoff_build less than BEAROFF_BUILD_STACK, bearoff_file_open, bearoff_board_open and
- * bearoff_board_build less than BEAROFF_BOARD_STACK, every other call less than 128 KB. Threads whose stack is smaller have
- * to be given more before they make such a call. The stack of a main thread, 8 MB on most systems,
- * is enough for each call.
+ * bearoff_board_build less than BEAROFF_BOARD_STACK, every other call less than 128 KB. Threads
+ * whose stack is smaller have to be given more before they make such a call. The stack of a main
+ * thread, 8 MB on most systems, is enough for each call.
  *
  * Refusals. Each call but bearoff_thousandths and bearoff_board_thousandths returns a status;
  * where it isn't BEAROFF_OK nothing that the caller lends was changed, except for what the call's
  * comment says.
  *
  * Order. A call that could be refused for several reasons tells the first of these: the database,
- * board or file is BEAROFF_NOT_OPEN; BEAROFF_BAD_ROLL; BEAROFF_TOO_MANY, of any position that is given;
- * BEAROFF_OVER_BOUND and BEAROFF_FINISHED, of the first position alone; BEAROFF_NOT_LEGAL;
+ * board or file is BEAROFF_NOT_OPEN; BEAROFF_BAD_ROLL; BEAROFF_TOO_MANY, of any position that is
+ * given; BEAROFF_OVER_BOUND and BEAROFF_FINISHED, of the first position alone; BEAROFF_NOT_LEGAL;
  * BEAROFF_NO_RANK; BEAROFF_CHANGED; BEAROFF_SHORT. An upgrade tells the fault of the bytes before
  * BEAROFF_NOT_OLD, and that before BEAROFF_SHORT.
  */
