@@ -418,7 +418,7 @@ PLANTED = [
         "a_loss_under_the_least_is_none",
         LOSSES,
         "        None => Err(QueryFault::Read),",
-        "        None => Ok(mean(Scaled::ZERO)),",
+        "        None => Ok(Scaled::ZERO),",
         "file_tests",
     ),
     (

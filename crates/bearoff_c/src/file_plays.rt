@@ -9,7 +9,7 @@ ghost use Rattle.race_model.specs.Fractions.{IsFraction};
 ghost use Rattle.race_model.specs.Books.{recorded_in, whole_in};
 ghost use Rattle.race_model.specs.Losses.{loss_in, IsLossIn};
 ghost use Rattle.legal_plays.specs.Faces.{face, roll_of};
-ghost use Rattle.book.specs.Choices.{result_of};
+ghost use Rattle.epc_query.specs.Choices.{result_of};
 ghost use Rattle.bearoff_c.specs.FileBooks.{file_book, book_by, rolls_in};
 ghost use Rattle.bearoff_c.specs.BoardMoves.{long_places, HasLongCost, IsChoiceList, IsChoiceCount};
 ghost use Rattle.bearoff_c.specs.Longs.{long_number_of};
@@ -24,7 +24,7 @@ use crate::opened_file::OpenedFile;
 use crate::plays::{RecordedPlay, listed, read_ends, read_roll};
 use crate::positions::Counts;
 use crate::statuses::{OK, Refusal, SHORT};
-use book::Choice;
+use epc_query::RankedChoice;
 use home_board::Position;
 use legal_plays::{Roll, play_to};
 
@@ -218,7 +218,11 @@ pub struct LongChoice {
 /// Tells how many choices there are, and writes them to the front of a room: the status 0. With
 /// the status 8, exactly where they have no room, only their number is told. It reads no byte of a
 /// file.
-fn tell_choices<N: LongMean>(found: &[Choice<N>], room: &mut [LongChoice], count: &mut usize) -> u32
+fn tell_choices<N: LongMean>(
+    found: &[RankedChoice<N>],
+    room: &mut [LongChoice],
+    count: &mut usize,
+) -> u32
     ensures status { result ≡ (if nat_le (length found.now) (length room.old) then 0 else 8) }
     ensures told { count.new ≡ length found.now }
     ensures places { result ≡ 0 →

@@ -3,6 +3,5 @@ pub mod Known
 pub mod BoardKnown
 pub mod LentBytes
 pub mod Counts
-pub mod LossOrder
 pub mod Lists
 pub mod Sizes

@@ -10,8 +10,8 @@ use Rattle.race_model.specs.Books.{Book}
 use Rattle.race_model.specs.Losses.{loss_in, IsMoveListIn}
 use Rattle.race_model.specs.Replies.{IsChoicePartOver, IsMovesReplyOver}
 use Rattle.epc_query.proofs.Parts.{AreParts}
-use Rattle.book.specs.declared.moves.Choice.{Choice}
-use Rattle.book.specs.Choices.{result_of}
+use Rattle.epc_query.specs.declared.choices.RankedChoice.{RankedChoice}
+use Rattle.epc_query.specs.Choices.{result_of}
 use Rattle.book.specs.Lists.{IsPartOf, IsListText}
 
 -- so many choices have room where 127 have
@@ -24,9 +24,9 @@ pub one_more_fits : (most i : ℕ) → i < 127 →
 one_more_fits most i few = omega (arith, all_fit most (i + 1) (omega (arith, few)))
 
 -- the parts of all choices are the list of moves
-pub list_of_parts : {N : Type 0} (whole : ℕ) (number : N → ℕ) (choices : List (Choice N)) (n : ℕ)
+pub list_of_parts : {N : Type 0} (whole : ℕ) (number : N → ℕ) (choices : List (RankedChoice N)) (n : ℕ)
     (text : List ℕ) → n ≡ length choices →
-    AreParts (λ i part. (d : Choice N) → IsPartOf whole number (slice_index_or choices i d) part) n
+    AreParts (λ i part. (d : RankedChoice N) → IsPartOf whole number (slice_index_or choices i d) part) n
     (codes "moves") text → IsListText whole number choices text
 list_of_parts whole number choices n text all are = record {
   parts = are.parts;
@@ -42,7 +42,7 @@ some_item (x ∷ xs) i low = x
 
 -- the list of moves of all results with their losses is the reply that asks for them
 pub moves_reply : {N : Type 0} (whole : ℕ) (number : N → ℕ) (b : Book) (x : Board) (v : Throw)
-    (choices : List (Choice N)) (text : List ℕ) → IsMoveListIn b x v (map result_of choices) →
+    (choices : List (RankedChoice N)) (text : List ℕ) → IsMoveListIn b x v (map result_of choices) →
     All (λ choice. number choice.loss ≡ loss_in b x v choice.to) choices →
     IsListText whole number choices text → IsMovesReplyOver whole b x v text
 moves_reply {N = N} whole number b x v choices text listed losses is = record {
@@ -60,7 +60,7 @@ moves_reply {N = N} whole number b x v choices text listed losses is = record {
         (slice_index_or is.parts i [])
     each i low =
         let within : i < length choices = omega (arith, length-map choices result_of) in
-        let nothing : Choice N = some_item choices i within in
+        let nothing : RankedChoice N = some_item choices i within in
         let choice = slice_index_or choices i nothing in
         subst
         (λ y. IsChoicePartOver whole y (loss_in b x v y) (slice_index_or is.parts i []))

@@ -20,20 +20,20 @@ ghost use Rattle.ranking.specs.Tables.{IsRankTable};
 ghost use Rattle.certificate.specs.CheckFaults.{IsFirst};
 ghost use Rattle.epc_query.specs.AnyFiles.{database_file};
 ghost use Rattle.epc_query.specs.LevelMeans.{HasLevel};
-ghost use Rattle.book.specs.Choices.{result_of};
+ghost use Rattle.epc_query.specs.Choices.{result_of};
 ghost use Rattle.book.specs.Opened.{IsOpened};
 
 use crate::answers::answer;
 use crate::lent::{Lent, Replies};
 use crate::lent_records::LentRecords;
 use crate::levels::find_level;
-use crate::moves::{Choice, list, put_list};
+use crate::moves::{list, put_list};
 use crate::turns;
 use arrayvec::{ArrayString, ArrayVec};
 use certificate::{CheckFault, check, spread_in};
 use db_layout::{RecordView, WriteFault, offset_of};
 use db_reader::Whole;
-use epc_query::{Answers, Level, MOST_RESULTS, RunFault, Text, put_dist, write_line};
+use epc_query::{Answers, Level, MOST_RESULTS, RankedChoice, RunFault, Text, put_dist, write_line};
 use fixed_fraction::{Fraction, Scaled, Spread, mean};
 use home_board::Position;
 use legal_plays::{Play, Roll};
@@ -297,7 +297,7 @@ impl<'a> Database<'a> {
         &self,
         position: &Position,
         roll: Roll,
-    ) -> Option<ArrayVec<Choice<Scaled>, MOST_RESULTS>>
+    ) -> Option<ArrayVec<RankedChoice<Scaled>, MOST_RESULTS>>
         requires { pips_of position.now ≤ bound_of self.now }
         ensures some { IsSome result }
         ensures listed { IfSome result (λ choices. IsMoveListIn (book_of self.now)

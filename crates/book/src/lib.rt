@@ -27,6 +27,5 @@ pub use board_levels::{board_level, put_board_level};
 pub use board_lines::BoardLines;
 pub use database::{Accepted, Database, accept};
 pub use levels::Level;
-pub use moves::Choice;
 pub use rising_records::RisingRecords;
 pub use whole_board::{Board, BoardText, MOST_ROLLS};

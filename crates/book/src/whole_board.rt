@@ -20,16 +20,16 @@ ghost use Rattle.legal_plays.specs.MoveLists.{moves_of};
 ghost use Rattle.ranking.specs.Tables.{IsRankTable};
 ghost use Rattle.fixed_fraction.specs.Board.{board_whole, part};
 ghost use Rattle.book.specs.Accepted.{IsAccepted};
-ghost use Rattle.book.specs.Choices.{result_of};
+ghost use Rattle.epc_query.specs.Choices.{result_of};
 
 use crate::answers::answer;
 use crate::lent::{Lent, Replies};
 use crate::lent_board::LentBoard;
-use crate::moves::{Choice, list, put_list};
+use crate::moves::{list, put_list};
 use crate::turns;
 use arrayvec::{ArrayString, ArrayVec};
 use db_layout::{BoardHeader, BoardRecord, most_rolls};
-use epc_query::{MOST_RESULTS, put_dist};
+use epc_query::{MOST_RESULTS, RankedChoice, put_dist};
 use fixed_fraction::{BoardMean, LongCount, ShortCount, WideFraction, board_mean_and_epc};
 use home_board::Position;
 use legal_plays::{Play, Roll};
@@ -249,7 +249,7 @@ impl<'a> Board<'a> {
         &self,
         position: &Position,
         roll: Roll,
-    ) -> Option<ArrayVec<Choice<BoardMean>, MOST_RESULTS>>
+    ) -> Option<ArrayVec<RankedChoice<BoardMean>, MOST_RESULTS>>
         requires { pips_of position.now ≤ bound_of self.now }
         ensures some { IsSome result }
         ensures listed { IfSome result (λ choices. IsMoveListIn (board_book self.now)

@@ -5,8 +5,8 @@ pub mod Parts
 pub mod Thousandths
 pub mod Held
 pub mod Answered
-pub mod Costs
-pub mod CostOrder
+pub mod RecordedMeans
+pub mod LossOrder
 pub mod Stops
 pub mod Runs
 pub mod PipCounts

@@ -3,7 +3,7 @@ pub mod Texts
 pub mod Held
 pub mod Answers
 pub mod Faults
-pub mod Costs
+pub mod Choices
 pub mod AnyFiles
 pub mod Runs
 pub mod LevelMeans

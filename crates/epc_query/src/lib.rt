@@ -11,6 +11,7 @@
 
 mod answer;
 mod answers;
+mod choices;
 pub mod laws;
 mod levels;
 mod line_buffer;
@@ -29,9 +30,10 @@ mod writing;
 
 pub use answer::{Stop, answer_line};
 pub use answers::Answers;
+pub use choices::{MOST_RESULTS, RankedChoice, include_choice};
 pub use levels::audit_level;
 pub use losses::loss;
-pub use move_list::{MOST_RESULTS, moves};
+pub use move_list::moves;
 pub use numbers::{Digits, Number};
 pub use query::{LineFault, Query, read_mean, read_query};
 pub use refusals::refusal;

@@ -70,13 +70,35 @@ fn lost<T: Table>(
         IsFraction (loss file position.now roll to.now) whole lost.numerator lost.denominator)) }
     ensures stays { Stays checked.old checked.new (result ≡ Err QueryFault.Read) }
 {
+    let least = least_mean(checked, position, roll)?;
+    let lost = lost_beside(checked, position, roll, least, to)?;
+    Ok(mean(lost))
+}
+
+/// What a result of a roll costs beside the least mean, in rolls.
+pub(crate) fn lost_beside<T: Table>(
+    checked: &mut Checked<T>,
+    position: &Position,
+    roll: Roll,
+    least: Scaled,
+    to: &Position,
+) -> Result<Scaled, QueryFault>
+    requires within { pips position.now ≤ checked.old.bound }
+    requires position { IsPosition position.now }
+    requires legal { Legal position.now roll to.now }
+    requires least { WhereTold checked.old.told
+        (λ file. least ≡ mean_at file (play file position.now roll)) }
+    ensures fault { OnErr result (result ≡ Err QueryFault.Read) }
+    ensures recorded { WhereTold checked.old.told
+        (λ file. IfOk result (λ lost. lost ≡ loss file position.now roll to.now)) }
+    ensures stays { Stays checked.old checked.new (result ≡ Err QueryFault.Read) }
+{
     laws::law_loss();
     laws::law_results();
     let _bound = checked.bound();
-    let least = least_mean(checked, position, roll)?;
     let after = recorded_mean(checked, to)?;
     match after.minus(least) {
-        Some(difference) => Ok(mean(difference)),
+        Some(difference) => Ok(difference),
         None => Err(QueryFault::Read),
     }
 }

@@ -4,8 +4,8 @@ use Rattle.std.proofs.lemmas.List.{map-append, take_more, take_more_set, drop-se
 use Rattle.std.proofs.lemmas.List.Elements.{All-push}
 use Rattle.race_model.specs.Positions.{Board}
 use Rattle.race_model.specs.Fractions.{IsFraction}
-use Rattle.book.specs.Choices.{result_of}
-use Rattle.book.specs.declared.moves.Choice.{Choice}
+use Rattle.epc_query.specs.Choices.{result_of}
+use Rattle.epc_query.specs.declared.choices.RankedChoice.{RankedChoice}
 use Rattle.bearoff_c.specs.declared.file_plays.LongChoice.{LongChoice}
 use Rattle.bearoff_c.specs.BoardMoves.{long_places, HasLongCost}
 use Rattle.bearoff_c.specs.Longs.{long_number_of}
@@ -31,12 +31,12 @@ loop-index-preserved g c =
           c.loop-index.invariant.places_are
           ∙ ap (λ (y : Board). map result_of (take i found) ++ y ∷ []) c.of.ensures
           ∙ sym (map-append result_of (take i found) (choice ∷ []))
-          ∙ ap (λ (y : Choice g.row.N.Denot). map result_of (take i found ++ y ∷ []))
+          ∙ ap (λ (y : RankedChoice g.row.N.Denot). map result_of (take i found ++ y ∷ []))
           c.index-found-index.is
           ∙ ap (map result_of) (sym (take_more found i choice inside));
       costs = λ cost are.
           let same : g.N.Number.number choice.loss ≡ cost choice.to =
-          subst (λ (y : Choice g.row.N.Denot). g.N.Number.number y.loss ≡ cost y.to)
+          subst (λ (y : RankedChoice g.row.N.Denot). g.N.Number.number y.loss ≡ cost y.to)
           (sym c.index-found-index.is) (are i choice inside) in
           let priced : HasLongCost g.N.Number.whole cost one = rw c.of.ensures
           (subst (λ n. IsFraction n g.N.Number.whole (long_number_of fraction.numerator)

@@ -1,7 +1,7 @@
 use Rattle.std.proofs.Common.{◌≡◌, ℕ, All, take, drop, map}
 use Rattle.race_model.specs.Positions.{Board}
-use Rattle.book.specs.Choices.{result_of}
-use Rattle.book.specs.declared.moves.Choice.{Choice}
+use Rattle.epc_query.specs.Choices.{result_of}
+use Rattle.epc_query.specs.declared.choices.RankedChoice.{RankedChoice}
 use Rattle.bearoff_c.specs.BoardMoves.{long_places, HasLongCost}
 use Rattle.bearoff_c.proofs.file_plays.tell_choices.Given as goal
 
@@ -10,7 +10,7 @@ abbrev pub invariant-loop-index : goal.invariant-loop-index
 invariant-loop-index g l = record {
   places_are : long_places (take l.index l.room) ≡ map result_of (take l.index l.found);
   costs : (cost : Board → ℕ)
-      → All (λ (choice : Choice g.row.N.Denot). g.N.Number.number choice.loss ≡ cost choice.to)
+      → All (λ (choice : RankedChoice g.row.N.Denot). g.N.Number.number choice.loss ≡ cost choice.to)
       l.found → All (HasLongCost g.N.Number.whole cost) (take l.index l.room);
   rest : drop l.index l.room ≡ drop l.index l.initial.room;
 }

@@ -6,14 +6,14 @@ use Rattle.race_model.specs.Losses.{loss_in, IsMoveListIn}
 use Rattle.race_model.specs.Files.{book_of}
 use Rattle.race_model.specs.LocalEquations.{whole}
 use Rattle.race_model.specs.BoardFiles.{board_book}
-use Rattle.book.specs.Choices.{result_of}
-use Rattle.book.specs.declared.moves.Choice.{Choice}
+use Rattle.epc_query.specs.Choices.{result_of}
+use Rattle.epc_query.specs.declared.choices.RankedChoice.{RankedChoice}
 use Rattle.bearoff_c.specs.declared.file_plays.LongChoice.{LongChoice}
 use Rattle.bearoff_c.specs.BoardMoves.{long_places, HasLongCost, IsChoiceList}
 use Rattle.bearoff_c.proofs.file_plays.tell_results.Goals as goal
 
 -- choices that are a list of moves, as they were told in a room
-told_list : (b : Book) (x : Board) (v : Throw) (items found : List (Choice ℕ)) → found ≡ items
+told_list : (b : Book) (x : Board) (v : Throw) (items found : List (RankedChoice ℕ)) → found ≡ items
     → (count : ℕ) → count ≡ length found → (room : List LongChoice)
     → IsMoveListIn b x v (map result_of items)
     → All (λ choice. choice.loss ≡ loss_in b x v choice.to) items
@@ -26,7 +26,7 @@ told_list b x v items found same count counted room listed losses placed costs =
       (sym (ap (λ (n : ℕ). long_places (take n room)) counted ∙ placed
       ∙ ap (map result_of) same)) listed;
   losses = rw counted (costs
-      (subst (λ (ones : List (Choice ℕ)). All (λ choice. choice.loss ≡ loss_in b x v choice.to)
+      (subst (λ (ones : List (RankedChoice ℕ)). All (λ choice. choice.loss ≡ loss_in b x v choice.to)
       ones) (sym same) losses));
 }
 

@@ -5,8 +5,9 @@ use Rattle.race_model.specs.Positions.{Board}
 use Rattle.race_model.specs.Plays.{Legal}
 use Rattle.race_model.specs.Losses.{loss_in}
 use Rattle.legal_plays.specs.RankOrder.{IsInRankOrder}
-use Rattle.book.specs.Choices.{IsByLoss}
-use Rattle.book.proofs.LossOrder.{AreOf, none_by_loss, none_of, one_more_of, fresh_rank, list_of}
+use Rattle.epc_query.specs.Choices.{IsByLoss}
+use Rattle.epc_query.proofs.LossOrder.{AreOf, none_by_loss, none_of, one_more_of, still_all}
+use Rattle.epc_query.proofs.LossOrder.{fresh_rank, list_of}
 use Rattle.book.proofs.moves.list.Given.{Over}
 use Rattle.book.proofs.moves.list.Goals as goal
 use Rattle.book.proofs.moves.list.Goals.{After-as_slice-to-items, After-rank-rank, After-loop-to}
@@ -14,11 +15,11 @@ use Rattle.book.proofs.moves.list.Goals.{After-as_slice-to-items, After-rank-ran
 pub loop-to-init : goal.loop-to-init
 loop-to-init g c =
     let number = g.L.Mean.Number.number in
-    let lost = loss_in (g.L.Lent.book c.args.lent.now) c.args.position.now c.args.roll in
     record {
       ordered = subst (IsByLoss number) (sym c.requires.none) (none_by_loss number);
       few = ap length c.requires.none;
-      are = subst (AreOf number lost []) (sym c.requires.none) (none_of number lost);
+      are = subst (AreOf []) (sym c.requires.none) none_of;
+      losses = λ k d low. absurd (omega (arith, low, ap length c.requires.none));
     }
 
 -- the results are all to which the roll leads
@@ -38,19 +39,17 @@ lost_ranked-requires-clause-legal g c =
 fresh : (g : Over) (c : After-rank-rank g) →
     All (λ other. other.rank ≢ c.rank-rank.result) c.loop-to.choices.items
 fresh g c k d inside same =
-    let x = c.args.position.now in
-    let lost = loss_in (g.L.Lent.book c.args.lent.now) x c.args.roll in
-    fresh_rank g.L.Mean.Number.number lost c.as_slice-to-items.result.now
+    fresh_rank c.as_slice-to-items.result.now
     c.loop-to.to-index c.loop-to.choices.items c.to-item.result
-    (λ z held. c.law_results.ensures.position x c.args.roll z c.pips-pips.ensures.position
+    (λ z held. c.law_results.ensures.position _ c.args.roll z c.pips-pips.ensures.position
     ((c.results-found.ensures.members z).0
     (subst (λ (ys : List Board). Contains ys z) c.as_slice-to-items.ensures.value held)))
     (subst IsInRankOrder (sym c.as_slice-to-items.ensures.value) c.results-found.ensures.ordered)
     c.loop-to-test.true c.to-item.is c.loop-to.invariant.are k d inside
     (same ∙ c.rank-rank.ensures.value)
 
-pub include-requires : goal.include-requires
-include-requires g c = (
+pub include_choice-requires : goal.include_choice-requires
+include_choice-requires g c = (
   search rules,
   (
     omega (
@@ -59,34 +58,32 @@ include-requires g c = (
       c.loop-to.invariant.few,
       c.results-found.ensures.few,
     ),
-    (c.loop-to.invariant.ordered, fresh g (goal.at.include-requires g c).After-rank-rank),
+    (c.loop-to.invariant.ordered, fresh g (goal.at.include_choice-requires g c).After-rank-rank),
   ),
 )
 
 pub loop-to-preserved : goal.loop-to-preserved
 loop-to-preserved g c =
-    let number = g.L.Mean.Number.number in
-    let lost = loss_in (g.L.Lent.book c.args.lent.now) c.args.position.now c.args.roll in
     record {
-      ordered = c.include.ensures.ordered;
-      few = omega (arith, c.include.ensures.len, c.loop-to.invariant.few);
-      are = one_more_of number lost c.as_slice-to-items.result.now c.loop-to.to-index
-          c.loop-to.choices.items c.include.new.choices.items _ c.loop-to-test.true c.to-item.is
-          c.rank-rank.ensures.value (c.in_ok-loss.ensures {u = tt}).recorded
-          c.include.ensures.members c.loop-to.invariant.are;
+      ordered = c.include_choice.ensures.ordered;
+      few = omega (arith, c.include_choice.ensures.len, c.loop-to.invariant.few);
+      are = one_more_of c.as_slice-to-items.result.now c.loop-to.to-index
+          c.loop-to.choices.items c.include_choice.new.choices.items _ c.loop-to-test.true
+          c.to-item.is c.rank-rank.ensures.value c.include_choice.ensures.members
+          c.loop-to.invariant.are;
+      losses = still_all
+          (λ choice. g.L.Mean.Number.number choice.loss ≡ loss_in (g.L.Lent.book c.args.lent.now)
+          c.args.position.now c.args.roll choice.to)
+          c.loop-to.choices.items c.include_choice.new.choices.items _ c.loop-to.invariant.losses
+          (c.in_ok-loss.ensures {u = tt}).recorded c.include_choice.ensures.members;
     }
 
 -- the choices are of all results
 all_of : (g : Over) (c : After-loop-to g) →
     length c.as_slice-to-items.result.now ≡ c.loop-to.to-index →
-    AreOf g.L.Mean.Number.number
-    (loss_in (g.L.Lent.book c.args.lent.now) c.args.position.now c.args.roll)
-    c.as_slice-to-items.result.now c.loop-to.choices.items
+    AreOf c.as_slice-to-items.result.now c.loop-to.choices.items
 all_of g c end =
-    subst
-    (λ ys. AreOf g.L.Mean.Number.number
-    (loss_in (g.L.Lent.book c.args.lent.now) c.args.position.now c.args.roll) ys
-    c.loop-to.choices.items)
+    subst (λ ys. AreOf ys c.loop-to.choices.items)
     (take_all c.loop-to.to-index c.as_slice-to-items.result.now (omega (arith, end)))
     c.loop-to.invariant.are
 
@@ -99,12 +96,7 @@ returns-clause-listed g c =
     c.as_slice-to-items.result.now c.loop-to.choices.items
     (legal g (goal.at.returns-clause-listed g c).After-as_slice-to-items)
     c.loop-to.invariant.ordered
-    (all_of g at (omega arith))
-
-pub returns-clause-losses : goal.returns-clause-losses
-returns-clause-losses g c = λ k d inside.
-    let held = All-contains_itself c.loop-to.choices.items k d inside in
-    (c.loop-to.invariant.are.from (get_or c.loop-to.choices.items k d) held).2
+    (all_of g at (omega arith)) c.loop-to.invariant.losses
 
 pub returns-clause-ranks : goal.returns-clause-ranks
 returns-clause-ranks g c = λ k d inside.

@@ -1,16 +1,16 @@
 use Rattle.std.proofs.Common.{ℕ, List, get_or, codes, subst, ◌∙◌, arith}
 use Rattle.std.proofs.lemmas.List.{get_or_default}
 use Rattle.epc_query.proofs.Parts.{no_parts, one_more_part}
-use Rattle.book.specs.declared.moves.Choice.{Choice}
+use Rattle.epc_query.specs.declared.choices.RankedChoice.{RankedChoice}
 use Rattle.book.specs.Lists.{IsPartOf}
 use Rattle.book.proofs.Lists.{list_of_parts, all_fit, one_more_fits}
 use Rattle.book.proofs.moves.put_choices.Given.{Over}
 use Rattle.book.proofs.moves.put_choices.Goals as goal
 
 -- the part of the choice of a place
-IsPartAt : (g : Over) → List (Choice g.row.N.Denot) → ℕ → List ℕ → Type 0
+IsPartAt : (g : Over) → List (RankedChoice g.row.N.Denot) → ℕ → List ℕ → Type 0
 IsPartAt g choices i part =
-    (d : Choice g.row.N.Denot) →
+    (d : RankedChoice g.row.N.Denot) →
     IsPartOf g.N.Number.whole g.N.Number.number (get_or choices i d) part
 
 pub loop-choice-init : goal.loop-choice-init

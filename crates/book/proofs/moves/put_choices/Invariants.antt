@@ -2,7 +2,7 @@ use Rattle.std.proofs.Common.{◌+◌, ◌*◌, ◌≤◌, codes}
 use Rattle.std.specs.Prelude.{slice_index_or}
 use Rattle.arrayvec.specs.ArrayString.{array_string_len}
 use Rattle.epc_query.proofs.Parts.{AreParts}
-use Rattle.book.specs.declared.moves.Choice.{Choice}
+use Rattle.epc_query.specs.declared.choices.RankedChoice.{RankedChoice}
 use Rattle.book.specs.Lists.{IsPartOf}
 use Rattle.book.proofs.moves.put_choices.Given as goal
 
@@ -10,7 +10,7 @@ use Rattle.book.proofs.moves.put_choices.Given as goal
 abbrev pub invariant-loop-choice : goal.invariant-loop-choice
 invariant-loop-choice g l = record {
   parts : AreParts
-      (λ i part. (d : Choice g.row.N.Denot) →
+      (λ i part. (d : RankedChoice g.row.N.Denot) →
       IsPartOf g.N.Number.whole g.N.Number.number (slice_index_or l.choices i d) part)
       l.choice-index (codes "moves") l.text.bytes;
   len : array_string_len l.text ≤ 5 + (2 * g.N.Part.Digits.most + 15) * l.choice-index;

@@ -2,7 +2,7 @@ use Rattle.std.proofs.Common.{◌≤◌, ap, ◌∙◌, arith}
 use Rattle.std.proofs.lemmas.Result.{IfOk-weaker}
 use Rattle.race_model.specs.Positions.{pips}
 use Rattle.race_model.specs.Files.{bound_of, mean}
-use Rattle.epc_query.proofs.Costs.{mean_after}
+use Rattle.epc_query.proofs.RecordedMeans.{mean_after}
 use Rattle.epc_query.proofs.losses.least_mean.Goals as goal
 
 pub recorded_mean-requires : goal.recorded_mean-requires

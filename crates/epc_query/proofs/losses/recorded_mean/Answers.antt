@@ -1,6 +1,6 @@
 use Rattle.std.proofs.Common.{Err, ap, refl}
 use Rattle.certificate.proofs.Databases.{stays_as}
-use Rattle.epc_query.proofs.Costs.{must_be_read}
+use Rattle.epc_query.proofs.RecordedMeans.{must_be_read}
 use Rattle.epc_query.proofs.losses.recorded_mean.Goals as goal
 
 pub returns-in-Err-clause-stays : goal.returns-in-Err-clause-stays

@@ -4,12 +4,12 @@ use Rattle.std.proofs.Common.{List, [], ◌∷◌, ◌++◌, length, get_or, tak
 use Rattle.std.proofs.Common.{ap, sym, subst, subst₂, ◌∙◌, arith}
 use Rattle.std.specs.List.{insert}
 use Rattle.std.proofs.lemmas.List.Edits.{length-insert, get_or-insert_below, get_or-insert_at, get_or-insert_above}
-use Rattle.book.specs.declared.moves.Choice.{Choice}
+use Rattle.epc_query.specs.declared.choices.RankedChoice.{RankedChoice}
 use Rattle.std.proofs.lemmas.Bool.Decides.{nat_tests}
 use Rattle.std.proofs.lemmas.List.{take_more, get_or-take, get_or_default, get_or-map, length-map}
 use Rattle.std.proofs.lemmas.List.{length-take-le}
 use Rattle.std.proofs.lemmas.List.Elements.{Contains-append_left, Contains-push, Contains-push_cases}
-use Rattle.std.proofs.lemmas.List.Elements.{All-contains_itself}
+use Rattle.std.proofs.lemmas.List.Elements.{All-contains, All-contains_itself}
 use Rattle.race_model.specs.Positions.{Board, IsPosition, finished}
 use Rattle.race_model.specs.Dice.{Throw}
 use Rattle.race_model.specs.Plays.{Legal}
@@ -18,14 +18,14 @@ use Rattle.race_model.specs.Books.{Book}
 use Rattle.race_model.specs.Losses.{loss_in, IsListedBeforeIn, IsMoveListIn}
 use Rattle.race_model.proofs.Ranks.RankOrder.{rank_apart}
 use Rattle.legal_plays.specs.RankOrder.{IsInRankOrder}
-use Rattle.book.specs.Choices.{ComesFirst, IsByLoss, result_of}
+use Rattle.epc_query.specs.Choices.{ComesFirst, IsByLoss, result_of}
 
 -- of two numbers the first is smaller, or they are one, or the second is smaller
 order : (m n : ℕ) → (m < n) ⊎ ((m ≡ n) ⊎ (n < m))
 order m n = grind arith
 
 -- what comes first comes before what the second one comes before
-first_trans : {N : Type 0} (number : N → ℕ) (a b c : Choice N) → ComesFirst number a b →
+first_trans : {N : Type 0} (number : N → ℕ) (a b c : RankedChoice N) → ComesFirst number a b →
     ComesFirst number b c → ComesFirst number a c
 first_trans number a b c first then =
     by (number a.loss) (number b.loss) (number c.loss) a.rank b.rank c.rank first then
@@ -35,7 +35,7 @@ first_trans number a b c first then =
     by l m n r s t first then = grind arith
 
 -- of two choices of different ranks one comes first
-first_or : {N : Type 0} (number : N → ℕ) (a b : Choice N) → (¬ ComesFirst number a b) →
+first_or : {N : Type 0} (number : N → ℕ) (a b : RankedChoice N) → (¬ ComesFirst number a b) →
     a.rank ≢ b.rank → ComesFirst number b a
 first_or number a b never apart = by (number a.loss) (number b.loss) a.rank b.rank never apart
   where
@@ -43,15 +43,15 @@ first_or number a b never apart = by (number a.loss) (number b.loss) a.rank b.ra
     by l m r s never apart = grind arith
 
 -- a choice in its place
-module _ {N : Type 0} (number : N → ℕ) (choices : List (Choice N)) (place : ℕ) (choice : Choice N)
+module _ {N : Type 0} (number : N → ℕ) (choices : List (RankedChoice N)) (place : ℕ) (choice : RankedChoice N)
     (fits : place ≤ length choices) (ordered : IsByLoss number choices)
     (fresh : All (λ other. other.rank ≢ choice.rank) choices)
-    (before : (k : ℕ) (d : Choice N) → k < place → ComesFirst number (get_or choices k d) choice)
-    (after : (d : Choice N) → place < length choices →
+    (before : (k : ℕ) (d : RankedChoice N) → k < place → ComesFirst number (get_or choices k d) choice)
+    (after : (d : RankedChoice N) → place < length choices →
     ¬ ComesFirst number (get_or choices place d) choice)
   where
     -- it comes before those from its place on
-    precedes : (k : ℕ) (d : Choice N) → place ≤ k → k < length choices →
+    precedes : (k : ℕ) (d : RankedChoice N) → place ≤ k → k < length choices →
         ComesFirst number choice (get_or choices k d)
     precedes k d from low = elim (order place k) [
       | inl more ↦ first_trans number choice (get_or choices place d) (get_or choices k d)
@@ -66,16 +66,16 @@ module _ {N : Type 0} (number : N → ℕ) (choices : List (Choice N)) (place : 
         next : place < length choices → ComesFirst number choice (get_or choices place d)
         next low = first_or number (get_or choices place d) choice (after d low) (fresh place d low)
 
-    below : (k : ℕ) (d : Choice N) → k < place →
+    below : (k : ℕ) (d : RankedChoice N) → k < place →
         get_or (insert choices place choice) k d ≡ get_or choices k d
     below k d low = get_or-insert_below choices place choice d k low fits
 
-    here : (k : ℕ) (d : Choice N) → place ≡ k → get_or (insert choices place choice) k d ≡ choice
+    here : (k : ℕ) (d : RankedChoice N) → place ≡ k → get_or (insert choices place choice) k d ≡ choice
     here k d same =
         subst (λ n. get_or (insert choices place choice) n d ≡ choice) same
         (get_or-insert_at choices place choice d fits)
 
-    above : (k : ℕ) (d : Choice N) → place < k →
+    above : (k : ℕ) (d : RankedChoice N) → place < k →
         get_or (insert choices place choice) k d ≡ get_or choices (k - 1) d
     above k d more =
         subst (λ n. get_or (insert choices place choice) n d ≡ get_or choices (k - 1) d)
@@ -87,7 +87,7 @@ module _ {N : Type 0} (number : N → ℕ) (choices : List (Choice N)) (place : 
     pub inserted : IsByLoss number (insert choices place choice)
     inserted = record { pairs = pairs }
       where
-        pairs : (i j : ℕ) (d : Choice N) → i < j → j < length (insert choices place choice) →
+        pairs : (i j : ℕ) (d : RankedChoice N) → i < j → j < length (insert choices place choice) →
             ComesFirst number (get_or (insert choices place choice) i d)
             (get_or (insert choices place choice) j d)
         pairs i j d less low =
@@ -117,65 +117,70 @@ module _ {N : Type 0} (number : N → ℕ) (choices : List (Choice N)) (place : 
               ]
             ]
 
--- the choices are those of the positions of a list, whose losses are these
-pub record AreOf {N : Type 0} (number : N → ℕ) (loss : Board → ℕ) (found : List Board)
-    (choices : List (Choice N)) : Type 0 where
-  pub from : (c : Choice N) → Contains choices c →
-      Contains found c.to × (c.rank ≡ rank c.to) × (number c.loss ≡ loss c.to)
-  pub all : (y : Board) → Contains found y → (c : Choice N) × Contains choices c × (c.to ≡ y)
+-- the choices are those of the positions of a list
+pub record AreOf {N : Type 0} (found : List Board) (choices : List (RankedChoice N)) : Type 0 where
+  pub from : (c : RankedChoice N) → Contains choices c →
+      Contains found c.to × (c.rank ≡ rank c.to)
+  pub all : (y : Board) → Contains found y → (c : RankedChoice N) × Contains choices c × (c.to ≡ y)
 
 -- no choice is in order
 pub none_by_loss : {N : Type 0} (number : N → ℕ) → IsByLoss number []
 none_by_loss number = record { pairs = λ i j d less low. absurd (omega (arith, low)) }
 
 -- .. and is that of no position
-pub none_of : {N : Type 0} (number : N → ℕ) (loss : Board → ℕ) → AreOf number loss [] []
-none_of number loss = record {
+pub none_of : {N : Type 0} → AreOf {N = N} [] []
+none_of = record {
   from = λ c held. absurd (omega (arith, held.1));
   all = λ y held. absurd (omega (arith, held.1));
 }
 
 -- with one position more
-pub one_more_of : {N : Type 0} (number : N → ℕ) (loss : Board → ℕ) (found : List Board) (i : ℕ)
-    (choices more : List (Choice N))
-    (choice : Choice N) → i < length found → choice.to ≡ get_or found i choice.to →
-    choice.rank ≡ rank choice.to → number choice.loss ≡ loss choice.to →
-    ((c : Choice N) → Contains more c ↔ (Contains choices c ⊎ (c ≡ choice))) →
-    AreOf number loss (take i found) choices → AreOf number loss (take (i + 1) found) more
-one_more_of {N = N} number loss found i choices more choice low at ranked lost members were =
+pub one_more_of : {N : Type 0} (found : List Board) (i : ℕ) (choices more : List (RankedChoice N))
+    (choice : RankedChoice N) → i < length found → choice.to ≡ get_or found i choice.to →
+    choice.rank ≡ rank choice.to →
+    ((c : RankedChoice N) → Contains more c ↔ (Contains choices c ⊎ (c ≡ choice))) →
+    AreOf (take i found) choices → AreOf (take (i + 1) found) more
+one_more_of {N = N} found i choices more choice low at ranked members were =
     record { from = from; all = all }
   where
     longer : take (i + 1) found ≡ take i found ++ choice.to ∷ []
     longer = take_more found i choice.to low ∙ ap (λ y. take i found ++ y ∷ []) (sym at)
 
-    from : (c : Choice N) → Contains more c →
-        Contains (take (i + 1) found) c.to × (c.rank ≡ rank c.to) × (number c.loss ≡ loss c.to)
+    from : (c : RankedChoice N) → Contains more c →
+        Contains (take (i + 1) found) c.to × (c.rank ≡ rank c.to)
     from c held = elim ((members c).0 held) [
       | inl old ↦ let was = were.from c old in (
         subst (λ ys. Contains ys c.to) (sym longer)
             (Contains-append_left (take i found) (choice.to ∷ []) c.to was.0),
         was.1,
-        was.2,
       )
       | inr new ↦ subst
-          (λ (c : Choice N). Contains (take (i + 1) found) c.to × (c.rank ≡ rank c.to)
-          × (number c.loss ≡ loss c.to))
+          (λ (c : RankedChoice N). Contains (take (i + 1) found) c.to × (c.rank ≡ rank c.to))
           (sym new) (
             subst (λ ys. Contains ys choice.to) (sym longer)
                 (Contains-push (take i found) choice.to),
             ranked,
-            lost,
           )
     ]
 
     all : (y : Board) → Contains (take (i + 1) found) y →
-        (c : Choice N) × Contains more c × (c.to ≡ y)
+        (c : RankedChoice N) × Contains more c × (c.to ≡ y)
     all y held = elim (Contains-push_cases (take i found) choice.to y
         (subst (λ ys. Contains ys y) longer held)) [
           | inl old ↦ let was = were.all y old in
               (was.0, (members was.0).1 (inl was.1), was.2)
           | inr new ↦ (choice, (members choice).1 (inr refl), new)
         ]
+
+-- what holds of each element, and of one more, holds of each with that one
+pub still_all : {X : Type 0} (P : X → Type 0) (xs more : List X) (x : X) → All P xs → P x →
+    ((y : X) → Contains more y ↔ (Contains xs y ⊎ (y ≡ x))) → All P more
+still_all P xs more x all is members k d low =
+    let y = get_or more k d in
+    elim ((members y).0 (All-contains_itself more k d low)) [
+      | inl old ↦ All-contains P xs y all old
+      | inr new ↦ subst P (sym new) is
+    ]
 
 -- no position comes before itself
 never_before : (xs : List ℕ) → comes_first xs xs ≡ false
@@ -186,12 +191,11 @@ pub not_before : (x : Board) → IsTrue (is_before x x) → ⊥
 not_before x before = grind (arith, nat_tests, never_before x)
 
 -- the next of positions in the order of ranks has a rank of its own
-pub fresh_rank : {N : Type 0} (number : N → ℕ) (loss : Board → ℕ) (found : List Board) (i : ℕ)
-    (choices : List (Choice N))
+pub fresh_rank : {N : Type 0} (found : List Board) (i : ℕ) (choices : List (RankedChoice N))
     (y : Board) → ((z : Board) → Contains found z → IsPosition z) → IsInRankOrder found →
-    i < length found → y ≡ get_or found i y → AreOf number loss (take i found) choices →
-    All (λ (c : Choice N). c.rank ≢ rank y) choices
-fresh_rank number loss found i choices y positions ordered low at are = λ k d inside same.
+    i < length found → y ≡ get_or found i y → AreOf (take i found) choices →
+    All (λ (c : RankedChoice N). c.rank ≢ rank y) choices
+fresh_rank found i choices y positions ordered low at are = λ k d inside same.
     let held = All-contains_itself choices k d inside in
     let was = are.from (get_or choices k d) held in
     let other = (get_or choices k d).to in
@@ -207,11 +211,12 @@ fresh_rank number loss found i choices y positions ordered low at are = λ k d i
     (ordered.pairs was.0.0 i other earlier low))
 
 -- in order they are the list of moves
-pub list_of : {N : Type 0} (number : N → ℕ) (nothing : Choice N) (b : Book) (x : Board)
-    (v : Throw) (found : List Board) (choices : List (Choice N)) →
+pub list_of : {N : Type 0} (number : N → ℕ) (nothing : RankedChoice N) (b : Book) (x : Board)
+    (v : Throw) (found : List Board) (choices : List (RankedChoice N)) →
     ((y : Board) → Contains found y ↔ Legal x v y) → IsByLoss number choices →
-    AreOf number (loss_in b x v) found choices → IsMoveListIn b x v (map result_of choices)
-list_of number nothing b x v found choices legal ordered are =
+    AreOf found choices → All (λ choice. number choice.loss ≡ loss_in b x v choice.to) choices →
+    IsMoveListIn b x v (map result_of choices)
+list_of number nothing b x v found choices legal ordered are losses =
     record { members = members; ordered = by_loss }
   where
     members : (y : Board) → Contains (map result_of choices) y ↔ Legal x v y
@@ -238,10 +243,12 @@ list_of number nothing b x v found choices legal ordered are =
         let second = get_or choices j nothing in
         let a = are.from first (All-contains_itself choices i nothing (omega arith)) in
         let c = are.from second (All-contains_itself choices j nothing low) in
+        let m = losses i nothing (omega arith) in
+        let n = losses j nothing low in
         subst₂ (IsListedBeforeIn b x v)
         (sym (get_or-map result_of choices i nothing finished (omega arith)))
         (sym (get_or-map result_of choices j nothing finished low))
         (elim (ordered.pairs i j nothing before low) [
-          | inl less ↦ inl (omega (arith, less, a.2, c.2))
-          | inr tie ↦ inr (omega (arith, tie.0, a.2, c.2), omega (arith, tie.1, a.1, c.1))
+          | inl less ↦ inl (omega (arith, less, m, n))
+          | inr tie ↦ inr (omega (arith, tie.0, m, n), omega (arith, tie.1, a.1, c.1))
         ])

@@ -1,6 +1,6 @@
 use Rattle.legal_plays.proofs.OrderLemmas.{Contains-insert}
-use Rattle.book.proofs.LossOrder.{inserted}
-use Rattle.book.proofs.moves.include.Goals as goal
+use Rattle.epc_query.proofs.LossOrder.{inserted}
+use Rattle.epc_query.proofs.choices.include_choice.Goals as goal
 
 pub returns-clause-members : goal.returns-clause-members
 returns-clause-members g c other =
