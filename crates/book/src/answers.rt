@@ -11,9 +11,7 @@ ghost use Rattle.epc_query.specs.Faults.{IsAnswerable};
 use crate::lent::{Lent, Replies};
 use crate::turns::{loss, play};
 use arrayvec::ArrayString;
-use epc_query::{
-    LineFault, Number, Query, Refusal, put_rank, put_refusal, read_mean, read_query, refusal,
-};
+use epc_query::{Number, Query, accepted_query, put_rank, put_refusal, read_mean};
 use home_board::Position;
 use legal_plays::Roll;
 
@@ -50,20 +48,10 @@ fn answer_any<L: Replies<ROOM>, const ROOM: usize>(
         (text.new.bytes ++ 10 ∷ []) }
     ensures len { array_string_len text.new ≤ 254 * L.Mean.Part.most + 1910 }
 {
-    match read_query(line) {
-        Ok(query) => match refusal(&query, lent.bound()) {
-            None => put_answer(lent, &query, text),
-            Some(refusal) => {
-                put_refusal(text, refusal);
-                Some(())
-            }
-        },
-        Err(LineFault::BadLine) => {
-            put_refusal(text, Refusal::BadLine);
-            Some(())
-        }
-        Err(LineFault::TooMany) => {
-            put_refusal(text, Refusal::TooMany);
+    match accepted_query(line, lent.bound()) {
+        Ok(query) => put_answer(lent, &query, text),
+        Err(refusal) => {
+            put_refusal(text, refusal);
             Some(())
         }
     }

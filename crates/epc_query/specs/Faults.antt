@@ -1,5 +1,5 @@
 -- When a query is refused, by a database of a bound. Source: this project's profile.
-use Rattle.std.specs.Prelude.{ℕ, ◌<◌, ◌≤◌, List, Result, Ok, Err}
+use Rattle.std.specs.Prelude.{ℕ, ◌<◌, ◌≤◌, List}
 use Rattle.race_model.specs.Positions.{pips}
 use Rattle.race_model.specs.Queries.{Query, mean_query, dist_query, play_query, loss_query}
 use Rattle.race_model.specs.Queries.{moves_query, rank_query, subject, AsksOfFinished, HasResult}
@@ -10,8 +10,6 @@ use Rattle.epc_query.specs.declared.answer.Stop.{Stop}
 use Rattle.epc_query.specs.declared.answer.Stop.TheVariants.{Memory as NoMemory, Read as NoRead}
 use Rattle.epc_query.specs.declared.reply.Reply.{Reply}
 use Rattle.epc_query.specs.declared.reply.Reply.TheVariants.{Mean, Dist, Play, Loss, Moves, Rank, Refused}
-use Rattle.epc_query.specs.declared.reply.Refusal.TheVariants.{OverBound as IsOverBound, Finished as IsFinishedOne}
-use Rattle.epc_query.specs.declared.reply.Refusal.TheVariants.{NotLegal as IsNotLegal}
 use Rattle.epc_query.specs.Texts.{why}
 
 -- a database of this bound answers the query
@@ -47,14 +45,6 @@ IsFaultOf bound q Finished = (pips (subject q) ≤ bound) × AsksOfFinished q
 IsFaultOf bound q NotLegal = (pips (subject q) ≤ bound) × (¬ AsksOfFinished q) × (¬ HasResult q)
 IsFaultOf bound q Memory = IsAnswerable bound q × AsksMoves q
 IsFaultOf bound q Read = IsAnswerable bound q × AsksRecords q
-
--- a refused query as the answer to its line: a reply, or a stop for want of memory or of a read
-abbrev pub stop_of : QueryFault → Result Reply Stop
-stop_of OverBound = Ok (Refused IsOverBound)
-stop_of Finished = Ok (Refused IsFinishedOne)
-stop_of NotLegal = Ok (Refused IsNotLegal)
-stop_of Memory = Err NoMemory
-stop_of Read = Err NoRead
 
 -- the reply says why the line is refused, or the line asks a query that is accepted
 abbrev pub IsHeard : ℕ → List ℕ → Reply → Type 0

@@ -1,7 +1,5 @@
 //! The answer to a line.
-ghost use Rattle.std.specs.Prelude.{◌≡◌, ℕ, ◌<◌, ◌≤◌, List, Err, IfOk, IfErr, OnOk};
-ghost use Rattle.race_model.specs.Positions.{pips};
-ghost use Rattle.race_model.specs.Ranks.{rank as rank_of};
+ghost use Rattle.std.specs.Prelude.{◌≡◌, ℕ, List, Err, IfOk, IfErr};
 ghost use Rattle.race_model.specs.Files.{bound_of};
 ghost use Rattle.race_model.specs.Queries.{IsAccepted};
 ghost use Rattle.db_reader.specs.Telling.{WhereTold};
@@ -9,13 +7,14 @@ ghost use Rattle.certificate.specs.Databases.{Stays};
 ghost use Rattle.epc_query.specs.Readings.{asked};
 ghost use Rattle.epc_query.specs.AnyFiles.{database_file};
 ghost use Rattle.epc_query.specs.Answers.{IsReplyTo};
-ghost use Rattle.epc_query.specs.Faults.{IsAnswerable, IsFaultOf, stop_of, IsHeard, IsStopOf};
+ghost use Rattle.epc_query.specs.Faults.{IsAnswerable, IsFaultOf, IsHeard, IsStopOf};
 
 use crate::answers::Answers;
 use crate::losses::loss;
 use crate::move_list::moves;
-use crate::query::{LineFault, Query, read_query};
-use crate::reply::{Refusal, Reply};
+use crate::query::Query;
+use crate::refusals::accepted_query;
+use crate::reply::Reply;
 use crate::run_fault::RunFault;
 use crate::text::Text;
 use crate::writing::write_reply_by;
@@ -23,7 +22,6 @@ use certificate::{Checked, QueryFault};
 use db_layout::WriteFault;
 use db_reader::Table;
 use fixed_fraction::{epc, mean};
-use home_board::Position;
 use race_model::laws;
 use std::alloc::Global;
 use std::io::Write;
@@ -41,23 +39,9 @@ pub enum Stop {
     Read,
 }
 
-/// A refused query as the answer to its line.
-fn refused(fault: QueryFault) -> Result<Reply, Stop>
-    ensures { result ≡ stop_of fault }
-{
-    match fault {
-        QueryFault::OverBound => Ok(Reply::Refused(Refusal::OverBound)),
-        QueryFault::Finished => Ok(Reply::Refused(Refusal::Finished)),
-        QueryFault::NotLegal => Ok(Reply::Refused(Refusal::NotLegal)),
-        QueryFault::Memory => Err(Stop::Memory),
-        QueryFault::Read => Err(Stop::Read),
-    }
-}
-
-/// What a query is answered with.
+/// What a query is answered with that is not refused.
 fn ask<T: Table>(alloc: Global, checked: &mut Checked<T>, query: Query) -> Result<Reply, QueryFault>
-    ensures answerable { OnOk result (IsAnswerable (checked.old.bound)
-        (asked query)) }
+    requires { IsAnswerable (checked.old.bound) (asked query) }
     ensures told { WhereTold checked.old.told (λ file. IfOk result (λ reply. (line : List ℕ)
         → IsAccepted (bound_of file) line (asked query) → IsReplyTo file line reply)) }
     ensures heard { IfOk result (λ reply. (bound : ℕ) (line : List ℕ)
@@ -86,25 +70,8 @@ fn ask<T: Table>(alloc: Global, checked: &mut Checked<T>, query: Query) -> Resul
             let choices = moves(alloc, checked, &position, roll)?;
             Ok(Reply::Moves(choices))
         }
-        Query::Rank(position) => {
-            let rank = rank(checked, &position)?;
-            Ok(Reply::Rank(rank))
-        }
+        Query::Rank(position) => Ok(Reply::Rank(checked.ranks().rank(&position))),
     }
-}
-
-/// The rank of a position of at most the bound.
-#[inline(never)]
-fn rank<T: Table>(checked: &Checked<T>, position: &Position) -> Result<u16, QueryFault>
-    ensures value { IfOk result (λ rank. rank ≡ rank_of position.now) }
-    ensures answerable { OnOk result (pips position.now ≤ checked.now.bound) }
-    ensures fault { IfErr result (λ fault.
-        (fault ≡ QueryFault.OverBound) × (checked.now.bound < pips position.now)) }
-{
-    if position.pips() > checked.bound() {
-        return Err(QueryFault::OverBound);
-    }
-    Ok(checked.ranks().rank(position))
 }
 
 /// Answers a line, which comes without its line feed: with what the database says, or why it is
@@ -123,14 +90,13 @@ pub fn answer_line<T: Table>(
     ensures stop { IfErr result (IsStopOf (checked.old.bound) line.now) }
     ensures stays { Stays checked.old checked.new (result ≡ Err Stop.Read) }
 {
-    let _bound = checked.bound();
-    match read_query(line) {
+    match accepted_query(line, checked.bound()) {
         Ok(query) => match ask(alloc, checked, query) {
             Ok(reply) => Ok(reply),
-            Err(fault) => refused(fault),
+            Err(QueryFault::Memory) => Err(Stop::Memory),
+            Err(_) => Err(Stop::Read),
         },
-        Err(LineFault::BadLine) => Ok(Reply::Refused(Refusal::BadLine)),
-        Err(LineFault::TooMany) => Ok(Reply::Refused(Refusal::TooMany)),
+        Err(refusal) => Ok(Reply::Refused(refusal)),
     }
 }
 

@@ -5,7 +5,7 @@
 //! is cut into lines. The crates above may use that a loss is the least mean after a result less
 //! the least such mean among all results, that `moves` has every result once, in order, that
 //! `run` writes the replies to the lines that it read and nothing else, and for bytes of their own
-//! what a line asks (`read_query`) and the text of each reply, by numbers of either kind of file
+//! what a line asks (`accepted_query`) and the text of each reply, by numbers of either kind of file
 //! (`Number`).
 #![tactic(auto)]
 
@@ -35,8 +35,8 @@ pub use levels::audit_level;
 pub use losses::loss;
 pub use move_list::moves;
 pub use numbers::{Digits, Number};
-pub use query::{LineFault, Query, read_mean, read_query};
-pub use refusals::refusal;
+pub use query::{Query, read_mean};
+pub use refusals::accepted_query;
 pub use reply::{Choice, Level, Refusal, Reply};
 pub use run_fault::RunFault;
 pub use running::{run, run_lines};

@@ -8,7 +8,6 @@ ghost use Rattle.epc_query.specs.Readings.{IsResultReading, IsRestReading, IsRea
 use home_board::{Position, PositionFault, parse_position};
 use legal_plays::{Roll, parse_roll};
 use race_model::laws;
-use thiserror::Error;
 
 /// What a line asks.
 #[derive(Clone, Copy, Debug, PartialEq, Eq)]
@@ -33,14 +32,12 @@ pub enum Query {
 }
 
 /// Why a line asks nothing.
-#[derive(Clone, Copy, Debug, PartialEq, Eq, Error)]
-pub enum LineFault {
+#[derive(Clone, Copy, Debug, PartialEq, Eq)]
+pub(crate) enum LineFault {
     /// It is not of the form of a query.
-    #[error("no query")]
     BadLine,
 
     /// A position of it has more than 15 checkers.
-    #[error("a position of more than 15 checkers")]
     TooMany,
 }
 
@@ -58,7 +55,7 @@ enum Kind {
 /// What a line asks, which comes without its line feed. Refused as `BadLine` where it isn't of the
 /// form of a query, and else as `TooMany` where a position of it has more than 15 checkers (this
 /// project's profile).
-pub fn read_query(line: &[u8]) -> Result<Query, LineFault>
+pub(crate) fn read_query(line: &[u8]) -> Result<Query, LineFault>
     ensures { IsReading line.now result }
 {
     laws::law_lines();

@@ -1,11 +1,12 @@
-//! Why a query is refused by whatever answers it, as its bound says.
-ghost use Rattle.std.specs.Prelude.{◌≡◌, ℕ, ◌↔◌, List, IsTrue, MatchOption};
-ghost use Rattle.race_model.specs.Queries.{subject, AsksOfFinished, HasResult, IsQuery, HasTooMany, IsRefused};
+//! What a line asks, or why it is refused, by whatever answers it, as its bound says.
+ghost use Rattle.std.specs.Prelude.{◌≡◌, ℕ, ◌↔◌, List, IsTrue, IfOk, IfErr, MatchOption};
+ghost use Rattle.race_model.specs.Queries.{subject, AsksOfFinished, HasResult, IsQuery, HasTooMany};
+ghost use Rattle.race_model.specs.Queries.{IsRefused, IsAccepted};
 ghost use Rattle.epc_query.specs.Readings.{asked};
 ghost use Rattle.epc_query.specs.Texts.{why};
 ghost use Rattle.epc_query.specs.Faults.{IsAnswerable};
 
-use crate::query::Query;
+use crate::query::{LineFault, Query, read_query};
 use crate::reply::Refusal;
 use home_board::Position;
 use legal_plays::play_to;
@@ -51,7 +52,7 @@ fn has_result(query: &Query) -> bool
 /// 15 checkers; none exactly where it is answered. A position over the bound comes first, then a
 /// play that is asked of the finished position, and then a result that the roll doesn't lead to
 /// (this project's profile).
-pub fn refusal(query: &Query, bound: u8) -> Option<Refusal>
+fn refusal(query: &Query, bound: u8) -> Option<Refusal>
     ensures { MatchOption result (IsAnswerable bound (asked query.now))
         (λ refusal. (line : List ℕ) → IsQuery line (asked query.now)
         → ¬ HasTooMany (asked query.now)
@@ -67,4 +68,20 @@ pub fn refusal(query: &Query, bound: u8) -> Option<Refusal>
         return Some(Refusal::NotLegal);
     }
     None
+}
+
+/// What a line, which comes without its line feed, asks where positions have at most so many pips,
+/// or the first reason why it is refused.
+pub fn accepted_query(line: &[u8], bound: u8) -> Result<Query, Refusal>
+    ensures accepted { IfOk result (λ query. IsAccepted bound line.now (asked query)) }
+    ensures refused { IfErr result (λ refusal. IsRefused bound line.now (why refusal)) }
+{
+    match read_query(line) {
+        Ok(query) => match refusal(&query, bound) {
+            None => Ok(query),
+            Some(refusal) => Err(refusal),
+        },
+        Err(LineFault::BadLine) => Err(Refusal::BadLine),
+        Err(LineFault::TooMany) => Err(Refusal::TooMany),
+    }
 }
