@@ -7,8 +7,8 @@
  * KB: what it says of itself, its ranks, its means, its shares, and with every STEPth roll its
  * plays, their losses and its lines; then its whole tables. All has to be the same. What boards
  * have no call for is made of what their calls say. The opening is tried on bytes with a fault
- * too, and each call on a file that is not open. Says how many answers were compared, and ends
- * with 1 where one differed.
+ * too, and each call on a file that is not open, and on one whose bytes were changed since they
+ * were opened. Says how many answers were compared, and ends with 1 where one differed.
  */
 #define _POSIX_C_SOURCE 200809L
 #include <pthread.h>
@@ -408,6 +408,69 @@ static void try_openings(void) {
     bytes[8] ^= 1;
 }
 
+/* bytes of which the second half is changed after they were opened, against the rule: of a
+ * position there each call says so, and leaves alone what is lent, also the means before it */
+static void try_changed(void) {
+    static struct {
+        bearoff_long mean;
+        bearoff_long_rolls rolls;
+        bearoff_long_pips pips;
+        bearoff_wasted wasted;
+        bearoff_long_shares shares;
+        bearoff_chance chance;
+        bearoff_recorded_play play;
+        bearoff_long_fraction loss;
+        bearoff_long_result results[BEAROFF_RESULTS];
+        uint8_t text[BEAROFF_BOARD_REPLY];
+        size_t count, needed;
+    } lent;
+    static const char *const words[] = {"mean", "dist", "play", "moves"};
+    const uint8_t *marks = (const uint8_t *)&lent;
+    size_t half = 32 + (length - 32) / 2, size = about.positions;
+    bearoff_position at;
+    char line[96];
+    expect(bearoff_file_position_of(&file, (uint16_t)(size - 1), &at) == BEAROFF_OK &&
+               bearoff_file_moves(&file, &at, 2, 1, lent.results, BEAROFF_RESULTS, &lent.count) ==
+                   BEAROFF_OK,
+           "the last position", (long)size);
+    bearoff_position to = lent.results[0].to;
+    memset(&lent, MARK, sizeof lent);
+    memset(means, MARK, sizeof means);
+    memset(epcs, MARK, sizeof epcs);
+    memset(shares, MARK, sizeof shares);
+    memset(bytes + half, 0xFF, length - half);
+    uint32_t told[] = {
+        bearoff_file_mean(&file, &at, &lent.mean),
+        bearoff_file_rounded_mean(&file, &at, &lent.rolls),
+        bearoff_file_epc(&file, &at, &lent.pips),
+        bearoff_file_wastage(&file, &at, &lent.wasted),
+        bearoff_file_distribution(&file, &at, &lent.shares),
+        bearoff_file_within(&file, &at, 1, &lent.chance),
+        bearoff_file_play(&file, &at, 2, 1, &lent.play),
+        bearoff_file_loss(&file, &at, 2, 1, &to, &lent.loss),
+        bearoff_file_moves(&file, &at, 2, 1, lent.results, BEAROFF_RESULTS, &lent.count),
+        bearoff_file_listed_means(&file, 0, means, size),
+        bearoff_file_listed_epcs(&file, 0, epcs, size),
+        bearoff_file_listed_distributions(&file, 0, shares, size),
+    };
+    for (size_t i = 0; i < sizeof told / sizeof *told; i++)
+        expect(told[i] == BEAROFF_CHANGED, "changed", (long)i);
+    for (int i = 0; i < 4; i++) {
+        int count = snprintf(line, sizeof line, "%s %d,%d,%d,%d,%d,%d%s", words[i], at.points[0],
+                             at.points[1], at.points[2], at.points[3], at.points[4], at.points[5],
+                             i < 2 ? "" : " 21");
+        expect(bearoff_file_answer_line(&file, (const uint8_t *)line, (size_t)count, lent.text,
+                                        sizeof lent.text, &lent.needed) == BEAROFF_CHANGED,
+               line, i);
+    }
+    expect(!memcmp(marks, marks + 1, sizeof lent - 1), "changed, and left alone", 0);
+    expect(!memcmp(means, (uint8_t *)means + 1, sizeof means - 1) && *(uint8_t *)means == MARK &&
+               !memcmp(epcs, (uint8_t *)epcs + 1, sizeof epcs - 1) && *(uint8_t *)epcs == MARK &&
+               !memcmp(shares, (uint8_t *)shares + 1, sizeof shares - 1) &&
+               *(uint8_t *)shares == MARK,
+           "tables of changed bytes, left alone", 0);
+}
+
 int main(int count, char **words) {
     pthread_attr_t attributes;
     pthread_t thread;
@@ -429,6 +492,7 @@ int main(int count, char **words) {
     if (pthread_attr_setstacksize(&attributes, STACK) ||
         pthread_create(&thread, &attributes, ask_all, NULL) || pthread_join(thread, NULL))
         return 2;
+    try_changed();
     printf("%llu answers compared, %llu of them differ\n", (unsigned long long)compared,
            (unsigned long long)failed);
     return failed != 0;
