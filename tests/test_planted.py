@@ -43,6 +43,8 @@ SYSTEM = "crates/whole_file/src/system.rt"
 MAIN = "crates/bearoff_cli/src/main.rt"
 READS = "crates/epc_query/src/reads.rt"
 BOARD_LINES = "crates/book/src/board_lines.rt"
+DATABASE = "crates/book/src/database.rt"
+WORDS = "crates/command_line/src/words.rt"
 CHECKED = "crates/certificate/src/checked.rt"
 FILE_SOURCE = "crates/db_reader/src/file_source.rt"
 COUNTDOWN = "crates/db_reader/src/countdown.rt"
@@ -289,6 +291,14 @@ PLANTED = [
         "rows TestAsk",
     ),
     (
+        "lines_that_are_words_want_memory_over_100000_bytes",
+        WORDS,
+        "        text.push_str(line)?;",
+        "        if text.len() > 100_000 { return Err(AllocError); }\n"
+        "        text.push_str(line)?;",
+        "rows TestAsk::test_words",
+    ),
+    (
         "the_query_reads_another_file",
         ACT,
         "            path,\n"
@@ -442,6 +452,14 @@ PLANTED = [
         "        if line.len() > 40 { return Err(RunFault::Table); }\n"
         "        let Some(()) = self.board.answer(line, &mut self.text) else {",
         "rows TestBoards::test_query[long]",
+    ),
+    (
+        "lines_over_a_database_blame_the_file",
+        DATABASE,
+        "        let Some(()) = self.answer(line, text) else {",
+        "        if line.len() > 40 { return Err(RunFault::Table); }\n"
+        "        let Some(()) = self.answer(line, text) else {",
+        "rows TestLongLines",
     ),
     (
         "the_audit_of_a_board_gives_up_at_90_pips",

@@ -1042,6 +1042,7 @@ class TestAsk:
             (["rank 0,0,0,0,0,9", "rank 16,0,0,0,0,0"], "error over-bound\nerror too-many"),
             (["\u00e9" * 200, "rank 1,0,0,0,0,0"], "error bad-line\nrank 1"),
             (["rank 1,0,0,0,0,0"] * 5000, "rank 1\n" * 4999 + "rank 1"),
+            (["\u00e9" * 60000] * 6 + ["rank 1,0,0,0,0,0"], "error bad-line\n" * 6 + "rank 1"),
             (["--", "-x", "--help", "--"], "error bad-line\nerror bad-line\nerror bad-line"),
         ],
     )
