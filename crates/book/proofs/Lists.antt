@@ -24,9 +24,11 @@ pub one_more_fits : (most i : ℕ) → i < 127 →
 one_more_fits most i few = omega (arith, all_fit most (i + 1) (omega (arith, few)))
 
 -- the parts of all choices are the list of moves
-pub list_of_parts : {N : Type 0} (whole : ℕ) (number : N → ℕ) (choices : List (RankedChoice N)) (n : ℕ)
+pub list_of_parts : {N : Type 0} (whole : ℕ) (number : N → ℕ)
+    (choices : List (RankedChoice N)) (n : ℕ)
     (text : List ℕ) → n ≡ length choices →
-    AreParts (λ i part. (d : RankedChoice N) → IsPartOf whole number (slice_index_or choices i d) part) n
+    AreParts (λ i part. (d : RankedChoice N)
+    → IsPartOf whole number (slice_index_or choices i d) part) n
     (codes "moves") text → IsListText whole number choices text
 list_of_parts whole number choices n text all are = record {
   parts = are.parts;

@@ -43,10 +43,12 @@ first_or number a b never apart = by (number a.loss) (number b.loss) a.rank b.ra
     by l m r s never apart = grind arith
 
 -- a choice in its place
-module _ {N : Type 0} (number : N → ℕ) (choices : List (RankedChoice N)) (place : ℕ) (choice : RankedChoice N)
+module _ {N : Type 0} (number : N → ℕ) (choices : List (RankedChoice N)) (place : ℕ)
+    (choice : RankedChoice N)
     (fits : place ≤ length choices) (ordered : IsByLoss number choices)
     (fresh : All (λ other. other.rank ≢ choice.rank) choices)
-    (before : (k : ℕ) (d : RankedChoice N) → k < place → ComesFirst number (get_or choices k d) choice)
+    (before : (k : ℕ) (d : RankedChoice N) → k < place
+    → ComesFirst number (get_or choices k d) choice)
     (after : (d : RankedChoice N) → place < length choices →
     ¬ ComesFirst number (get_or choices place d) choice)
   where
@@ -70,7 +72,8 @@ module _ {N : Type 0} (number : N → ℕ) (choices : List (RankedChoice N)) (pl
         get_or (insert choices place choice) k d ≡ get_or choices k d
     below k d low = get_or-insert_below choices place choice d k low fits
 
-    here : (k : ℕ) (d : RankedChoice N) → place ≡ k → get_or (insert choices place choice) k d ≡ choice
+    here : (k : ℕ) (d : RankedChoice N) → place ≡ k
+        → get_or (insert choices place choice) k d ≡ choice
     here k d same =
         subst (λ n. get_or (insert choices place choice) n d ≡ choice) same
         (get_or-insert_at choices place choice d fits)

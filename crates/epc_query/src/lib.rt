@@ -5,8 +5,8 @@
 //! is cut into lines. The crates above may use that a loss is the least mean after a result less
 //! the least such mean among all results, that `moves` has every result once, in order, that
 //! `run` writes the replies to the lines that it read and nothing else, and for bytes of their own
-//! what a line asks (`accepted_query`) and the text of each reply, by numbers of either kind of file
-//! (`Number`).
+//! what a line asks (`accepted_query`) and the text of each reply, by numbers of either kind of
+//! file (`Number`).
 #![tactic(auto)]
 
 mod answer;

@@ -10,7 +10,8 @@ abbrev pub invariant-loop-index : goal.invariant-loop-index
 invariant-loop-index g l = record {
   places_are : long_places (take l.index l.room) ≡ map result_of (take l.index l.found);
   costs : (cost : Board → ℕ)
-      → All (λ (choice : RankedChoice g.row.N.Denot). g.N.Number.number choice.loss ≡ cost choice.to)
-      l.found → All (HasLongCost g.N.Number.whole cost) (take l.index l.room);
+      → All (λ (choice : RankedChoice g.row.N.Denot).
+      g.N.Number.number choice.loss ≡ cost choice.to) l.found
+      → All (HasLongCost g.N.Number.whole cost) (take l.index l.room);
   rest : drop l.index l.room ≡ drop l.index l.initial.room;
 }

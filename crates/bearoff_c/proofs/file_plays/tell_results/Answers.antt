@@ -26,8 +26,8 @@ told_list b x v items found same count counted room listed losses placed costs =
       (sym (ap (λ (n : ℕ). long_places (take n room)) counted ∙ placed
       ∙ ap (map result_of) same)) listed;
   losses = rw counted (costs
-      (subst (λ (ones : List (RankedChoice ℕ)). All (λ choice. choice.loss ≡ loss_in b x v choice.to)
-      ones) (sym same) losses));
+      (subst (λ (ones : List (RankedChoice ℕ)).
+      All (λ choice. choice.loss ≡ loss_in b x v choice.to) ones) (sym same) losses));
 }
 
 pub returns-in_ok-choices-in-Database-clause-listed :

@@ -34,7 +34,8 @@ loop-choice-preserved c =
           let IsTold = λ (choice : Choice). IsFraction (loss_of choice.to) whole
           choice.loss.numerator choice.loss.denominator in
           subst (All IsTold) (sym (added c))
-          (All-push IsTold c.loop-choice.choices.items one (c.loop-choice.invariant.losses loss_of are)
+          (All-push IsTold c.loop-choice.choices.items one
+          (c.loop-choice.invariant.losses loss_of are)
           (subst (λ n. IsFraction n whole c.mean.result.numerator
           c.mean.result.denominator)
           (subst (λ y. y.loss ≡ loss_of y.to) (sym c.choice-item.is)

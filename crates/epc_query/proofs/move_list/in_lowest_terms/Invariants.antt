@@ -10,7 +10,8 @@ abbrev pub invariant-loop-choice : goal.invariant-loop-choice
 invariant-loop-choice l = record {
   count : length l.choices.items ≡ l.choice-index;
   room : length l.ranked ≤ vec_capacity l.choices;
-  results : map (λ choice. choice.to) l.choices.items ≡ map result_of (take l.choice-index l.ranked);
+  results : map (λ choice. choice.to) l.choices.items
+      ≡ map result_of (take l.choice-index l.ranked);
   losses : (loss_of : Board → ℕ) → All (λ choice. choice.loss ≡ loss_of choice.to) l.ranked →
       All (λ choice. IsFraction (loss_of choice.to) whole choice.loss.numerator
       choice.loss.denominator) l.choices.items;

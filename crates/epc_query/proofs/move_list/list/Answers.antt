@@ -64,8 +64,9 @@ loop-to-preserved g c =
 
 pub returns-clause-listed : goal.returns-clause-listed
 returns-clause-listed g c = λ file t.
-    list_of (λ rolls. rolls) (record { to = c.args.position.now; rank = 0; loss = 0 }) (book_of file)
-    c.args.position.now c.args.roll c.args.found.now c.loop-to.choices.items c.requires.results
+    list_of (λ rolls. rolls) (record { to = c.args.position.now; rank = 0; loss = 0 })
+    (book_of file) c.args.position.now c.args.roll c.args.found.now
+    c.loop-to.choices.items c.requires.results
     c.loop-to.invariant.ordered
     (subst (λ ys. AreOf ys c.loop-to.choices.items)
     (take_all c.loop-to.to-index c.args.found.now (omega arith)) c.loop-to.invariant.are)
