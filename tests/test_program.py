@@ -1123,22 +1123,20 @@ class TestAbout:
         line = "header bad-record-bytes" if which == "version 3" else line
         expect(ask("about bad"), 3, "", explained(line, "bad"))
 
-    @pytest.mark.parametrize("file", ["new", "board"])
+    # of version 2; tests/test_boards.py has those of a board file
     @pytest.mark.parametrize(
         "place, values, line",
         [
             (0, b"F", "bad-magic"),
             (8, b"\0\4", "bad-version"),
-            (8, b"\3\0", "bad-version"),
             (10, b"\xff\xff", "bad-bound"),
             (12, b"\xff", "bad-count"),
             (16, b"\xff", "bad-record-bytes"),
             (31, b"\1", "bad-reserved"),
         ],
     )
-    def test_headers(self, files, ask, board, file, place, values, line):
-        shutil.copy(board(8), "board")
-        damage("bad", file, place, *values)
+    def test_headers(self, files, ask, place, values, line):
+        damage("bad", "new", place, *values)
         expect(ask("about bad"), 3, "", explained(f"header {line}", "bad"))
 
     @pytest.mark.parametrize("size", [0, 9, 10, 31, 32, 33])
