@@ -2,13 +2,21 @@
 ghost use Rattle.std.specs.Prelude.{◌≡◌, ℕ, ◌<◌, length, slice_index, slice_index_or};
 ghost use Rattle.race_model.specs.Dice.{roll_at};
 ghost use Rattle.race_model.specs.BestPlays.{IsBestPlay};
-ghost use Rattle.legal_plays.specs.Faces.{roll_of};
 ghost use Rattle.least_plays.specs.Known.{AreStarts};
 
 use crate::RankedMeans;
 use crate::choice::better;
 use home_board::Position;
-use legal_plays::{Die, Roll};
+
+/// The places of the greater die of each roll, by the roll's index.
+const HIGH_PLACES: [u8; 21] = [
+    0, 1, 1, 2, 2, 2, 3, 3, 3, 3, 4, 4, 4, 4, 4, 5, 5, 5, 5, 5, 5,
+];
+
+/// The places of its smaller die.
+const LOW_PLACES: [u8; 21] = [
+    0, 0, 1, 0, 1, 2, 0, 1, 2, 3, 0, 1, 2, 3, 4, 0, 1, 2, 3, 4, 5,
+];
 
 /// The best ranks from a position with one die first: after that die played once, twice and three
 /// times, and after a roll that has it, by the number of the roll's other die.
@@ -34,13 +42,15 @@ pub struct Starts {
 }
 
 impl Starts {
-    /// The best play of a roll.
-    fn best_play<M: RankedMeans>(&self, roll: Roll, means: &M) -> u16
-        requires { AreStarts (M.mean means.now) (M.count means.now) self.now }
-        ensures { IsBestPlay (M.mean means.now) self.now.position roll result }
+    /// The best play of the roll of an index.
+    #[inline(always)]
+    fn best_play<M: RankedMeans>(&self, index: usize, means: &M) -> u16
+        requires starts { AreStarts (M.mean means.now) (M.count means.now) self.now }
+        requires index { index < 21 }
+        ensures { IsBestPlay (M.mean means.now) self.now.position (roll_at index) result }
     {
-        let high = usize::from(roll.high().number()) - 1;
-        let low = usize::from(roll.low().number()) - 1;
+        let high = usize::from(HIGH_PLACES[index]);
+        let low = usize::from(LOW_PLACES[index]);
         let first = self.dice[high].plays[low];
         if high == low {
             return first;
@@ -58,8 +68,7 @@ impl Starts {
     {
         let mut plays = [0; 21];
         for index in 0..21 {
-            let roll = Roll::from_index(index).unwrap();
-            plays[usize::from(index)] = self.best_play(roll, means);
+            plays[index] = self.best_play(index, means);
         }
         plays
     }
