@@ -8,7 +8,7 @@ use crate::statuses::{OK, Refusal, SHORT};
 use retrograde::{BoardBuildFault, build_board};
 
 /// Builds the board file of a pip bound into the front of a room; `filled` is how many bytes it
-/// has: 14,643,664 for 90 pips. It needs some 0.7 MB of stack. Refused as `OverBound` exactly where
+/// has: 14,643,664 for 90 pips. It needs some 0.9 MB of stack. Refused as `OverBound` exactly where
 /// the bound is over 90, and else with the status 8 exactly where the room is smaller than the
 /// file; then `room` and `filled` stay as they were.
 #[unsafe(no_mangle)]

@@ -1,8 +1,7 @@
 -- What the tests of a record tell, where each record of lower rank was accepted.
-use Rattle.std.proofs.Common.{◌≡◌, ◌↔◌, ⊎_elim, ℕ, ◌+◌, ◌<◌, ◌≤◌, List, refl, sym, ap, subst, ◌∙◌, arith}
-use Rattle.std.proofs.lemmas.Bool.{cases_lt}
+use Rattle.std.proofs.Common.{◌↔◌, ℕ, ◌<◌, ◌≤◌, List, refl, arith}
 use Rattle.race_model.specs.Positions.{Board, IsPosition, pips}
-use Rattle.race_model.specs.Ranks.{rank, at_rank, count_to}
+use Rattle.race_model.specs.Ranks.{at_rank, count_to}
 use Rattle.race_model.specs.Files.{bound_of}
 use Rattle.race_model.specs.FirstFault.{Test, play_test, least_test, mean_test, spread_test, rank_of}
 use Rattle.race_model.specs.Books.{IsPlayedIn}
@@ -14,13 +13,10 @@ use Rattle.race_model.specs.BoardEquations.{IsLocalOnBoard, IsLocalBoard}
 use Rattle.race_model.specs.BoardEquations.{HoldsOnBoard, AsksOnBoard, IsFirstBoardFault}
 use Rattle.race_model.proofs.Dice.Throws.{roll_of_index, by_index}
 use Rattle.race_model.proofs.FirstFaults.HeaderFacts.{header_of_board}
-use Rattle.race_model.proofs.FirstFaults.InRecord.{asked_rank, first_of_file, before_play, before_share}
+use Rattle.race_model.proofs.FirstFaults.InRecord.{before_play, before_share}
 use Rattle.race_model.proofs.FirstFaults.Questions.{board_fault_refuses}
 use Rattle.race_model.proofs.Books.Boards.{board_share_is_count, local_of_counts}
-use Rattle.race_model.proofs.Ranks.RankOrder.{rank_bound, at_rank-rank, at_rank_position}
-use Rattle.race_model.proofs.Ranks.PositionTotals.{rank-at_rank, count_to-most}
 use Rattle.db_layout.specs.LowerRecords.{AreLocalTo}
-use Rattle.db_layout.specs.HeaderFaults.{test_of}
 use Rattle.certificate.specs.BoardTests.{Holds, MeanHolds, CountHolds}
 use Rattle.certificate.specs.RecordFaults.{of_refused}
 use Rattle.certificate.specs.CheckFaults.{IsFirstOnBoard, of_record_at}

@@ -1,5 +1,5 @@
 -- What the tests of a record tell, where each record of lower rank was accepted.
-use Rattle.std.proofs.Common.{◌≡◌, ⊎_elim, ℕ, ◌+◌, ◌*◌, ◌<◌, ◌≤◌, List, sym, subst, refl, arith}
+use Rattle.std.proofs.Common.{◌≡◌, ⊎_elim, ℕ, ◌*◌, ◌<◌, ◌≤◌, List, sym, subst, refl, arith}
 use Rattle.std.proofs.lemmas.Bool.{cases_lt}
 use Rattle.race_model.specs.Positions.{Board, IsPosition, IsFinished, pips}
 use Rattle.race_model.specs.Dice.{roll_at, roll_index}

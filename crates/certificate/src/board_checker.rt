@@ -15,7 +15,9 @@ ghost use Rattle.certificate.specs.BoardFaults.{IsFirstFaultOnBoardAt};
 use crate::board_numbers::{check_numbers, plays_in};
 use crate::check_fault::{CheckFault, RecordFault, fault_at, of_refused};
 use crate::checked::check;
-use db_layout::{BoardHeader, BoardPlace, BoardRecord, LowerRecords, parse_board_header};
+use db_layout::{
+    BoardHeader, BoardPlace, BoardRecord, LowerRecords, leading_bits, parse_board_header,
+};
 use db_reader::Whole;
 use least_plays::{LeastPlays, ROWS_TO_90, check_plays};
 use race_model::laws;
@@ -26,7 +28,7 @@ const POSITIONS: usize = 54264;
 
 /// Checks bytes: they are accepted exactly where they are a right board file, of at most 90 pips,
 /// and else refused with their first fault. Its header is given. It takes no memory but its own
-/// stack, some 650 KB. (What is checked is a one-sided database of the GNU Backgammon manual; the
+/// stack, some 870 KB. (What is checked is a one-sided database of the GNU Backgammon manual; the
 /// file is this project's profile.)
 // so that its room is not part of its caller's
 #[inline(never)]
@@ -70,14 +72,17 @@ fn check_records(bytes: &[u8], header: BoardHeader) -> Result<(), CheckFault>
     let ranks = Ranks::new();
     let mut plays: LeastPlays<ROWS_TO_90> = LeastPlays::new();
     let mut offsets = [0; POSITIONS];
+    let mut leading = [0; POSITIONS];
     for rank in 0..header.count {
         let place = header.find(rank);
-        let lower = LowerRecords::new(bytes, &offsets[..usize::from(rank)]);
+        let count = usize::from(rank);
+        let lower = LowerRecords::new(bytes, &offsets[..count], &leading[..count]);
         let record = record_at(bytes, &place);
         if let Err(fault) = check_record(&lower, &record, &ranks, rank, &mut plays) {
             return Err(fault_at(rank, fault));
         }
-        offsets[usize::from(rank)] = place.offset as u32;
+        offsets[count] = place.offset as u32;
+        leading[count] = leading_bits(bytes, place.offset);
     }
     Ok(())
 }

@@ -63,22 +63,14 @@ fn kept_place(rank: u16, room: usize) -> usize
 
 /// They are what the best plays go by.
 impl<const ROOM: usize> RankedMeans for AcceptedMeans<ROOM> {
-    type Mean = u128;
-
     ghost mean = { λ accepted. kept_mean ROOM accepted };
 
     ghost count = { λ accepted. ROOM + ROOM };
 
-    ghost number = { λ mean. mean };
-
-    #[tactic(auto, unfolding(crate::specs::KeptMeans::kept_mean))]
-    fn mean(&self, rank: u16) -> u128 {
-        self.means[kept_place(rank, ROOM)]
-    }
-
     #[inline(always)]
-    fn is_less(one: u128, other: u128) -> bool {
-        one < other
+    #[tactic(auto, unfolding(crate::specs::KeptMeans::kept_mean))]
+    fn is_less(&self, one: u16, other: u16) -> bool {
+        self.means[kept_place(one, ROOM)] < self.means[kept_place(other, ROOM)]
     }
 }
 

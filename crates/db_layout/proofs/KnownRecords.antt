@@ -1,11 +1,10 @@
 -- What is known of the records of lower rank, where they meet their equations.
-use Rattle.std.proofs.Common.{◌≡◌, ℕ, zero, suc, cond, eq-eqb, ne_eqb, ◌+◌, ◌-◌, ◌*◌, ◌^◌, ◌<◌, ◌≤◌, List, length}
-use Rattle.std.proofs.Common.{take, drop, take-take, w64, refl, subst, sym, ap, ap₂, ◌∙◌, arith}
+use Rattle.std.proofs.Common.{◌≡◌, ℕ, zero, suc, cond, eq-eqb, ne_eqb, ◌+◌, ◌*◌, ◌^◌, ◌<◌, ◌≤◌, List, length}
+use Rattle.std.proofs.Common.{w64, refl, subst, sym, ap, ◌∙◌, arith}
 use Rattle.std.specs.Prelude.{Option, None, Some, IsSome, IfSome}
 use Rattle.std.specs.Option.{unwrap_or}
 use Rattle.std.specs.Int.{w128, from_be_bytes}
 use Rattle.std.proofs.lemmas.Bool.{false≢true, le-leb, lt-leb}
-use Rattle.std.proofs.lemmas.List.{drop-drop, drop-take}
 use Rattle.race_model.specs.Positions.{Board, IsPosition, pips}
 use Rattle.race_model.specs.Ranks.{rank, at_rank}
 use Rattle.race_model.specs.Files.{bytes_at}
@@ -82,9 +81,9 @@ module _ (f : List ℕ) (n : ℕ) (few : n ≤ 54264) (local : AreLocalTo f n) w
         many le)
 
 -- the record of a rank lies within the bytes
-pub record-inside : (bytes offsets : List ℕ) → AreRecords bytes offsets → (r : ℕ) →
+pub record-inside : (bytes offsets leading : List ℕ) → AreRecords bytes offsets leading → (r : ℕ) →
     r < length offsets → board_place r + board_length (pips (at_rank r)) ≤ length bytes
-record-inside bytes offsets are r lt =
+record-inside bytes offsets leading are r lt =
     omega (arith, are.long, board_place-rises r (length offsets) lt)
 
 -- the mean stands at the front of the record of a rank
@@ -110,20 +109,6 @@ module _ (bytes : List ℕ) (offset r : ℕ) (begins : offset ≡ board_place r)
       ≡ (mean_parts (board_record bytes r)).lower
   unfolding mean_parts
   mean-lower = ap (from_be_bytes w64) (front 16 8 (omega arith))
-
-  -- .. and is the same in its own bytes
-  pub mean-alone : mean_parts (bytes_at bytes offset 24) ≡ mean_parts (board_record bytes r)
-  unfolding mean_parts
-  mean-alone =
-      ap₂ (λ (xs ys : List ℕ). record {
-        upper = from_be_bytes w128 xs;
-        lower = from_be_bytes w64 ys;
-      }) (alone 0 16 (omega arith)) (alone 16 8 (omega arith))
-    where
-      alone : (b m : ℕ) → b + m ≤ 24 →
-          bytes_at (bytes_at bytes offset 24) b m ≡ bytes_at (board_record bytes r) b m
-      alone b m within =
-          bytes_at-inner bytes offset 24 b m within ∙ front b m (omega (arith, within))
 
 -- a position that needs no roll has no pip
 pub most_rolls-none : (p : ℕ) → most_rolls p ≡ 0 → p ≡ 0

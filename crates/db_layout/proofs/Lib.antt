@@ -11,6 +11,7 @@ pub mod BoardPlaces
 pub mod SameFronts
 pub mod SameRecords
 pub mod KnownRecords
+pub mod LeadingBits
 pub mod Weighted
 pub mod BoardSums
 pub mod WordSums

@@ -1,9 +1,11 @@
 -- The records of a board file below a rank. Source: this project's profile.
-use Rattle.std.specs.Prelude.{◌≡◌, ℕ, ◌<◌, ◌≤◌, List, length, slice_index}
+use Rattle.std.specs.Prelude.{◌≡◌, ℕ, ◌-◌, ◌/◌, ◌^◌, ◌<◌, ◌≤◌, min, List, length, slice_index}
+use Rattle.std.specs.Int.{w128, from_be_bytes}
 use Rattle.race_model.specs.Positions.{Board, IsPosition}
 use Rattle.race_model.specs.Dice.{roll_at}
 use Rattle.race_model.specs.Plays.{Legal}
 use Rattle.race_model.specs.Ranks.{rank}
+use Rattle.race_model.specs.Files.{bytes_at}
 use Rattle.race_model.specs.BoardFiles.{board_place, board_record, mean_parts, value_of_parts}
 use Rattle.race_model.specs.BoardEquations.{IsLocalOnBoard}
 
@@ -16,12 +18,18 @@ pub record Lower : Type 0 where
 abbrev pub AreLocalTo : List ℕ → ℕ → Type 0
 AreLocalTo f n = (z : Board) → IsPosition z → rank z < n → IsLocalOnBoard f z
 
+-- the leading bits of the mean that begins at a place, of its upper part
+abbrev pub leading_at : List ℕ → ℕ → ℕ
+leading_at bytes place = min (from_be_bytes w128 (bytes_at bytes place 16) / 2 ^ 87) (2 ^ 32 - 1)
+
 -- the bytes hold the records of so many ranks, which meet their equations, and begin where it is
--- said
-pub record AreRecords (bytes : List ℕ) (offsets : List ℕ) : Type 0 where
+-- said, with means of these leading bits
+pub record AreRecords (bytes offsets leading : List ℕ) : Type 0 where
   pub few : length offsets ≤ 54264
   pub long : board_place (length offsets) ≤ length bytes
   pub begin : (r : ℕ) → r < length offsets → slice_index offsets r ≡ board_place r
+  pub as_many : length leading ≡ length offsets
+  pub lead : (r : ℕ) → r < length offsets → slice_index leading r ≡ leading_at bytes (board_place r)
   pub local : AreLocalTo bytes (length offsets)
 
 -- the mean that is recorded for a rank

@@ -1,8 +1,9 @@
 //! The mean and the counts of a position, by the records that its plays lead to.
-ghost use Rattle.std.specs.Prelude.{◌≡◌, ℕ, ◌+◌, ◌*◌, ◌^◌, ◌<◌, ◌≤◌, List, slice_index};
+ghost use Rattle.std.specs.Prelude.{◌≡◌, ℕ, ◌+◌, ◌*◌, ◌/◌, ◌^◌, ◌<◌, ◌≤◌, List, slice_index};
 ghost use Rattle.race_model.specs.Positions.{IsPosition, IsFinished};
 ghost use Rattle.race_model.specs.Dice.{roll_index, weighted};
 ghost use Rattle.race_model.specs.BoardFiles.{count_at, count_place};
+ghost use Rattle.fixed_fraction.specs.Board.{part};
 ghost use Rattle.db_layout.specs.LowerRecords.{AreBelow, AreResults, board_mean};
 ghost use Rattle.db_layout.specs.BoardWords.{AreWordSums};
 
@@ -11,7 +12,7 @@ use crate::board_record::Parts;
 use crate::board_words::WORDS;
 use crate::lower_records::LowerRecords;
 use crate::record::{read_long, read_wide};
-use fixed_fraction::{BoardMean, LongCount, LongSum, PART, sum_of};
+use fixed_fraction::{BoardMean, LongCount, LongSum, PART, Summand, WEIGHTS, sum_of};
 use home_board::Position;
 
 /// One roll and the mean of what 21 plays lead to, from a position that isn't finished.
@@ -33,11 +34,11 @@ fn sum_of_means(lower: &LowerRecords<'_>, plays: &[u16; 21]) -> LongSum
     ensures { result.sum
         ≡ weighted (λ v. board_mean lower.now.bytes (slice_index plays.now (roll_index v))) }
 {
-    let mut means = [BoardMean::ZERO; 21];
+    let mut sum = BoardMean::none();
     for index in 0..21 {
-        means[index] = lower.mean_at(plays[index]);
+        sum = BoardMean::plus(sum, WEIGHTS[index], lower.mean_at(plays[index]));
     }
-    sum_of(&means)
+    sum
 }
 
 /// Of the sequences of k + 1 throws, how many end the game of 21 plays with the last one: the
@@ -76,13 +77,15 @@ pub fn count_of(lower: &LowerRecords<'_>, plays: &[u16; 21], words: &[u64; WORDS
 }
 
 /// A number in two parts, the lower one less than 36 ^ 11.
+// no sum of 128 bits, whose bytes the compiler would write one by one
 #[inline(always)]
 fn carried(upper: u64, lower: u64) -> Parts
+    requires { upper + lower / part < 2 ^ 64 }
     ensures value { result.upper * 36 ^ 11 + result.lower ≡ upper * 36 ^ 11 + lower }
     ensures lower { result.lower < 36 ^ 11 }
 {
     Parts {
-        upper: u128::from(upper) + u128::from(lower / PART),
+        upper: u128::from(upper + lower / PART),
         lower: lower % PART,
     }
 }

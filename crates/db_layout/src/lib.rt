@@ -13,13 +13,12 @@ pub use board_record::{BoardRecord, Parts};
 pub use board_words::{WORDS, word_sums};
 pub use board_writing::{put_count, put_mean, put_plays};
 pub use header::{Header, HeaderFault, parse_header};
-pub use lower_records::LowerRecords;
+pub use lower_records::{LowerRecords, leading_bits};
 pub use places::{Place, most_rolls, offset_of, record_length};
 pub use record::{
     HEADER_BYTES, RECORD_BYTES, RecordView, read_long, read_short, read_wide, read_word,
 };
 pub use stated::{BOARD_BOUND, BOARD_VERSION, COMPACT_VERSION, MAGIC, VERSION};
-pub use stored_mean::StoredMean;
 pub use stored_shares::StoredShares;
 pub use write_fault::WriteFault;
 pub use writing::{
@@ -37,7 +36,6 @@ pub mod lower_records;
 pub mod places;
 pub mod record;
 pub mod stated;
-pub mod stored_mean;
 pub mod stored_shares;
 pub mod trial;
 pub mod write_fault;

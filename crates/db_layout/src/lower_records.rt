@@ -4,24 +4,24 @@ ghost use Rattle.race_model.specs.Positions.{pips};
 ghost use Rattle.race_model.specs.Ranks.{at_rank};
 ghost use Rattle.race_model.specs.Files.{bytes_at};
 ghost use Rattle.race_model.specs.BoardFiles.{board_length, board_place, board_record};
-ghost use Rattle.race_model.specs.BoardFiles.{mean_parts, value_of_parts};
-ghost use Rattle.db_layout.specs.LowerRecords.{Lower, AreRecords, AreLocalTo, board_mean};
+ghost use Rattle.db_layout.specs.LowerRecords.{Lower, AreRecords, AreLocalTo, board_mean, leading_at};
 
 use crate::board_places::board_length;
 use crate::record::{read_long, read_wide};
-use crate::stored_mean::{StoredMean, is_less};
 use fixed_fraction::BoardMean;
 use least_plays::RankedMeans;
 use ranking::pips_of;
 use std::marker::Model;
 
-/// The records of the lowest ranks of a board file, which meet their equations, and where each
-/// begins. Nothing is copied, so each number is read anew. Where it is none any more, since another
-/// thread changes the bytes all the same, zero stands for it: no call may end the program then.
+/// The records of the lowest ranks of a board file, which meet their equations, with where each
+/// begins and the leading bits of its mean (`leading_bits`). No other number is copied, so each is
+/// read anew. Where another thread changes the bytes all the same, a number is of any kind, and the
+/// sums of such numbers are: no call ends the program then.
 #[derive(Drop)]
 pub struct LowerRecords<'a> {
     bytes: &'a [u8],
     offsets: &'a [u32],
+    leading: &'a [u32],
 }
 
 // Clauses see the bytes, and how many records they hold.
@@ -33,17 +33,22 @@ impl<'a> Model for LowerRecords<'a> {
 
     ghost view = { λ lower. record { bytes = lower.bytes.now; count = length lower.offsets.now } };
 
-    ghost invariant = { λ lower. AreRecords lower.bytes.now lower.offsets.now };
+    ghost invariant = { λ lower.
+        AreRecords lower.bytes.now lower.offsets.now lower.leading.now };
 }
 
 impl<'a> LowerRecords<'a> {
-    /// The records that begin at these offsets, by rank.
-    pub fn new(bytes: &'a [u8], offsets: &'a [u32]) -> Self
-        requires { AreRecords bytes.now offsets.now }
+    /// The records that begin at these offsets, by rank, with the leading bits of their means.
+    pub fn new(bytes: &'a [u8], offsets: &'a [u32], leading: &'a [u32]) -> Self
+        requires { AreRecords bytes.now offsets.now leading.now }
         ensures bytes { result.bytes ≡ bytes.now }
         ensures count { result.count ≡ length offsets.now }
     {
-        LowerRecords { bytes, offsets }
+        LowerRecords {
+            bytes,
+            offsets,
+            leading,
+        }
     }
 
     /// How many they are. They meet their equations.
@@ -64,6 +69,7 @@ impl<'a> LowerRecords<'a> {
         LowerRecords {
             bytes: self.bytes,
             offsets: self.offsets,
+            leading: self.leading,
         }
     }
 
@@ -99,8 +105,28 @@ impl<'a> LowerRecords<'a> {
         let offset = self.offsets[usize::from(rank)] as usize;
         let upper = read_wide(self.bytes, offset);
         let lower = read_long(self.bytes, offset + 16);
-        BoardMean::new(upper, lower).unwrap_or(BoardMean::ZERO)
+        BoardMean::of_parts(upper, lower)
     }
+
+    /// Whether the mean of a rank is less than that of another, by all their bits.
+    #[inline(never)]
+    fn is_less_by_all(&self, one: u16, other: u16) -> bool
+        requires one { one < self.now.count }
+        requires other { other < self.now.count }
+        ensures { IsTrue result
+            ↔ (board_mean self.now.bytes one < board_mean self.now.bytes other) }
+    {
+        self.mean_at(one).is_less(self.mean_at(other))
+    }
+}
+
+/// The leading bits of the mean of the record that begins at a place: of two means the one with
+/// lower ones is less. As many as fit, of a number of at most 33 rolls.
+pub fn leading_bits(bytes: &[u8], place: usize) -> u32
+    requires { place + 16 ≤ length bytes.now }
+    ensures { result ≡ leading_at bytes.now place }
+{
+    (read_wide(bytes, place) >> 87).min(u128::from(u32::MAX)) as u32
 }
 
 /// So many bytes from a place on.
@@ -113,26 +139,19 @@ fn part_of(bytes: &[u8], place: usize, count: usize) -> &[u8]
     &bytes[place..place + count]
 }
 
-/// They are what the best plays go by.
+/// They are what the best plays go by: the leading bits of two means nearly always tell.
 impl<'a> RankedMeans for LowerRecords<'a> {
-    type Mean = StoredMean<'a>;
-
     ghost mean = { λ lower. board_mean lower.bytes };
 
     ghost count = { λ lower. lower.count };
 
-    ghost number = { λ mean. value_of_parts (mean_parts mean.bytes.now) };
-
     #[inline(always)]
-    fn mean(&self, rank: u16) -> StoredMean<'a> {
-        let offset = self.offsets[usize::from(rank)] as usize;
-        StoredMean {
-            bytes: part_of(self.bytes, offset, 24),
+    fn is_less(&self, one: u16, other: u16) -> bool {
+        let here = self.leading[usize::from(one)];
+        let there = self.leading[usize::from(other)];
+        if here == there {
+            return self.is_less_by_all(one, other);
         }
-    }
-
-    #[inline(always)]
-    fn is_less(one: StoredMean<'a>, other: StoredMean<'a>) -> bool {
-        is_less(one, other)
+        here < there
     }
 }

@@ -57,6 +57,16 @@ impl BoardMean {
         }
     }
 
+    /// The number with these parts, which are known to be those of a number.
+    #[inline(always)]
+    pub fn of_parts(upper: u128, lower: u64) -> Self
+        requires lower { lower < part }
+        requires most { upper * part + lower ≤ 33 * board_whole }
+        ensures { result ≡ upper * part + lower }
+    {
+        BoardMean { upper, lower }
+    }
+
     /// The same number of rolls of a database whose numbers are over 36 ^ 22: its lower part is 0.
     #[tactic(auto, unfolding(race_model::specs::LocalEquations::whole))]
     pub fn of(mean: Scaled) -> Self

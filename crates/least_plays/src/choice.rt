@@ -13,12 +13,10 @@ pub fn better<M: RankedMeans>(one: u16, other: u16, means: &M) -> u16
     if one == other {
         return one;
     }
-    let here = means.mean(one);
-    let there = means.mean(other);
-    if M::is_less(here, there) {
+    if means.is_less(one, other) {
         return one;
     }
-    if M::is_less(there, here) || other < one {
+    if means.is_less(other, one) || other < one {
         other
     } else {
         one
@@ -26,6 +24,7 @@ pub fn better<M: RankedMeans>(one: u16, other: u16, means: &M) -> u16
 }
 
 /// The better of each two of nine ranks and nine others.
+// one after the other, since a loop would keep both lists in memory
 #[inline(always)]
 pub fn better_of_each<M: RankedMeans>(ones: &[u16; 9], others: &[u16; 9], means: &M) -> [u16; 9]
     requires ones { (j : ℕ) → j < 9 → slice_index ones.now j < M.count means.now }
@@ -35,9 +34,15 @@ pub fn better_of_each<M: RankedMeans>(ones: &[u16; 9], others: &[u16; 9], means:
         (slice_index result j) }
     ensures len { length result ≡ 9 }
 {
-    let mut best = [0; 9];
-    for place in 0..9 {
-        best[place] = better(ones[place], others[place], means);
-    }
-    best
+    [
+        better(ones[0], others[0], means),
+        better(ones[1], others[1], means),
+        better(ones[2], others[2], means),
+        better(ones[3], others[3], means),
+        better(ones[4], others[4], means),
+        better(ones[5], others[5], means),
+        better(ones[6], others[6], means),
+        better(ones[7], others[7], means),
+        better(ones[8], others[8], means),
+    ]
 }

@@ -109,7 +109,7 @@ fn check_other<M: RankedMeans>(
     if !is_result(ranks, position, Roll::from_index(index).unwrap(), recorded) {
         return Err(PlayFault::NotLegal);
     }
-    if M::is_less(means.mean(best), means.mean(recorded)) {
+    if means.is_less(best, recorded) {
         return Err(PlayFault::NotLeast);
     }
     Ok(())

@@ -14,7 +14,8 @@ use Rattle.least_plays.specs.declared.room.LeastPlays.{LeastPlays}
 use Rattle.least_plays.proofs.Knowing.{knows_agree}
 use Rattle.db_layout.proofs.BoardPlaces.{board_place-next}
 use Rattle.db_layout.proofs.SameRecords.{records-agree, mean_of-agree}
-use Rattle.db_layout.specs.LowerRecords.{AreLocalTo, board_mean}
+use Rattle.db_layout.proofs.LeadingBits.{leads-agree}
+use Rattle.db_layout.specs.LowerRecords.{AreLocalTo, board_mean, leading_at}
 use Rattle.retrograde.specs.NextBoardRecord.{AreBestPlays, IsRecordBy}
 use Rattle.retrograde.specs.BuiltBoards.{IsBuiltTo}
 use Rattle.retrograde.proofs.NextBoardRecords.{built-agree, built-next}
@@ -36,12 +37,18 @@ module _ {room : List ℕ} {n place size : ℕ} {front back : List ℕ}
       ∙ length-take-le place room (omega (arith, cut.at, cut.long, board_place-next n))
       ∙ cut.at
 
+  front-same : take place room ≡ take place front
+  front-same =
+      sym cut.front_is ∙ sym (take_all place front (omega (arith, length-front, cut.at)))
+
   -- it holds the records of all lower ranks
   pub front-records : (r : ℕ) → r < n → board_record room r ≡ board_record front r
-  front-records =
-      records-agree room front place n
-      (sym cut.front_is ∙ sym (take_all place front (omega (arith, length-front, cut.at))))
-      (omega (arith, cut.at))
+  front-records = records-agree room front place n front-same (omega (arith, cut.at))
+
+  -- .. with the leading bits of their means
+  pub front-leads : (r : ℕ) → r < n →
+      leading_at room (board_place r) ≡ leading_at front (board_place r)
+  front-leads = leads-agree room front place n front-same (omega (arith, cut.at))
 
   pub front-built : IsBuiltTo room n → IsBuiltTo front n
   front-built = built-agree room front n front-records

@@ -5,13 +5,13 @@ ghost use Rattle.race_model.specs.Ranks.{at_rank};
 ghost use Rattle.race_model.specs.Files.{IsBytes};
 ghost use Rattle.race_model.specs.BoardFiles.{board_length, board_place};
 ghost use Rattle.least_plays.specs.Known.{HasRows, Knows};
-ghost use Rattle.db_layout.specs.LowerRecords.{AreRecords, board_mean};
+ghost use Rattle.db_layout.specs.LowerRecords.{AreRecords, board_mean, leading_at};
 ghost use Rattle.retrograde.specs.NextBoardRecord.{AreBestPlays, IsRecordBy};
 ghost use Rattle.retrograde.specs.BuiltBoards.{IsBuiltTo, IsBuiltBoard, IsBoardRefusedBy};
 
 use crate::board_build_fault::BoardBuildFault;
 use crate::board_record::put_record;
-use db_layout::{BoardHeader, BoardPlace, HEADER_BYTES, LowerRecords};
+use db_layout::{BoardHeader, BoardPlace, HEADER_BYTES, LowerRecords, leading_bits};
 use least_plays::{LeastPlays, ROWS_TO_8, ROWS_TO_90};
 use ranking::Ranks;
 
@@ -22,7 +22,7 @@ const POSITIONS: usize = 54264;
 /// for each position of at most so many pips the least mean number of rolls, for each roll the
 /// lowest rank of the results that reach it, and for each number of throws how many sequences of
 /// so many end the game with the last one. No other bytes are the built file of that bound
-/// (`law_built_boards`). It takes no memory but the stack, of which it needs some 0.7 MB.
+/// (`law_built_boards`). It takes no memory but the stack, of which it needs some 0.9 MB.
 /// `OverBound` where the bound is over 90, and else `Room` where the room is smaller than the
 /// file; then the room is as it was. (What is counted is that of a one-sided database of the GNU
 /// Backgammon manual; the exact numbers, the file and the tie rule are this project's profile.)
@@ -50,7 +50,7 @@ pub fn build_board(bound: u8, room: &mut [u8]) -> Result<usize, BoardBuildFault>
 }
 
 /// Builds the file with this header in a room that is no smaller, with so many rows for the best
-/// plays and so many offsets of records.
+/// plays, and so many offsets of records and leading bits of their means.
 // so that no more rows are on the stack than are needed
 #[inline(never)]
 fn build_with_rows<const ROWS: usize, const COUNT: usize>(header: &BoardHeader, room: &mut [u8])
@@ -69,16 +69,20 @@ fn build_with_rows<const ROWS: usize, const COUNT: usize>(header: &BoardHeader, 
     let ranks = Ranks::new();
     let mut least: LeastPlays<ROWS> = LeastPlays::new();
     let mut offsets = [0; COUNT];
+    let mut leading = [0; COUNT];
     for rank in 0..header.count {
         let place = header.find(rank);
+        let count = usize::from(rank);
         add_record(
             &ranks,
             &mut least,
-            &offsets[..usize::from(rank)],
+            &offsets[..count],
+            &leading[..count],
             &place,
             room,
         );
-        offsets[usize::from(rank)] = place.offset as u32;
+        offsets[count] = place.offset as u32;
+        leading[count] = leading_bits(room, place.offset);
     }
 }
 
@@ -87,6 +91,7 @@ fn add_record<const ROWS: usize>(
     ranks: &Ranks,
     least: &mut LeastPlays<ROWS>,
     offsets: &[u32],
+    leading: &[u32],
     place: &BoardPlace,
     room: &mut [u8],
 )
@@ -94,6 +99,9 @@ fn add_record<const ROWS: usize>(
     requires few { length offsets.now < 54264 }
     requires begin { (r : ℕ) → r < length offsets.now →
         slice_index offsets.now r ≡ board_place r }
+    requires as_many { length leading.now ≡ length offsets.now }
+    requires lead { (r : ℕ) → r < length offsets.now →
+        slice_index leading.now r ≡ leading_at room.old (board_place r) }
     requires offset { place.now.offset ≡ board_place (length offsets.now) }
     requires length { place.now.length ≡ board_length (pips (at_rank (length offsets.now))) }
     requires long { board_place (length offsets.now + 1) ≤ length room.old }
@@ -108,7 +116,14 @@ fn add_record<const ROWS: usize>(
     ensures known { Knows (board_mean room.new) least.new (length offsets.now + 1) }
 {
     let (written, rest) = room.split_at_mut(place.offset);
-    put_next(ranks, least, offsets, written, &mut rest[..place.length]);
+    put_next(
+        ranks,
+        least,
+        offsets,
+        leading,
+        written,
+        &mut rest[..place.length],
+    );
 }
 
 /// Writes the bytes of the record of the next rank, where others hold those of all lower ranks, and
@@ -117,12 +132,13 @@ fn put_next<const ROWS: usize>(
     ranks: &Ranks,
     least: &mut LeastPlays<ROWS>,
     offsets: &[u32],
+    leading: &[u32],
     written: &[u8],
     bytes: &mut [u8],
 ) -> [u16; 21]
     requires rows { HasRows ROWS (length offsets.now) }
     requires few { length offsets.now < 54264 }
-    requires lower { AreRecords written.now offsets.now }
+    requires lower { AreRecords written.now offsets.now leading.now }
     requires long { length bytes.old ≡ board_length (pips (at_rank (length offsets.now))) }
     requires known { Knows (board_mean written.now) least.old (length offsets.now) }
     ensures known { Knows (board_mean written.now) least.new (length offsets.now + 1) }
@@ -131,7 +147,7 @@ fn put_next<const ROWS: usize>(
     ensures says { IsRecordBy written.now (at_rank (length offsets.now)) result bytes.new }
 {
     let position = ranks.unrank(offsets.len() as u16).unwrap();
-    let lower = LowerRecords::new(written, offsets);
+    let lower = LowerRecords::new(written, offsets, leading);
     let plays = least.advance(ranks, &position, &lower);
     put_record(bytes, &lower, &position, &plays);
     plays

@@ -37,20 +37,12 @@ pub(crate) struct MeansOf<'a, L> {
 }
 
 impl<'a, L: LowerRecords> least_plays::RankedMeans for MeansOf<'a, L> {
-    type Mean = u128;
-
     ghost mean = { λ means. slice_index (L.means means.records.now) };
 
     ghost count = { λ means. length (L.means means.records.now) };
 
-    ghost number = { λ mean. mean };
-
-    fn mean(&self, rank: u16) -> u128 {
-        self.records.mean(rank).numerator()
-    }
-
     #[inline(always)]
-    fn is_less(one: u128, other: u128) -> bool {
-        one < other
+    fn is_less(&self, one: u16, other: u16) -> bool {
+        self.records.mean(one).numerator() < self.records.mean(other).numerator()
     }
 }

@@ -82,20 +82,12 @@ impl Means {
 
 /// The means that were added: they are what the best plays go by.
 impl least_plays::RankedMeans for Means {
-    type Mean = u128;
-
     ghost mean = { λ means. slice_index means };
 
     ghost count = { λ means. length means };
 
-    ghost number = { λ mean. mean };
-
-    fn mean(&self, rank: u16) -> u128 {
-        self.at(rank).numerator()
-    }
-
     #[inline(always)]
-    fn is_less(one: u128, other: u128) -> bool {
-        one < other
+    fn is_less(&self, one: u16, other: u16) -> bool {
+        self.at(one).numerator() < self.at(other).numerator()
     }
 }

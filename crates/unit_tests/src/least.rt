@@ -12,21 +12,12 @@ struct Table {
 }
 
 impl RankedMeans for Table {
-    type Mean = u16;
-
     ghost mean = { λ table. slice_index table.means };
 
     ghost count = { λ table. 64 };
 
-    ghost number = { λ mean. mean };
-
-    fn mean(&self, rank: u16) -> u16 {
-        self.means[usize::from(rank)]
-    }
-
-    #[inline(always)]
-    fn is_less(one: u16, other: u16) -> bool {
-        one < other
+    fn is_less(&self, one: u16, other: u16) -> bool {
+        self.means[usize::from(one)] < self.means[usize::from(other)]
     }
 }
 

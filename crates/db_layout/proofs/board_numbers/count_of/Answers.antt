@@ -1,12 +1,15 @@
 -- The sum of the counts of one throw fewer has room.
-use Rattle.std.proofs.Common.{◌≡◌, ℕ, suc, ◌+◌, ◌-◌, ◌*◌, ◌^◌, ◌<◌, ◌≤◌, ap, arith, ◌∙◌}
+use Rattle.std.proofs.Common.{◌≡◌, ℕ, suc, ◌+◌, ◌-◌, ◌*◌, ◌^◌, ◌<◌, ◌≤◌, ap, sym, subst, arith, ◌∙◌}
 use Rattle.std.proofs.Math.Nat.{pow-le-pow_right}
 use Rattle.std.specs.Prelude.{slice_index}
 use Rattle.race_model.specs.Dice.{roll_index, weighted}
 use Rattle.race_model.specs.BoardFiles.{count_at}
 use Rattle.db_layout.proofs.KnownRecords.{of_some}
 use Rattle.db_layout.proofs.BoardSums.{counts-most}
-use Rattle.db_layout.proofs.WordSums.{sums-middle, sums-short}
+use Rattle.race_model.proofs.Dice.RollSums.{roll_index-range}
+use Rattle.race_model.proofs.Books.Bounded.{weighted-at_most}
+use Rattle.db_layout.specs.BoardWords.{word_at}
+use Rattle.db_layout.proofs.WordSums.{sums-middle, sums-short, word-small}
 use Rattle.db_layout.proofs.board_numbers.count_of.Goals.{After-from-word}
 use Rattle.db_layout.proofs.board_numbers.count_of.Goals as goal
 
@@ -53,6 +56,28 @@ module _ (c : After-from-word) where
       ∙ c.requires.words (2 * c.args.k - 12) (omega (arith, few)))
       (ap (λ n. slice_index c.args.words.now (2 * n - 11)) c.from-word.ensures
       ∙ c.requires.words (2 * c.args.k - 11) (omega (arith, few)))
+
+  -- the sum of a word has room for what is carried to it
+  room : (i : ℕ) → i < 34 → slice_index c.args.words.now i ≤ 36 * 36 ^ 11
+  room i lt =
+      let known = c.count-count.ensures in
+      let f = c.args.lower.now.bytes in
+      let plays = slice_index c.args.plays.now in
+      subst (λ n. n ≤ 36 * 36 ^ 11) (sym (c.requires.words i lt))
+      (weighted-at_most (λ v. word_at f (plays (roll_index v)) i) (36 ^ 11) (λ v.
+      word-small f c.args.lower.now.count known.few known.local (plays (roll_index v))
+      (c.requires.below (roll_index v) (roll_index-range v)) i lt))
+
+pub carried-requires-then-k-le22 : goal.carried-requires-then-k-le22
+carried-requires-then-k-le22 c =
+    let here = (goal.at.carried-requires-then-k-le22 c).After-from-word in
+    let word : c.from-word.result ≡ c.args.k = c.from-word.ensures in
+    let few : c.args.k ≤ 22 = c.if-k-le22.true in
+    omega (
+      arith,
+      room here (2 * c.from-word.result - 12) (omega (arith, word, few)),
+      room here (2 * c.from-word.result - 11) (omega (arith, word, few)),
+    )
 
 pub returns-then-k-lt11-clause-value : goal.returns-then-k-lt11-clause-value
 returns-then-k-lt11-clause-value c =

@@ -1,7 +1,7 @@
 -- What a header states that is read is what a database of its version and its bound states.
-use Rattle.std.proofs.Common.{◌≡◌, ◌≤◌, ap, sym, subst, ◌∙◌}
-use Rattle.race_model.specs.Versions.{version_by, greatest_bound}
-use Rattle.race_model.specs.Files.{version_of, bound_of}
+use Rattle.std.proofs.Common.{ap, sym, subst, ◌∙◌}
+use Rattle.race_model.specs.Versions.{version_by}
+use Rattle.race_model.specs.Files.{version_of}
 use Rattle.race_model.specs.Headers.{version, bound}
 use Rattle.db_layout.specs.Records.{IsVersion}
 use Rattle.db_layout.proofs.header.parse_header.Goals as goal

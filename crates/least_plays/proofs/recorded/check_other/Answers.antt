@@ -41,11 +41,11 @@ module _ (g : Over) (c : Else-not-is_result g) where
       c.args.recorded c.args.best recorded-is best-is c.requires.apart in
       omega (arith, low, c.requires.next)
 
-pub mean-requires : goal.mean-requires
-mean-requires g c = best-below g c
+pub is_less-requires-clause-one : goal.is_less-requires-clause-one
+is_less-requires-clause-one g c = best-below g c
 
-pub mean-requires-2 : goal.mean-requires-2
-mean-requires-2 g c = recorded-below g (goal.at.mean-requires-2 g c).Else-not-is_result
+pub is_less-requires-clause-other : goal.is_less-requires-clause-other
+is_less-requires-clause-other g c = recorded-below g c
 
 pub returns-then-is_less-clause-fault : goal.returns-then-is_less-clause-fault
 returns-then-is_less-clause-fault g c =
@@ -54,7 +54,7 @@ returns-then-is_less-clause-fault g c =
       recorded-is g here,
       not_least c.args.position.now c.requires.position (roll_at c.args.index)
           (g.M.RankedMeans.mean c.args.means.now) c.args.best c.requires.best c.args.recorded
-          (omega (arith, less, c.mean.ensures, c.mean-2.ensures)),
+          less,
     )
 
 pub returns-clause-least : goal.returns-clause-least
@@ -64,8 +64,7 @@ returns-clause-least g c =
     (g.M.RankedMeans.mean c.args.means.now) c.args.best c.requires.best c.args.recorded
     (recorded-is g here)
     (⊎_elim
-    (λ less. absurd (false≢true (sym c.if-is_less.false ∙ c.is_less.ensures.1
-    (omega (arith, less, c.mean.ensures, c.mean-2.ensures)))))
+    (λ less. absurd (false≢true (sym c.if-is_less.false ∙ c.is_less.ensures.1 less)))
     (λ within. within)
     (cases_lt (g.M.RankedMeans.mean c.args.means.now c.args.best)
     (g.M.RankedMeans.mean c.args.means.now c.args.recorded)))

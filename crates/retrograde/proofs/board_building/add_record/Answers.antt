@@ -2,7 +2,7 @@
 use Rattle.std.proofs.Common.{length, sym, ◌∙◌, arith, rules}
 use Rattle.db_layout.proofs.BoardPlaces.{board_place-next}
 use Rattle.db_layout.specs.LowerRecords.{AreRecords}
-use Rattle.retrograde.proofs.BoardParts.{IsCut, length-front, front-built, front-knows, back-long}
+use Rattle.retrograde.proofs.BoardParts.{IsCut, length-front, front-built, front-leads, front-knows, back-long}
 use Rattle.retrograde.proofs.BoardParts.{length-part, rest-same, new-knows, new-built}
 use Rattle.retrograde.proofs.board_building.add_record.Given.{Over}
 use Rattle.retrograde.proofs.board_building.add_record.Goals.{After-split_at_mut-written}
@@ -35,11 +35,14 @@ slice_bounds-put_next-end-2 g c = sym (length-part
 pub put_next-requires : goal.put_next-requires
 put_next-requires g c =
     let is = cut g (goal.at.put_next-requires g c).After-split_at_mut-written in
-    let records : AreRecords c.split_at_mut-written.result.0.now c.args.offsets.now =
+    let records : AreRecords c.split_at_mut-written.result.0.now c.args.offsets.now
+    c.args.leading.now =
     record {
       few = omega (arith, c.requires.few);
       long = omega (arith, length-front is);
       begin = c.requires.begin;
+      as_many = c.requires.as_many;
+      lead = λ r lt. c.requires.lead r lt ∙ front-leads is r lt;
       local = (front-built is c.requires.built).local;
     } in (
       search rules,

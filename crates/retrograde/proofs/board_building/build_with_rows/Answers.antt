@@ -1,18 +1,17 @@
 use Rattle.std.proofs.Common.{◌≡◌, ⊎_elim, inl, inr, ◌+◌, ◌<◌, ◌≤◌, length, take, drop, ◌++◌, ap}
-use Rattle.std.proofs.Common.{subst, ◌∙◌, arith, rules, w32}
-use Rattle.std.specs.Prelude.{slice_index, slice_set}
-use Rattle.std.proofs.Common.{get_or-set_other, get_or-set_same}
+use Rattle.std.proofs.Common.{sym, subst, ◌∙◌, arith, rules, w32}
 use Rattle.std.proofs.Math.Facts.{Fits-of_lt}
-use Rattle.std.proofs.lemmas.Bool.{cases_lt}
 use Rattle.std.proofs.lemmas.List.{length-take, length-drop, length-append, length-set}
 use Rattle.std.proofs.lemmas.List.{length-replicate, take_at, get_or-take}
 use Rattle.std.proofs.lemmas.Slice.{drop-append-drop}
 use Rattle.race_model.specs.BoardFiles.{board_place}
+use Rattle.race_model.proofs.Numbers.Members.{set_next}
 use Rattle.race_model.proofs.Ranks.PositionTotals.{count_to-most}
 use Rattle.least_plays.specs.Known.{HasRows}
 use Rattle.db_layout.proofs.BoardPlaces.{board_place-most, board_place-next, board_place-rises}
 use Rattle.db_layout.proofs.ByteParts.{front-agree}
-use Rattle.db_layout.specs.LowerRecords.{board_mean}
+use Rattle.db_layout.proofs.LeadingBits.{leads-agree}
+use Rattle.db_layout.specs.LowerRecords.{board_mean, leading_at}
 use Rattle.retrograde.specs.BuiltBoards.{IsBuiltTo}
 use Rattle.retrograde.proofs.BoardFiles.{header_before, end-agree, built_in_room}
 use Rattle.retrograde.proofs.board_building.build_with_rows.Goals as goal
@@ -58,7 +57,9 @@ loop-rank-init g c =
           );
       many = length-replicate g.row.COUNT 0;
       headed = take_at header (drop 32 room) 32 long ∙ is;
+      as_many = length-replicate g.row.COUNT 0;
       begin = λ r under. absurd (omega arith);
+      lead = λ r under. absurd (omega arith);
       built = record {
         local = λ z at under. absurd (omega arith);
         plays = λ z at under. absurd (omega arith);
@@ -71,22 +72,31 @@ loop-rank-init g c =
 
 pub shared_whole_as_front-add_record : goal.shared_whole_as_front-add_record
 shared_whole_as_front-add_record g c =
-    let few : c.from.result ≤ g.row.COUNT =
-    omega (arith, c.from.ensures, c.loop-rank-test.true, c.requires.offsets) in
+    let few : c.from-count.result ≤ g.row.COUNT =
+    omega (arith, c.from-count.ensures, c.loop-rank-test.true, c.requires.offsets) in
     (few, omega (arith, c.requires.positions))
 
 pub add_record-requires : goal.add_record-requires
 add_record-requires g c =
     let n = c.loop-rank.rank in
     let under : n < c.args.header.now.count = c.loop-rank-test.true in
-    let made : length (take c.from.result c.loop-rank.offsets) ≡ n =
+    let made : length (take c.from-count.result c.loop-rank.offsets) ≡ n =
     omega (
       arith,
-      c.from.ensures,
+      c.from-count.ensures,
       under,
       c.requires.offsets,
       c.loop-rank.invariant.many,
-      length-take c.from.result c.loop-rank.offsets,
+      length-take c.from-count.result c.loop-rank.offsets,
+    ) in
+    let alike : length (take c.from-count.result c.loop-rank.leading) ≡ n =
+    omega (
+      arith,
+      c.from-count.ensures,
+      under,
+      c.requires.offsets,
+      c.loop-rank.invariant.as_many,
+      length-take c.from-count.result c.loop-rank.leading,
     ) in
     let few : n < 54264 =
     omega (arith, under, c.args.header.now.counted, count_to-most c.args.header.now.bound) in
@@ -101,23 +111,32 @@ add_record-requires g c =
           rw made few,
           (
             (λ r less.
-                get_or-take c.from.result c.loop-rank.offsets r 0
-                (omega (arith, less, made, c.from.ensures))
+                get_or-take c.from-count.result c.loop-rank.offsets r 0
+                (omega (arith, less, made, c.from-count.ensures))
                 ∙ c.loop-rank.invariant.begin r (omega (arith, less, made))),
             (
-              rw made c.find-place.ensures.offset,
+              omega (arith, made, alike),
               (
-                rw made c.find-place.ensures.length,
+                (λ r less.
+                    get_or-take c.from-count.result c.loop-rank.leading r 0
+                    (omega (arith, less, made, c.from-count.ensures))
+                    ∙ c.loop-rank.invariant.lead r (omega (arith, less, made))),
                 (
-                  rw made
-                      (omega (
-                        arith,
-                        c.requires.room,
-                        c.loop-rank.invariant.len,
-                        board_place-next n,
-                        board_place-rises n c.args.header.now.count under,
-                      )),
-                  (rw made c.loop-rank.invariant.built, rw made c.loop-rank.invariant.known),
+                  rw made c.find-place.ensures.offset,
+                  (
+                    rw made c.find-place.ensures.length,
+                    (
+                      rw made
+                          (omega (
+                            arith,
+                            c.requires.room,
+                            c.loop-rank.invariant.len,
+                            board_place-next n,
+                            board_place-rises n c.args.header.now.count under,
+                          )),
+                      (rw made c.loop-rank.invariant.built, rw made c.loop-rank.invariant.known),
+                    ),
+                  ),
                 ),
               ),
             ),
@@ -144,47 +163,42 @@ loop-rank-preserved g c =
     let old = c.loop-rank.room in
     let new = c.add_record.new.room in
     let offsets = c.loop-rank.offsets in
+    let leading = c.loop-rank.leading in
     let under : n < c.args.header.now.count = c.loop-rank-test.true in
-    let made : length (take c.from.result offsets) ≡ n =
+    let made : length (take c.from-count.result offsets) ≡ n =
     omega (
       arith,
-      c.from.ensures,
+      c.from-count.ensures,
       under,
       c.requires.offsets,
       c.loop-rank.invariant.many,
-      length-take c.from.result offsets,
+      length-take c.from-count.result offsets,
     ) in
     record {
       len = c.add_record.ensures.len ∙ c.loop-rank.invariant.len;
       many =
-          length-set offsets c.from-in-loop-rank.result c.find-place.result.offset
+          length-set offsets c.from-count.result c.find-place.result.offset
           ∙ c.loop-rank.invariant.many;
       headed =
           front-agree new old 32 (board_place n) (header_before n)
           (rw made at c.add_record.ensures.before)
           ∙ c.loop-rank.invariant.headed;
-      begin = λ r less. ⊎_elim
-          (λ earlier.
-          get_or-set_other offsets c.from-in-loop-rank.result r c.find-place.result.offset 0
-          (λ same. omega (arith, c.from-in-loop-rank.ensures))
-          ∙ c.loop-rank.invariant.begin r earlier)
-          (λ here.
-          let e : r ≡ c.from-in-loop-rank.result = omega (arith, c.from-in-loop-rank.ensures) in
-          let inside : c.from-in-loop-rank.result < length offsets =
-          omega (
-            arith,
-            c.from-in-loop-rank.ensures,
-            under,
-            c.requires.offsets,
-            c.loop-rank.invariant.many,
-          ) in
-          ap
-          (slice_index
-          (slice_set offsets c.from-in-loop-rank.result c.find-place.result.offset)) e
-          ∙ get_or-set_same offsets c.from-in-loop-rank.result c.find-place.result.offset 0 inside
-          ∙ c.find-place.ensures.offset
-          ∙ ap board_place (omega (arith, c.from-in-loop-rank.ensures, e)))
-          (cases_lt r n);
+      as_many =
+          length-set leading c.from-count.result c.leading_bits.result
+          ∙ c.loop-rank.invariant.as_many;
+      begin =
+          set_next (λ r offset. offset ≡ board_place r) offsets n c.from-count.result
+          c.find-place.result.offset 0 c.from-count.ensures
+          (omega (arith, under, c.requires.offsets, c.loop-rank.invariant.many))
+          c.loop-rank.invariant.begin c.find-place.ensures.offset;
+      lead =
+          set_next (λ r bits. bits ≡ leading_at new (board_place r)) leading n
+          c.from-count.result c.leading_bits.result 0 c.from-count.ensures
+          (omega (arith, under, c.requires.offsets, c.loop-rank.invariant.as_many))
+          (λ r less. c.loop-rank.invariant.lead r less
+          ∙ leads-agree old new (board_place n) n (sym (rw made at c.add_record.ensures.before))
+          (omega arith) r less)
+          (c.leading_bits.ensures ∙ ap (leading_at new) c.find-place.ensures.offset);
       built = rw made at c.add_record.ensures.built;
       known = rw made at c.add_record.ensures.known;
       rest =

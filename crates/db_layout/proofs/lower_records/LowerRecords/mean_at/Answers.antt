@@ -1,12 +1,11 @@
 -- The mean stands at the front of the record.
 use Rattle.std.proofs.Common.{◌≡◌, ◌+◌, ◌*◌, ◌^◌, ◌<◌, ◌≤◌, length, slice_index, ap, ◌∙◌, arith}
-use Rattle.std.specs.Prelude.{IsSome}
 use Rattle.race_model.specs.Positions.{pips}
 use Rattle.race_model.specs.Ranks.{at_rank}
 use Rattle.race_model.specs.BoardFiles.{board_length, board_place, board_record, mean_parts}
 use Rattle.db_layout.specs.LowerRecords.{Lower, board_mean}
-use Rattle.db_layout.proofs.KnownRecords.{mean-written, mean-most, mean-upper, mean-lower, record-inside, of_some}
-use Rattle.db_layout.proofs.lower_records.LowerRecords.mean_at.Goals.{After-self, After-unwrap_or}
+use Rattle.db_layout.proofs.KnownRecords.{mean-written, mean-most, mean-upper, mean-lower, record-inside}
+use Rattle.db_layout.proofs.lower_records.LowerRecords.mean_at.Goals.{After-self, After-read_long-lower}
 use Rattle.db_layout.proofs.lower_records.LowerRecords.mean_at.Goals as goal
 
 -- where the record of the rank stands
@@ -22,8 +21,8 @@ module _ (c : After-self) where
   inside : board_place c.args.rank + board_length (pips (at_rank c.args.rank))
       ≤ length c.self.inside.bytes.now
   inside =
-      record-inside c.self.inside.bytes.now c.self.inside.offsets.now c.self.invariant c.args.rank
-      below
+      record-inside c.self.inside.bytes.now c.self.inside.offsets.now c.self.inside.leading.now
+      c.self.invariant c.args.rank below
 
   long : 66 ≤ board_length (pips (at_rank c.args.rank))
   long = omega arith
@@ -39,9 +38,9 @@ read_long-lower-requires c =
     omega (arith, begins here, inside here, long here)
 
 -- what was read is the mean of the record
-module _ (c : After-unwrap_or) where
+module _ (c : After-read_long-lower) where
   abbrev here : After-self
-  here = (goal.at.returns c).After-self
+  here = (goal.at.of_parts-requires-clause-lower c).After-self
 
   upper_is : c.read_wide-upper.result
       ≡ (mean_parts (board_record c.self.inside.bytes.now c.args.rank)).upper
@@ -57,20 +56,35 @@ module _ (c : After-unwrap_or) where
       ∙ mean-lower c.self.inside.bytes.now (slice_index c.self.inside.offsets.now c.from.result)
       c.args.rank (begins here)
 
-  is_mean : IsSome c.new.result
-  is_mean =
+  written : c.read_long-lower.result < 36 ^ 11
+  written =
       let known = c.self.invariant in
-      let written = mean-written c.self.inside.bytes.now (length c.self.inside.offsets.now)
-      known.few known.local c.args.rank (below here) in
-      let most = mean-most c.self.inside.bytes.now (length c.self.inside.offsets.now)
-      known.few known.local c.args.rank (below here) in
-      c.new.ensures.some.1
-      (omega (arith, written, lower_is), omega (arith, most, lower_is, upper_is))
+      omega (
+        arith,
+        lower_is,
+        mean-written c.self.inside.bytes.now (length c.self.inside.offsets.now) known.few
+            known.local c.args.rank (below here),
+      )
+
+  small : c.read_wide-upper.result * 36 ^ 11 + c.read_long-lower.result ≤ 33 * 36 ^ 33
+  small =
+      let known = c.self.invariant in
+      omega (
+        arith,
+        upper_is,
+        lower_is,
+        mean-most c.self.inside.bytes.now (length c.self.inside.offsets.now) known.few known.local
+            c.args.rank (below here),
+      )
+
+pub of_parts-requires-clause-lower : goal.of_parts-requires-clause-lower
+of_parts-requires-clause-lower c = written c
+
+pub of_parts-requires-clause-most : goal.of_parts-requires-clause-most
+of_parts-requires-clause-most c = small c
 
 pub returns : goal.returns
 returns c =
-    c.unwrap_or.ensures
-    ∙ of_some (λ mean. mean ≡ c.read_wide-upper.result * 36 ^ 11 + c.read_long-lower.result)
-    c.new.result 0 (is_mean c) c.new.ensures.value
-    ∙ omega (arith, upper_is c, lower_is c)
+    let here = (goal.at.returns c).After-read_long-lower in
+    omega (arith, c.of_parts.ensures, upper_is here, lower_is here)
     ∙ ap (λ (l : Lower). board_mean l.bytes c.args.rank) c.self.view_is

@@ -36,8 +36,8 @@ part_of-requires c =
       arith,
       begins here,
       length_is here,
-      record-inside c.self.inside.bytes.now c.self.inside.offsets.now c.self.invariant
-          c.args.rank (below here),
+      record-inside c.self.inside.bytes.now c.self.inside.offsets.now c.self.inside.leading.now
+          c.self.invariant c.args.rank (below here),
     )
 
 pub returns-clause-bytes : goal.returns-clause-bytes
