@@ -45,8 +45,16 @@ def room(room):
             yield Path(folder)
 
 
+@pytest.fixture
+def shared_program(program):
+    """The program where any user can start it: a checkout may stand in a folder of one's own."""
+    with tempfile.TemporaryDirectory(prefix="bearoff-test-") as folder:
+        os.chmod(folder, 0o755)
+        yield shutil.copy(program, folder)
+
+
 @pytest.fixture(params=WRITERS)
-def writer(request, program, built):
+def writer(request, shared_program, built):
     """A command that writes a file, in a folder of one's own."""
     if request.param == "build --board":
         content = request.getfixturevalue("whole")
@@ -54,7 +62,7 @@ def writer(request, program, built):
         content = built(8, is_new=request.param == "upgrade eight")
     # what is built stands elsewhere, maybe on another device
     shutil.copy(built(8), request.getfixturevalue("room") / "eight")
-    return Writer(request.param, program, content)
+    return Writer(request.param, shared_program, content)
 
 
 class Writer:
