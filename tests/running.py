@@ -5,6 +5,7 @@ import os
 import re
 import shlex
 import subprocess
+import time
 from pathlib import Path
 
 import pytest
@@ -40,6 +41,13 @@ def run(*words, input=b"", cwd=None, timeout=120, **more):
     except subprocess.TimeoutExpired as late:
         pytest.fail(f"ran:    {line_of(words)}\ncame:   no end within {late.timeout} s")
     return Done(words, str(cwd or os.getcwd()), given, done.returncode, done.stdout, done.stderr)
+
+
+def wait_until(holds):
+    """Waits until something holds, and a minute at most: a test then says what it misses."""
+    until = time.monotonic() + 60 * SLOWER
+    while not holds() and time.monotonic() < until:
+        time.sleep(0.01)
 
 
 def shown(data, most=1500):

@@ -20,12 +20,11 @@ import signal
 import stat
 import subprocess
 import tempfile
-import time
 from pathlib import Path
 
 import pytest
 
-from running import expect, run
+from running import expect, run, wait_until
 
 # these wait for one another's times, and use all processors by themselves
 pytestmark = pytest.mark.xdist_group("alone")
@@ -206,12 +205,13 @@ class Crashes:
             stdout=subprocess.PIPE,
             stderr=subprocess.PIPE,
         )
-        until = time.monotonic() + 20
-        while child.poll() is None and time.monotonic() < until:
+
+        def has_come():
             with contextlib.suppress(OSError):
-                if sum(call == name for call, _, _ in calls_of(trace)) >= number:
-                    break
-            time.sleep(0.01)
+                return sum(call == name for call, _, _ in calls_of(trace)) >= number
+            return False
+
+        wait_until(lambda: child.poll() is not None or has_come())
         return child
 
     def linked(self, path, name):
@@ -581,14 +581,12 @@ class TestKinds:
         put("theirs/kept", b"secret\n", 0o600)
         for name in ("theirs", "theirs/db"):
             os.chown(name, *NOBODY)
-        inject = f"inject=chown,lchown,fchown,fchownat:delay_enter={HELD_UP}"
+        inject = f"inject=chown,lchown,fchown,fchownat:delay_enter={4 * HELD_UP}"
         command = ["strace", "-f", "-qq", "-o", "trace", "-e", inject, crashes.program, *words]
         with subprocess.Popen(
             [*command, "theirs/db"], stdin=subprocess.DEVNULL, stdout=subprocess.DEVNULL
         ) as child:
-            until = time.monotonic() + 20
-            while not leftovers("theirs") and time.monotonic() < until:
-                time.sleep(0.001)
+            wait_until(lambda: leftovers("theirs"))
             os.link("theirs/kept", "theirs/name")
             os.rename("theirs/name", os.path.join("theirs", leftovers("theirs")[0]))
             child.wait(60)

@@ -579,6 +579,13 @@ PLANTED = [
         "rows TestAbout::test_faults",
     ),
     (
+        "about_reads_another_file",
+        ACT,
+        "    let file = match read_file(disk, alloc, path) {",
+        '    let file = match read_file(disk, alloc, "eight") {',
+        "rows TestAbout::test_refusals",
+    ),
+    (
         "a_help_that_is_asked_for_is_told_as_wrong_words",
         ACT,
         "        Err(error) => refused(write_help(&error, output)),",

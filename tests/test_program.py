@@ -12,7 +12,6 @@ import shutil
 import subprocess
 import sys
 import termios
-import time
 from collections import Counter
 from pathlib import Path
 
@@ -30,6 +29,7 @@ from running import (
     explained,
     run,
     succeed,
+    wait_until,
 )
 
 THREE = "mean 0,0,0,0,0,1\ndist 5,0,0,0,0,0\nplay 0,0,0,2,0,0 21\n"
@@ -479,9 +479,9 @@ class TestClosedStreams:
                 stderr=subprocess.DEVNULL,
                 preexec_fn=close,
             )
-            opened, until = {}, time.monotonic() + 20
-            while str(room / "pipe") not in opened.values() and time.monotonic() < until:
-                opened = opened_by(child.pid)
+            wait_until(lambda: str(room / "pipe") in opened_by(child.pid).values())
+            # a list that was made while files were opened may leave some out
+            opened = opened_by(child.pid)
         child.wait(60)
         assert {stream: opened.get(stream) for stream in closed} == {it: "/" for it in closed}
 
@@ -1129,6 +1129,7 @@ class TestAbout:
         [
             (0, b"F", "bad-magic"),
             (8, b"\0\4", "bad-version"),
+            (8, b"\3\0", "bad-version"),
             (10, b"\xff\xff", "bad-bound"),
             (12, b"\xff", "bad-count"),
             (16, b"\xff", "bad-record-bytes"),
