@@ -1,6 +1,6 @@
-// What a page says to a reader who hears it, and whether it can be seen: roles and names in Chromium's own
-// accessibility
-// tree, labels that have what is seen, one stop of Tab for a group, and contrasts of what is drawn.
+// What a page says to a reader who hears it, and whether it can be seen: roles and names in
+// Chromium's own accessibility tree, labels that have what is seen, one stop of Tab for a group,
+// and contrasts of what is drawn.
 
 // The roles of what one acts on, each of which needs a name.
 const ACTED_ON = new Set(["button", "checkbox", "textbox", "spinbutton", "link", "toolbar", "progressbar",
@@ -118,9 +118,8 @@ const look = (isStart) => `(() => {
     return { faults, compared, seen };
 })()`;
 
-// The faults of an open page, in words, and how much was compared. At its start a roll of it is chosen, and positions
-// are
-// kept.
+// The faults of an open page, in words, and how much was compared. At its start a roll of it is
+// chosen, and positions are kept.
 export async function audit(page, isStart = true) {
     const { faults, compared, seen } = await page.value(look(isStart));
     await page.send("DOM.enable");

@@ -126,9 +126,8 @@ async function compare(page, name, position) {
     equal(`${name}, said`, shown.said.includes(`effective pip count ${rounded}`), true);
 }
 
-// Every roll's best play is the recorded one with the loss of the next best, and the chosen roll's plays are those of
-// the
-// program.
+// Every roll's best play is the recorded one with the loss of the next best, and the chosen roll's
+// plays are those of the program.
 async function compareRolls(page, position) {
     await page.until('document.querySelector(".rolls .next")');
     const rolls = await page.value(`[...document.querySelectorAll(".rolls button")].map((roll) =>
@@ -351,10 +350,9 @@ async function driveSum(browser) {
         await page.value('document.querySelector(".kept").textContent.includes("\u2026")'), false);
 }
 
-// A machine on which the first build takes so many milliseconds, as the page is told. The second worker begins `late`
-// milliseconds after it was asked; before the scripts of the first `bad` of such workers stands `prefix`. What the page
-// asks
-// of the workers is kept.
+// A machine on which the first build takes so many milliseconds, as the page is told. The second
+// worker begins `late` milliseconds after it was asked; before the scripts of the first `bad` of
+// such workers stands `prefix`. What the page asks of the workers is kept.
 const machine = (took, { late = 0, bad = 0, prefix = "" } = {}) => `(() => {
     const Real = window.Worker;
     const address = URL.createObjectURL;
@@ -484,9 +482,8 @@ async function driveWider(browser) {
     }
 }
 
-// On the free board a roll is guessed by moving checkers, by mouse, by dragging, by keys and by touch: what it loses is
-// the
-// program's.
+// On the free board a roll is guessed by moving checkers, by mouse, by dragging, by keys and by
+// touch: what it loses is the program's.
 async function driveGuessed(browser) {
     const isChromium = browser.name === "Chromium";
     const position = "0,1,0,1,0,1";
@@ -801,9 +798,8 @@ async function driveHosted(browser) {
 
 const point = (place) => (place === 0 ? '[data-key="off"]' : `[data-key="point ${place}"]`);
 
-// How a play is made on the board: by clicks, by dragging, by taps, or by keys alone. Each is given single moves; what
-// is
-// made is played by its button, or by Enter.
+// How a play is made on the board: by clicks, by dragging, by taps, or by keys alone. Each is given
+// single moves; what is made is played by its button, or by Enter.
 const WAYS = {
     mouse: async (page, moves) => {
         for (const [from, to] of moves) {
@@ -933,9 +929,8 @@ async function driveDrill(browser) {
     await playDrill(typed, keys, () => WAYS.keys, (used) => used.key("Enter"));
 }
 
-// What of some parts of the page isn't in sight whole, nothing being scrolled: its top, middle and bottom are what a
-// click
-// there meets.
+// What of some parts of the page isn't in sight whole, nothing being scrolled: its top, middle and
+// bottom are what a click there meets.
 const OUT_OF_SIGHT = (selectors) => `${JSON.stringify(selectors)}.flatMap((selector) => {
     const all = [...document.querySelectorAll(selector)];
     if (all.length === 0) return [selector + " is missing"];
@@ -951,9 +946,8 @@ const OUT_OF_SIGHT = (selectors) => `${JSON.stringify(selectors)}.flatMap((selec
 const EDITING = `[...document.querySelectorAll("[role=spinbutton], #counts, #keep, .steps button, #how, #guess, .rolls button")]
     .filter((element) => element.getBoundingClientRect().width > 0).map((element) => element.id || element.className || element.dataset.key)`;
 
-// One trains at four sizes: what begins is in sight with its question, board and buttons, and what is said of it with
-// the
-// way on; nothing edits a position; and the focus is never lost.
+// One trains at four sizes: what begins is in sight with its question, board and buttons, and what
+// is said of it with the way on; nothing edits a position; and the focus is never lost.
 async function driveSight(browser) {
     let [measured, actions] = [0, 0];
     for (const [width, height, mobile] of [[360, 780, true], [768, 1024, true], [1180, 800, false], [780, 360, true]]) {
@@ -1267,11 +1261,9 @@ async function driveOpened(browser) {
 // Keeps a processor busy, until the test has ended at the latest.
 const BUSY = "const parent = process.ppid; while (process.ppid === parent);";
 
-// A click on a lesson opens it, whenever it comes: what is aimed at before the database is open is clicked at each
-// tenth
-// millisecond from when the page is ready to half a second later, and another lesson as soon as that one is open; at
-// each
-// other of these times on a busy machine.
+// A click on a lesson opens it, whenever it comes: what is aimed at before the database is open is
+// clicked at each tenth millisecond from when the page is ready to half a second later, and another
+// lesson as soon as that one is open; at each other of these times on a busy machine.
 async function driveClicks(browser) {
     const lost = [];
     const isOpen = (number) => `location.hash.includes("lesson=${number}&") && document.querySelector("#coach h2")?.textContent
@@ -1315,9 +1307,8 @@ async function driveClicks(browser) {
 
 const TEACHING = encodeURI("#t=What wastage is&at=0,0,0,4,4,1&roll=31&p=0,0,0,4,4,1&c=Nine on the high points&p=2,2,2,2,2,2&c=Two on each point&p=15,0,0,0,0,0&c=Fifteen on the ace point");
 
-// A finger drags a checker in a drill, a lesson and a guess, and the page stays where it is; a finger on a board that
-// isn't
-// played on scrolls.
+// A finger drags a checker in a drill, a lesson and a guess, and the page stays where it is; a
+// finger on a board that isn't played on scrolls.
 async function driveFinger(browser) {
     for (const [width, height] of [[360, 780], [780, 360]]) {
         for (const [what, hash] of [["a drill", "#drill=fifteen&seed=5&ask=play&level=hard"], ["a lesson", "#lesson=3"],
@@ -1517,10 +1508,9 @@ async function driveAudit(browser) {
     console.log(`page: ${compared} contrasts and ${labels} names were compared`);
 }
 
-// What is wrong in what an open page draws, read back from it: texts that are cut off, lie over each other or under
-// something else, things to press that do, and shapes of a board that leave it or its points. What is fixed to the
-// window
-// may lie over what is scrolled under it.
+// What is wrong in what an open page draws, read back from it: texts that are cut off, lie over
+// each other or under something else, things to press that do, and shapes of a board that leave it
+// or its points. What is fixed to the window may lie over what is scrolled under it.
 const LAID_OUT = `(() => {
     const [faults, counts] = [[], { texts: 0, things: 0, shapes: 0 }];
     const named = (element) => (element.dataset?.key || element.id || element.getAttribute("class") || element.tagName.toLowerCase());
@@ -1659,9 +1649,9 @@ const PICTURED = [
     ["embedded", "#view=board&at=7,4,2,0,0,0", ".figures", ""],
 ];
 
-// Pictures of what the page is used for, on a telephone and on a desk: nothing in them is cut off, lies over something
-// else,
-// or is too faint to read. The start is looked at in more widths and colours.
+// Pictures of what the page is used for, on a telephone and on a desk: nothing in them is cut off,
+// lies over something else, or is too faint to read. The start is looked at in more widths and
+// colours.
 async function takePictures(browser) {
     const all = { texts: 0, things: 0, shapes: 0, contrasts: 0 };
     const look = async (page, name) => {

@@ -25,9 +25,9 @@ export const testedFolder = () => made("TESTED", "out/tested", "make tested");
 export const linesOf = (name) =>
     readFileSync(join(testedFolder(), name), "utf8").trimEnd().split("\n");
 
-// What a play does, by its text: how many more checkers each place has after it, "off" among them. One in the notation
-// of
-// players, where a move can stand for several, does the same as one in that of the program, which has each by itself.
+// What a play does, by its text: how many more checkers each place has after it, "off" among them.
+// One in the notation of players, where a move can stand for several, does the same as one in that
+// of the program, which has each by itself.
 export function effectOf(text) {
     const effect = new Map();
     for (const word of text.split(" ")) {

@@ -185,9 +185,9 @@ async function compareDrawn(desk) {
     equal("the same drill", JSON.stringify(await desk.take({ kind: "draw", drill })), JSON.stringify(questions));
 }
 
-// Three rules that players go by, each with the plays that it chooses: the most borne off, and then the most points
-// filled;
-// the most borne off, and then the fewest on the ace point; and the fewest pips with Tom Keith's additions.
+// Three rules that players go by, each with the plays that it chooses: the most borne off, and then
+// the most points filled; the most borne off, and then the fewest on the ace point; and the fewest
+// pips with Tom Keith's additions.
 const RULES_OF_THUMB = [
     ({ to }) => 20 * sumOf(to) - to.filter((count) => count > 0).length,
     ({ to }) => 20 * sumOf(to) + to[0],
@@ -208,11 +208,9 @@ const NAMED = {
     fewer: ({ to }, points, plays) => sumOf(to) > Math.min(...plays.map((play) => sumOf(play.to))),
 };
 
-// By its level: whoever goes by a rule of thumb is right in all of the easy questions, whose next best play loses a
-// good
-// deal; in a half of the mixed ones; and in the hard ones two rules of three fail. Where a theme's name says what to
-// play,
-// it is wrong in a half.
+// By its level: whoever goes by a rule of thumb is right in all of the easy questions, whose next
+// best play loses a good deal; in a half of the mixed ones; and in the hard ones two rules of three
+// fail. Where a theme's name says what to play, it is wrong in a half.
 function compareLevels(database) {
     const isRight = (plays, rule = RULES_OF_THUMB[0]) => chosenBy(rule, plays).some(({ exact }) => exact === "0/1");
     for (const { name } of THEMES.filter(({ isPlayed, most = 44 }) => isPlayed
@@ -226,9 +224,8 @@ function compareLevels(database) {
                 slowest = Math.max(slowest, performance.now() - begun);
                 const all = questions.map(({ points, roll }) => ({ points, roll,
                         plays: playsOf(database, points, roll) }));
-                // where it tempts, and where the best play is as the theme's name says, the seed tells; a position that
-                // is
-                // drawn again changes its question
+                // where it tempts, and where the best play is as the theme's name says, the seed
+                // tells; a position that is drawn again changes its question
                 const tempts = temptingOf(seed);
                 const asSaid = all.filter(({ plays }, place) => isRight(plays) !== tempts[place]).length;
                 if (level === "mixed") equal(`${name}: mixed ones of ${seed} tempt where the seed says`, asSaid >= 15,
@@ -279,9 +276,8 @@ function compareLevels(database) {
         ["ace"]);
 }
 
-// How far the rules of thumb for the effective pip count are off, by the answers for each position; over the whole
-// board as an
-// independent table of it has them, in thousandths of a pip.
+// How far the rules of thumb for the effective pip count are off, by the answers for each position;
+// over the whole board as an independent table of it has them, in thousandths of a pip.
 async function compareMeasured(desk) {
     const sevens = (points) => 7000 * Math.ceil(sumOf(points) / 2) + 1000;
     const pips = (points) => 1000 * points.reduce((sum, count, place) => sum + count * (place + 1), 0);

@@ -296,9 +296,8 @@ export const playedBefore = ({ guesses, again, estimates, estimatesAgain }, play
     answers: [...estimates, ...estimatesAgain].map(([points]) => answerTo(points)),
 });
 
-// A drill whose rolls all have a play that loses something, and none as good as the best, which fills a point and bears
-// off
-// fewer.
+// A drill whose rolls all have a play that loses something, and none as good as the best, which
+// fills a point and bears off fewer.
 export const drawFrom = (drill) => drawQuestions(drill, ROLLS, (points) => [
     { isBest: true, to: points.map((count) => Math.max(1, count)), loss: 0n },
         { isBest: false, to: [1, 0, 0, 0, 0, 0], loss: 50n },

@@ -1,6 +1,6 @@
-// The page's state, what changes it and what draws it, without a browser: that no number is ever beside a board which
-// it
-// isn't of, what is asked of the worker and when, and what each click, key and address does.
+// The page's state, what changes it and what draws it, without a browser: that no number is ever
+// beside a board which it isn't of, what is asked of the worker and when, and what each click, key
+// and address does.
 import { readFileSync } from "node:fs";
 import { start } from "../../web/app.js";
 import { inSentence, isShort, sumOfFractions } from "../../web/fractions.js";
@@ -284,9 +284,8 @@ async function moments() {
     equal("its own is kept", one.answers.size, 1);
 }
 
-// The database of 90 pips: it is built beside the open one, where that is quick and where something needs it, and
-// nobody
-// is asked.
+// The database of 90 pips: it is built beside the open one, where that is quick and where something
+// needs it, and nobody is asked.
 async function wider() {
     const FAR_OFF = "#at=0,0,0,3,5,3"; // 55 pips
     const open = async (hash, took, more) => {
