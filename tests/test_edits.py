@@ -51,6 +51,24 @@ impl From<ReadFault> for Fault {
         Fault::Read
     }
 }
+
+impl<'a, T: Drop, const ROOM: usize> From<Room<T, ROOM>> for &'a Board {
+    fn from(room: Room<T, ROOM>) -> Self
+        ensures { result ≡ record {
+          count = 15;
+        } }
+    {
+        &room.board
+    }
+}
+
+impl Digits for u128 {
+    fn digits(self) -> u8;
+
+    fn last(self) -> u8 {
+        (self % 10) as u8
+    }
+}
 """
 
 
@@ -138,6 +156,23 @@ def test_places(tool):
     assert place("let pips") == ("text::board", ("Board", ""), "pips")
     assert place("Fault::Read") == ("text::board", ("Fault", "From<ReadFault>"), "from")
     assert tool.name_of(place("Fault::Read")) == "text::board::FaultFromReadFault::from"
+    assert tool.name_of(place("&room.board")) == "text::board::RefBoardFromRoom::from"
+    assert place("fn digits") is None
+    assert tool.name_of(place("self % 10")) == "text::board::U128Digits::last"
+
+
+def test_names(tool):
+    """The proof of each function stands where its name says, also that of a type of another
+    module."""
+    wrong = []
+    for crate in ROOT.glob("crates/*"):
+        names = {*tool.functions_in(crate)}
+        for path in (*crate.glob("proofs/**/Answers.antt"), *crate.glob("proofs/**/Proof.antt")):
+            name = "::".join(path.parent.relative_to(crate / "proofs").parts)
+            # one that calls itself stands in a folder of its own, and a law has no body
+            if name not in names and "::+" not in name and "::law_" not in name:
+                wrong.append(f"{crate.name}::{name}")
+    assert not wrong
 
 
 @pytest.mark.xdist_group("prover")
