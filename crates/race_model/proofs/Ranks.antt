@@ -2,5 +2,6 @@
 pub mod BoxCounts
 pub mod RankCounts
 pub mod RankOrder
+pub mod LevelTable
 pub mod PositionTotals
 pub mod BestPlays

@@ -1,14 +1,14 @@
 -- How many positions there are, in all and to a pip count, by sums that are cheap to compute.
 use Rattle.std.proofs.Common.{◌≡◌, ℕ, zero, suc, ◌+◌, ◌-◌, ◌<◌, ◌≤◌, ◌⊎◌, ⊎_elim, Bool, true}
-use Rattle.std.proofs.Common.{false, cond, not, ◌&&◌, List, [], ◌∷◌, map, refl, sym, ◌∙◌, ap, subst, inl, inr}
-use Rattle.std.proofs.Common.{arith, add-one}
-use Rattle.std.specs.List.{range_with_len}
-use Rattle.std.specs.Prelude.{nat_lt, nat_le, ◌==◌}
-use Rattle.std.proofs.lemmas.Bool.{le-leb, leb-true, ltb-true, ltb-false, and_parts, cases_lt}
+use Rattle.std.proofs.Common.{false, cond, not, ◌&&◌, List, length, refl, sym, ◌∙◌, ap, subst, inl, inr}
+use Rattle.std.proofs.Common.{arith, slice_index}
+use Rattle.std.specs.Prelude.{nat_le, ◌==◌}
+use Rattle.std.proofs.lemmas.Bool.{le-leb, leb-true, and_parts, cases_lt}
 use Rattle.race_model.specs.Positions.{Board, IsPosition, pips, finished}
 use Rattle.race_model.specs.Ranks.{count_positions, rank, first_of, count_to, position_count, at_rank}
 use Rattle.race_model.proofs.Ranks.BoxCounts.{within, within-nil, within-zero, within-suc, within-add, within-none_on}
-use Rattle.race_model.proofs.Ranks.RankCounts.{ways, ways-nil, ways-zero, ways-low, ways-more}
+use Rattle.race_model.proofs.Ranks.RankCounts.{ways, ways-nil, ways-zero, ways-low}
+use Rattle.race_model.proofs.Ranks.LevelTable.{levels, firsts, row-each, row-levels, row-firsts}
 use Rattle.race_model.proofs.Ranks.RankOrder.{count_to-step, first_of-suc, first_of-zero}
 use Rattle.race_model.proofs.Ranks.RankOrder.{count_to-rises, first_of-rises, rank-later}
 use Rattle.race_model.proofs.Ranks.RankOrder.{rank_within, rank_bound, pips-range, at_rank_search}
@@ -180,176 +180,103 @@ rank-finished =
       ways-none (suc n) p (suc k) h =
           ways-low n (suc p) k 0 (omega arith) (omega arith) ∙ ways-none n (suc p) (suc k) h
 
--- how many lists of n counts, of the points from p on, have
--- at most k checkers and m pips, by sums alone
-abbrev add_up : (ℕ → ℕ → ℕ) → ℕ → ℕ → ℕ → ℕ
-add_up rest p zero m = rest 0 m
-add_up rest p (suc k) m =
-    rest (suc k) m + elim (nat_lt m p) [ true ↦ 0 | false ↦ add_up rest p k (m - p) ]
+-- the table has each pip count
+firsts-long : length firsts ≡ 92
+unfolding levels firsts
+firsts-long = refl
 
--- .. for the lists on any number of points
-abbrev ways_sum : ℕ → ℕ → ℕ → ℕ → ℕ
-ways_sum zero p k m = cond (0 == m) 1 0
-ways_sum (suc n) p k m = add_up (ways_sum n (suc p)) p k m
+levels-long : length levels ≡ 91
+unfolding levels
+levels-long = refl
 
--- these are the counts, where it is known of the other points
-ways-add_up : (n p : ℕ) → ((k m : ℕ) → k ≤ 15 → ways n (suc p) k m ≡ ways_sum n (suc p) k m) →
-    (k m : ℕ) → k ≤ 15 → ways (suc n) p k m ≡ add_up (ways_sum n (suc p)) p k m
-ways-add_up n p rest zero m h = ways-zero n p m ∙ rest 0 m h
-ways-add_up n p rest (suc k) m h = by_room (nat_lt m p) refl (λ j. ways-add_up n p rest k j) where
-  by_room : (b : Bool) → nat_lt m p ≡ b →
-      ((j : ℕ) → k ≤ 15 → ways (suc n) p k j ≡ add_up (ways_sum n (suc p)) p k j) →
-      ways (suc n) p (suc k) m
-      ≡ ways_sum n (suc p) (suc k) m
-      + elim (nat_lt m p) [ true ↦ 0 | false ↦ add_up (ways_sum n (suc p)) p k (m - p) ]
-  by_room true e fewer =
-      rw e (omega (arith, ways-low n p k m (omega arith) (ltb-true m p e), rest (suc k) m h))
-  by_room false e fewer =
-      rw e
-      (omega (
-        arith,
-        ways-more n p k m (omega arith) (ltb-false m p e),
-        rest (suc k) m h,
-        fewer (m - p) (omega arith),
-      ))
-
--- these are the counts
-ways-ways_sum : (n p k m : ℕ) → k ≤ 15 → ways n p k m ≡ ways_sum n p k m
-ways-ways_sum zero p k m h = ways-nil p k m
-ways-ways_sum (suc n) p k m h = ways-add_up n p (ways-ways_sum n (suc p)) k m h
-
--- how many positions have fewer pips, by sums alone
-abbrev first_sum : ℕ → ℕ
-first_sum zero = 0
-first_sum (suc m) = first_sum m + ways_sum 6 1 15 m
-
--- these are the counts of fewer pips
-first_of-sum : (m : ℕ) → first_of m ≡ first_sum m
-first_of-sum zero = first_of-zero
-first_of-sum (suc m) =
-    omega (
-      arith,
-      first_of-suc m,
-      count_to-step m,
-      first_of-sum m,
-      ways-ways_sum 6 1 15 m (omega arith),
-    )
+-- how many positions have fewer pips, by the table
+pub first_at : (m : ℕ) → m < 92 → first_of m ≡ slice_index firsts m
+first_at m low =
+    let e : 0 + m ≡ m = omega arith in
+    sym (row-each first_of 0 firsts row-firsts m (omega (arith, low, firsts-long)) ∙ ap first_of e)
 
 -- how many positions have at most 8 pips
 pub count_to-eight : count_to 8 ≡ 64
-count_to-eight = sym (first_of-suc 8) ∙ first_of-sum 9
+unfolding levels firsts
+count_to-eight = sym (first_of-suc 8) ∙ first_at 9 (omega arith)
 
 -- how many positions have at most 44 pips
 pub count_to-44 : count_to 44 ≡ 26314
-count_to-44 = sym (first_of-suc 44) ∙ first_of-sum 45
-
--- how many positions have m pips to n - 1 more, by sums alone
-abbrev next_sum : ℕ → ℕ → ℕ
-next_sum m zero = 0
-next_sum m (suc n) = ways_sum 6 1 15 m + next_sum (suc m) n
-
--- .. and these come next
-first_of-next : (m n : ℕ) → first_of (m + n) ≡ first_of m + next_sum m n
-first_of-next m zero = let e : m + 0 ≡ m = omega arith in omega (arith, ap first_of e)
-first_of-next m (suc n) =
-    let e : m + suc n ≡ suc m + n = omega arith in
-    omega (
-      arith,
-      ap first_of e,
-      first_of-next (suc m) n,
-      first_of-suc m,
-      count_to-step m,
-      ways-ways_sum 6 1 15 m (omega arith),
-    )
-
--- how many positions have fewer than m pips, m + 1, and so on, n numbers in all, by sums alone
-abbrev pub first_sums : ℕ → ℕ → ℕ → List ℕ
-first_sums m first zero = []
-first_sums m first (suc n) = first ∷ first_sums (suc m) (first + ways_sum 6 1 15 m) n
-
--- .. and these are the counts of fewer pips
-pub map-first_of : (m n : ℕ) → map first_of (range_with_len m n) ≡ first_sums m (first_of m) n
-map-first_of m zero = refl
-map-first_of m (suc n) =
-    rw (add-one m)
-    (ap (λ xs. first_of m ∷ xs)
-    (map-first_of (suc m) n
-    ∙ ap (λ first. first_sums (suc m) first n)
-    (omega (arith, first_of-suc m, count_to-step m, ways-ways_sum 6 1 15 m (omega arith)))))
-
--- the positions of 45 to 51 pips, and of 52 to 58
-first_of-52 : first_of 52 ≡ first_of 45 + 11069
-first_of-52 = first_of-next 45 7
-
-first_of-59 : first_of 59 ≡ first_of 52 + 8679
-first_of-59 = first_of-next 52 7
+unfolding levels firsts
+count_to-44 = sym (first_of-suc 44) ∙ first_at 45 (omega arith)
 
 -- how many positions have at most 58 pips
 pub count_to-58 : count_to 58 ≡ 46062
-count_to-58 =
-    omega (arith, first_of-suc 58, first_of-59, first_of-52, first_of-suc 44, count_to-44)
+unfolding levels firsts
+count_to-58 = sym (first_of-suc 58) ∙ first_at 59 (omega arith)
 
--- n levels from p on have no more positions each than those 25 above them, by sums alone
-abbrev are_rising : ℕ → ℕ → Bool
-are_rising p zero = true
-are_rising p (suc n) =
-    nat_le (ways_sum 6 1 15 p) (ways_sum 6 1 15 (25 + p)) && are_rising (suc p) n
+-- n levels from p on have no more positions each than those 25 above them
+abbrev are_rising : List ℕ → ℕ → ℕ → Bool
+are_rising counts p zero = true
+are_rising counts p (suc n) =
+    nat_le (slice_index counts p) (slice_index counts (25 + p)) && are_rising counts (suc p) n
 
 -- .. so each of them has
-rising-each : (p n q : ℕ) → are_rising p n ≡ true → p ≤ q → q < p + n →
-    ways_sum 6 1 15 q ≤ ways_sum 6 1 15 (25 + q)
-rising-each p zero q all low high = absurd (omega arith)
-rising-each p (suc n) q all low high =
+rising-each : (counts : List ℕ) (p n q : ℕ) → are_rising counts p n ≡ true → p ≤ q → q < p + n →
+    slice_index counts q ≤ slice_index counts (25 + q)
+rising-each counts p zero q all low high = absurd (omega arith)
+rising-each counts p (suc n) q all low high =
     let parts =
-    and_parts (nat_le (ways_sum 6 1 15 p) (ways_sum 6 1 15 (25 + p))) (are_rising (suc p) n) all in
+    and_parts (nat_le (slice_index counts p) (slice_index counts (25 + p)))
+    (are_rising counts (suc p) n) all in
     ⊎_elim
-    (λ more. rising-each (suc p) n q parts.1 more (omega arith))
+    (λ more. rising-each counts (suc p) n q parts.1 more (omega arith))
     (λ here.
     let e : p ≡ q = omega arith in
-    subst (λ q. ways_sum 6 1 15 q ≤ ways_sum 6 1 15 (25 + q)) e
-    (leb-true (ways_sum 6 1 15 p) (ways_sum 6 1 15 (25 + p)) parts.0))
+    subst (λ q. slice_index counts q ≤ slice_index counts (25 + q)) e
+    (leb-true (slice_index counts p) (slice_index counts (25 + p)) parts.0))
     (cases_lt p q)
 
--- so it is from 21 pips to 26, and to 32
-rising-26 : are_rising 21 6 ≡ true
-rising-26 = refl
-
-rising-32 : are_rising 27 6 ≡ true
+-- so it is from 21 pips to 32
+rising-32 : are_rising levels 21 12 ≡ true
+unfolding levels
 rising-32 = refl
 
--- the positions of at most 32 pips, and those of 58
+-- the positions of at most 32 pips, of at most 57 and of at most 33
 first_of-33 : first_of 33 ≡ 9233
-first_of-33 = first_of-sum 33
+unfolding levels firsts
+first_of-33 = first_at 33 (omega arith)
 
-first_of-58 : first_of 59 ≡ first_of 58 + 1031
-first_of-58 = first_of-next 58 1
+first_of-34 : first_of 34 ≡ 10335
+unfolding levels firsts
+first_of-34 = first_at 34 (omega arith)
+
+first_of-58 : first_of 58 ≡ 45031
+unfolding levels firsts
+first_of-58 = first_at 58 (omega arith)
 
 -- 25 levels from one of 21 to 33 pips on have at most as many positions as those
 levels-25 : (n q : ℕ) → n + q ≡ 33 → 21 ≤ q → first_of (25 + q) ≤ first_of q + 35798
 levels-25 zero q last low =
     let e : 33 ≡ q = omega (arith, last) in
-    let at_33 : first_of 58 ≤ first_of 33 + 35798 =
-    omega (arith, first_of-33, first_of-58, first_of-suc 58, count_to-58) in
+    let at_33 : first_of 58 ≤ first_of 33 + 35798 = omega (arith, first_of-33, first_of-58) in
     subst (λ q. first_of (25 + q) ≤ first_of q + 35798) e at_33
 levels-25 (suc n) q last low =
-    let rises = by_place (cases_lt q 27) in
     let e : 25 + suc q ≡ suc (25 + q) = omega arith in
     omega (
       arith,
       levels-25 n (suc q) (omega arith) (omega arith),
       ap first_of e,
-      level q,
-      level (25 + q),
-      rises,
+      level q (omega arith),
+      level (25 + q) (omega arith),
+      rising-each levels 21 12 q rising-32 low (omega arith),
     )
   where
-    level : (p : ℕ) → first_of (suc p) ≡ first_of p + ways_sum 6 1 15 p
-    level p =
-        omega (arith, first_of-suc p, count_to-step p, ways-ways_sum 6 1 15 p (omega arith))
-
-    by_place : (q < 27) ⊎ (27 ≤ q) → ways_sum 6 1 15 q ≤ ways_sum 6 1 15 (25 + q)
-    by_place (inl below) = rising-each 21 6 q rising-26 low (omega arith)
-    by_place (inr above) = rising-each 27 6 q rising-32 above (omega arith)
+    level : (p : ℕ) → p < 91 → first_of (suc p) ≡ first_of p + slice_index levels p
+    level p under =
+        let e : 0 + p ≡ p = omega arith in
+        omega (
+          arith,
+          ap (ways 6 1 15) e,
+          first_of-suc p,
+          count_to-step p,
+          row-each (ways 6 1 15) 0 levels row-levels p (omega (arith, under, levels-long)),
+        )
 
 -- to 58 pips a rank is less than 35,798 after each position that is at most 24 pips away
 pub twenty_five_levels : (r : ℕ) (y : Board) → IsPosition y → r < count_to 58 →
@@ -374,7 +301,6 @@ twenty_five_levels r y there low near = by_place (cases_lt (pips y) 21) (cases_l
           arith,
           count_to-58,
           first_of-rises 34 (pips y) many,
-          first_of-next 33 1,
-          first_of-33,
+          first_of-34,
           (rank_within y there).0,
         )
