@@ -130,6 +130,13 @@ def install(names):
         if missing:
             say(f"{len(missing)} are missing: {' '.join(need.name for need in missing)}")
             apt("update", what="reading Debian's list of packages")
+        if len(missing) > 1:
+            # all in one step, which spares apt most of its work; where one of them can't be had it
+            # installs none, and each is then tried by itself
+            packages = [package for need in missing for package in need.packages]
+            words = ("install", "-y", "--no-install-recommends", *packages)
+            apt(*words, what=f"installing {' '.join(packages)}")
+            missing = [need for need in missing if not need.is_there()]
         for place, need in enumerate(missing):
             what = f"{place + 1} of {len(missing)}: installing {' '.join(need.packages)}"
             say(what)
