@@ -29,11 +29,15 @@ TRIALS := $(foreach it,board_trials failing_calls number_trials,crates/$(it)/out
 
 WORK_PAGE := $(OUT)/work.html
 
+# compiled as it is written, without a proof, for tests alone: what is proved never stands here
+UNPROVED := out/unproved
+
 # the scripts in Python; the mutants of the page are rows of one line each
 SCRIPTS := git ls-files '*.py' && \
 	git grep -lE '^\#!.*python3' -- packaging tests tools ':!*.py' ':!tests/page/mutants'
 
 .PHONY: help needs prove library page work-page js tested trials install uninstall release
+.PHONY: unproved quick quick-python quick-node
 .PHONY: reference second-opinion format check test test-python test-node
 .DELETE_ON_ERROR:
 
@@ -42,6 +46,7 @@ help:
 	@echo 'make prove              proves and builds the program'
 	@echo 'make check              all that has to pass, from nothing: Debian, proofs, builds, tests'
 	@echo 'make test               the tests in Python and under node, and what they run'
+	@echo 'make quick              the same tests over what is compiled as it is written, in minutes; NOTHING IS PROVED'
 	@echo 'make page               $(PAGE)'
 	@echo 'make work-page          $(WORK_PAGE), the same with source maps, for work on it'
 	@echo 'make js                 $(PACKAGE)'
@@ -118,6 +123,29 @@ check:
 	tools/check needs proofs build bodies python node
 
 test: test-python test-node
+
+# the same as it is written, for who changes a word and wants the tests in minutes. The page and the
+# package are made of modules that have the mark of tools/unproved, and say that they are not proved
+unproved: needs
+	tools/unproved
+	/usr/bin/python3 -I packaging/page.py web $(UNPROVED)/wasm VERSION $(UNPROVED)/bearoff.html
+	packaging/js $(UNPROVED)/wasm $(UNPROVED)/js
+
+quick: quick-python quick-node
+
+quick-python: unproved
+	pytest -n 4 --dist loadgroup --unproved tests
+
+$(UNPROVED)/given/ready: $(UNPROVED)/.program tests/page/prepare tests/callers/questions.py \
+		tests/callers/ask_gnubg.py
+	BEAROFF_UNPROVED=told tests/page/prepare $(UNPROVED)/bearoff $(@D)
+	@touch $@
+$(UNPROVED)/.program: unproved
+
+quick-node: unproved $(UNPROVED)/given/ready
+	BEAROFF_UNPROVED=told PROGRAM=$(UNPROVED)/bearoff PAGE=$(UNPROVED)/bearoff.html \
+		MODULES=$(UNPROVED)/wasm TESTED=$(UNPROVED)/given \
+		node --test --test-concurrency=1 tests/page
 
 test-python: needs prove library trials
 	pytest -n 4 --dist loadgroup tests

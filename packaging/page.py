@@ -16,6 +16,12 @@ import sys
 from pathlib import Path
 
 MOST_BYTES = 420_000
+# what tools/unproved puts into a module, and what a page of such modules says in place of its words
+MARK = b"BEAROFF_UNPROVED"
+UNPROVED = (
+    ("<title>Bearing off, proved</title>", "<title>Bearing off, NOT PROVED</title>"),
+    ('<p class="promise">Proved numbers.', '<p class="promise">NOT PROVED: made for tests.'),
+)
 # where Debian puts what is written for node
 LIBRARIES = "/usr/share/nodejs"
 # what the oldest browsers that have all else can read
@@ -115,6 +121,11 @@ def main(web, modules, version, page, maps=None):
     code = f"{code}}})({parts});"
     style = "".join((web / "style" / f"{name}.css").read_text() for name in STYLES)
     text = (web / "index.html").read_text()
+    is_proved = not any(MARK in (modules / f"{name}.wasm").read_bytes() for name in forms)
+    for words, others in () if is_proved else UNPROVED:
+        if text.count(words) != 1:
+            sys.exit(f"page: '{words}' stands not once in index.html")
+        text = text.replace(words, others)
     for mark, part in (
         ("/*POLICY*/", policy(code, style)),
         ("/*STYLE*/", style),
@@ -126,11 +137,11 @@ def main(web, modules, version, page, maps=None):
             sys.exit(f"page: {mark} stands not once in index.html")
         text = text.replace(mark, part)
     size = len(text.encode())
-    if size > MOST_BYTES and not maps:
+    if size > MOST_BYTES and not maps and is_proved:
         sys.exit(f"page: {size} bytes, more than {MOST_BYTES}")
     Path(page).parent.mkdir(parents=True, exist_ok=True)
     Path(page).write_text(text)
-    print(f"page: {size} bytes in {page}")
+    print(f"page: {size} bytes in {page}{'' if is_proved else ', NOT PROVED'}")
 
 
 main(*sys.argv[1:])

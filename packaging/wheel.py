@@ -11,6 +11,8 @@ from wheels import field, sources, write_wheel  # noqa: E402
 
 if field("version") != version:
     sys.exit(f"wheel: python/pyproject.toml is not of version {version}")
+if any(b"BEAROFF_UNPROVED" in Path(file).read_bytes() for file in (program, library)):
+    sys.exit("wheel: what tools/unproved made is not proved")
 parts = sources()
 parts["bearoff/libbearoff.so"] = Path(library).read_bytes(), 0o755
 parts[f"bearoff-{version}.data/scripts/bearoff"] = Path(program).read_bytes(), 0o755

@@ -13,9 +13,11 @@ from pathlib import Path
 
 import pytest
 
-from running import ROOT, expect_that, need, run, succeed
+from running import KNOWN, ROOT, expect_that, need, run, succeed
 
 PROGRAM = ROOT / "crates/bearoff_cli/out/bearoff_cli"
+# what was compiled as it is written
+UNPROVED = ROOT / "out/unproved"
 
 
 def pytest_addoption(parser):
@@ -35,6 +37,11 @@ def pytest_addoption(parser):
         help="the program of crates/board_trials, in place of the one that was proved here",
     )
     parser.addoption("--by-hand", action="store_true", help="run what takes long, too")
+    parser.addoption(
+        "--unproved",
+        action="store_true",
+        help="test what tools/unproved made, and leave out what asks the prover",
+    )
 
 
 class Progress:
@@ -77,21 +84,35 @@ class Progress:
 
 
 def pytest_configure(config):
+    if config.getoption("--unproved"):
+        asked = [ROOT / "tools/unproved", "--ask"]
+        if subprocess.run(asked, stdin=subprocess.DEVNULL).returncode != 0:
+            pytest.exit("a source has changed: run make unproved", 2)
+        KNOWN["BEAROFF_UNPROVED"] = "told"
+        os.environ |= KNOWN
     if not hasattr(config, "workerinput"):
         config.pluginmanager.register(Progress(config))
 
 
 def pytest_collection_modifyitems(config, items):
-    """Leaves out what is run by hand, and keeps the tests of one group, which run one after the
-    other, together."""
-    if not config.getoption("--by-hand"):
-        left_out = [item for item in items if item.get_closest_marker("by_hand")]
-        items[:] = [item for item in items if not item.get_closest_marker("by_hand")]
+    """Leaves out what is run by hand, and what asks the prover where nothing is proved, and keeps
+    the tests of one group, which run one after the other, together."""
+    marks = {
+        "by_hand": not config.getoption("--by-hand"),
+        "proved": config.getoption("--unproved"),
+    }
+    for mark in [mark for mark, is_left_out in marks.items() if is_left_out]:
+        left_out = [item for item in items if item.get_closest_marker(mark)]
+        items[:] = [item for item in items if not item.get_closest_marker(mark)]
         config.hook.pytest_deselected(items=left_out)
 
 
 def pytest_terminal_summary(terminalreporter):
     """Prints what tests have noted, as how many calls there were."""
+    if terminalreporter.config.getoption("--unproved"):
+        terminalreporter.section("NOTHING OF THIS WAS PROVED", red=True)
+        terminalreporter.line("what was tested was compiled as it is written; tests of what is")
+        terminalreporter.line("proved were left out (the mark `proved`): make test runs them, too")
     passed = terminalreporter.getreports("passed")
     notes = [
         text
@@ -133,6 +154,8 @@ def program(request):
     sources as they are."""
     if request.config.getoption("--program"):
         return given(request.config.getoption("--program"))
+    if request.config.getoption("--unproved"):
+        return given(UNPROVED / "bearoff")
     if not os.access(PROGRAM, os.X_OK):
         pytest.fail(f"{PROGRAM} is not built: run ./bearoff --prove, or make prove", pytrace=False)
     if not is_fresh("crates/bearoff_cli/out/fresh"):
@@ -147,6 +170,8 @@ def program_of(request, crate, option):
     of the sources as they are."""
     if request.config.getoption(option):
         return given(request.config.getoption(option))
+    if request.config.getoption("--unproved"):
+        return given(UNPROVED / crate)
     program = ROOT / "crates" / crate / "out" / crate
     if not os.access(program, os.X_OK):
         pytest.fail(f"{program} is not built: run make trials, or rt ci", pytrace=False)
@@ -228,9 +253,14 @@ def whole(program, store):
 
 
 @pytest.fixture(scope="session")
-def library(store):
+def library(request, store):
     """A folder with both libraries for C, made of what was proved here."""
     need("cc", "c++")
+    if request.config.getoption("--unproved"):
+        shutil.copytree(
+            UNPROVED / "library", store / "unproved", symlinks=True, dirs_exist_ok=True
+        )
+        return store / "unproved"
     folder = store / "library"
     if not folder.exists():
         done = run(ROOT / "packaging/library", f"{folder}.part", timeout=3600)

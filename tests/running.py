@@ -19,6 +19,9 @@ CALLERS = HERE / "callers"
 # how many times as long a command may take, as of a program that is made without a proof
 SLOWER = int(os.environ.get("SLOWER", "1"))
 
+# what a program that is not proved has to find in its environment to say nothing of that
+KNOWN = {}
+
 Done = collections.namedtuple("Done", "words folder input status output errors")
 
 

@@ -175,6 +175,7 @@ def test_names(tool):
     assert not wrong
 
 
+@pytest.mark.proved
 @pytest.mark.xdist_group("prover")
 def test_prover(room):
     """Over the prover: a right body, one that does not compile, and wrong ones beside them."""

@@ -12,6 +12,8 @@ import pytest
 
 from running import ROOT, code_blocks, expect, expect_that, need, run, succeed
 
+pytestmark = pytest.mark.proved
+
 INSTALL, UNINSTALL = ROOT / "packaging/install", ROOT / "packaging/uninstall"
 QUESTION, ANSWER = "mean 0,0,0,0,0,1", "mean 5/4 epc 245/24 10.208"
 PRINTED = "1.250 rolls, 10.208 pips\n4/2 2/1"

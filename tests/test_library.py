@@ -287,6 +287,7 @@ def test_lines_under_valgrind(caller, program, built, asked, with_bad, words):
     expect(run(*words, input=lines, timeout=600), 0, replies)
 
 
+@pytest.mark.proved
 @pytest.mark.parametrize(
     "kind, bound, times",
     [
@@ -405,6 +406,8 @@ def test_the_stack_of_every_call():
     assert sorted(declared) == sorted({*measured} - {"name", "nothing"})
 
 
+# without a proof there are checks, which end a call that the change has led astray
+@pytest.mark.proved
 @pytest.mark.parametrize("bound", [4, 8, 10])
 @pytest.mark.parametrize("kind", ["version 1", "version 2", "board"])
 def test_bytes_that_change_while_they_are_read(caller, built, board, note, kind, bound):
@@ -750,6 +753,7 @@ def test_an_archive_of_the_sources(python, example):
     expect(python("example.py", cwd=example, path=site), 0, PRINTED)
 
 
+@pytest.mark.proved
 def test_install(program, example):
     """What is installed is enough to build with."""
     need("pkg-config")
@@ -772,6 +776,7 @@ def test_install(program, example):
     assert (prefix / "share/man/man1/bearoff.1").stat().st_size > 0
 
 
+@pytest.mark.proved
 class TestCMake:
     """What was installed is found by CMake, also where it was moved, and by no other first number
     of the version."""

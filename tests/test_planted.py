@@ -794,6 +794,8 @@ def passes_unplanted(place, words):
             marks=[
                 # two groups are two copies, in which two bodies at a time are tried
                 pytest.mark.xdist_group(f"planted {number % 2}"),
+                # each is compiled by the kit, a minute or two
+                pytest.mark.proved,
                 *([] if row[0] in IN_GATE else [pytest.mark.by_hand]),
             ],
         )

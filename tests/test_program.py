@@ -18,6 +18,7 @@ from pathlib import Path
 import pytest
 
 from running import (
+    KNOWN,
     CALLERS,
     ROOT,
     SLOWER,
@@ -1282,7 +1283,7 @@ class TestSmallStack:
             resource.setrlimit(resource.RLIMIT_STACK, (1024 * 1024, 1024 * 1024))
 
         return lambda words, input="", **more: ask(
-            words, input, env={}, preexec_fn=lower, timeout=300
+            words, input, env=KNOWN, preexec_fn=lower, timeout=300
         )
 
     def test_build_of_44(self, room, ask_it, built):

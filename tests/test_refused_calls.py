@@ -17,7 +17,7 @@ from pathlib import Path
 
 import pytest
 
-from running import HERE, need, run
+from running import HERE, KNOWN, need, run
 
 LINES = "rank 1,0,0,0,0,0\nmoves 0,0,0,2,0,0 21\nmean 0,0,1,0,0,0\n\nplay 0,0,0,2,0,0 21"
 
@@ -141,7 +141,7 @@ def refusing(library, files):
         Path("count").unlink(missing_ok=True)
         Path("made").write_bytes(old)
         environment = {"LD_PRELOAD": str(library), "REFUSED_CALL": call, "REFUSED_COUNT": "count"}
-        environment |= how.pop("more", {})
+        environment |= {**KNOWN, **how.pop("more", {})}
         done = run(*command, env=environment, timeout=60, **{"input": LINES, **how})
         return done, int(Path("count").read_text()) if os.path.exists("count") else 0
 

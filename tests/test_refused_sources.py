@@ -27,6 +27,7 @@ def test_there_are_cases():
     assert len(CASES) >= 2
 
 
+@pytest.mark.proved
 @pytest.mark.xdist_group("refused sources")
 @pytest.mark.parametrize("case", CASES)
 def test_refused(crates, case):

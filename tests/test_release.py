@@ -16,7 +16,7 @@ import pytest
 from running import ROOT, code_blocks, expect, expect_that, need, run, succeed
 
 # a release compiles over the libraries that the prover reads
-pytestmark = pytest.mark.xdist_group("prover")
+pytestmark = [pytest.mark.proved, pytest.mark.xdist_group("prover")]
 
 VERSION = (ROOT / "VERSION").read_text(encoding="utf-8").strip()
 PACKAGES = ("bearoff", "libbearoff1", "libbearoff-dev")

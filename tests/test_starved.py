@@ -19,7 +19,7 @@ from pathlib import Path
 
 import pytest
 
-from running import expect_that, run, told
+from running import KNOWN, expect_that, run, told
 
 pytestmark = pytest.mark.xdist_group("alone")
 
@@ -149,7 +149,7 @@ def limited(starved, limit, size, words):
             made.chmod(0o666)
             made.parent.chmod(0o555)
             user = NOBODY
-        got = run(*lower, starved.program, *words, cwd=folder, input=LINES, env={}, **user)
+        got = run(*lower, starved.program, *words, cwd=folder, input=LINES, env=KNOWN, **user)
         left = [name for _, _, names in os.walk(folder) for name in names if ".tmp" in name]
         return got, made.read_bytes() if made else None, left
 
@@ -213,6 +213,8 @@ def least(starved, words):
     return STEP * enough
 
 
+# of the proved program: the checks of the other make it some pages larger
+@pytest.mark.proved
 @pytest.mark.parametrize("name", SWEPT)
 def test_memory_about_the_least(starved, name, note):
     middle = least(starved, COMMANDS[name])

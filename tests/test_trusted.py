@@ -32,6 +32,7 @@ def told(crate):
 
 
 # both commands lock the folders of the crates below them
+@pytest.mark.proved
 @pytest.mark.xdist_group("prover")
 @pytest.mark.parametrize("crate", START)
 def test_the_page_lists_what_is_assumed(crate, note):
