@@ -1,4 +1,4 @@
-mod WalkValues
+pub mod Contained
 mod PlainWords
 mod Numbers
 mod OptionWords

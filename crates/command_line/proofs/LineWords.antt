@@ -13,9 +13,8 @@ use Rattle.clap.specs.declared.parser.matches.ValueSource.TheVariants.{CommandLi
 use Rattle.clap.proofs.OnLiterals.{clap_on_literals}
 use Rattle.command_line.specs.Asked.{ArePlain, IsPlain}
 use Rattle.command_line.specs.Commands.{ask_app, word_rule, words_rule}
-use Rattle.command_line.proofs.PlainWords.{any_met, each_contains, plain_passes, plain_turn, plain_walked}
+use Rattle.command_line.proofs.PlainWords.{any_met, plain_passes, plain_turn, plain_walked}
 use Rattle.command_line.proofs.PlainWords.{taken, walk_at}
-use Rattle.command_line.proofs.WalkValues.{first_is_word}
 
 abbrev ask_built : App
 ask_built = built ask_app
@@ -159,13 +158,3 @@ module _ (path : Text) where
         ≡ Some (line ∷ lines)
     ask_lines = ap (λ (w : Walk). all_of (codes "LINE") (finished rules w.held)) ask_end.2
         ∙ end_lines ask_end.0 ask_end.1 ∙ ap Some ask_end.3
-
--- the file is one of the words
-pub ask_is_word : (words : List Text) (text : Text)
-    → first_of (codes "FILE") (matches_of ask_app words) ≡ Some text → Contains words text
-ask_is_word words text e =
-    first_is_word (codes "FILE") (Contains words) rules [] words text (
-      (λ _. (refl, refl, refl, refl)),
-      ((λ same. absurd (true≢false (sym same))), ((λ same. absurd (true≢false (sym same))), tt)),
-    )
-    (each_contains words (Contains words) (λ x c. c)) e

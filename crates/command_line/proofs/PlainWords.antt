@@ -20,15 +20,6 @@ use Rattle.clap.specs.declared.parser.matches.ArgMatches.{ArgMatches}
 use Rattle.clap.proofs.WalkLemmas.{first_value-rows, one_text-rows, raw_values-rows}
 use Rattle.command_line.specs.Asked.{IsPlain}
 use Rattle.command_line.specs.Commands.{about_app, build_app, file_app, query_app, upgrade_app}
-use Rattle.command_line.proofs.WalkValues.{Each, first_is_word}
-
-pub each_contains : {X : Type 0} (xs : List X) (P : X → Type 0) → ((x : X) → Contains xs x → P x)
-    → Each P xs
-each_contains [] P h = tt
-each_contains (x ∷ xs) P h = (
-  h x (0, omega arith, refl),
-  each_contains xs P (λ y c. h y (suc c.0, omega (arith, c.1), c.2)),
-)
 
 pub ok_no_err : {X E : Type 0} (r : Result X E) (P : E → Type 0) → IsOk r → IfErr r P
 ok_no_err (Ok x) P h = tt
@@ -150,17 +141,6 @@ module _ (name path : Text) (plain : IsPlain path) where
   file_first = ap (λ (w : Walk). first_of (codes "FILE") (finished file_built.top.rules w.held))
       file_walked
 
-pub file_is_word : (name : Text) (words : List Text) (text : Text)
-    → first_of (codes "FILE") (matches_of (file_app name) words) ≡ Some text → Contains words text
-file_is_word name words text e =
-    first_is_word (codes "FILE") (Contains words) (built (file_app name)).top.rules
-    (names_of (built (file_app name)))
-    words text (
-      (λ same. absurd (true≢false (sym same))),
-      ((λ _. (refl, refl, refl, refl)), ((λ same. absurd (true≢false (sym same))), tt)),
-    )
-    (each_contains words (Contains words) (λ x c. c)) e
-
 -- ---- a file of any kind
 
 module _ (path : Text) (plain : IsPlain path) where
@@ -184,15 +164,6 @@ module _ (path : Text) (plain : IsPlain path) where
   pub about_first : first_of (codes "FILE") (matches_of about_app (path ∷ [])) ≡ Some path
   about_first = ap (λ (w : Walk). first_of (codes "FILE") (finished about_built.top.rules w.held))
       about_walked
-
-pub about_is_word : (words : List Text) (text : Text)
-    → first_of (codes "FILE") (matches_of about_app words) ≡ Some text → Contains words text
-about_is_word words text e =
-    first_is_word (codes "FILE") (Contains words) (built about_app).top.rules [] words text (
-      (λ _. (refl, refl, refl, refl)),
-      ((λ same. absurd (true≢false (sym same))), tt),
-    )
-    (each_contains words (Contains words) (λ x c. c)) e
 
 -- ---- a file and no `--cache`
 
@@ -259,50 +230,6 @@ module _ (old new : Text) (old_plain : IsPlain old) (new_plain : IsPlain new) wh
 
   pub new_first : first_of (codes "NEW") (matches_of upgrade_app (old ∷ new ∷ [])) ≡ Some new
   new_first = ap (λ (w : Walk). first_of (codes "NEW") (finished rules w.held)) upgrade_walked
-
--- ---- the values of positionals
-
-pub old_is_word : (words : List Text) (text : Text)
-    → first_of (codes "OLD") (matches_of upgrade_app words) ≡ Some text → Contains words text
-old_is_word words text e =
-    first_is_word (codes "OLD") (Contains words) (built upgrade_app).top.rules [] words text (
-      (λ _. (refl, refl, refl, refl)),
-      ((λ same. absurd (true≢false (sym same))), ((λ same. absurd (true≢false (sym same))), tt)),
-    )
-    (each_contains words (Contains words) (λ x c. c)) e
-
-pub new_is_word : (words : List Text) (text : Text)
-    → first_of (codes "NEW") (matches_of upgrade_app words) ≡ Some text → Contains words text
-new_is_word words text e =
-    first_is_word (codes "NEW") (Contains words) (built upgrade_app).top.rules [] words text (
-      (λ same. absurd (true≢false (sym same))),
-      ((λ _. (refl, refl, refl, refl)), ((λ same. absurd (true≢false (sym same))), tt)),
-    )
-    (each_contains words (Contains words) (λ x c. c)) e
-
-pub build_is_word : (words : List Text) (text : Text)
-    → first_of (codes "FILE") (matches_of build_app words) ≡ Some text → Contains words text
-build_is_word words text e =
-    first_is_word (codes "FILE") (Contains words) (built build_app).top.rules [] words text (
-      (λ same. absurd (true≢false (sym same))),
-      (
-        (λ _. (refl, refl, refl, refl)),
-        ((λ same. absurd (true≢false (sym same))), ((λ same. absurd (true≢false (sym same))), tt)),
-      ),
-    )
-    (each_contains words (Contains words) (λ x c. c)) e
-
-pub query_is_word : (words : List Text) (text : Text)
-    → first_of (codes "FILE") (matches_of query_app words) ≡ Some text → Contains words text
-query_is_word words text e =
-    first_is_word (codes "FILE") (Contains words) (built query_app).top.rules [] words text (
-      (λ same. absurd (true≢false (sym same))),
-      (
-        (λ _. (refl, refl, refl, refl)),
-        ((λ same. absurd (true≢false (sym same))), ((λ same. absurd (true≢false (sym same))), tt)),
-      ),
-    )
-    (each_contains words (Contains words) (λ x c. c)) e
 
 -- ---- from the matches to the getters
 

@@ -1,5 +1,5 @@
 -- What words ask for.
-use Rattle.std.specs.Prelude.{◌≡◌, ◌⊎◌, ◌==◌, ℕ, Bool, true, not, cond, List, [], ◌∷◌, ◌++◌}
+use Rattle.std.specs.Prelude.{◌≡◌, ◌⊎◌, ◌==◌, ℕ, Bool, true, false, not, cond, List, [], ◌∷◌, ◌++◌}
 use Rattle.std.specs.Str.Parse.{IsNumeral, digits_value}
 use Rattle.std.specs.Prelude.{Option, Result, IfOk, IfErr, codes, flat_map}
 use Rattle.std.specs.List.{Contains, list_all}
@@ -69,6 +69,11 @@ abbrev pub kind_in : List Text → FileKind
 kind_in [] = Database
 kind_in (word ∷ rest) = cond (bytes_eq word (codes "--board")) Board
     (cond (bytes_eq word (codes "--")) Database (kind_in rest))
+
+-- whether a text is one of some words
+abbrev pub is_word : List Text → Text → Bool
+is_word [] text = false
+is_word (word ∷ rest) text = cond (bytes_eq word text) true (is_word rest text)
 
 -- the result is an `Ok` of which P holds, or memory was wanting
 abbrev pub Gives : {X : Type 0} → Result X Error → (X → Type 0) → Type 0

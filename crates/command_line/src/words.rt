@@ -8,7 +8,7 @@ ghost use Rattle.command_line.specs.declared.words.FileKind.{FileKind};
 ghost use Rattle.command_line.specs.declared.words.FileKind.TheVariants.{Database, Board};
 ghost use Rattle.command_line.specs.declared.words.Request.TheVariants.{Default};
 ghost use Rattle.command_line.specs.Asked.{ArePlain, Gives, IsAskedBy, IsFor, IsPlain, Writes, as_input, asked_by};
-ghost use Rattle.command_line.specs.Asked.{flagged, kind_in, build, check, query, ask, about, audit, upgrade};
+ghost use Rattle.command_line.specs.Asked.{flagged, is_word, kind_in, build, check, query, ask, about, audit, upgrade};
 ghost use Rattle.command_line.specs.Commands.{IsFileApp, about_app, ask_app, bare_app, build_app, file_app};
 ghost use Rattle.command_line.specs.Commands.{query_app, upgrade_app};
 
@@ -273,7 +273,7 @@ fn read_file<'a, S: AsStr>(
         → Gives result (λ r. r.now ≡ path) }
 {
     let matches = command.try_get_matches_from(words)?;
-    value_of(alloc, &matches, "FILE")
+    value_of(alloc, words, &matches, "FILE")
 }
 
 /// What the words after `upgrade` ask for.
@@ -285,8 +285,8 @@ fn read_upgrade<'a, S: AsStr>(alloc: Global, words: &'a [S]) -> Result<Request<'
         → Gives result (IsFor (upgrade old new)) }
 {
     let matches = upgrade_command(alloc)?.try_get_matches_from(words)?;
-    let old = value_of(alloc, &matches, "OLD")?;
-    let new = value_of(alloc, &matches, "NEW")?;
+    let old = value_of(alloc, words, &matches, "OLD")?;
+    let new = value_of(alloc, words, &matches, "NEW")?;
     Ok(Request::Upgrade { old, new })
 }
 
@@ -307,7 +307,7 @@ fn read_build<'a, S: AsStr>(
         → Gives result (IsFor (build Board 90 path)) }
 {
     let matches = build_command(alloc)?.try_get_matches_from(words)?;
-    let path = value_of(alloc, &matches, "FILE")?;
+    let path = value_of(alloc, words, &matches, "FILE")?;
     match (kind, matches.get_one::<u8>("pips")) {
         (FileKind::Database, Some(pips)) => Ok(Request::Build { kind, pips, path }),
         (FileKind::Database, None) => missing(build_command(alloc)?, "--pips is missing"),
@@ -341,7 +341,7 @@ fn read_query<'a, S: AsStr>(
         → kind ≡ Database → Gives result (IsFor (query Database path (Some n))) }
 {
     let matches = query_command(alloc)?.try_get_matches_from(words)?;
-    let path = value_of(alloc, &matches, "FILE")?;
+    let path = value_of(alloc, words, &matches, "FILE")?;
     let cache = matches.get_one::<u16>("cache");
     if kind == FileKind::Board && cache.is_some() {
         return mistake(
@@ -362,7 +362,7 @@ fn read_ask<'a, S: AsStr>(alloc: Global, words: &'a [S]) -> Result<Request<'a>, 
         → Gives result (IsFor (ask path (as_input (line ∷ lines)))) }
 {
     let matches = ask_command(alloc)?.try_get_matches_from(words)?;
-    let path = value_of(alloc, &matches, "FILE")?;
+    let path = value_of(alloc, words, &matches, "FILE")?;
     let lines = lines_in(alloc, &matches)?;
     Ok(Request::Ask { path, lines })
 }
@@ -375,7 +375,7 @@ fn read_about<'a, S: AsStr>(alloc: Global, words: &'a [S]) -> Result<Request<'a>
         → Gives result (IsFor (about path)) }
 {
     let matches = about_command(alloc)?.try_get_matches_from(words)?;
-    let path = value_of(alloc, &matches, "FILE")?;
+    let path = value_of(alloc, words, &matches, "FILE")?;
     Ok(Request::About { path })
 }
 
@@ -404,16 +404,41 @@ fn ended(alloc: Global, lines: &[&str]) -> Result<String, AllocError>
     Ok(text)
 }
 
-/// The first value of an argument.
-fn value_of<'a>(alloc: Global, matches: &ArgMatches<'a>, id: &str) -> Result<&'a str, Error>
-    ensures read { IfOk result (λ text. first_value (found_of matches.now) id.now ≡ Some text.now) }
+/// The first value of an argument, which is one of the words. That it is one is tested, so nothing
+/// has to be known of the way that `clap` goes through other words than the usual ones.
+#[tactic(auto, using(crate::proofs::Contained::contained, crate::proofs::Contained::found))]
+fn value_of<'a, S: AsStr>(
+    alloc: Global,
+    words: &[S],
+    matches: &ArgMatches<'a>,
+    id: &str,
+) -> Result<&'a str, Error>
+    ensures word { IfOk result (λ text. Contains (map S.text words.entry.now) text.now) }
     ensures some { (text : List ℕ) → first_value (found_of matches.now) id.now ≡ Some text
+        → Contains (map S.text words.entry.now) text
         → IfOk result (λ r. r.now ≡ text) × IsOk result }
 {
-    match matches.get_str(id) {
-        Some(text) => Ok(text),
-        None => missing(command(alloc)?, "a word is missing"),
+    let Some(text) = matches.get_str(id) else {
+        return missing(command(alloc)?, "a word is missing");
+    };
+    if is_word(words, text) {
+        return Ok(text);
     }
+    missing(command(alloc)?, "a word is missing")
+}
+
+/// Whether a text is one of some words.
+fn is_word<S: AsStr>(words: &[S], text: &str) -> bool
+    ensures { result ≡ is_word (map S.text words.entry.now) text.now }
+{
+    let mut rest = words;
+    while let Some((word, after)) = rest.split_first() {
+        if word.as_str() == text {
+            return true;
+        }
+        rest = after;
+    }
+    false
 }
 
 /// The mistake of words of a command that leave something out.

@@ -1,9 +1,10 @@
 -- The file that stands among the words.
-use Rattle.std.proofs.Common.{◌∙◌, rules, ap, ap₂, sym, map, codes, refl}
+use Rattle.std.proofs.Common.{◌∙◌, [], rules, ap, ap₂, sym, map, codes, refl}
 use Rattle.clap.specs.Words.{takes}
 use Rattle.command_line.specs.Asked.{about}
 use Rattle.command_line.specs.Commands.{about_app}
-use Rattle.command_line.proofs.PlainWords.{about_first, about_is_word, about_takes, first_from, first_read}
+use Rattle.command_line.proofs.PlainWords.{about_first, about_takes, first_from}
+use Rattle.command_line.proofs.Contained.{among, first_of_them}
 use Rattle.command_line.proofs.words.read_about.Goals as goal
 
 pub returns-in_err-matches-clause-given : goal.returns-in_err-matches-clause-given
@@ -19,15 +20,12 @@ returns-in_err-path-clause-given g c path plain words_are =
     let same = first_from _ about_app words _ m (codes "FILE") path
     c.in_ok-about_command.ensures refl
     c.in_ok-matches.ensures.matches words_are (about_first path plain) in
-    let read = c.value_of.ensures.some path same in
+    let read = c.value_of.ensures.some path same
+    (among _ _ path words_are (first_of_them path [])) in
     search rules
 
 pub returns-clause-asked : goal.returns-clause-asked
-returns-clause-asked g c =
-    let words = map g.S.AsStr.text c.args.words.now in
-    let read = first_read _ about_app words c.in_ok-matches.matches (codes "FILE")
-    c.in_ok-about_command.ensures refl c.in_ok-matches.ensures.matches in
-    (words, refl, about_is_word words c.in_ok-path.path.now (sym read ∙ c.in_ok-path.ensures.read))
+returns-clause-asked g c = (map g.S.AsStr.text c.args.words.now, refl, c.in_ok-path.ensures.word)
 
 pub returns-clause-given : goal.returns-clause-given
 returns-clause-given g c path plain words_are =
@@ -35,5 +33,8 @@ returns-clause-given g c path plain words_are =
     let m = c.in_ok-matches.matches in
     let same = first_from _ about_app words _ m (codes "FILE") path
     c.in_ok-about_command.ensures refl
-    c.in_ok-matches.ensures.matches words_are (about_first path plain) in
-    (ap about (c.in_ok-path.ensures.some path same).0, tt)
+    c.in_ok-matches.ensures.matches words_are (about_first path plain) in (
+      ap about (c.in_ok-path.ensures.some path same
+          (among _ _ path words_are (first_of_them path []))).0,
+      tt,
+    )

@@ -3,8 +3,9 @@ use Rattle.std.proofs.Common.{◌∙◌, ◌∷◌, rules, ap₂, sym, map, code
 use Rattle.clap.specs.Words.{takes}
 use Rattle.command_line.specs.Asked.{ask}
 use Rattle.command_line.specs.Commands.{ask_app}
-use Rattle.command_line.proofs.LineWords.{ask_file, ask_is_word, ask_lines, ask_takes}
-use Rattle.command_line.proofs.PlainWords.{all_from, first_from, first_read}
+use Rattle.command_line.proofs.LineWords.{ask_file, ask_lines, ask_takes}
+use Rattle.command_line.proofs.PlainWords.{all_from, first_from}
+use Rattle.command_line.proofs.Contained.{among, first_of_them}
 use Rattle.command_line.proofs.words.read_ask.Goals as goal
 
 pub returns-in_err-matches-clause-given : goal.returns-in_err-matches-clause-given
@@ -20,15 +21,12 @@ returns-in_err-path-clause-given g c path line lines plain all words_are =
     let same = first_from _ ask_app words _ m (codes "FILE") path
     c.in_ok-ask_command.ensures refl
     c.in_ok-matches.ensures.matches words_are (ask_file path plain line lines all) in
-    let read = c.value_of.ensures.some path same in
+    let read = c.value_of.ensures.some path same
+    (among _ _ path words_are (first_of_them path (line ∷ lines))) in
     search rules
 
 pub returns-clause-asked : goal.returns-clause-asked
-returns-clause-asked g c =
-    let words = map g.S.AsStr.text c.args.words.now in
-    let read = first_read _ ask_app words c.in_ok-matches.matches (codes "FILE")
-    c.in_ok-ask_command.ensures refl c.in_ok-matches.ensures.matches in
-    (words, refl, ask_is_word words c.in_ok-path.path.now (sym read ∙ c.in_ok-path.ensures.read))
+returns-clause-asked g c = (map g.S.AsStr.text c.args.words.now, refl, c.in_ok-path.ensures.word)
 
 pub returns-clause-given : goal.returns-clause-given
 returns-clause-given g c path line lines plain all words_are =
@@ -40,5 +38,8 @@ returns-clause-given g c path line lines plain all words_are =
     (ask_file path plain line lines all) in
     let text = c.in_ok-lines.ensures (line ∷ lines)
     (all_from _ ask_app words _ m (codes "LINE") (line ∷ lines) app refl has words_are
-    (ask_lines path plain line lines all)) in
-    (ap₂ ask (c.in_ok-path.ensures.some path file).0 text, tt)
+    (ask_lines path plain line lines all)) in (
+      ap₂ ask (c.in_ok-path.ensures.some path file
+          (among _ _ path words_are (first_of_them path (line ∷ lines)))).0 text,
+      tt,
+    )

@@ -4,12 +4,13 @@ use Rattle.std.specs.Str.Parse.{ExplainsUnsignedError, HasUnsignedDigitsIfOk, Pa
 use Rattle.clap.specs.Words.{first_value, found_of, takes}
 use Rattle.command_line.specs.Asked.{IsPlain, Writes}
 use Rattle.command_line.specs.Commands.{build_app}
-use Rattle.command_line.proofs.PlainWords.{build_is_word, first_from, first_read, one_from}
+use Rattle.command_line.proofs.PlainWords.{first_from, one_from}
 use Rattle.command_line.proofs.BoardWords.{build_board_first, build_board_none, build_board_takes}
 use Rattle.command_line.proofs.Numbers.{numeral_accepted, numeral_is_plain, numeral_reads, without_no_minus}
 use Rattle.command_line.proofs.OptionWords.{build_one, build_path, build_takes}
 use Rattle.command_line.proofs.words.read_build.Given.{Over}
 use Rattle.command_line.proofs.words.read_build.Goals.{After-value_of, After-get_one}
+use Rattle.command_line.proofs.Contained.{among, second_of_them, third_of_them}
 use Rattle.command_line.proofs.words.read_build.Goals as goal
 
 -- the file that is found stands behind `--pips N`
@@ -76,44 +77,33 @@ pub returns-in_err-path-clause-pips : goal.returns-in_err-path-clause-pips
 returns-in_err-path-clause-pips g c n digits path w lt plain words_are is =
     let read = c.value_of.ensures.some path
     (numbered g (goal.at.returns-in_err-path-clause-pips g c).After-value_of n digits path w lt
-    plain words_are) in
+    plain words_are)
+    (among _ _ path words_are (third_of_them _ digits path [])) in
     search rules
 
 pub returns-in_err-path-clause-board : goal.returns-in_err-path-clause-board
 returns-in_err-path-clause-board g c path plain words_are is =
     let read = c.value_of.ensures.some path
     (flagged_file g (goal.at.returns-in_err-path-clause-board g c).After-value_of path plain
-    words_are) in
+    words_are)
+    (among _ _ path words_are (second_of_them _ path [])) in
     search rules
 
 pub returns-in-Database-Some-clause-asked : goal.returns-in-Database-Some-clause-asked
 returns-in-Database-Some-clause-asked g c =
-    let words = map g.S.AsStr.text c.args.words.now in
-    let read = first_read _ build_app words c.in_ok-matches.matches (codes "FILE")
-    c.in_ok-build_command.ensures refl c.in_ok-matches.ensures.matches in (
-      words,
-      refl,
-      sym c.requires,
-      build_is_word words c.in_ok-path.path.now (sym read ∙ c.in_ok-path.ensures.read),
-    )
+    (map g.S.AsStr.text c.args.words.now, refl, sym c.requires, c.in_ok-path.ensures.word)
 
 pub returns-in-Board-None-clause-asked : goal.returns-in-Board-None-clause-asked
 returns-in-Board-None-clause-asked g c =
-    let words = map g.S.AsStr.text c.args.words.now in
-    let read = first_read _ build_app words c.in_ok-matches.matches (codes "FILE")
-    c.in_ok-build_command.ensures refl c.in_ok-matches.ensures.matches in (
-      words,
-      refl,
-      sym c.requires,
-      build_is_word words c.in_ok-path.path.now (sym read ∙ c.in_ok-path.ensures.read),
-    )
+    (map g.S.AsStr.text c.args.words.now, refl, sym c.requires, c.in_ok-path.ensures.word)
 
 pub returns-in-Database-Some-clause-pips : goal.returns-in-Database-Some-clause-pips
 returns-in-Database-Some-clause-pips g c n digits path w lt plain words_are is =
     let at = goal.at.returns-in-Database-Some-clause-pips g c in
     let got = number g at.After-get_one n digits path w lt plain words_are in
     let read = c.in_ok-path.ensures.some path
-    (numbered g at.After-value_of n digits path w lt plain words_are) in
+    (numbered g at.After-value_of n digits path w lt plain words_are)
+    (among _ _ path words_are (third_of_them _ digits path [])) in
     let pips : c.in-Database-Some.pips ≡ n = search rules in
     (rw (is, pips, read.0) refl, tt)
 
@@ -127,7 +117,8 @@ pub returns-in-Board-None-clause-board : goal.returns-in-Board-None-clause-board
 returns-in-Board-None-clause-board g c path plain words_are is =
     let read = c.in_ok-path.ensures.some path
     (flagged_file g (goal.at.returns-in-Board-None-clause-board g c).After-value_of path plain
-    words_are) in
+    words_are)
+    (among _ _ path words_are (second_of_them _ path [])) in
     (rw (is, read.0) refl, tt)
 
 pub returns-clause-board : goal.returns-clause-board

@@ -1,10 +1,10 @@
 -- The file that stands among the words, with `--board` or without it.
 use Rattle.std.proofs.Common.{rules, ap, ap₂, sym, ◌∙◌, map, codes}
-use Rattle.std.proofs.lemmas.Result.{IfOk-weaker}
 use Rattle.clap.specs.Words.{App, first_of, found_of, matches_of, takes, is_simple}
 use Rattle.clap.proofs.WalkLemmas.{first_value-rows}
 use Rattle.command_line.proofs.BoardWords.{kind_first, kind_takes}
-use Rattle.command_line.proofs.PlainWords.{file_is_word, ok_no_err}
+use Rattle.command_line.proofs.PlainWords.{ok_no_err}
+use Rattle.command_line.proofs.Contained.{among, flagged_file}
 use Rattle.command_line.proofs.words.read_file.Goals as goal
 
 pub returns-in_err-matches-clause-given : goal.returns-in_err-matches-clause-given
@@ -14,17 +14,6 @@ returns-in_err-matches-clause-given g c path plain words_are =
     (ap₂ takes c.requires.1 words_are ∙ kind_takes name c.args.kind path plain) in
     search rules
 
-pub returns-clause-asked : goal.returns-clause-asked
-returns-clause-asked g c =
-    let name = c.requires.0 in
-    let words = map g.S.AsStr.text c.args.words.now in
-    let m = c.in_ok-matches.matches in
-    let rows = (c.in_ok-matches.ensures.matches (ap is_simple c.requires.1)).0 in
-    let same = first_value-rows (found_of m) (codes "FILE")
-    ∙ ap (first_of (codes "FILE")) (rows ∙ ap (λ (a : App). matches_of a words) c.requires.1) in
-    IfOk-weaker c.value_of.result _ _ (λ r h. file_is_word name words r.now (sym same ∙ h))
-    c.value_of.ensures.read
-
 pub returns-clause-given : goal.returns-clause-given
 returns-clause-given g c path plain words_are =
     let name = c.requires.0 in
@@ -33,5 +22,6 @@ returns-clause-given g c path plain words_are =
     let same = first_value-rows (found_of m) (codes "FILE")
     ∙ ap (first_of (codes "FILE")) (rows ∙ ap₂ matches_of c.requires.1 words_are)
     ∙ kind_first name c.args.kind path plain in
-    let read = c.value_of.ensures.some path same in
+    let read = c.value_of.ensures.some path same
+    (among _ _ path words_are (flagged_file c.args.kind path)) in
     (read.0, ok_no_err c.value_of.result _ read.1)

@@ -5,12 +5,13 @@ use Rattle.std.specs.Str.Parse.{ExplainsUnsignedError, HasUnsignedDigitsIfOk, Pa
 use Rattle.clap.specs.Words.{first_value, found_of, takes}
 use Rattle.command_line.specs.Asked.{IsPlain, Writes, flagged}
 use Rattle.command_line.specs.Commands.{query_app}
-use Rattle.command_line.proofs.PlainWords.{first_from, first_read, one_from, query_is_word}
+use Rattle.command_line.proofs.PlainWords.{first_from, one_from}
 use Rattle.command_line.proofs.BoardWords.{query_kind_first, query_kind_none, query_kind_takes}
 use Rattle.command_line.proofs.Numbers.{numeral_accepted, numeral_is_plain, numeral_reads, without_no_minus}
 use Rattle.command_line.proofs.OptionWords.{query_one, query_path, query_takes}
 use Rattle.command_line.proofs.words.read_query.Given.{Over}
 use Rattle.command_line.proofs.words.read_query.Goals.{After-value_of, After-get_one-cache}
+use Rattle.command_line.proofs.Contained.{among, third_of_them, flagged_file as flagged_there}
 use Rattle.command_line.proofs.words.read_query.Goals as goal
 
 -- the file that is found stands behind `--cache N`
@@ -60,14 +61,16 @@ pub returns-in_err-path-clause-file : goal.returns-in_err-path-clause-file
 returns-in_err-path-clause-file g c path plain words_are =
     let read = c.value_of.ensures.some path
     (flagged_file g (goal.at.returns-in_err-path-clause-file g c).After-value_of path plain
-    words_are) in
+    words_are)
+    (among _ _ path words_are (flagged_there c.args.kind path)) in
     search rules
 
 pub returns-in_err-path-clause-cache : goal.returns-in_err-path-clause-cache
 returns-in_err-path-clause-cache g c n digits path w more lt plain words_are is =
     let read = c.value_of.ensures.some path
     (numbered g (goal.at.returns-in_err-path-clause-cache g c).After-value_of n digits path w more
-    lt plain words_are) in
+    lt plain words_are)
+    (among _ _ path words_are (third_of_them _ digits path [])) in
     search rules
 
 pub returns-then-is_some-clause-file : goal.returns-then-is_some-clause-file
@@ -78,21 +81,15 @@ returns-then-is_some-clause-file g c path plain words_are =
 
 pub returns-clause-asked : goal.returns-clause-asked
 returns-clause-asked g c =
-    let words = map g.S.AsStr.text c.args.words.now in
-    let read = first_read _ query_app words c.in_ok-matches.matches (codes "FILE")
-    c.in_ok-query_command.ensures refl c.in_ok-matches.ensures.matches in (
-      words,
-      refl,
-      sym c.requires,
-      query_is_word words c.in_ok-path.path.now (sym read ∙ c.in_ok-path.ensures.read),
-    )
+    (map g.S.AsStr.text c.args.words.now, refl, sym c.requires, c.in_ok-path.ensures.word)
 
 pub returns-clause-file : goal.returns-clause-file
 returns-clause-file g c path plain words_are =
     let at = goal.at.returns-clause-file g c in
     let none = no_number g at.After-get_one-cache path plain words_are in
     let read = c.in_ok-path.ensures.some path
-    (flagged_file g at.After-value_of path plain words_are) in
+    (flagged_file g at.After-value_of path plain words_are)
+    (among _ _ path words_are (flagged_there c.args.kind path)) in
     (rw (read.0, none) refl, tt)
 
 pub returns-clause-cache : goal.returns-clause-cache
@@ -109,5 +106,6 @@ returns-clause-cache g c n digits path w more lt plain words_are is =
     × HasUnsignedDigitsIfOk bs r) 16 n digits c.get_one-cache.result
     (c.get_one-cache.ensures.value digits text) (λ u x h. h.0) w (omega arith) in
     let read = c.in_ok-path.ensures.some path
-    (numbered g at.After-value_of n digits path w more lt plain words_are) in
+    (numbered g at.After-value_of n digits path w more lt plain words_are)
+    (among _ _ path words_are (third_of_them _ digits path [])) in
     (rw (is, read.0, got) refl, tt)

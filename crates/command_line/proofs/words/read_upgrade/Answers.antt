@@ -1,9 +1,10 @@
-use Rattle.std.proofs.Common.{rules, ap₂, sym, ◌∙◌, map, codes, refl}
+use Rattle.std.proofs.Common.{rules, ap₂, sym, ◌∙◌, [], ◌∷◌, map, codes, refl}
 use Rattle.clap.specs.Words.{Text, takes}
 use Rattle.command_line.specs.Asked.{upgrade}
 use Rattle.command_line.specs.Commands.{upgrade_app}
-use Rattle.command_line.proofs.PlainWords.{first_from, first_read, new_first, new_is_word, old_first, old_is_word}
+use Rattle.command_line.proofs.PlainWords.{first_from, new_first, old_first}
 use Rattle.command_line.proofs.PlainWords.{upgrade_takes}
+use Rattle.command_line.proofs.Contained.{among, first_of_them, second_of_them}
 use Rattle.command_line.proofs.words.read_upgrade.Goals as goal
 
 pub returns-in_err-matches-clause-given : goal.returns-in_err-matches-clause-given
@@ -20,7 +21,8 @@ returns-in_err-old-clause-given g c old new old_plain new_plain words_are =
     let same = first_from _ upgrade_app words _ m (codes "OLD") old
     c.in_ok-upgrade_command.ensures refl
     c.in_ok-matches.ensures.matches words_are (old_first old new old_plain new_plain) in
-    let read = c.value_of.ensures.some old same in
+    let read = c.value_of.ensures.some old same
+    (among _ _ old words_are (first_of_them old (new ∷ []))) in
     search rules
 
 pub returns-in_err-new-clause-given : goal.returns-in_err-new-clause-given
@@ -30,20 +32,14 @@ returns-in_err-new-clause-given g c old new old_plain new_plain words_are =
     let same = first_from _ upgrade_app words _ m (codes "NEW") new
     c.in_ok-upgrade_command.ensures refl
     c.in_ok-matches.ensures.matches words_are (new_first old new old_plain new_plain) in
-    let read = c.value_of-2.ensures.some new same in
+    let read = c.value_of-2.ensures.some new same
+    (among _ _ new words_are (second_of_them old new [])) in
     search rules
 
 pub returns-clause-asked : goal.returns-clause-asked
 returns-clause-asked g c =
     let words = map g.S.AsStr.text c.args.words.now in
-    let m = c.in_ok-matches.matches in
-    let read = λ (id : Text). first_read _ upgrade_app words m id c.in_ok-upgrade_command.ensures
-    refl c.in_ok-matches.ensures.matches in
-    let old = old_is_word words c.in_ok-old.old.now
-    (sym (read (codes "OLD")) ∙ c.in_ok-old.ensures.read) in
-    let new = new_is_word words c.in_ok-new.new.now
-    (sym (read (codes "NEW")) ∙ c.in_ok-new.ensures.read) in
-    ((words, refl, old), (words, refl, new))
+    ((words, refl, c.in_ok-old.ensures.word), (words, refl, c.in_ok-new.ensures.word))
 
 pub returns-clause-given : goal.returns-clause-given
 returns-clause-given g c old new old_plain new_plain words_are =
@@ -55,6 +51,8 @@ returns-clause-given g c old new old_plain new_plain words_are =
     let new_same = first_from _ upgrade_app words _ m (codes "NEW") new
     c.in_ok-upgrade_command.ensures refl
     c.in_ok-matches.ensures.matches words_are (new_first old new old_plain new_plain) in
-    let o = c.in_ok-old.ensures.some old old_same in
-    let n = c.in_ok-new.ensures.some new new_same in
+    let o = c.in_ok-old.ensures.some old old_same
+    (among _ _ old words_are (first_of_them old (new ∷ []))) in
+    let n = c.in_ok-new.ensures.some new new_same
+    (among _ _ new words_are (second_of_them old new [])) in
     (ap₂ upgrade o.0 n.0, tt)
