@@ -1,5 +1,6 @@
 mod CommandFaults
 mod Explained
+mod KeptFiles
 mod Levels
 mod OpenedFiles
 mod Requests

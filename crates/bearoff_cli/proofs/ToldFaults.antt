@@ -307,3 +307,25 @@ told_end remaining asked input left old new (Err (Explained it)) status Line Sam
         refusal.2,
       ),
     )
+
+-- no fault has the status 0
+some_status : (fault : Fault) → status_of fault ≡ 0 → ⊥
+some_status Open is = omega (arith, is)
+some_status File is = omega (arith, is)
+some_status Read is = omega (arith, is)
+some_status Write is = omega (arith, is)
+some_status Memory is = omega (arith, is)
+some_status Turns is = omega (arith, is)
+some_status OverBound is = omega (arith, is)
+some_status (Refused cause) is = omega (arith, is)
+some_status NotOld is = omega (arith, is)
+
+-- what holds of a request that was fulfilled holds at the status 0
+pub told_done : {A P : Type 0} (r : Result A ProgramFault) (status : ℕ) (Line : List ℕ → Type 0)
+    → IfErr r (λ refusal. IsToldBy refusal status Line) → OnOk r P → status ≡ 0 → P
+told_done (Ok x) status Line told done none = done
+told_done (Err (Words e)) status Line told done none = absurd (omega (arith, told, none))
+told_done (Err (Failed e)) status Line told done none =
+    absurd (some_status e (sym told.0 ∙ none))
+told_done (Err (Explained it)) status Line told done none =
+    absurd (some_status it.fault (sym told.0 ∙ none))

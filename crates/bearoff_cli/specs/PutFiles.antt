@@ -1,14 +1,18 @@
--- What stands where a path leads once a command has written a file there. Source: this project's
--- profile.
-use Rattle.std.specs.Prelude.{◌≡◌, ℕ, List, Option}
+-- What stands where a path leads once a command has written a file there, and what a command leaves
+-- of the disk and of its input, however it ends. Source: this project's profile.
+use Rattle.std.specs.Prelude.{◌≡◌, ℕ, ◌⊎◌, List, ◌∷◌, Option, Some, None}
+use Rattle.std.specs.String.{string_bytes}
 use Rattle.race_model.specs.Files.{version_of}
 use Rattle.race_model.specs.RightFiles.{IsRightDatabase}
 use Rattle.race_model.specs.Upgrades.{IsUpgrade}
 use Rattle.race_model.specs.Versions.{full}
-use Rattle.command_line.specs.Asked.{Asked, default, build, check, query, ask, about, audit, upgrade}
-use Rattle.whole_file.specs.Disks.{Moment}
-use Rattle.whole_file.specs.Paths.{Paths}
+use Rattle.command_line.specs.Asked.{Asked, IsAskedBy, default, build, check, query, ask, about, audit}
+use Rattle.command_line.specs.Asked.{upgrade}
+use Rattle.whole_file.specs.Disks.{Moment, Goes, Holds, Lastly}
+use Rattle.whole_file.specs.Drafts.{IsDraft, IsOldOrWhole}
+use Rattle.whole_file.specs.Paths.{Paths, IsFixed, LeadsTo, place_of}
 use Rattle.whole_file.specs.Puts.{Puts}
+use Rattle.whole_file.specs.declared.draft.Names.{Names}
 use Rattle.bearoff_cli.specs.Kinds.{IsBuiltOf}
 
 -- the upgrade of a right database of version 1 was put where a path leads
@@ -26,3 +30,59 @@ PutsFor paths (ask path lines) old new = Unit {0}
 PutsFor paths (about path) old new = Unit {0}
 PutsFor paths (audit kind path) old new = Unit {0}
 PutsFor paths (upgrade before after) old new = PutsUpgrade paths after old new
+
+-- at each moment a crash leaves at a path what it might have left at first, or a file of which this
+-- holds; and in the end there stands what stood there, or such a file
+pub record IsKeptAt (paths : Paths) (path : List ℕ) (Whole : List ℕ → Type 0) (first : Moment)
+    (past : List Moment) (told : Option (List Moment)) : Type 0 where
+  pub goes : Goes (IsOldOrWhole (place_of paths path) Whole first) (first ∷ past) told
+  pub ends : Lastly (λ now. (now.at (place_of paths path) ≡ first.at (place_of paths path))
+      ⊎ ((bytes : List ℕ) × Whole bytes × Holds now (place_of paths path) bytes)) told
+
+-- where a disk tells its moments, so it is where a path leads; or, as no file can take that place,
+-- the old one was emptied, to be written straight, and the disk tells nothing more
+abbrev pub KeepsBehind : Paths → List ℕ → (List ℕ → Type 0) → Option (List Moment)
+    → Option (List Moment) → Type 0
+KeepsBehind paths path Whole old new = (first : Moment) (past : List Moment)
+    → old ≡ Some (first ∷ past) → (to : List ℕ) → LeadsTo paths path to
+    → ((new ≡ None) × IsFixed paths path) ⊎ IsKeptAt paths to Whole first past new
+
+-- so a file was ended which was written to its end as these bytes
+abbrev pub IsEnded : Paths → Option Names → Option (List ℕ) → Option (List Moment)
+    → Option (List Moment) → Type 0
+IsEnded paths None contents old new = old ≡ None → new ≡ None
+IsEnded paths (Some names) contents old new = (bytes : List ℕ) (first : Moment)
+    (past : List Moment) → contents ≡ Some bytes → old ≡ Some (first ∷ past)
+    → IsDraft paths names first
+    → IsKeptAt paths (string_bytes names.place) (λ b. b ≡ bytes) first past new
+
+-- .. where it is an upgrade: nothing changed, or a right database of version 1 was read
+abbrev pub KeepsUpgrade : Paths → List ℕ → Option (List Moment) → Option (List Moment) → Type 0
+KeepsUpgrade paths path old new = (new ≡ old) ⊎ ((file : List ℕ) × IsRightDatabase file
+    × (version_of file ≡ full) × KeepsBehind paths path (IsUpgrade file) old new)
+
+-- what a request leaves of the disk, however it ends: all of it, where it writes no file; else,
+-- where its path leads, the old file or the whole new one
+abbrev pub LeavesFor : Paths → Asked → Option (List Moment) → Option (List Moment) → Type 0
+LeavesFor paths default old new = new ≡ old
+LeavesFor paths (build kind pips path) old new =
+    KeepsBehind paths path (IsBuiltOf kind pips) old new
+LeavesFor paths (check kind path) old new = new ≡ old
+LeavesFor paths (query kind path records) old new = new ≡ old
+LeavesFor paths (ask path lines) old new = new ≡ old
+LeavesFor paths (about path) old new = new ≡ old
+LeavesFor paths (audit kind path) old new = new ≡ old
+LeavesFor paths (upgrade before after) old new = KeepsUpgrade paths after old new
+
+-- .. and of the input: all of it, where it answers no lines of it
+abbrev pub LeavesInput : Asked → Option (List ℕ) → Option (List ℕ) → Type 0
+LeavesInput default input left = Unit {0}
+LeavesInput (query kind path records) input left = Unit {0}
+LeavesInput _ input left = left ≡ input
+
+-- words that ask for nothing, or for help, leave both as they were
+abbrev pub LeavesBy : Paths → List (List ℕ) → Option (List Moment) → Option (List Moment)
+    → Option (List ℕ) → Option (List ℕ) → Type 0
+LeavesBy paths words old new input left = ((new ≡ old) × (left ≡ input))
+    ⊎ ((asked : Asked) × IsAskedBy words asked × LeavesFor paths asked old new
+    × LeavesInput asked input left)

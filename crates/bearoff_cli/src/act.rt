@@ -13,7 +13,7 @@ ghost use Rattle.exit_status.specs.Meanings.{meaning_line};
 ghost use Rattle.exit_status.specs.Statuses.{status_of};
 ghost use Rattle.exit_status.specs.declared.fault.Fault.{Fault};
 ghost use Rattle.exit_status.specs.declared.fault.Fault.TheVariants.{OverBound, Write};
-ghost use Rattle.command_line.specs.Asked.{Asked, asked_by};
+ghost use Rattle.command_line.specs.Asked.{Asked, IsAskedBy, asked_by};
 ghost use Rattle.certificate.specs.CheckFaults.{IsFirst};
 ghost use Rattle.certificate.specs.declared.check_fault.CheckFault.{CheckFault};
 ghost use Rattle.bearoff_cli.specs.Tellings.{IsExplainedFor, IsReasonOf, IsToldBy, IsWritten, MayTell, Tells};
@@ -24,6 +24,7 @@ ghost use Rattle.bearoff_cli.specs.InputAnswers.{AreAnswered, AreAnsweredOver};
 ghost use Rattle.bearoff_cli.specs.FileAnswers.{AreAnsweredFrom, IsHandedTo, SaysAbout, SaysRight, SaysUpgraded};
 ghost use Rattle.bearoff_cli.specs.FileAnswers.{SaysLevels, about_text};
 ghost use Rattle.whole_file.specs.Puts.{Puts};
+ghost use Rattle.bearoff_cli.specs.PutFiles.{KeepsBehind, KeepsUpgrade, LeavesBy, LeavesFor, LeavesInput};
 ghost use Rattle.bearoff_cli.specs.PutFiles.{PutsFor, PutsUpgrade};
 ghost use Rattle.retrograde.specs.UsualVersion.{usual_version};
 ghost use Rattle.bearoff_cli.specs.FileAnswers.{count_line};
@@ -97,6 +98,11 @@ where
         → IsDone R.File.remaining ⟦<BufWriter<R::File> as Write>⟧.contents asked
         (I.remaining input.old) (I.remaining input.new)
         (O.contents output.old) (O.contents output.new) }
+    ensures unread { (asked : Asked) → Asks (map S.text words.entry.now) asked
+        → LeavesInput asked (I.remaining input.old) (I.remaining input.new) }
+    ensures other { (I.remaining input.new ≡ I.remaining input.old)
+        ⊎ ((asked : Asked) × IsAskedBy (map S.text words.entry.now) asked
+        × LeavesInput asked (I.remaining input.old) (I.remaining input.new)) }
 {
     let told = act_on(
         &mut SystemDisk::new(rt),
@@ -110,8 +116,10 @@ where
 }
 
 /// The same over any disk: [`act`] is that over the system's, which tells nothing of what it has.
-/// Where a disk tells its moments, at 0 a file that was to be written stands there as a whole. It
-/// tells, too, whether the line was written: where no write failed, all of it was.
+/// Where a disk tells its moments, at 0 a file that was to be written stands there as a whole; at
+/// any status there stands the old file or the whole new one, also after a crash; and a command
+/// that writes no file, wrong words, and a refusal leave all of the disk as it was. It tells, too,
+/// whether the line was written: where no write failed, all of it was.
 pub fn act_on<D: Disk, S: AsStr, I: Read, O: Write, E: Write>(
     disk: &mut D,
     alloc: Global,
@@ -140,6 +148,13 @@ pub fn act_on<D: Disk, S: AsStr, I: Read, O: Write, E: Write>(
     ensures put { (asked : Asked) → Asks (map S.text words.entry.now) asked
         → result.status ≡ 0
         → PutsFor (D.paths disk.old) asked (D.told disk.old) (D.told disk.new) }
+    ensures stays { 1 < result.status → D.told disk.new ≡ D.told disk.old }
+    ensures leaves { (asked : Asked) → Asks (map S.text words.entry.now) asked
+        → LeavesFor (D.paths disk.old) asked (D.told disk.old) (D.told disk.new) }
+    ensures unread { (asked : Asked) → Asks (map S.text words.entry.now) asked
+        → LeavesInput asked (I.remaining input.old) (I.remaining input.new) }
+    ensures other { LeavesBy (D.paths disk.old) (map S.text words.entry.now)
+        (D.told disk.old) (D.told disk.new) (I.remaining input.old) (I.remaining input.new) }
 {
     tell(perform(disk, alloc, words, input, output), errors)
 }
@@ -254,6 +269,13 @@ fn perform<'a, D: Disk, S: AsStr, I: Read, O: Write>(
         (O.contents output.old) (O.contents output.new)) }
     ensures put { (asked : Asked) → Asks (map S.text words.entry.now) asked
         → OnOk result (PutsFor (D.paths disk.old) asked (D.told disk.old) (D.told disk.new)) }
+    ensures stays { KeepsIfTold result (D.told disk.old) (D.told disk.new) }
+    ensures leaves { (asked : Asked) → Asks (map S.text words.entry.now) asked
+        → LeavesFor (D.paths disk.old) asked (D.told disk.old) (D.told disk.new) }
+    ensures unread { (asked : Asked) → Asks (map S.text words.entry.now) asked
+        → LeavesInput asked (I.remaining input.old) (I.remaining input.new) }
+    ensures other { LeavesBy (D.paths disk.old) (map S.text words.entry.now)
+        (D.told disk.old) (D.told disk.new) (I.remaining input.old) (I.remaining input.new) }
 {
     match read_words(alloc, words) {
         Ok(request) => fulfil(disk, alloc, request, input, output),
@@ -303,6 +325,11 @@ fn fulfil<'a, D: Disk, I: Read, O: Write>(
         (I.remaining input.new) (O.contents output.old) (O.contents output.new)) }
     ensures put { OnOk result (PutsFor (D.paths disk.old) (asked_by request.entry)
         (D.told disk.old) (D.told disk.new)) }
+    ensures stays { KeepsIfTold result (D.told disk.old) (D.told disk.new) }
+    ensures leaves { LeavesFor (D.paths disk.old) (asked_by request.entry)
+        (D.told disk.old) (D.told disk.new) }
+    ensures unread { LeavesInput (asked_by request.entry)
+        (I.remaining input.old) (I.remaining input.new) }
 {
     match request {
         Request::Default => refused(answer_default(alloc, input, output)),
@@ -373,6 +400,7 @@ fn answer_file<D: Disk, I: Read, O: Write>(
     ensures answers { OnOk result (WhereTold (I.remaining input.old) (λ given.
         AreAnsweredFrom (file_of kind) D.Reader.remaining given (I.remaining input.new)
         (O.contents output.old) (O.contents output.new))) }
+    ensures stays { D.told disk.new ≡ D.told disk.old }
 {
     let file = read_file(disk, alloc, path)?;
     answer_bytes(alloc, kind, file.as_slice(), input, output)
@@ -397,6 +425,7 @@ fn ask_file<D: Disk, O: Write>(
         (O.contents output.old) (O.contents output.new) fault) }
     ensures answers { OnOk result (AreAnsweredFrom stated_file D.Reader.remaining lines.now
         (Some []) (O.contents output.old) (O.contents output.new)) }
+    ensures stays { D.told disk.new ≡ D.told disk.old }
 {
     let file = read_file(disk, alloc, path)?;
     let bytes = file.as_slice();
@@ -417,6 +446,7 @@ fn answer_pages<D: Disk, I: Read, O: Write>(
     ensures refused { KeepsIfRefused result (O.contents output.old) (O.contents output.new) }
     ensures cause { IfErr result IsQueryFault }
     ensures turns { IfErr result (UsesTurns (I.remaining input.old) (I.remaining input.new)) }
+    ensures stays { D.told disk.new ≡ D.told disk.old }
 {
     let room = stack_room(alloc)?;
     let Ok(file) = disk.open_to_read(path) else {
@@ -533,6 +563,9 @@ fn write_built<D: Disk, O: Write>(
         (D.told disk.old) (D.told disk.new)) }
     ensures built { OnOk result (Appends (O.contents output.old) (O.contents output.new)
         (count_line Built pips (count_to pips))) }
+    ensures kept { KeepsBehind (D.paths disk.old) path.now (IsBuiltOf kind pips)
+        (D.told disk.old) (D.told disk.new) }
+    ensures stays { KeepsIfRefused result (D.told disk.old) (D.told disk.new) }
 {
     if pips > greatest(kind) {
         return Err(Fault::OverBound);
@@ -558,6 +591,7 @@ fn check_file<D: Disk, O: Write>(
     ensures right { OnOk result
         (SaysRight (file_of kind) D.Reader.remaining
         (O.contents output.old) (O.contents output.new)) }
+    ensures stays { D.told disk.new ≡ D.told disk.old }
 {
     let bytes = read_file(disk, alloc, path)?;
     let kept = accept(kind, bytes.as_slice())?;
@@ -578,6 +612,7 @@ fn about_file<'a, D: Disk, O: Write>(
         (O.contents output.old) (O.contents output.new)) }
     ensures about { OnOk result (SaysAbout D.Reader.remaining
         (O.contents output.old) (O.contents output.new)) }
+    ensures stays { D.told disk.new ≡ D.told disk.old }
 {
     let file = match read_file(disk, alloc, path) {
         Ok(file) => file,
@@ -671,6 +706,7 @@ fn audit_file<D: Disk, O: Write>(
     ensures levels { OnOk result
         (SaysLevels (file_of kind) D.Reader.remaining
         (O.contents output.old) (O.contents output.new)) }
+    ensures stays { D.told disk.new ≡ D.told disk.old }
 {
     let bytes = read_file(disk, alloc, path)?;
     let kept = accept(kind, bytes.as_slice())?;
@@ -698,6 +734,8 @@ fn upgrade_database<D: Disk, O: Write>(
         (O.contents output.old) (O.contents output.new)) }
     ensures put { OnOk result (PutsUpgrade (D.paths disk.old) new.now
         (D.told disk.old) (D.told disk.new)) }
+    ensures kept { KeepsUpgrade (D.paths disk.old) new.now (D.told disk.old) (D.told disk.new) }
+    ensures stays { KeepsIfRefused result (D.told disk.old) (D.told disk.new) }
 {
     let bytes = read_file(disk, alloc, old)?;
     let mut told = check(Whole::new(bytes.as_slice()));

@@ -1,5 +1,5 @@
 //! Files, read and written by blocks.
-ghost use Rattle.std.specs.Prelude.{◌≡◌, ◌≤◌, length, take, Ok, Err, IfOk, IfErr, OnOk};
+ghost use Rattle.std.specs.Prelude.{◌≡◌, ◌≤◌, length, take, Ok, Err, IfOk, IfErr, OnOk, OnErr};
 ghost use Rattle.std.specs.Io.KnownBytes.{Consumes, IsAtEnd, Keeps};
 ghost use Rattle.exit_status.specs.Statuses.{status_of};
 ghost use Rattle.exit_status.specs.declared.fault.Fault.TheVariants.{File, Write, Memory};
@@ -7,13 +7,15 @@ ghost use Rattle.retrograde.specs.BuiltBoards.{IsBuiltBoard};
 ghost use Rattle.bearoff_cli.specs.Faults.{IsBuildFault, IsReadFault, IsUpgradeFault, of_unread};
 ghost use Rattle.bearoff_cli.specs.FileAnswers.{IsHandedTo, IsReadFrom};
 ghost use Rattle.bearoff_cli.specs.Kinds.{IsBuiltOf, WritesBuiltOf, greatest};
+ghost use Rattle.bearoff_cli.specs.PutFiles.{IsEnded, KeepsBehind};
 ghost use Rattle.command_line.specs.declared.words.FileKind.TheVariants.{Database, Board};
 ghost use Rattle.race_model.specs.Versions.{full};
 ghost use Rattle.db_reader.specs.Telling.{WhereTold};
 ghost use Rattle.certificate.specs.Upgrades.{WritesUpgrade};
 ghost use Rattle.race_model.specs.Upgrades.{IsUpgrade};
 ghost use Rattle.std.specs.Io.Buffered.{writer_contents};
-ghost use Rattle.whole_file.specs.Drafts.{IsBegun, IsPut};
+ghost use Rattle.whole_file.specs.Drafts.{IsBegun, IsDropped, IsPut};
+ghost use Rattle.whole_file.specs.Paths.{PathStays};
 ghost use Rattle.whole_file.specs.Puts.{Puts};
 
 use certificate::Checked;
@@ -169,6 +171,8 @@ fn begin_file<D: Disk>(disk: &mut D, alloc: Global, path: &str) -> Result<Draft<
     ensures paths { D.paths disk.new ≡ D.paths disk.old }
     ensures begun { IfOk result (λ draft. IsBegun (D.paths disk.old) path.now draft.names
         (writer_contents D.File.contents draft.writer) (D.told disk.old) (D.told disk.new)) }
+    ensures stays { OnErr result
+        (PathStays (D.paths disk.old) path.now (D.told disk.old) (D.told disk.new)) }
 {
     match begin(disk, alloc, path) {
         Ok(draft) => Ok(draft),
@@ -188,6 +192,10 @@ fn finish_file<D: Disk>(
     ensures put { OnOk result (IsPut (D.paths disk.old) draft.names
         (writer_contents D.File.contents draft.writer) (D.told disk.old) (D.told disk.new)
         (Ok (tt {0}))) }
+    ensures kept { OnOk written (IsEnded (D.paths disk.old) draft.names
+        (writer_contents D.File.contents draft.writer) (D.told disk.old) (D.told disk.new)) }
+    ensures dropped { OnErr written
+        (IsDropped (D.paths disk.old) draft.names (D.told disk.old) (D.told disk.new)) }
 {
     match written {
         Ok(()) => match draft.finish(disk, Ok(())) {
@@ -230,6 +238,8 @@ pub fn build_file<D: Disk>(
     ensures paths { D.paths disk.new ≡ D.paths disk.old }
     ensures put { OnOk result (Puts (D.paths disk.old) path.now (IsBuiltOf kind pips)
         (D.told disk.old) (D.told disk.new)) }
+    ensures kept { KeepsBehind (D.paths disk.old) path.now (IsBuiltOf kind pips)
+        (D.told disk.old) (D.told disk.new) }
 {
     match kind {
         FileKind::Database => build_database(disk, alloc, pips, path),
@@ -245,6 +255,8 @@ fn build_database<D: Disk>(disk: &mut D, alloc: Global, pips: u8, path: &str) ->
     ensures paths { D.paths disk.new ≡ D.paths disk.old }
     ensures put { OnOk result (Puts (D.paths disk.old) path.now (IsBuiltOf Database pips)
         (D.told disk.old) (D.told disk.new)) }
+    ensures kept { KeepsBehind (D.paths disk.old) path.now (IsBuiltOf Database pips)
+        (D.told disk.old) (D.told disk.new) }
 {
     let room = stack_room(alloc)?;
     let ready = ReadyBuild::new(alloc, pips)?;
@@ -273,6 +285,8 @@ fn build_board_file<D: Disk>(disk: &mut D, alloc: Global, pips: u8, path: &str) 
     ensures paths { D.paths disk.new ≡ D.paths disk.old }
     ensures put { OnOk result (Puts (D.paths disk.old) path.now (IsBuiltOf Board pips)
         (D.told disk.old) (D.told disk.new)) }
+    ensures kept { KeepsBehind (D.paths disk.old) path.now (IsBuiltOf Board pips)
+        (D.told disk.old) (D.told disk.new) }
 {
     let room = stack_room(alloc)?;
     let mut file = board_room(alloc, pips)?;
@@ -337,6 +351,8 @@ pub fn upgrade_file<D: Disk, T: Table>(
     ensures paths { D.paths disk.new ≡ D.paths disk.old }
     ensures put { WhereTold checked.old.told (λ file. OnOk result (Puts (D.paths disk.old) path.now
         (IsUpgrade file) (D.told disk.old) (D.told disk.new))) }
+    ensures kept { WhereTold checked.old.told (λ file. KeepsBehind (D.paths disk.old) path.now
+        (IsUpgrade file) (D.told disk.old) (D.told disk.new)) }
     ensures cause { IfErr result IsUpgradeFault }
     ensures fault { checked.old.version ≡ full → IfErr result (λ fault. status_of fault ≡ 1) }
     ensures stays { (checked.new.told ≡ checked.old.told)

@@ -1,4 +1,5 @@
 -- What was written of the line is a part of it, whether all of it was or not.
+use Rattle.std.proofs.Common.{⊎_elim, inl, inr}
 use Rattle.bearoff_cli.proofs.act.act.Goals as goal
 
 pub returns-clause-told : goal.returns-clause-told
@@ -10,3 +11,7 @@ pub returns-clause-fault : goal.returns-clause-fault
 returns-clause-fault g c asked asks some =
     let told = c.act_on-told.ensures.fault asked asks some in
     (told.0, told.1, (told.2.0, told.2.1, told.2.2.0, told.2.3))
+
+pub returns-clause-other : goal.returns-clause-other
+returns-clause-other g c =
+    ⊎_elim (λ same. inl same.1) (λ so. inr (so.0, so.1, so.3)) c.act_on-told.ensures.other

@@ -1,7 +1,7 @@
 -- The end of a request that was refused is told.
 use Rattle.std.proofs.Common.{map}
 use Rattle.bearoff_cli.specs.Tellings.{IsWritten}
-use Rattle.bearoff_cli.proofs.ToldFaults.{told_any, told_end}
+use Rattle.bearoff_cli.proofs.ToldFaults.{told_any, told_done, told_end}
 use Rattle.bearoff_cli.proofs.act.act_on.Goals as goal
 
 pub returns-clause-told : goal.returns-clause-told
@@ -19,3 +19,10 @@ returns-clause-fault g c asked asks some =
     (λ line. IsWritten c.tell.result.line (g.E.Write.contents c.args.errors.now)
     (g.E.Write.contents c.tell.new.errors) line) _ c.tell.ensures.silent c.tell.ensures.told
     (c.perform.ensures.fault asked asks) some
+
+pub returns-clause-done : goal.returns-clause-done
+returns-clause-done g c asked asks none =
+    told_done c.perform.result c.tell.result.status
+    (λ line. IsWritten c.tell.result.line (g.E.Write.contents c.args.errors.now)
+    (g.E.Write.contents c.tell.new.errors) line) c.tell.ensures.told
+    (c.perform.ensures.done asked asks) none

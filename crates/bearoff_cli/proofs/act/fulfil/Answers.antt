@@ -154,3 +154,75 @@ returns-in-Ask-clause-fault g c =
     c.ask_file.result c.refused-in-Ask.result it.cause it.fault (any_fault c.ask_file.result)
     (IfErr-weaker c.ask_file.result _ _ (λ fault leaves. (refl, leaves)) it.left)
     c.refused-in-Ask.ensures.done c.refused-in-Ask.ensures.fault))
+
+pub returns-in-Default-clause-leaves : goal.returns-in-Default-clause-leaves
+returns-in-Default-clause-leaves g c = rw c.in-Default.is refl
+
+pub returns-in-Default-clause-unread : goal.returns-in-Default-clause-unread
+returns-in-Default-clause-unread g c = rw c.in-Default.is tt
+
+pub returns-in-Build-clause-leaves : goal.returns-in-Build-clause-leaves
+returns-in-Build-clause-leaves g c = rw c.in-Build.is c.write_built.ensures.kept
+
+pub returns-in-Build-clause-unread : goal.returns-in-Build-clause-unread
+returns-in-Build-clause-unread g c = rw c.in-Build.is refl
+
+pub returns-in-Check-clause-leaves : goal.returns-in-Check-clause-leaves
+returns-in-Check-clause-leaves g c = rw c.in-Check.is c.check_file.ensures.stays
+
+pub returns-in-Check-clause-unread : goal.returns-in-Check-clause-unread
+returns-in-Check-clause-unread g c = rw c.in-Check.is refl
+
+pub returns-in-Ask-clause-leaves : goal.returns-in-Ask-clause-leaves
+returns-in-Ask-clause-leaves g c = rw c.in-Ask.is c.ask_file.ensures.stays
+
+pub returns-in-Ask-clause-unread : goal.returns-in-Ask-clause-unread
+returns-in-Ask-clause-unread g c = rw c.in-Ask.is refl
+
+pub returns-in-About-clause-leaves : goal.returns-in-About-clause-leaves
+returns-in-About-clause-leaves g c = rw c.in-About.is c.about_file.ensures.stays
+
+pub returns-in-About-clause-unread : goal.returns-in-About-clause-unread
+returns-in-About-clause-unread g c = rw c.in-About.is refl
+
+pub returns-in-Audit-clause-leaves : goal.returns-in-Audit-clause-leaves
+returns-in-Audit-clause-leaves g c = rw c.in-Audit.is c.audit_file.ensures.stays
+
+pub returns-in-Audit-clause-unread : goal.returns-in-Audit-clause-unread
+returns-in-Audit-clause-unread g c = rw c.in-Audit.is refl
+
+pub returns-in-Upgrade-clause-leaves : goal.returns-in-Upgrade-clause-leaves
+returns-in-Upgrade-clause-leaves g c = rw c.in-Upgrade.is c.upgrade_database.ensures.kept
+
+pub returns-in-Upgrade-clause-unread : goal.returns-in-Upgrade-clause-unread
+returns-in-Upgrade-clause-unread g c = rw c.in-Upgrade.is refl
+
+pub returns-in-Query-default-default-None-clause-leaves :
+    goal.returns-in-Query-default-default-None-clause-leaves
+returns-in-Query-default-default-None-clause-leaves g c =
+    let at = c.in-Query-default-default-None in
+    let asked : asked_by c.args.request ≡ query at.kind at.path.now None = search rules in
+    rw asked c.answer_file.ensures.stays
+
+pub returns-in-Query-default-default-None-clause-unread :
+    goal.returns-in-Query-default-default-None-clause-unread
+returns-in-Query-default-default-None-clause-unread g c =
+    let at = c.in-Query-default-default-None in
+    let asked : asked_by c.args.request ≡ query at.kind at.path.now None = search rules in
+    rw asked tt
+
+pub returns-in-Query-default-default-Some-clause-leaves :
+    goal.returns-in-Query-default-default-Some-clause-leaves
+returns-in-Query-default-default-Some-clause-leaves g c =
+    let at = c.in-Query-default-default-Some in
+    let asked : asked_by c.args.request ≡ query at.kind at.path.now (Some at.records) =
+    search rules in
+    rw asked c.answer_pages.ensures.stays
+
+pub returns-in-Query-default-default-Some-clause-unread :
+    goal.returns-in-Query-default-default-Some-clause-unread
+returns-in-Query-default-default-Some-clause-unread g c =
+    let at = c.in-Query-default-default-Some in
+    let asked : asked_by c.args.request ≡ query at.kind at.path.now (Some at.records) =
+    search rules in
+    rw asked tt

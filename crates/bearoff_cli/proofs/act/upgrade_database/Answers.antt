@@ -2,16 +2,18 @@
 use Rattle.std.proofs.Common.{◌≡◌, Some, Err, IfOk, inl, inr, rules, ap, ◌∙◌, subst, sym}
 use Rattle.std.specs.Prelude.{OnOk}
 use Rattle.std.specs.Io.Buffered.{writer_contents}
-use Rattle.std.proofs.lemmas.Result.{IfOk-weaker}
+use Rattle.std.proofs.lemmas.Result.{IfErr-weaker, IfOk-weaker}
 use Rattle.race_model.specs.Ranks.{count_to}
 use Rattle.race_model.specs.Files.{version_of}
 use Rattle.race_model.specs.RightFiles.{IsRightDatabase}
 use Rattle.epc_query.specs.AnyFiles.{database_file}
+use Rattle.exit_status.specs.Statuses.{status_of}
 use Rattle.bearoff_cli.specs.FileAnswers.{IsReadFrom}
 use Rattle.bearoff_cli.specs.StoppedRuns.{SaysUpgradedPart}
 use Rattle.bearoff_cli.specs.declared.act.Done.TheVariants.{Upgraded}
 use Rattle.bearoff_cli.proofs.OpenedFiles.{err-weaker, is_full, on_ok, upgrade_read}
 use Rattle.bearoff_cli.proofs.StoppedRuns.{line_part, read_part}
+use Rattle.bearoff_cli.proofs.KeptFiles.{low_status}
 use Rattle.bearoff_cli.proofs.act.upgrade_database.Goals as goal
 
 pub returns-clause-upgraded : goal.returns-clause-upgraded
@@ -103,3 +105,63 @@ returns-in_err-upgrade_file-clause-fault g c =
     let same : c.from_residual-in_err-upgrade_file.result ≡ Err c.in_err-upgrade_file.field-0.0 =
     search rules in
     rw same (inl (c.in_err-upgrade_file.ensures.fault old))
+
+pub returns-clause-kept : goal.returns-clause-kept
+returns-clause-kept g c =
+    let file = c.as_slice.result.now in
+    let accepted = c.in_ok-checked.ensures.checked in
+    let told = subst (λ r. IfOk r (λ checked. checked.told ≡ Some file)) accepted
+    (IfOk-weaker c.check-told.result _ _ (λ checked is. is ∙ c.new.ensures.tells)
+    c.check-told.ensures.told) in
+    let right = subst (λ r. OnOk r (IsRightDatabase file)) accepted
+    (c.check-told.ensures.right file c.new.ensures.tells) in
+    let version = c.version.ensures.version file told in
+    let old =
+    is_full (version_of file) (λ e. c.if-version-eq-COMPACT_VERSION.false (version ∙ e)) in
+    inr (
+      file,
+      right,
+      old,
+      rw (c.in_ok-bytes.ensures.paths, c.in_ok-bytes.ensures.stays) at
+          (c.in_ok-upgrade_file.ensures.kept file told),
+    )
+
+pub returns-in_err-upgrade_file-clause-kept : goal.returns-in_err-upgrade_file-clause-kept
+returns-in_err-upgrade_file-clause-kept g c =
+    let file = c.as_slice.result.now in
+    let accepted = c.in_ok-checked.ensures.checked in
+    let told = subst (λ r. IfOk r (λ checked. checked.told ≡ Some file)) accepted
+    (IfOk-weaker c.check-told.result _ _ (λ checked is. is ∙ c.new.ensures.tells)
+    c.check-told.ensures.told) in
+    let right = subst (λ r. OnOk r (IsRightDatabase file)) accepted
+    (c.check-told.ensures.right file c.new.ensures.tells) in
+    let version = c.version.ensures.version file told in
+    let old =
+    is_full (version_of file) (λ e. c.if-version-eq-COMPACT_VERSION.false (version ∙ e)) in
+    inr (
+      file,
+      right,
+      old,
+      rw (c.in_ok-bytes.ensures.paths, c.in_ok-bytes.ensures.stays) at
+          (c.in_err-upgrade_file.ensures.kept file told),
+    )
+
+pub returns-in_err-checked-clause-kept : goal.returns-in_err-checked-clause-kept
+returns-in_err-checked-clause-kept g c = inl c.in_ok-bytes.ensures.stays
+
+pub returns-in_err-bytes-clause-kept : goal.returns-in_err-bytes-clause-kept
+returns-in_err-bytes-clause-kept g c = inl c.in_err-bytes.ensures.stays
+
+pub returns-in_err-upgrade_file-clause-stays : goal.returns-in_err-upgrade_file-clause-stays
+returns-in_err-upgrade_file-clause-stays g c =
+    let old = is_full c.in_ok-checked.checked.now.version
+    (λ e. c.if-version-eq-COMPACT_VERSION.false (c.version.ensures.accepted ∙ e)) in
+    let same : c.from_residual-in_err-upgrade_file.result ≡ Err c.in_err-upgrade_file.field-0.0 =
+    search rules in
+    rw same (low_status c.in_err-upgrade_file.field-0.0 _ _
+    (c.in_err-upgrade_file.ensures.fault old))
+
+pub returns-clause-stays : goal.returns-clause-stays
+returns-clause-stays g c =
+    IfErr-weaker c.write_count.result _ _ (λ fault is. low_status fault _ _ (ap status_of is))
+    c.write_count.ensures.cause

@@ -1,9 +1,11 @@
 -- The built board file was handed to the writer of the file that was begun.
+use Rattle.std.proofs.Common.{refl}
 use Rattle.std.specs.Io.Buffered.{writer_contents}
 use Rattle.command_line.specs.declared.words.FileKind.TheVariants.{Board}
 use Rattle.bearoff_cli.specs.Kinds.{IsBuiltOf, WritesBuiltOf}
 use Rattle.whole_file.proofs.Puts.{puts}
 use Rattle.bearoff_cli.proofs.OpenedFiles.{handed}
+use Rattle.bearoff_cli.proofs.KeptFiles.{keeps, keeps_same, keeps_stays}
 use Rattle.bearoff_cli.proofs.files.build_board_file.Goals as goal
 
 pub returns-clause-built : goal.returns-clause-built
@@ -20,3 +22,23 @@ returns-clause-put g c =
     c.build_board_into-written.result c.finish_file.result c.in_ok-draft.ensures.begun
     c.build_board_into-written.ensures.built c.finish_file.ensures.fault
     (rw c.in_ok-draft.ensures.paths at c.finish_file.ensures.put)
+
+pub returns-clause-kept : goal.returns-clause-kept
+returns-clause-kept g c =
+    keeps (g.D.Disk.paths c.args.disk.now) c.args.path.now c.in_ok-draft.draft.names _ _
+    (g.D.Disk.told c.args.disk.now) _ _ (IsBuiltOf Board c.args.pips)
+    c.build_board_into-written.result c.in_ok-draft.ensures.begun
+    c.build_board_into-written.ensures.built
+    (rw c.in_ok-draft.ensures.paths at c.finish_file.ensures.kept)
+    (rw c.in_ok-draft.ensures.paths at c.finish_file.ensures.dropped)
+
+pub returns-in_err-draft-clause-kept : goal.returns-in_err-draft-clause-kept
+returns-in_err-draft-clause-kept g c =
+    keeps_stays (g.D.Disk.paths c.args.disk.now) c.args.path.now _ _ (IsBuiltOf Board c.args.pips)
+    c.in_err-draft.ensures.stays
+
+pub returns-in_err-file-clause-kept : goal.returns-in_err-file-clause-kept
+returns-in_err-file-clause-kept g c = keeps_same _ _ _ _ _ refl
+
+pub returns-in_err-room-clause-kept : goal.returns-in_err-room-clause-kept
+returns-in_err-room-clause-kept g c = keeps_same _ _ _ _ _ refl
