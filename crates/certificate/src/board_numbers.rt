@@ -48,6 +48,7 @@ fn has_mean(
 }
 
 /// Whether the count of k throws of a record is that of what the plays lead to, for k from 1 on.
+#[inline(always)]
 fn has_count(
     lower: &LowerRecords<'_>,
     stored: &BoardRecord<'_>,

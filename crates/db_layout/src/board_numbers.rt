@@ -45,6 +45,7 @@ fn sum_of_means(lower: &LowerRecords<'_>, plays: &[u16; 21]) -> LongSum
 /// counts of what they lead to at k throws, added up; to 22 throws these sums are given, word by
 /// word. To 11 throws the upper part is 0, to 22 it has one word, and from 12 throws on the lower
 /// part is less than 36 ^ 11.
+#[inline(always)]
 pub fn count_of(lower: &LowerRecords<'_>, plays: &[u16; 21], words: &[u64; WORDS], k: u8) -> Parts
     requires few { k < 33 }
     requires below { AreBelow (slice_index plays.now) lower.now.count }

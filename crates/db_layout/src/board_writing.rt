@@ -40,6 +40,7 @@ pub fn put_plays(bytes: &mut [u8], plays: &[u16; 21])
 /// Writes the count of sequences of k throws where it stands in the bytes of a record; all other
 /// bytes stay. To 11 throws a count is its lower part alone, and to 22 throws its upper part has
 /// 64 bits.
+#[inline(always)]
 pub fn put_count(bytes: &mut [u8], k: u8, count: Parts)
     requires some { 1 ≤ k }
     requires few { k ≤ 33 }
