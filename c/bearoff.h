@@ -1,36 +1,35 @@
 /*
  * bearoff.h: answers of a proved backgammon bearoff database, for C and C++.
  *
- * A database is the bytes of a file that `bearoff build` writes, or any bytes that are a right
- * database. bearoff_open checks them once, and accepts them exactly where every mean in them is
- * the least over all strategies, the recorded plays reach these means, and the recorded shares are
- * those of these plays. That is proved, and so is what each call below answers.
+ * A file is the bytes of what `bearoff build` writes, or any bytes that are as right: a database,
+ * of version 1 or 2, or a board file, of version 3, which has every position of the home board of
+ * at most its pip bound. bearoff_open checks them once, and accepts them exactly where every mean
+ * in them is the least over all strategies, the recorded plays reach these means, and the recorded
+ * shares are those of these plays. That is proved, and so is what each call below answers.
  *
  * Who owns what. The library has no memory and no state of its own. The caller keeps the bytes
- * and the struct bearoff_database; neither may be changed, and the bytes may not go away, for as
- * long as the database is used. The struct may be copied or moved. There is nothing to close.
- * Where the bytes are changed all the same no call reads outside them: where it reads is told by
- * the struct alone. An answer may then be wrong, or be refused with BEAROFF_CHANGED. While another
- * thread is changing the bytes, any call that is given them may have any status from 0 to 28, and
- * 28 at no other time, whatever its comment says; it still writes nothing but what is lent to it.
- * Pointers are not NULL, also where a length is 0. A struct that is made by BEAROFF_CLOSED, or of
- * zeros, is a database that is not open, and each call says so.
+ * and the struct bearoff_file; neither may be changed, and the bytes may not go away, for as long
+ * as the file is used. The struct may be copied or moved. There is nothing to close. Where the
+ * bytes are changed all the same no call reads outside them: where it reads is told by the struct
+ * alone. An answer may then be wrong, or be refused with BEAROFF_CHANGED. While another thread is
+ * changing the bytes, any call that is given them may have any status from 0 to 28, and 28 at no
+ * other time, whatever its comment says; it still writes nothing but what is lent to it. Pointers
+ * are not NULL, also where a length is 0. A struct that is made by BEAROFF_CLOSED, or of zeros, is
+ * a file that is not open, and each call says so.
  *
- * Threads. Each call may be made from any thread; calls that only read a database may share it.
+ * Threads. Each call may be made from any thread; calls that only read a file may share it.
  *
- * Stack. bearoff_open and bearoff_upgrade need less than BEAROFF_OPEN_STACK bytes of stack,
- * bearoff_build less than BEAROFF_BUILD_STACK, bearoff_file_open, bearoff_board_open and
- * bearoff_board_build less than BEAROFF_BOARD_STACK, every other call less than 128 KB. Threads
- * whose stack is smaller have to be given more before they make such a call. The stack of a main
- * thread, 8 MB on most systems, is enough for each call.
+ * Stack. bearoff_open, bearoff_build and bearoff_upgrade need less than BEAROFF_STACK bytes of
+ * stack, every other call less than 128 KB. Threads whose stack is smaller have to be given more
+ * before they make such a call. The stack of a main thread, 8 MB on most systems, is enough for
+ * each call.
  *
- * Refusals. Each call but bearoff_thousandths and bearoff_board_thousandths returns a status;
- * where it isn't BEAROFF_OK nothing that the caller lends was changed, except for what the call's
- * comment says.
+ * Refusals. Each call but bearoff_thousandths returns a status; where it isn't BEAROFF_OK nothing
+ * that the caller lends was changed, except for what the call's comment says.
  *
- * Order. A call that could be refused for several reasons tells the first of these: the database,
- * board or file is BEAROFF_NOT_OPEN; BEAROFF_BAD_ROLL; BEAROFF_TOO_MANY, of any position that is
- * given; BEAROFF_OVER_BOUND and BEAROFF_FINISHED, of the first position alone; BEAROFF_NOT_LEGAL;
+ * Order. A call that could be refused for several reasons tells the first of these: the file is
+ * BEAROFF_NOT_OPEN; BEAROFF_BAD_ROLL; BEAROFF_TOO_MANY, of any position that is given;
+ * BEAROFF_OVER_BOUND and BEAROFF_FINISHED, of the first position alone; BEAROFF_NOT_LEGAL;
  * BEAROFF_NO_RANK; BEAROFF_CHANGED; BEAROFF_SHORT. An upgrade tells the fault of the bytes before
  * BEAROFF_NOT_OLD, and that before BEAROFF_SHORT.
  */
@@ -51,7 +50,7 @@ extern "C" {
 /* The statuses, each with its text in bearoff_status_text. */
 enum {
     BEAROFF_OK = 0,         /* success */
-    BEAROFF_NOT_OPEN = 1,   /* the database or board was never opened, or its bytes were refused */
+    BEAROFF_NOT_OPEN = 1,   /* the file was never opened, or its bytes were refused */
     BEAROFF_BAD_ROLL = 2,   /* a die is not 1 to 6 */
     BEAROFF_TOO_MANY = 3,   /* a position has more than 15 checkers */
     BEAROFF_OVER_BOUND = 4, /* more pips than the bound, or a bound over the greatest */
@@ -86,35 +85,23 @@ typedef struct bearoff_position {
     uint8_t points[6];
 } bearoff_position;
 
-/* A number of 128 bits: 2^64 times high, and low. */
-typedef struct bearoff_wide {
-    uint64_t high;
-    uint64_t low;
-} bearoff_wide;
-
-/* A numerator over 36^22 as a number of rolls or a chance: near to it, and no more than that. */
-static inline double bearoff_as_double(bearoff_wide numerator) {
-    return ((double)numerator.high * 18446744073709551616.0 + (double)numerator.low) /
-           17324272922341479351919144385642496.0;
-}
+/* A number of 192 bits in three words, the greatest first: 2^128 times words[0], and so on. */
+typedef struct bearoff_number {
+    uint64_t words[3];
+} bearoff_number;
 
 /* A fraction in lowest terms; the denominator is not 0. */
 typedef struct bearoff_fraction {
-    bearoff_wide numerator;
-    bearoff_wide denominator;
+    bearoff_number numerator;
+    bearoff_number denominator;
 } bearoff_fraction;
 
-/* An effective pip count in pips: exact, and in thousandths, rounded to the nearest, a half up. */
-typedef struct bearoff_pips {
+/* A mean number of rolls, or an effective pip count in pips: exact, and in thousandths, rounded to
+ * the nearest and a half up. */
+typedef struct bearoff_rounded {
     bearoff_fraction exact;
     uint64_t thousandths;
-} bearoff_pips;
-
-/* A mean number of rolls: exact, and in thousandths, rounded to the nearest and a half up. */
-typedef struct bearoff_rolls {
-    bearoff_fraction exact;
-    uint64_t thousandths;
-} bearoff_rolls;
+} bearoff_rounded;
 
 /* How far an effective pip count is from the pip count, in thousandths of a pip, and whether it is
  * below it; where it is not, that is how much the position wastes. */
@@ -123,10 +110,17 @@ typedef struct bearoff_wasted {
     bool is_below;
 } bearoff_wasted;
 
-/* The chances of being off in exactly 0 to 22 rolls, as numerators over 36^22, their sum. */
+/* The chances of being off in exactly 0 to 33 rolls, as numerators over 36^rolls, their sum; those
+ * of more than the file's most rolls are 0. */
 typedef struct bearoff_shares {
-    bearoff_wide shares[23];
+    bearoff_number shares[34];
 } bearoff_shares;
+
+/* A chance: its numerator over 36^rolls, and in thousandths, rounded to the nearest, a half up. */
+typedef struct bearoff_chance {
+    bearoff_number numerator;
+    uint64_t thousandths;
+} bearoff_chance;
 
 /* One checker's move: from a point, 1 to 6, to a lower one, or to 0 where it is borne off. */
 typedef struct bearoff_move {
@@ -149,29 +143,47 @@ typedef struct bearoff_result {
     bearoff_fraction loss;
 } bearoff_result;
 
+/* What a file says of itself. */
+typedef struct bearoff_facts {
+    uint16_t version;   /* 1 or 2 of a database, 3 of a board file */
+    uint8_t bound;      /* the pip bound, 0 to 58 of a database, 0 to 90 of a board file */
+    uint8_t rolls;      /* the most rolls that have a share, 22 or 33; numbers are over 36^rolls */
+    uint32_t positions; /* how many positions there are: those of at most the bound */
+} bearoff_facts;
+
 /*
- * A database, in 17,680 bytes of the caller's. Nothing but bearoff_open writes it. It begins as
+ * A file, in 17,680 bytes of the caller's. Nothing but bearoff_open writes it. It begins as
  * BEAROFF_CLOSED, which is not open. One of zeros isn't open either; the proof speaks of pointers
  * that are not NULL, so of zeros that is tested and not proved.
  */
-typedef struct bearoff_database {
+typedef struct bearoff_file {
     const uint8_t *bytes;
     size_t length;
     uint8_t is_open;
     uint8_t bound;
     uint16_t version;
     uint16_t ranks[6 * 16 * 91 + 92];
-} bearoff_database;
+} bearoff_file;
 
-/* bearoff_database database = BEAROFF_CLOSED; */
+/* bearoff_file file = BEAROFF_CLOSED; */
 #define BEAROFF_CLOSED {(const uint8_t *)"", 0, 0, 0, 0, {0}}
 
-/* How many bytes of stack bearoff_open and bearoff_upgrade want, and bearoff_build. */
-#define BEAROFF_OPEN_STACK 1572864
-#define BEAROFF_BUILD_STACK 1572864
+/* A numerator of a file that is open as a number of rolls or a chance: near to it. */
+static inline double bearoff_as_double(const bearoff_file *file, bearoff_number numerator) {
+    double over_database =
+        (((double)numerator.words[0] * 18446744073709551616.0 + (double)numerator.words[1]) *
+             18446744073709551616.0 +
+         (double)numerator.words[2]) /
+        17324272922341479351919144385642496.0;
+    return file->version == 3 ? over_database / 131621703842267136.0 : over_database;
+}
 
-/* How many bytes a file that bearoff_build makes has at most: that of 58 pips. */
+/* How many bytes of stack are enough for any call. */
+#define BEAROFF_STACK 1572864
+
+/* How many bytes a file has at most, and how many an upgrade. */
 #define BEAROFF_FILE 15060844
+#define BEAROFF_UPGRADE 7608420
 
 /* The most bytes that the line of a fault has. */
 #define BEAROFF_LINE 32
@@ -182,8 +194,8 @@ typedef struct bearoff_database {
 /* Room for every position that a roll can lead to: no roll leads to more. */
 #define BEAROFF_RESULTS 127
 
-/* Room for the reply to any line: no reply has more bytes. */
-#define BEAROFF_REPLY 12070
+/* Room for the reply to any line: none has more bytes, and of a database none more than 12,070. */
+#define BEAROFF_REPLY 16642
 
 /*
  * The version of the library that is linked or loaded, 1.2.3 as 1, 2 and 3. It is BEAROFF_VERSION
@@ -201,102 +213,91 @@ uint32_t bearoff_library_version(uint16_t *major, uint16_t *minor, uint16_t *pat
 uint32_t bearoff_status_text(uint32_t status, uint8_t *text, size_t room, size_t *needed);
 
 /*
- * Checks `length` bytes and opens a database over them. 0.2 s for 44 pips; needs 1.5 MB of stack.
- * BEAROFF_OK exactly where they are a right database of at most 58 pips. Any other status, 16 to
- * 27, names the first fault, and the database is not open, whatever it was before, and else as it
- * was; the fault's line, as in `mean rank 1`, stands in `line` without a zero at its end where all
- * of it has room, and `*needed` is how many bytes it has, at most BEAROFF_LINE. Where there is no
- * fault `line` stays as it was, and `*needed` is 0.
+ * Checks `length` bytes and opens a file over them. 0.2 s for 44 pips; needs 1.5 MB of stack.
+ * BEAROFF_OK exactly where they are a right file of whichever version their header states: a
+ * database of at most 58 pips, or a board file. Any other status, 16 to 27, names the first fault,
+ * which is that of a board file where the version is none of a database's; then the file is not
+ * open, whatever it was before, and else as it was; the fault's line, as in `mean rank 1`, stands in
+ * `line` without a zero at its end where all of it has room, and `*needed` is how many bytes it has,
+ * at most BEAROFF_LINE. Where there is no fault `line` stays as it was, and `*needed` is 0.
  */
-uint32_t bearoff_open(bearoff_database *database, const uint8_t *bytes, size_t length,
-                      uint8_t *line, size_t room, size_t *needed);
+uint32_t bearoff_open(bearoff_file *file, const uint8_t *bytes, size_t length, uint8_t *line,
+                      size_t room, size_t *needed);
 
-/*
- * The version of the database's file: 1, or 2 where the records leave out the shares that are
- * known. BEAROFF_OK or BEAROFF_NOT_OPEN. This and the next two read no byte, so a change of the
- * bytes is nothing to them.
- */
-uint32_t bearoff_version(const bearoff_database *database, uint16_t *version);
-
-/* The pip bound of the database, 0 to 58. BEAROFF_OK or BEAROFF_NOT_OPEN. */
-uint32_t bearoff_bound(const bearoff_database *database, uint8_t *bound);
-
-/* How many positions it has: those of at most its bound. BEAROFF_OK or BEAROFF_NOT_OPEN. */
-uint32_t bearoff_positions(const bearoff_database *database, uint32_t *positions);
+/* What the file says of itself, without a byte being read. BEAROFF_OK or BEAROFF_NOT_OPEN. */
+uint32_t bearoff_about(const bearoff_file *file, bearoff_facts *about);
 
 /*
  * The rank of a position: how many positions are before it, which are those of fewer pips, and of
- * as many pips those with the smaller counts, the ace point's first. It is 0 to 46,061. The
+ * as many pips those with the smaller counts, the ace point's first. It is 0 to 54,263. The
  * statuses of bearoff_mean, without BEAROFF_CHANGED: this call and the next read no byte.
  */
-uint32_t bearoff_rank(const bearoff_database *database, const bearoff_position *position,
-                      uint16_t *rank);
+uint32_t bearoff_rank(const bearoff_file *file, const bearoff_position *position, uint16_t *rank);
 
 /*
  * The position of a rank. BEAROFF_OK or BEAROFF_NOT_OPEN, and BEAROFF_NO_RANK exactly where the
- * rank is not below what bearoff_positions tells.
+ * rank is not below how many positions bearoff_about tells.
  */
-uint32_t bearoff_position_of(const bearoff_database *database, uint16_t rank,
-                             bearoff_position *position);
+uint32_t bearoff_position_of(const bearoff_file *file, uint16_t rank, bearoff_position *position);
 
 /*
  * The least mean number of rolls until all checkers are off, over all strategies, as a numerator
- * over 36^22 (at most 22 * 36^22). BEAROFF_OK, BEAROFF_NOT_OPEN, BEAROFF_TOO_MANY or
- * BEAROFF_OVER_BOUND, and BEAROFF_CHANGED, which comes only where the bytes were changed after
- * they were checked: where the mean that now stands there is over 22 rolls.
+ * over 36 to the power of the file's most rolls, 22 or 33 (at most so many times that). BEAROFF_OK,
+ * BEAROFF_NOT_OPEN, BEAROFF_TOO_MANY or BEAROFF_OVER_BOUND, and BEAROFF_CHANGED, which comes only
+ * where the bytes were changed after they were checked: where the mean that now stands there is
+ * none.
  */
-uint32_t bearoff_mean(const bearoff_database *database, const bearoff_position *position,
-                      bearoff_wide *mean);
-
-/* The effective pip count: 49/6 pips for each roll of the mean. The statuses of bearoff_mean. */
-uint32_t bearoff_epc(const bearoff_database *database, const bearoff_position *position,
-                     bearoff_pips *pips);
+uint32_t bearoff_mean(const bearoff_file *file, const bearoff_position *position,
+                      bearoff_number *mean);
 
 /* That mean as a fraction and in thousandths of a roll. The statuses of bearoff_mean. */
-uint32_t bearoff_rounded_mean(const bearoff_database *database, const bearoff_position *position,
-                              bearoff_rolls *rolls);
+uint32_t bearoff_rounded_mean(const bearoff_file *file, const bearoff_position *position,
+                              bearoff_rounded *rolls);
+
+/* The effective pip count: 49/6 pips for each roll of the mean. The statuses of bearoff_mean. */
+uint32_t bearoff_epc(const bearoff_file *file, const bearoff_position *position,
+                     bearoff_rounded *pips);
 
 /*
  * The wastage: the thousandths of the effective pip count, less 1000 times the pip count. Where
  * that is less than 0 `is_below` is true, and `thousandths` is how far below 0 it is. The statuses
  * of bearoff_mean.
  */
-uint32_t bearoff_wastage(const bearoff_database *database, const bearoff_position *position,
+uint32_t bearoff_wastage(const bearoff_file *file, const bearoff_position *position,
                          bearoff_wasted *wastage);
 
 /*
  * The chance of each number of rolls, where each play is the recorded one. The statuses of
- * bearoff_mean, without BEAROFF_CHANGED: where the bytes were changed it tells what stands there.
+ * bearoff_mean; BEAROFF_CHANGED comes only where the bytes were changed, where the shares that now
+ * stand there are none.
  */
-uint32_t bearoff_distribution(const bearoff_database *database, const bearoff_position *position,
+uint32_t bearoff_distribution(const bearoff_file *file, const bearoff_position *position,
                               bearoff_shares *shares);
 
 /*
  * The chance that all checkers are off within `rolls` rolls, where each play is the recorded one:
- * the shares of bearoff_distribution up to `rolls`, added up, in thousandths, rounded to the
- * nearest and a half up. From 22 rolls on it is 1000. The statuses of bearoff_mean;
- * BEAROFF_CHANGED comes only where the bytes were changed after they were checked: where these
- * shares are over 1.
+ * the shares of bearoff_distribution up to `rolls`, added up. It is 1 from the file's most rolls
+ * on. The statuses of bearoff_mean; BEAROFF_CHANGED comes only where the bytes were changed: where
+ * the shares that now stand there are none.
  */
-uint32_t bearoff_within(const bearoff_database *database, const bearoff_position *position,
-                        uint8_t rolls, uint64_t *thousandths);
+uint32_t bearoff_within(const bearoff_file *file, const bearoff_position *position, uint8_t rolls,
+                        bearoff_chance *chance);
 
 /*
  * Whole tables in one call: the positions of the `count` ranks from `first` on, by rising rank,
- * and their means, effective pip counts and shares, each as that of bearoff_mean, bearoff_epc and
- * bearoff_distribution. `count` may be 0. BEAROFF_OK or BEAROFF_NOT_OPEN; BEAROFF_NO_RANK where
- * `first` + `count` is over what bearoff_positions tells; and, for means and effective pip counts,
- * BEAROFF_CHANGED where a mean that now stands there is over 22 rolls. All that refuses is found
- * out before the first element is written; only where the bytes change while the call runs may a
- * refusal of bearoff_listed_epcs come later. The positions are told without a byte being read.
+ * and their means, effective pip counts and shares, each as the call for one position tells it.
+ * `count` may be 0. BEAROFF_OK or BEAROFF_NOT_OPEN; BEAROFF_NO_RANK where `first` + `count` is over
+ * how many positions the file has; and, but for positions, BEAROFF_CHANGED. All that refuses is
+ * found out before the first element is written; only where the bytes change while the call runs
+ * may BEAROFF_CHANGED come later. The positions are told without a byte being read.
  */
-uint32_t bearoff_listed_positions(const bearoff_database *database, uint16_t first,
+uint32_t bearoff_listed_positions(const bearoff_file *file, uint16_t first,
                                   bearoff_position *positions, size_t count);
-uint32_t bearoff_listed_means(const bearoff_database *database, uint16_t first,
-                              bearoff_wide *means, size_t count);
-uint32_t bearoff_listed_epcs(const bearoff_database *database, uint16_t first,
-                             bearoff_pips *epcs, size_t count);
-uint32_t bearoff_listed_distributions(const bearoff_database *database, uint16_t first,
+uint32_t bearoff_listed_means(const bearoff_file *file, uint16_t first, bearoff_number *means,
+                              size_t count);
+uint32_t bearoff_listed_epcs(const bearoff_file *file, uint16_t first, bearoff_rounded *epcs,
+                             size_t count);
+uint32_t bearoff_listed_distributions(const bearoff_file *file, uint16_t first,
                                       bearoff_shares *shares, size_t count);
 
 /*
@@ -305,48 +306,29 @@ uint32_t bearoff_listed_distributions(const bearoff_database *database, uint16_t
  * BEAROFF_FINISHED; BEAROFF_CHANGED only where the bytes were changed, and the roll leads to no
  * position of the rank that now stands there.
  */
-uint32_t bearoff_play(const bearoff_database *database, const bearoff_position *position,
-                      uint8_t one, uint8_t other, bearoff_recorded_play *play);
+uint32_t bearoff_play(const bearoff_file *file, const bearoff_position *position, uint8_t one,
+                      uint8_t other, bearoff_recorded_play *play);
 
 /*
  * What a play to the position `to` costs, in rolls: the least mean after it, less the least such
  * mean among all positions that the roll can lead to. It is 0 exactly where some best strategy
  * plays so. The statuses of bearoff_play, BEAROFF_TOO_MANY also for `to`, and BEAROFF_NOT_LEGAL;
- * BEAROFF_CHANGED, only where the bytes were changed, also where a mean after a play is over 22
- * rolls, or less than that after the recorded play.
+ * BEAROFF_CHANGED, only where the bytes were changed, also where a mean after a play is none, or
+ * less than that after the recorded play.
  */
-uint32_t bearoff_loss(const bearoff_database *database, const bearoff_position *position,
-                      uint8_t one, uint8_t other, const bearoff_position *to,
-                      bearoff_fraction *loss);
+uint32_t bearoff_loss(const bearoff_file *file, const bearoff_position *position, uint8_t one,
+                      uint8_t other, const bearoff_position *to, bearoff_fraction *loss);
 
 /*
- * Every position that a roll can lead to, once, by rising rank (fewer pips first, and of as many
- * the smaller counts, the ace point's first), each with what it costs. `results` has room for
- * `room` of them; `*count` is how many there are, at most BEAROFF_RESULTS. The statuses of
- * bearoff_play, and BEAROFF_SHORT where they have no room: then `*count` says how many there are,
- * and no result is written. BEAROFF_CHANGED comes for the reasons that it has in bearoff_loss, for
- * any of the results, and before BEAROFF_SHORT; then neither a result nor `*count` is written.
+ * Every position that a roll can lead to, once, by rising loss, and of equal losses by rising rank,
+ * each with what it costs. `room` has room for `length` of them; `*count` is how many there are, at
+ * most BEAROFF_RESULTS. The statuses of bearoff_play, and BEAROFF_SHORT where they have no room:
+ * then `*count` says how many there are, and no result is written. BEAROFF_CHANGED comes for the
+ * reasons that it has in bearoff_loss, for any of the results, and before BEAROFF_SHORT; then
+ * neither a result nor `*count` is written.
  */
-uint32_t bearoff_results(const bearoff_database *database, const bearoff_position *position,
-                         uint8_t one, uint8_t other, bearoff_result *results, size_t room,
-                         size_t *count);
-
-/*
- * The first play of a roll, whose two dice, 1 to 6 each, come in either order, that leads from a
- * position to the position `to`, whether it is a good one or not. It asks no database. From a
- * position without a checker every roll leads to itself, with no move. BEAROFF_OK;
- * BEAROFF_BAD_ROLL; BEAROFF_TOO_MANY where one of the positions has more than 15 checkers;
- * BEAROFF_NOT_LEGAL where the roll doesn't lead there.
- */
-uint32_t bearoff_play_to(const bearoff_position *position, uint8_t one, uint8_t other,
-                         const bearoff_position *to, bearoff_recorded_play *play);
-
-/*
- * A fraction in thousandths, rounded to the nearest and a half up, as of what another call has
- * answered. It has no status: it is true where it could be told, which is where the denominator is
- * not 0 and at most 6 * 36^22, and the fraction at most 180; else `*thousandths` stays as it was.
- */
-bool bearoff_thousandths(const bearoff_fraction *fraction, uint64_t *thousandths);
+uint32_t bearoff_moves(const bearoff_file *file, const bearoff_position *position, uint8_t one,
+                       uint8_t other, bearoff_result *room, size_t length, size_t *count);
 
 /*
  * Answers a line of the query language, as in `mean 0,0,0,0,0,1`, `dist POSITION`, `play POSITION
@@ -360,39 +342,55 @@ bool bearoff_thousandths(const bearoff_fraction *fraction, uint64_t *thousandths
  * can't be written as a reply: for the reasons of the other calls, and for `dist` also where the
  * chances don't add up. Lines that are refused, and `rank`, never have it.
  */
-uint32_t bearoff_answer_line(const bearoff_database *database, const uint8_t *line, size_t length,
+uint32_t bearoff_answer_line(const bearoff_file *file, const uint8_t *line, size_t length,
                              uint8_t *text, size_t room, size_t *needed);
 
-/* How many bytes an upgrade has at most: that of 44 pips. */
-#define BEAROFF_UPGRADE 7608420
+/*
+ * Builds the file of a version and a pip bound into the front of `room`; `*filled` is how many
+ * bytes it has: of a database 11,209,796 for 44 pips of version 1, and BEAROFF_FILE for 58 of
+ * version 2; of a board file, version 3, 14,643,664 for 90. A database needs a second room of at
+ * least as many bytes, `work`, which the call uses as it likes; a board file needs none. It needs
+ * less than BEAROFF_STACK bytes of stack, and for a database to 8 pips less than 128 KB. BEAROFF_OK;
+ * BEAROFF_OVER_BOUND exactly where no file of that version has that bound: version 1 goes to 44,
+ * version 2 to 58, version 3 to 90; else BEAROFF_SHORT exactly where a room that is needed is
+ * smaller than the file. Where the status is not BEAROFF_OK `room` and `*filled` stay as they were.
+ */
+uint32_t bearoff_build(uint16_t version, uint8_t bound, uint8_t *work, size_t work_length,
+                       uint8_t *room, size_t room_length, size_t *filled);
 
 /*
  * Writes the database in `length` bytes of a file of version 1 into the front of `room` as a file
  * of version 2, which has the same bound, means, plays and shares, and so the same reply to each
  * line; `*filled` is how many bytes it has, at most BEAROFF_UPGRADE. `work` is a room of at least
  * as many bytes, which the call uses as it likes. The bytes are checked first, and the status is
- * that of bearoff_open where they are refused; BEAROFF_NOT_OLD where they are a right database of
- * version 2; BEAROFF_SHORT where a room is too small. Where the status is not BEAROFF_OK `room`
- * and `*filled` stay as they were. It needs as much stack as bearoff_open.
+ * the fault of a database where they are none that is right; BEAROFF_NOT_OLD where they are a right
+ * one of version 2; BEAROFF_SHORT where a room is too small. Where the status is not BEAROFF_OK
+ * `room` and `*filled` stay as they were. It needs as much stack as bearoff_open.
  */
 uint32_t bearoff_upgrade(const uint8_t *bytes, size_t length, uint8_t *work, size_t work_length,
                          uint8_t *room, size_t room_length, size_t *filled);
 
 /*
- * Builds the database of a pip bound into the front of `room`; `*filled` is how many bytes it has:
- * 11,209,796 for 44 pips, and BEAROFF_FILE for 58. `work` is a room of at least as many bytes,
- * which the call uses as it likes. It needs less than BEAROFF_BUILD_STACK bytes of stack, and less
- * than 128 KB to 8 pips. BEAROFF_OK; BEAROFF_OVER_BOUND where the bound is over 58; BEAROFF_SHORT
- * where a room is smaller than the file. Where the status is not BEAROFF_OK `room` and `*filled`
- * stay as they were.
+ * The first play of a roll, whose two dice, 1 to 6 each, come in either order, that leads from a
+ * position to the position `to`, whether it is a good one or not. It asks no file. From a
+ * position without a checker every roll leads to itself, with no move. BEAROFF_OK;
+ * BEAROFF_BAD_ROLL; BEAROFF_TOO_MANY where one of the positions has more than 15 checkers;
+ * BEAROFF_NOT_LEGAL where the roll doesn't lead there.
  */
-uint32_t bearoff_build(uint8_t bound, uint8_t *work, size_t work_length, uint8_t *room,
-                       size_t room_length, size_t *filled);
+uint32_t bearoff_play_to(const bearoff_position *position, uint8_t one, uint8_t other,
+                         const bearoff_position *to, bearoff_recorded_play *play);
+
+/*
+ * A fraction in thousandths, rounded to the nearest and a half up, as of what another call has
+ * answered. It has no status: it is true where it could be told, which is where the denominator is
+ * not 0 and at most 6 * 36^33, and the fraction at most 180; else `*thousandths` stays as it was.
+ */
+bool bearoff_thousandths(const bearoff_fraction *fraction, uint64_t *thousandths);
 
 /*
  * The position that a text of `length` bytes states, as in `0,0,0,2,0,1`: six counts with commas
  * between them, that of the ace point first, each of one to three digits, the first of several not
- * 0, and nothing else, no blank or line ending either. It asks no database. BEAROFF_OK;
+ * 0, and nothing else, no blank or line ending either. It asks no file. BEAROFF_OK;
  * BEAROFF_BAD_TEXT where the bytes are no such text; BEAROFF_TOO_MANY where they are one, and the
  * counts add up to more than 15.
  */
@@ -405,306 +403,8 @@ typedef struct bearoff_stand {
     uint8_t off;
 } bearoff_stand;
 
-/* What a position stands at, without a database. BEAROFF_OK or BEAROFF_TOO_MANY. */
+/* What a position stands at, without a file. BEAROFF_OK or BEAROFF_TOO_MANY. */
 uint32_t bearoff_standing(const bearoff_position *position, bearoff_stand *standing);
-
-/*
- * The whole home board. A board is the bytes of a board file, or any bytes that are a right one:
- * it has every position of the home board of at most its pip bound, and to 90 pips that is all of
- * them. Its numbers are over 36^33, since no game takes more than 33 rolls. bearoff_board_open
- * checks the bytes as bearoff_open checks a database, and what is said above of bytes, structs,
- * threads, stack and statuses holds of boards too.
- */
-
-/* A number of 192 bits in three words, the greatest first: 2^128 times words[0], and so on. */
-typedef struct bearoff_long {
-    uint64_t words[3];
-} bearoff_long;
-
-/* A numerator over 36^33 as a number of rolls or a chance: near to it, and no more than that. */
-static inline double bearoff_long_as_double(bearoff_long numerator) {
-    return (((double)numerator.words[0] * 18446744073709551616.0 + (double)numerator.words[1]) *
-                18446744073709551616.0 +
-            (double)numerator.words[2]) /
-           (17324272922341479351919144385642496.0 * 131621703842267136.0);
-}
-
-/* A fraction in lowest terms; the denominator is not 0. */
-typedef struct bearoff_long_fraction {
-    bearoff_long numerator;
-    bearoff_long denominator;
-} bearoff_long_fraction;
-
-/* An effective pip count in pips: exact, and in thousandths, rounded to the nearest, a half up. */
-typedef struct bearoff_long_pips {
-    bearoff_long_fraction exact;
-    uint64_t thousandths;
-} bearoff_long_pips;
-
-/* The chances of being off in exactly 0 to 33 rolls, as numerators over 36^33, their sum. */
-typedef struct bearoff_long_shares {
-    bearoff_long shares[34];
-} bearoff_long_shares;
-
-/* A position that a roll can lead to, and what it costs in rolls, as in bearoff_result. */
-typedef struct bearoff_long_result {
-    bearoff_position to;
-    bearoff_long_fraction loss;
-} bearoff_long_result;
-
-/*
- * A board, in 17,680 bytes of the caller's. Nothing but bearoff_board_open and bearoff_board_close
- * writes it. It begins as BEAROFF_BOARD_CLOSED, which is not open; one of zeros isn't open either.
- */
-typedef struct bearoff_board {
-    const uint8_t *bytes;
-    size_t length;
-    uint8_t is_open;
-    uint8_t bound;
-    uint16_t ranks[6 * 16 * 91 + 92];
-} bearoff_board;
-
-/* bearoff_board board = BEAROFF_BOARD_CLOSED; */
-#define BEAROFF_BOARD_CLOSED {(const uint8_t *)"", 0, 0, 0, {0}}
-
-/* How many bytes of stack bearoff_board_open and bearoff_board_build want. */
-#define BEAROFF_BOARD_STACK 1572864
-
-/* How many bytes a board file has at most: that of 90 pips. */
-#define BEAROFF_BOARD_FILE 14643664
-
-/* Room for the reply to any line about a board: no reply has more bytes. */
-#define BEAROFF_BOARD_REPLY 16642
-
-/*
- * Builds the board file of a pip bound into the front of `room`; `*filled` is how many bytes it
- * has, BEAROFF_BOARD_FILE for 90 pips. It needs no other room. BEAROFF_OK; BEAROFF_OVER_BOUND
- * exactly where the bound is over 90; else BEAROFF_SHORT exactly where `length` is less than the
- * file has. Where the status is not BEAROFF_OK `room` and `*filled` stay as they were.
- */
-uint32_t bearoff_board_build(uint8_t bound, uint8_t *room, size_t length, size_t *filled);
-
-/*
- * Checks `length` bytes and opens a board over them. BEAROFF_OK exactly where they are a right
- * board file. Any other status, 16 to 27, names the first fault, and the board is not open,
- * whatever it was before, and else as it was; of `line`, `room` and `*needed` the same holds as in
- * bearoff_open.
- */
-uint32_t bearoff_board_open(bearoff_board *board, const uint8_t *bytes, size_t length,
-                            uint8_t *line, size_t room, size_t *needed);
-
-/*
- * Closes a board, so that each call says that it is not open; else it stays as it was. BEAROFF_OK.
- */
-uint32_t bearoff_board_close(bearoff_board *board);
-
-/*
- * The least mean number of rolls until all checkers are off, over all strategies, as a numerator
- * over 36^33 (at most 33 * 36^33). BEAROFF_OK, BEAROFF_NOT_OPEN, BEAROFF_TOO_MANY or
- * BEAROFF_OVER_BOUND, and BEAROFF_CHANGED, which comes only where the bytes were changed after
- * they were checked: where the mean that now stands there is over 33 rolls, or its lower part too
- * great.
- */
-uint32_t bearoff_board_mean(const bearoff_board *board, const bearoff_position *position,
-                            bearoff_long *mean);
-
-/*
- * The effective pip count: 49/6 pips for each roll of the mean. The statuses of
- * bearoff_board_mean.
- */
-uint32_t bearoff_board_epc(const bearoff_board *board, const bearoff_position *position,
-                           bearoff_long_pips *pips);
-
-/*
- * A fraction in thousandths, as bearoff_thousandths tells it: it is true where the denominator is
- * not 0 and at most 6 * 36^33, and the fraction at most 180; else `*thousandths` stays as it was.
- */
-bool bearoff_board_thousandths(const bearoff_long_fraction *fraction, uint64_t *thousandths);
-
-/*
- * The chance of each number of rolls, where each play is the recorded one. The statuses of
- * bearoff_board_mean; BEAROFF_CHANGED, only where the bytes were changed, where a count that now
- * stands there is more than there are sequences of throws.
- */
-uint32_t bearoff_board_distribution(const bearoff_board *board, const bearoff_position *position,
-                                    bearoff_long_shares *shares);
-
-/*
- * The recorded play of a roll, what a play costs, and every position that a roll can lead to: what
- * bearoff_play, bearoff_loss and bearoff_results say of a database, with the same statuses. But
- * bearoff_board_moves lists the positions by rising loss, and of equal losses by rising rank, as
- * the line `moves` does. `room` has room for `length` of them; BEAROFF_RESULTS are enough.
- */
-uint32_t bearoff_board_play(const bearoff_board *board, const bearoff_position *position,
-                            uint8_t one, uint8_t other, bearoff_recorded_play *play);
-uint32_t bearoff_board_loss(const bearoff_board *board, const bearoff_position *position,
-                            uint8_t one, uint8_t other, const bearoff_position *to,
-                            bearoff_long_fraction *loss);
-uint32_t bearoff_board_moves(const bearoff_board *board, const bearoff_position *position,
-                             uint8_t one, uint8_t other, bearoff_long_result *room, size_t length,
-                             size_t *count);
-
-/*
- * Whole tables in one call: the means and the shares of the positions of the `count` ranks from
- * `first` on, by rising rank, each as that of bearoff_board_mean and bearoff_board_distribution; a
- * board to 90 pips has 54,264 positions. `count` may be 0. BEAROFF_OK or BEAROFF_NOT_OPEN;
- * BEAROFF_NO_RANK where `first` + `count` is over how many positions the board has; and
- * BEAROFF_CHANGED. All that refuses is found out before the first element is written; only where
- * the bytes change while the call runs may BEAROFF_CHANGED come later.
- */
-uint32_t bearoff_board_means(const bearoff_board *board, uint16_t first, bearoff_long *means,
-                             size_t count);
-uint32_t bearoff_board_distributions(const bearoff_board *board, uint16_t first,
-                                     bearoff_long_shares *shares, size_t count);
-
-/*
- * Answers a line of the query language by a board: bearoff_answer_line says what `line`, `length`,
- * `text`, `room` and `*needed` are, which is at most BEAROFF_BOARD_REPLY here. `moves` lists the
- * positions by rising loss, and then by rising rank. BEAROFF_OK or BEAROFF_NOT_OPEN; BEAROFF_SHORT
- * where `room` is less than `*needed`: then no text is written; and BEAROFF_CHANGED, which comes
- * only where the bytes were changed after they were checked.
- */
-uint32_t bearoff_board_answer_line(const bearoff_board *board, const uint8_t *line, size_t length,
-                                   uint8_t *text, size_t room, size_t *needed);
-
-/*
- * A file of any version: a database, of version 1 or 2, or a board file, of version 3. One struct
- * and one family of calls answer for all three, and a number has three words whichever it is. What
- * is said above of bytes, structs, threads, stack and statuses holds of files too.
- *
- * A file's numbers are over 36 to the power of its most rolls, which bearoff_file_about tells: 22
- * of a database, 33 of a board file. bearoff_file_as_double is near to a numerator as a number of
- * rolls or a chance.
- */
-
-/* What a file says of itself. */
-typedef struct bearoff_about {
-    uint16_t version;   /* 1 or 2 of a database, 3 of a board file */
-    uint8_t bound;      /* the pip bound, 0 to 58 of a database, 0 to 90 of a board file */
-    uint8_t rolls;      /* the most rolls that have a share, 22 or 33; numbers are over 36^rolls */
-    uint32_t positions; /* how many positions there are: those of at most the bound */
-} bearoff_about;
-
-/* A mean number of rolls: exact, and in thousandths, rounded to the nearest and a half up. */
-typedef struct bearoff_long_rolls {
-    bearoff_long_fraction exact;
-    uint64_t thousandths;
-} bearoff_long_rolls;
-
-/* A chance: its numerator over 36^rolls, and in thousandths, rounded to the nearest, a half up. */
-typedef struct bearoff_chance {
-    bearoff_long numerator;
-    uint64_t thousandths;
-} bearoff_chance;
-
-/*
- * A file, in 17,680 bytes of the caller's. Nothing but bearoff_file_open writes it. It begins as
- * BEAROFF_FILE_CLOSED, which is not open; one of zeros isn't open either.
- */
-typedef struct bearoff_file {
-    const uint8_t *bytes;
-    size_t length;
-    uint8_t is_open;
-    uint8_t bound;
-    uint16_t version;
-    uint16_t ranks[6 * 16 * 91 + 92];
-} bearoff_file;
-
-/* bearoff_file file = BEAROFF_FILE_CLOSED; */
-#define BEAROFF_FILE_CLOSED {(const uint8_t *)"", 0, 0, 0, 0, {0}}
-
-/* A numerator of a file that is open as a number of rolls or a chance. */
-static inline double bearoff_file_as_double(const bearoff_file *file, bearoff_long numerator) {
-    double over_board = bearoff_long_as_double(numerator);
-    return file->version == 3 ? over_board : over_board * 131621703842267136.0;
-}
-
-/*
- * Checks `length` bytes and opens a file over them. BEAROFF_OK exactly where they are a right file
- * of whichever version their header states: a database of at most 58 pips, or a board file. Any
- * other status, 16 to 27, names the first fault: that of bearoff_open, and where this is
- * BEAROFF_BAD_VERSION that of bearoff_board_open. Then the file is not open, whatever it was
- * before, and else as it was; of `line`, `room` and `*needed` the same holds as in bearoff_open.
- */
-uint32_t bearoff_file_open(bearoff_file *file, const uint8_t *bytes, size_t length, uint8_t *line,
-                           size_t room, size_t *needed);
-
-/* What the file says of itself, without a byte being read. BEAROFF_OK or BEAROFF_NOT_OPEN. */
-uint32_t bearoff_file_about(const bearoff_file *file, bearoff_about *about);
-
-/*
- * The rank of a position, at most 54,263, and the position of a rank, as bearoff_rank and
- * bearoff_position_of tell them, with the same statuses. They read no byte.
- */
-uint32_t bearoff_file_rank(const bearoff_file *file, const bearoff_position *position,
-                           uint16_t *rank);
-uint32_t bearoff_file_position_of(const bearoff_file *file, uint16_t rank,
-                                  bearoff_position *position);
-
-/*
- * The least mean number of rolls until all checkers are off, over all strategies: its numerator,
- * and exact and rounded; the effective pip count, 49/6 pips for each roll of it; and the wastage,
- * as bearoff_wastage tells it. BEAROFF_OK, BEAROFF_NOT_OPEN, BEAROFF_TOO_MANY or
- * BEAROFF_OVER_BOUND, and BEAROFF_CHANGED, which comes only where the bytes were changed after
- * they were checked: where the mean that now stands there is none.
- */
-uint32_t bearoff_file_mean(const bearoff_file *file, const bearoff_position *position,
-                           bearoff_long *mean);
-uint32_t bearoff_file_rounded_mean(const bearoff_file *file, const bearoff_position *position,
-                                   bearoff_long_rolls *rolls);
-uint32_t bearoff_file_epc(const bearoff_file *file, const bearoff_position *position,
-                          bearoff_long_pips *pips);
-uint32_t bearoff_file_wastage(const bearoff_file *file, const bearoff_position *position,
-                              bearoff_wasted *wastage);
-
-/*
- * The chance of each number of rolls, where each play is the recorded one, and beyond the file's
- * most rolls none; and the chance that all checkers are off within `rolls` rolls, which is 1 from
- * the most rolls on. The statuses of bearoff_file_mean; BEAROFF_CHANGED comes only where the bytes
- * were changed, where the shares that now stand there are none.
- */
-uint32_t bearoff_file_distribution(const bearoff_file *file, const bearoff_position *position,
-                                   bearoff_long_shares *shares);
-uint32_t bearoff_file_within(const bearoff_file *file, const bearoff_position *position,
-                             uint8_t rolls, bearoff_chance *chance);
-
-/*
- * The recorded play of a roll, what a play costs, and every position that a roll can lead to, by
- * rising loss, and of equal losses by rising rank: what bearoff_board_play, bearoff_board_loss and
- * bearoff_board_moves say of a board, with the same statuses.
- */
-uint32_t bearoff_file_play(const bearoff_file *file, const bearoff_position *position, uint8_t one,
-                           uint8_t other, bearoff_recorded_play *play);
-uint32_t bearoff_file_loss(const bearoff_file *file, const bearoff_position *position, uint8_t one,
-                           uint8_t other, const bearoff_position *to, bearoff_long_fraction *loss);
-uint32_t bearoff_file_moves(const bearoff_file *file, const bearoff_position *position,
-                            uint8_t one, uint8_t other, bearoff_long_result *room, size_t length,
-                            size_t *count);
-
-/*
- * Answers a line of the query language: bearoff_answer_line says what `line`, `length`, `text`,
- * `room` and `*needed` are, which is at most BEAROFF_BOARD_REPLY, and of a database at most
- * BEAROFF_REPLY. The statuses of bearoff_answer_line.
- */
-uint32_t bearoff_file_answer_line(const bearoff_file *file, const uint8_t *line, size_t length,
-                                  uint8_t *text, size_t room, size_t *needed);
-
-/*
- * Whole tables in one call: the positions of the `count` ranks from `first` on, by rising rank, and
- * their means, effective pip counts and shares, each as the call for one position tells it. `count`
- * may be 0. BEAROFF_OK or BEAROFF_NOT_OPEN; BEAROFF_NO_RANK where `first` + `count` is over how
- * many positions the file has; and, but for positions, BEAROFF_CHANGED. All that refuses is found
- * out before the first element is written; only where the bytes change while the call runs may
- * BEAROFF_CHANGED come later.
- */
-uint32_t bearoff_file_listed_positions(const bearoff_file *file, uint16_t first,
-                                       bearoff_position *positions, size_t count);
-uint32_t bearoff_file_listed_means(const bearoff_file *file, uint16_t first, bearoff_long *means,
-                                   size_t count);
-uint32_t bearoff_file_listed_epcs(const bearoff_file *file, uint16_t first,
-                                  bearoff_long_pips *epcs, size_t count);
-uint32_t bearoff_file_listed_distributions(const bearoff_file *file, uint16_t first,
-                                           bearoff_long_shares *shares, size_t count);
 
 #ifdef __cplusplus
 }

@@ -300,7 +300,7 @@ export class Bearoff {
 
     /**
      * A fraction in thousandths, rounded to the nearest and a half up. A `RangeError` where the fraction is over 180, or
-     * its denominator is 0 or over six times {@link Bearoff.whole}: every number of a database is in that range.
+     * its denominator is 0 or over 6 * 36^33: every number of a file is in that range.
      */
     thousandths(fraction: Fraction): number;
 

@@ -118,28 +118,28 @@ export class Database {
     }
 
     mean(position) {
-        return this.#rounded("mean", "bearoff_file_rounded_mean", position);
+        return this.#rounded("mean", "bearoff_rounded_mean", position);
     }
 
     epc(position) {
-        return this.#rounded("epc", "bearoff_file_epc", position);
+        return this.#rounded("epc", "bearoff_epc", position);
     }
 
     wastage(position) {
-        const engine = this.#askOf("wastage", "bearoff_file_wastage", position);
+        const engine = this.#askOf("wastage", "bearoff_wastage", position);
         const thousandths = engine.number(engine.output);
         return { thousandths: engine.bytes[engine.output + 8] === 0 ? thousandths : -thousandths };
     }
 
     distribution(position) {
-        const engine = this.#askOf("distribution", "bearoff_file_distribution", position);
+        const engine = this.#askOf("distribution", "bearoff_distribution", position);
         return Array.from({ length: this.#kind.rolls + 1 },
             (_, share) => new Fraction(engine.numeral(engine.output + MEAN_BYTES * share), this.whole));
     }
 
     within(position, rolls) {
         const [counts, most] = [readPosition(position), readRolls(rolls)];
-        const engine = this.#askOf("within", "bearoff_file_within", counts, most);
+        const engine = this.#askOf("within", "bearoff_within", counts, most);
         return { thousandths: engine.number(engine.output + MEAN_BYTES) };
     }
 
@@ -153,20 +153,20 @@ export class Database {
     }
 
     rank(position) {
-        const engine = this.#askOf("rank", "bearoff_file_rank", position);
+        const engine = this.#askOf("rank", "bearoff_rank", position);
         return engine.view.getUint16(engine.output, true);
     }
 
     position(rank) {
         const asked = readRank(rank);
         const engine = this.#instance("position");
-        engine.ask(`position ${rank}`, "bearoff_file_position_of", engine.atDatabase, asked, engine.atOutput);
+        engine.ask(`position ${rank}`, "bearoff_position_of", engine.atDatabase, asked, engine.atOutput);
         return engine.countsAt(engine.output);
     }
 
     play(position, roll) {
         const [counts, dice] = [readPosition(position), readRoll(roll)];
-        const engine = this.#askOf("play", "bearoff_file_play", counts, ...dice);
+        const engine = this.#askOf("play", "bearoff_play", counts, ...dice);
         return engine.playAt(engine.output);
     }
 
@@ -185,7 +185,7 @@ export class Database {
         const engine = this.#instance("loss");
         engine.setCounts(engine.position, counts);
         engine.setCounts(engine.to, target);
-        engine.ask(`loss ${counts} ${dice.join("")} ${target}`, "bearoff_file_loss", engine.atDatabase, engine.atPosition, ...dice,
+        engine.ask(`loss ${counts} ${dice.join("")} ${target}`, "bearoff_loss", engine.atDatabase, engine.atPosition, ...dice,
             engine.atTo, engine.atOutput);
         return engine.fractionAt(engine.output);
     }
@@ -194,7 +194,7 @@ export class Database {
         const [counts, dice] = [readPosition(position), readRoll(roll)];
         const engine = this.#instance("moves");
         engine.setCounts(engine.position, counts);
-        engine.ask(`moves ${counts} ${dice.join("")}`, "bearoff_file_moves", engine.atDatabase, engine.atPosition, ...dice,
+        engine.ask(`moves ${counts} ${dice.join("")}`, "bearoff_moves", engine.atDatabase, engine.atPosition, ...dice,
             engine.atOutput, BigInt(MOST_RESULTS), engine.atTold);
         return Array.from({ length: engine.number(engine.told) }, (_, result) => {
             const place = engine.output + RESULT_BYTES * result;
@@ -206,38 +206,37 @@ export class Database {
         const asked = readLine(line);
         const engine = this.#instance("answer");
         const length = engine.setLine(asked);
-        engine.ask("answer", "bearoff_file_answer_line", engine.atDatabase, BigInt(engine.line), BigInt(length), engine.atOutput,
+        engine.ask("answer", "bearoff_answer_line", engine.atDatabase, BigInt(engine.line), BigInt(length), engine.atOutput,
             BigInt(OUTPUT_BYTES), engine.atTold);
         return engine.text(engine.output, engine.number(engine.told));
     }
 
     thousandths(fraction) {
-        const { words, rolls, thousandths } = this.#kind;
-        const numbers = readFraction(fraction, 64 * words);
+        const numbers = readFraction(fraction, 64 * WORDS);
         const engine = this.#instance("thousandths");
         engine.setFraction(numbers);
-        if (!engine.call(thousandths, BigInt(engine.fraction), engine.atTold)) {
-            throw new RangeError(`a fraction in thousandths is at most 180, and its denominator is 1 to 6 * 36^${rolls}`);
+        if (!engine.call("bearoff_thousandths", BigInt(engine.fraction), engine.atTold)) {
+            throw new RangeError("a fraction in thousandths is at most 180, and its denominator is 1 to 6 * 36^33");
         }
         return engine.number(engine.told);
     }
 
     positions(first = 0, count = undefined) {
-        return this.#listed("bearoff_file_listed_positions", POSITION_BYTES, first, count);
+        return this.#listed("bearoff_listed_positions", POSITION_BYTES, first, count);
     }
 
     means(first = 0, count = undefined) {
-        return this.#table("bearoff_file_listed_means", MEAN_BYTES, lowerWords(1), first, count);
+        return this.#table("bearoff_listed_means", MEAN_BYTES, lowerWords(1), first, count);
     }
 
     epcs(first = 0, count = undefined) {
         const places = [...lowerWords(2), 2 * WORDS];
-        return this.#table("bearoff_file_listed_epcs", EPC_BYTES, places, first, count, null);
+        return this.#table("bearoff_listed_epcs", EPC_BYTES, places, first, count, null);
     }
 
     distributions(first = 0, count = undefined) {
         const places = lowerWords(this.#kind.rolls + 1);
-        return this.#table("bearoff_file_listed_distributions", DISTRIBUTION_BYTES, places, first, count);
+        return this.#table("bearoff_listed_distributions", DISTRIBUTION_BYTES, places, first, count);
     }
 
     bytes() {

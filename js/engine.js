@@ -2,7 +2,7 @@
 // module; what is done is to hand over bytes and to read what came back.
 import { BearoffError, DamagedError, refusal } from "./errors.js";
 import { Fraction, Rounded } from "./fractions.js";
-import { DATABASE, kindOf, LAST_DATABASE_BOUND } from "./kinds.js";
+import { BOARD_VERSION, DATABASE, kindOf, LAST_DATABASE_BOUND } from "./kinds.js";
 
 const PAGE_BYTES = 65536;
 const LINE_BYTES = 256; // more than any line that asks something
@@ -104,10 +104,10 @@ export class Engine {
     }
 
     // Two rooms of so many bytes behind a place.
-    #rooms(start, bytes) {
+    #rooms(start, bytes, more = bytes) {
         const one = Math.ceil(start / 16) * 16;
         const other = Math.ceil((one + bytes) / 16) * 16;
-        this.#lend(other + bytes);
+        this.#lend(other + more);
         return [one, other];
     }
 
@@ -139,20 +139,13 @@ export class Engine {
 
     // Builds the file of a bound with the proved builder, where files lie.
     build(bound) {
-        if (bound > LAST_DATABASE_BOUND) {
-            this.#buildBoard(bound);
-            return;
-        }
-        const room = bound > LAST_OLD_BOUND ? MOST_FILE_BYTES : OLD_FILE_BYTES;
-        const [front, work] = this.#rooms(this.file, room);
-        const length = BigInt(room);
-        this.ask(`build ${bound}`, "bearoff_build", bound, BigInt(work), length, BigInt(front), length, this.atTold);
-        this.fileBytes = this.number(this.told);
-    }
-
-    #buildBoard(bound) {
-        this.#lend(this.file + BOARD_FILE_BYTES);
-        this.ask(`build ${bound}`, "bearoff_board_build", bound, BigInt(this.file), BigInt(BOARD_FILE_BYTES), this.atTold);
+        const [version, room] = bound > LAST_DATABASE_BOUND ? [BOARD_VERSION, BOARD_FILE_BYTES]
+            : bound > LAST_OLD_BOUND ? [2, MOST_FILE_BYTES] : [1, OLD_FILE_BYTES];
+        // the work room of a board file has no byte
+        const workBytes = version === BOARD_VERSION ? 0 : room;
+        const [front, work] = this.#rooms(this.file, room, workBytes);
+        this.ask(`build ${bound}`, "bearoff_build", version, bound, BigInt(work), BigInt(workBytes), BigInt(front), BigInt(room),
+            this.atTold);
         this.fileBytes = this.number(this.told);
     }
 
@@ -167,10 +160,10 @@ export class Engine {
 
     // Checks the file that lies there with the proved checker, and opens it.
     open() {
-        const status = this.call("bearoff_file_open", this.atDatabase, BigInt(this.file), BigInt(this.fileBytes), this.atOutput,
+        const status = this.call("bearoff_open", this.atDatabase, BigInt(this.file), BigInt(this.fileBytes), this.atOutput,
             BigInt(FAULT_BYTES), this.atTold);
         if (status !== 0) throw new DamagedError(status, this.text(this.output, this.number(this.told)));
-        this.ask("about", "bearoff_file_about", this.atDatabase, this.atTold);
+        this.ask("about", "bearoff_about", this.atDatabase, this.atTold);
         this.version = this.view.getUint16(this.told, true);
         this.bound = this.bytes[this.told + 2];
         this.count = this.view.getUint32(this.told + 4, true);
@@ -191,17 +184,16 @@ export class Engine {
         return this.bytes.slice(room, room + this.number(this.told));
     }
 
-    // Puts six counts at a place, and a fraction of the open file's numbers at its own.
+    // Puts six counts at a place, and a fraction at its own.
     setCounts(place, counts) {
         for (let point = 0; point < 6; point++) this.bytes[place + point] = counts[point];
     }
 
     setFraction(numbers) {
-        const { words } = this.kind;
         numbers.forEach((number, place) => {
-            for (let word = 0; word < words; word++) {
-                const bits = BigInt.asUintN(64, number >> BigInt(64 * (words - 1 - word)));
-                this.view.setBigUint64(this.fraction + 8 * (words * place + word), bits, true);
+            for (let word = 0; word < WORDS; word++) {
+                const bits = BigInt.asUintN(64, number >> BigInt(64 * (WORDS - 1 - word)));
+                this.view.setBigUint64(this.fraction + 8 * (WORDS * place + word), bits, true);
             }
         });
     }

@@ -206,7 +206,7 @@ LINES = {
 
 
 # whose statuses a row of order.c has
-KINDS_IN_ORDER = ("database", "board", "a database as a file", "a board as a file")
+KINDS_IN_ORDER = ("database", "board")
 
 
 class TestOrderOfRefusals:
@@ -311,9 +311,7 @@ def test_changed_bytes(caller, built, board, note, kind, bound, times):
 def test_changed_bytes_of_every_call():
     """Each export that opens bytes, or is given what was opened, is tried on changed ones."""
     header = (ROOT / "c/bearoff.h").read_text(encoding="utf-8")
-    names = re.findall(
-        r"(?m)^uint32_t (bearoff_\w+)\(const bearoff_(?:database|board|file) \*", header
-    )
+    names = re.findall(r"(?m)^uint32_t (bearoff_\w+)\(const bearoff_file \*", header)
     names += re.findall(r"(?m)^uint32_t (bearoff_\w*open)\(", header)
     tried = re.findall(r"\bbearoff_\w+", (CALLERS / "reads_outside.c").read_text())
     assert names and {*names} <= {*tried}
@@ -332,7 +330,7 @@ FEW_PIPS = 8
 
 
 def build_stack(bound):
-    """The stack that is said to be enough for bearoff_build."""
+    """The stack that is said to be enough for bearoff_build, of a database."""
     return CALL_STACK if bound <= FEW_PIPS else FILE_STACK
 
 
@@ -341,12 +339,11 @@ def test_the_stack_that_is_said():
     header = (ROOT / "c/bearoff.h").read_text(encoding="utf-8")
     page = (ROOT / "docs/embedding.md").read_text(encoding="utf-8")
     text = " ".join(header.replace("\n *", "").split())
-    for name in ("OPEN", "BOARD", "BUILD"):
-        assert f"#define BEAROFF_{name}_STACK {FILE_STACK << 10} " in text
+    assert f"#define BEAROFF_STACK {FILE_STACK << 10} " in text
     assert f"every other call less than {CALL_STACK} KB." in text
     assert (
-        "It needs less than BEAROFF_BUILD_STACK bytes of stack, and less than 128 KB to 8 pips."
-        in text
+        "It needs less than BEAROFF_STACK bytes of stack, and for a database to 8 pips less than"
+        " 128 KB." in text
     )
     assert "it needs less than 1.5 MB of stack, and less than 128 KB to 8 pips." in page
 
@@ -387,8 +384,7 @@ def test_the_stack_of_each_call(caller, kind, bound, note):
     done = run(caller("stacks"), kind, bound, timeout=600)
     expect_that(done.status == 0, done, "status 0")
     took = {name: int(size) for name, size in map(str.split, done.output.decode().splitlines())}
-    opening = ("open", "upgrade", "board_open", "board_build", "file_open")
-    most = {name: FILE_STACK for name in opening}
+    most = {name: FILE_STACK for name in ("open", "upgrade", "build")}
     if kind == "database":
         most["build"] = build_stack(bound)
     wrong = {name: size for name, size in took.items() if size >= most.get(name, CALL_STACK) << 10}
@@ -428,14 +424,8 @@ def test_rooms(caller):
     [
         ("LINE", "opening.rt"),
         ("STATUS_TEXT", "status_texts.rt"),
-        ("RESULTS", "results.rt"),
+        ("RESULTS", "choices.rt"),
         ("REPLY", "lines.rt"),
-        ("LINE", "board_opening.rt"),
-        ("RESULTS", "board_plays.rt"),
-        ("BOARD_REPLY", "board_lines.rt"),
-        ("LINE", "file_opening.rt"),
-        ("RESULTS", "file_plays.rt"),
-        ("BOARD_REPLY", "file_lines.rt"),
     ],
 )
 def test_sizes(name, source):
@@ -456,10 +446,11 @@ def test_largest(caller, built):
 
 
 def test_board_room():
-    """The room that the header names is that of the greatest board file."""
+    """The room that the header names is enough for the greatest board file."""
     header = (ROOT / "c/bearoff.h").read_text(encoding="utf-8")
-    told = int(re.search(r"(?m)^#define BEAROFF_BOARD_FILE (\d+)$", header)[1])
-    assert told == BOARDS[90][0]
+    told = int(re.search(r"(?m)^#define BEAROFF_FILE (\d+)$", header)[1])
+    assert told >= BOARDS[90][0]
+    assert f"{BOARDS[90][0]:,}" in header
 
 
 @pytest.mark.parametrize("bound", [8, 90])
@@ -487,7 +478,7 @@ def test_boards(caller, room, name, bound):
     ],
 )
 def test_files(caller, built, board, note, name, kind, bound, step):
-    """What a file of any version says is what a database or a board says."""
+    """What the calls say of a file agrees, and stands in its lines."""
     # a database of more than 44 pips is of version 2 as it is built
     is_new = kind == "version 2" and bound <= 44
     file = board(bound) if kind == "board" else built(bound, is_new)
@@ -498,18 +489,11 @@ def test_files(caller, built, board, note, name, kind, bound, step):
 
 def test_example_of_files_in_c(library, room, built, board):
     page = "docs/embedding.md"
-    Path("example.c").write_text(code_blocks(page, "c")[3], encoding="utf-8")
+    Path("example.c").write_text(code_blocks(page, "c")[2], encoding="utf-8")
     shutil.copy(built(44), "race.db")
     words = ["cc", "-std=c11", *FLAGS, "-o", "example", "example.c", library / "libbearoff.a"]
     expect(run(*words), 0)
     expect(run("./example", "race.db", board(90)), 0, code_blocks(page, "text")[0])
-
-
-def test_board_example_in_c(library, room):
-    Path("example.c").write_text(code_blocks("docs/embedding.md", "c")[2], encoding="utf-8")
-    words = ["cc", "-std=c11", *FLAGS, "-o", "example", "example.c", library / "libbearoff.a"]
-    expect(run(*words), 0)
-    expect(run("./example"), 0, PRINTED_OF_A_BOARD)
 
 
 def test_status_texts(library):

@@ -32,7 +32,7 @@ export async function smallBoard(bound) {
     const [{ Engine }, { loadModule }] = [await partOf("engine.js"), await partOf("modules.js")];
     const engine = await Engine.start(await loadModule());
     engine.put(new Uint8Array(100_000));
-    equal(`a board of ${bound} pips`, engine.call("bearoff_board_build", bound, BigInt(engine.file), 100_000n, engine.atTold), 0);
+    equal(`a board of ${bound} pips`, engine.call("bearoff_build", 3, bound, BigInt(engine.file), 0n, BigInt(engine.file), 100_000n, engine.atTold), 0);
     const file = engine.bytes.slice(engine.file, engine.file + engine.number(engine.told));
     engine.release();
     return file;

@@ -18,13 +18,9 @@ __version__ = "1.0.0"
 # how many bytes there are, and how much stack, as the header has it
 LINE = 32
 RESULTS = 127
-REPLY = 12070
+REPLY = 16642
 FILE = 15060844
-OPEN_STACK = 1572864
-BUILD_STACK = 1572864
-BOARD_FILE = 14643664
-BOARD_REPLY = 16642
-BOARD_STACK = 1572864
+STACK = 1572864
 
 # a thread of Python needs stack of its own too
 _MORE_STACK = 4 << 20
@@ -55,7 +51,7 @@ SharesRoom = ctypes.c_char * SHARES.size
 
 
 class FileStruct(ctypes.Structure):
-    """The struct that `bearoff_file_open` fills; one that it didn't fill is not open."""
+    """The struct that `bearoff_open` fills; one that it didn't fill is not open."""
 
     _fields_ = [
         ("bytes", ctypes.c_void_p),
@@ -81,19 +77,19 @@ class AboutStruct(ctypes.Structure):
 _POINTER = ctypes.c_void_p
 _BYTE = ctypes.c_uint8
 _RANK = ctypes.c_uint16
+_VERSION = ctypes.c_uint16
 _SIZE = ctypes.c_size_t
 _Calls = Dict[str, Optional[Tuple[Any, ...]]]
 
 # what the calls take that last long enough to let other threads run meanwhile
 _LONG_CALLS: _Calls = {
     "upgrade": (_POINTER, _SIZE, _POINTER, _SIZE, _POINTER, _SIZE, _POINTER),
-    "build": (_BYTE, _POINTER, _SIZE, _POINTER, _SIZE, _POINTER),
-    "board_build": (_BYTE, _POINTER, _SIZE, _POINTER),
-    "file_open": (_POINTER, _POINTER, _SIZE, _POINTER, _SIZE, _POINTER),
-    "file_listed_positions": (_POINTER, _RANK, _POINTER, _SIZE),
-    "file_listed_means": (_POINTER, _RANK, _POINTER, _SIZE),
-    "file_listed_epcs": (_POINTER, _RANK, _POINTER, _SIZE),
-    "file_listed_distributions": (_POINTER, _RANK, _POINTER, _SIZE),
+    "build": (_VERSION, _BYTE, _POINTER, _SIZE, _POINTER, _SIZE, _POINTER),
+    "open": (_POINTER, _POINTER, _SIZE, _POINTER, _SIZE, _POINTER),
+    "listed_positions": (_POINTER, _RANK, _POINTER, _SIZE),
+    "listed_means": (_POINTER, _RANK, _POINTER, _SIZE),
+    "listed_epcs": (_POINTER, _RANK, _POINTER, _SIZE),
+    "listed_distributions": (_POINTER, _RANK, _POINTER, _SIZE),
 }
 
 # .. and those that are over before another thread could have begun; what takes pointers alone is
@@ -101,17 +97,17 @@ _LONG_CALLS: _Calls = {
 _SHORT_CALLS: _Calls = {
     "standing": None,
     "play_to": (_POINTER, _BYTE, _BYTE, _POINTER, _POINTER),
-    "file_about": None,
-    "file_rank": None,
-    "file_position_of": (_POINTER, _RANK, _POINTER),
-    "file_mean": None,
-    "file_epc": None,
-    "file_distribution": None,
-    "file_within": (_POINTER, _POINTER, _BYTE, _POINTER),
-    "file_play": (_POINTER, _POINTER, _BYTE, _BYTE, _POINTER),
-    "file_loss": (_POINTER, _POINTER, _BYTE, _BYTE, _POINTER, _POINTER),
-    "file_moves": (_POINTER, _POINTER, _BYTE, _BYTE, _POINTER, _SIZE, _POINTER),
-    "file_answer_line": (_POINTER, _POINTER, _SIZE, _POINTER, _SIZE, _POINTER),
+    "about": None,
+    "rank": None,
+    "position_of": (_POINTER, _RANK, _POINTER),
+    "mean": None,
+    "epc": None,
+    "distribution": None,
+    "within": (_POINTER, _POINTER, _BYTE, _POINTER),
+    "play": (_POINTER, _POINTER, _BYTE, _BYTE, _POINTER),
+    "loss": (_POINTER, _POINTER, _BYTE, _BYTE, _POINTER, _POINTER),
+    "moves": (_POINTER, _POINTER, _BYTE, _BYTE, _POINTER, _SIZE, _POINTER),
+    "answer_line": (_POINTER, _POINTER, _SIZE, _POINTER, _SIZE, _POINTER),
 }
 
 

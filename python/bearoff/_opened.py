@@ -16,6 +16,7 @@ from .ranking import Ranks
 MOST_CHECKERS = 15
 
 # the greatest bounds of a database and of a board file
+MOST_OLD_PIPS = 44
 MOST_PIPS = 58
 MOST_OF_BOARD = 90
 
@@ -36,14 +37,14 @@ class Opened:
         self.struct = lib.FileStruct(bytes=ctypes.cast(ctypes.c_char_p(content), ctypes.c_void_p))
         self.at = ctypes.byref(self.struct)
         self.ranks: Optional[Ranks] = None
-        self.mean = library.file_mean
-        self.epc = library.file_epc
-        self.distribution = library.file_distribution
-        self.within = library.file_within
-        self.play = library.file_play
-        self.loss = library.file_loss
-        self.moves = library.file_moves
-        self.answer_line = library.file_answer_line
+        self.mean = library.mean
+        self.epc = library.epc
+        self.distribution = library.distribution
+        self.within = library.within
+        self.play = library.play
+        self.loss = library.loss
+        self.moves = library.moves
+        self.answer_line = library.answer_line
         self._take(lib.AboutStruct())
 
     def _take(self, about: lib.AboutStruct) -> None:
@@ -59,8 +60,8 @@ class Opened:
         line = ctypes.create_string_buffer(lib.LINE)
         needed = ctypes.c_size_t()
         status = lib.on_stack(
-            lib.BOARD_STACK,
-            self.library.file_open,
+            lib.STACK,
+            self.library.open,
             self.at,
             self.content,
             len(self.content),
@@ -71,7 +72,7 @@ class Opened:
         if status:
             raise Damaged(status, line.raw[: needed.value].decode("ascii"))
         about = lib.AboutStruct()
-        self.library.file_about(self.at, ctypes.byref(about))
+        self.library.about(self.at, ctypes.byref(about))
         self._take(about)
 
     @property
@@ -86,10 +87,6 @@ class Opened:
         """
         return lib.WORDS if self.version == _BOARD_VERSION else lib.WORDS - 1
 
-    def longest_reply(self) -> int:
-        """How many bytes a reply has at most."""
-        return lib.BOARD_REPLY if self.version == _BOARD_VERSION else lib.REPLY
-
     def share(self, *words: int) -> Fraction:
         """A numerator over the whole."""
         return over_whole(wide_number(*words), self.whole)
@@ -97,16 +94,16 @@ class Opened:
     def rank(self, counts: bytes) -> Tuple[int, int]:
         """The status, and the rank of a position."""
         rank = ctypes.c_uint16()
-        return self.library.file_rank(self.at, counts, ctypes.byref(rank)), rank.value
+        return self.library.rank(self.at, counts, ctypes.byref(rank)), rank.value
 
     def position(self, rank: int) -> Tuple[int, bytes]:
         """.. and the counts of the position of a rank."""
         told = lib.CountsRoom()
-        return self.library.file_position_of(self.at, rank, told), told.raw
+        return self.library.position_of(self.at, rank, told), told.raw
 
     def list_positions(self, room: bytearray, count: int) -> int:
         """Writes so many positions, by rising rank, and tells the status; so of what follows."""
-        status: int = self.library.file_listed_positions(self.at, 0, lib.address(room), count)
+        status: int = self.library.listed_positions(self.at, 0, lib.address(room), count)
         return status
 
     def list_means(self, room: bytearray, count: int) -> int:
@@ -124,7 +121,7 @@ class Opened:
         these words on: of a database without their greatest words, and without the shares that
         none of its positions has.
         """
-        call = getattr(self.library, "file_listed_" + name)
+        call = getattr(self.library, "listed_" + name)
         status: int
         if self.version == _BOARD_VERSION:
             status = call(self.at, 0, lib.address(room), count)
@@ -146,19 +143,16 @@ def fraction_of(*words: int) -> Fraction:
     return lowest_terms(wide_number(*words[: lib.WORDS]), wide_number(*words[lib.WORDS :]))
 
 
-def build(library: lib.Library, bound: int) -> Tuple[int, memoryview]:
-    """The status, and the bytes of the database of a bound, or where no database has it of the
-    board file.
-    """
-    if bound > MOST_PIPS:
-        return build_board(library, bound)
-    work, room = bytearray(lib.FILE), bytearray(lib.FILE)
+def build(library: lib.Library, bound: int, version: int) -> Tuple[int, memoryview]:
+    """The status, and the bytes of the file of a bound and a version."""
+    work, room = bytearray(0 if version == _BOARD_VERSION else lib.FILE), bytearray(lib.FILE)
     filled = ctypes.c_size_t()
     status = lib.on_stack(
-        lib.BUILD_STACK,
+        lib.STACK,
         library.build,
+        version,
         bound,
-        lib.address(work),
+        lib.address(work) if work else lib.address(room),
         len(work),
         lib.address(room),
         len(room),
@@ -167,16 +161,6 @@ def build(library: lib.Library, bound: int) -> Tuple[int, memoryview]:
     return status, memoryview(room)[: filled.value]
 
 
-def build_board(library: lib.Library, bound: int) -> Tuple[int, memoryview]:
-    """.. and of the board file of a bound."""
-    room = bytearray(lib.BOARD_FILE)
-    filled = ctypes.c_size_t()
-    status = lib.on_stack(
-        lib.BOARD_STACK,
-        library.board_build,
-        bound,
-        lib.address(room),
-        len(room),
-        ctypes.byref(filled),
-    )
-    return status, memoryview(room)[: filled.value]
+def usual_version(bound: int) -> int:
+    """The version of the file that is built for a bound: the first that has it."""
+    return 1 if bound <= MOST_OLD_PIPS else 2 if bound <= MOST_PIPS else _BOARD_VERSION

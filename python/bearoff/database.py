@@ -26,7 +26,7 @@ from typing import (
 )
 
 from . import _library as lib
-from ._opened import MOST_CHECKERS, MOST_OF_BOARD, Opened, build, fraction_of
+from ._opened import MOST_CHECKERS, MOST_OF_BOARD, Opened, build, fraction_of, usual_version
 from .errors import (
     NO_RANK,
     NOT_OPEN,
@@ -131,7 +131,8 @@ class Database:
         Raises `BadArgument` where the bound is no whole number from 0 on, and `Refused` where it
         is over 90.
         """
-        status, content = build(lib.library(), bound_of(bound))
+        most = bound_of(bound)
+        status, content = build(lib.library(), most, usual_version(most))
         if status == OVER_BOUND:
             raise Refused(status, f"{shown(bound)}, and no bound is over {MOST_OF_BOARD}")
         _check(status)
@@ -520,7 +521,7 @@ class Database:
         # no query has a character beyond ASCII, nor a question mark
         asked = line.encode("ascii", "replace")
         needed = ctypes.c_size_t()
-        for room in (4096, opened.longest_reply()):
+        for room in (4096, lib.REPLY):
             text = ctypes.create_string_buffer(room)
             status = opened.answer_line(
                 opened.at, asked, len(asked), text, room, ctypes.byref(needed)
@@ -539,7 +540,7 @@ class Database:
         work, room = bytearray(len(content)), bytearray(len(content))
         filled = ctypes.c_size_t()
         status = lib.on_stack(
-            lib.OPEN_STACK,
+            lib.STACK,
             opened.library.upgrade,
             content,
             len(content),

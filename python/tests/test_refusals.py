@@ -23,7 +23,7 @@ from bearoff import (
     grade,
     notation,
 )
-from bearoff._opened import build_board
+from bearoff._opened import build
 from bearoff.matches import read_match
 
 from .given import FOLDER, ROOT, database
@@ -164,7 +164,7 @@ NAMES = {
 @lru_cache(maxsize=None)
 def board(bound: int) -> bytes:
     """A board file of any bound: `Database.build` makes those alone that no database has."""
-    status, content = build_board(_library.library(), bound)
+    status, content = build(_library.library(), bound, 3)
     if status:
         raise AssertionError(status)
     return content.tobytes()

@@ -6,9 +6,7 @@ pub const STATUS_TEXT: usize = 80;
 pub const RESULTS: usize = 127;
 pub const REPLY: usize = 16642;
 pub const FILE: usize = 15_060_844;
-pub const BOARD_FILE: usize = 14_643_664;
-pub const OPEN_STACK: usize = 1_572_864;
-pub const BUILD_STACK: usize = 1_572_864;
+pub const STACK: usize = 1_572_864;
 pub const RANKS: usize = 6 * 16 * 91 + 92;
 
 #[repr(C)]
@@ -120,7 +118,7 @@ pub type OfPosition<T> = unsafe extern "C" fn(At, *const Counts, *mut T) -> u32;
 extern "C" {
     pub fn bearoff_library_version(major: *mut u16, minor: *mut u16, patch: *mut u16) -> u32;
     pub fn bearoff_status_text(status: u32, text: *mut u8, room: usize, needed: *mut usize) -> u32;
-    pub fn bearoff_file_open(
+    pub fn bearoff_open(
         at: *mut Opened,
         bytes: *const u8,
         length: usize,
@@ -129,6 +127,7 @@ extern "C" {
         needed: *mut usize,
     ) -> u32;
     pub fn bearoff_build(
+        version: u16,
         bound: u8,
         work: *mut u8,
         work_length: usize,
@@ -136,7 +135,6 @@ extern "C" {
         room_length: usize,
         filled: *mut usize,
     ) -> u32;
-    pub fn bearoff_board_build(bound: u8, room: *mut u8, length: usize, filled: *mut usize) -> u32;
     pub fn bearoff_upgrade(
         bytes: *const u8,
         length: usize,
@@ -146,16 +144,15 @@ extern "C" {
         room_length: usize,
         filled: *mut usize,
     ) -> u32;
-    pub fn bearoff_file_about(at: At, about: *mut About) -> u32;
-    pub fn bearoff_file_rank(at: At, of: *const Counts, rank: *mut u16) -> u32;
-    pub fn bearoff_file_mean(at: At, of: *const Counts, mean: *mut Words) -> u32;
-    pub fn bearoff_file_epc(at: At, of: *const Counts, pips: *mut Pips) -> u32;
-    pub fn bearoff_file_wastage(at: At, of: *const Counts, wastage: *mut Wasted) -> u32;
-    pub fn bearoff_file_distribution(at: At, of: *const Counts, shares: *mut [Words; 34]) -> u32;
-    pub fn bearoff_file_within(at: At, of: *const Counts, rolls: u8, chance: *mut Chance) -> u32;
-    pub fn bearoff_file_play(at: At, of: *const Counts, one: u8, other: u8, play: *mut Play)
-        -> u32;
-    pub fn bearoff_file_loss(
+    pub fn bearoff_about(at: At, about: *mut About) -> u32;
+    pub fn bearoff_rank(at: At, of: *const Counts, rank: *mut u16) -> u32;
+    pub fn bearoff_mean(at: At, of: *const Counts, mean: *mut Words) -> u32;
+    pub fn bearoff_epc(at: At, of: *const Counts, pips: *mut Pips) -> u32;
+    pub fn bearoff_wastage(at: At, of: *const Counts, wastage: *mut Wasted) -> u32;
+    pub fn bearoff_distribution(at: At, of: *const Counts, shares: *mut [Words; 34]) -> u32;
+    pub fn bearoff_within(at: At, of: *const Counts, rolls: u8, chance: *mut Chance) -> u32;
+    pub fn bearoff_play(at: At, of: *const Counts, one: u8, other: u8, play: *mut Play) -> u32;
+    pub fn bearoff_loss(
         at: At,
         of: *const Counts,
         one: u8,
@@ -163,7 +160,7 @@ extern "C" {
         to: *const Counts,
         loss: *mut Fraction,
     ) -> u32;
-    pub fn bearoff_file_moves(
+    pub fn bearoff_moves(
         at: At,
         of: *const Counts,
         one: u8,
@@ -172,7 +169,7 @@ extern "C" {
         room: usize,
         count: *mut usize,
     ) -> u32;
-    pub fn bearoff_file_answer_line(
+    pub fn bearoff_answer_line(
         at: At,
         line: *const u8,
         length: usize,

@@ -254,12 +254,12 @@ impl<'a> Database<'a> {
         let mut opened = calls::Opened::closed();
         let (mut line, mut needed) = ([0; calls::LINE], 0);
         let lent = Lent((&mut *opened, &bytes[..], &mut line, &mut needed));
-        let status = on_stack(calls::OPEN_STACK, move || {
+        let status = on_stack(calls::STACK, move || {
             let Lent((at, bytes, line, needed)) = { lent };
             let (from, length) = (bytes.as_ptr(), bytes.len());
             let (to, room) = (line.as_mut_ptr(), line.len());
             // the struct, the bytes and the room outlive the call, which changes no byte
-            unsafe { calls::bearoff_file_open(at, from, length, to, room, needed) }
+            unsafe { calls::bearoff_open(at, from, length, to, room, needed) }
         })?;
         if status != calls::OK {
             let line = String::from_utf8_lossy(&line[..needed.min(line.len())]).into_owned();
@@ -267,7 +267,7 @@ impl<'a> Database<'a> {
         }
         let at: *const calls::Opened = &*opened;
         let none = calls::About::default();
-        let about = answered(none, |it| unsafe { calls::bearoff_file_about(at, it) })?;
+        let about = answered(none, |it| unsafe { calls::bearoff_about(at, it) })?;
         Ok(Database { bytes, opened, about })
     }
 
@@ -307,19 +307,19 @@ impl<'a> Database<'a> {
 
     /// The least mean number of rolls until all checkers are off, over all strategies.
     pub fn mean(&self, position: Position) -> Result<Fraction, Error> {
-        Ok(self.over_whole(self.asked([0; 3], position, calls::bearoff_file_mean)?))
+        Ok(self.over_whole(self.asked([0; 3], position, calls::bearoff_mean)?))
     }
 
     /// The effective pip count.
     pub fn epc(&self, position: Position) -> Result<EffectivePips, Error> {
-        Ok(self.asked(calls::Pips::default(), position, calls::bearoff_file_epc)?.into())
+        Ok(self.asked(calls::Pips::default(), position, calls::bearoff_epc)?.into())
     }
 
     /// The effective pip count less the pip count, in thousandths of a pip; of few positions it is
     /// below 0.
     pub fn wastage(&self, position: Position) -> Result<i64, Error> {
         let none = calls::Wasted::default();
-        let told = self.asked(none, position, calls::bearoff_file_wastage)?;
+        let told = self.asked(none, position, calls::bearoff_wastage)?;
         let thousandths = told.thousandths as i64;
         Ok(if told.is_below { -thousandths } else { thousandths })
     }
@@ -327,7 +327,7 @@ impl<'a> Database<'a> {
     /// The chances of being off in exactly 0 to 22 rolls, of a board file 0 to 33, by the recorded
     /// plays. They add up to 1.
     pub fn distribution(&self, position: Position) -> Result<Vec<Fraction>, Error> {
-        let shares = self.asked([[0; 3]; 34], position, calls::bearoff_file_distribution)?;
+        let shares = self.asked([[0; 3]; 34], position, calls::bearoff_distribution)?;
         let count = usize::from(self.about.rolls) + 1;
         Ok(shares.iter().take(count).map(|share| self.over_whole(*share)).collect())
     }
@@ -337,7 +337,7 @@ impl<'a> Database<'a> {
         let (at, of) = (self.at(), position.counts());
         let rolls = rolls.min(usize::from(u8::MAX)) as u8;
         let none = calls::Chance::default();
-        let told = answered(none, |it| unsafe { calls::bearoff_file_within(at, &of, rolls, it) })?;
+        let told = answered(none, |it| unsafe { calls::bearoff_within(at, &of, rolls, it) })?;
         Ok(self.over_whole(told.numerator))
     }
 
@@ -352,9 +352,8 @@ impl<'a> Database<'a> {
     pub fn play(&self, position: Position, roll: Roll) -> Result<Play, Error> {
         let (at, of) = (self.at(), position.counts());
         let none = calls::Play::default();
-        let play = answered(none, |it| unsafe {
-            calls::bearoff_file_play(at, &of, roll.one, roll.other, it)
-        })?;
+        let play =
+            answered(none, |it| unsafe { calls::bearoff_play(at, &of, roll.one, roll.other, it) })?;
         Ok(play.into())
     }
 
@@ -363,7 +362,7 @@ impl<'a> Database<'a> {
         let (at, of, to) = (self.at(), position.counts(), to.counts());
         let none = calls::Fraction::default();
         let loss = answered(none, |it| unsafe {
-            calls::bearoff_file_loss(at, &of, roll.one, roll.other, &to, it)
+            calls::bearoff_loss(at, &of, roll.one, roll.other, &to, it)
         })?;
         Ok(loss.into())
     }
@@ -375,7 +374,7 @@ impl<'a> Database<'a> {
         let (mut results, mut count) = ([calls::Choice::default(); calls::RESULTS], 0);
         let (room, length) = (results.as_mut_ptr(), results.len());
         told(unsafe {
-            calls::bearoff_file_moves(at, &of, roll.one, roll.other, room, length, &mut count)
+            calls::bearoff_moves(at, &of, roll.one, roll.other, room, length, &mut count)
         })?;
         Ok(results[..count].iter().copied().map(Choice::from).collect())
     }
@@ -388,7 +387,7 @@ impl<'a> Database<'a> {
         let (room, length) = (text.as_mut_ptr(), text.len());
         told(unsafe {
             let from = line.as_ptr();
-            calls::bearoff_file_answer_line(at, from, line.len(), room, length, &mut needed)
+            calls::bearoff_answer_line(at, from, line.len(), room, length, &mut needed)
         })?;
         text.truncate(needed);
         Ok(String::from_utf8_lossy(&text).into_owned())
@@ -397,7 +396,7 @@ impl<'a> Database<'a> {
     /// The rank of a position: how many are before it, which are those of fewer pips, and of as
     /// many those with the smaller counts, that of the ace point first.
     pub fn rank(&self, position: Position) -> Result<u16, Error> {
-        self.asked(0, position, calls::bearoff_file_rank)
+        self.asked(0, position, calls::bearoff_rank)
     }
 
     /// The bytes of a file of version 2 that says the same. Refused where its own is of version 2
@@ -406,7 +405,7 @@ impl<'a> Database<'a> {
         let length = self.bytes.len();
         let (mut work, mut room, mut filled) = (vec![0; length], vec![0; length], 0);
         let lent = Lent((&self.bytes[..], &mut work[..], &mut room[..], &mut filled));
-        let status = on_stack(calls::OPEN_STACK, move || {
+        let status = on_stack(calls::STACK, move || {
             let Lent((bytes, work, room, filled)) = { lent };
             let (from, to) = (bytes.as_ptr(), room.as_mut_ptr());
             // three rooms that don't meet
@@ -424,23 +423,20 @@ impl Database<'static> {
     /// Builds the database of a pip bound, 0 to 58, or the board file of one of 59 to 90, and checks
     /// it: some tenths of a second. Refused where the bound is over 90.
     pub fn build(bound: u8) -> Result<Database<'static>, Error> {
-        const LAST_DATABASE_BOUND: u8 = 58;
-        let is_board = bound > LAST_DATABASE_BOUND;
-        let size = if is_board { calls::BOARD_FILE } else { calls::FILE };
-        let (mut room, mut filled) = (vec![0; size], 0);
-        let mut work = vec![0; if is_board { 0 } else { size }];
+        let version = match bound {
+            0..=44 => 1,
+            45..=58 => 2,
+            _ => 3,
+        };
+        let (mut room, mut filled) = (vec![0; calls::FILE], 0);
+        let mut work = vec![0; if version == 3 { 0 } else { calls::FILE }];
         let lent = Lent((&mut work[..], &mut room[..], &mut filled));
-        let status = on_stack(calls::BUILD_STACK, move || {
+        let status = on_stack(calls::STACK, move || {
             let Lent((work, room, filled)) = { lent };
-            let to = room.as_mut_ptr();
+            let (from, length, to, size) =
+                (work.as_mut_ptr(), work.len(), room.as_mut_ptr(), room.len());
             // two rooms that don't meet
-            unsafe {
-                if is_board {
-                    calls::bearoff_board_build(bound, to, size, filled)
-                } else {
-                    calls::bearoff_build(bound, work.as_mut_ptr(), size, to, size, filled)
-                }
-            }
+            unsafe { calls::bearoff_build(version, bound, from, length, to, size, filled) }
         })?;
         told(status)?;
         room.truncate(filled);

@@ -1,5 +1,5 @@
 /*
- * A board file, built by bearoff_board_build in a room between guards, opened and asked.
+ * A board file, built by bearoff_build in a room between guards, opened and asked.
  *
  * usage: boards BOUND FILE       builds the file of a bound, writes it, and answers each line of
  *                                the input
@@ -17,11 +17,11 @@
 
 #include "bearoff.h"
 
-enum { GUARD = 64, MARK = 0xA5, MOST = BEAROFF_BOARD_FILE };
+enum { GUARD = 64, MARK = 0xA5, MOST = 14643664 };
 
-static uint8_t block[GUARD + MOST + GUARD], text[BEAROFF_BOARD_REPLY + 1];
+static uint8_t block[GUARD + MOST + GUARD], text[BEAROFF_REPLY + 1];
 static uint8_t *const room = block + GUARD;
-static bearoff_board board = BEAROFF_BOARD_CLOSED;
+static bearoff_file board = BEAROFF_CLOSED;
 static int failed;
 
 static void expect(int holds, const char *what, long number) {
@@ -39,7 +39,7 @@ static int is_marked(const uint8_t *from, size_t size) {
 static uint32_t build_in(int bound, size_t length, size_t *filled) {
     memset(block, MARK, sizeof block);
     *filled = MARK;
-    uint32_t status = bearoff_board_build((uint8_t)bound, room, length, filled);
+    uint32_t status = bearoff_build(3, (uint8_t)bound, block, 0, room, length, filled);
     expect(is_marked(block, GUARD) && is_marked(room + length, MOST - length + GUARD),
            "beside the room", bound);
     if (status != BEAROFF_OK)
@@ -49,7 +49,7 @@ static uint32_t build_in(int bound, size_t length, size_t *filled) {
 
 static uint32_t open_built(size_t size, size_t *needed) {
     memset(text, MARK, sizeof text);
-    return bearoff_board_open(&board, room, size, text, BEAROFF_LINE, needed);
+    return bearoff_open(&board, room, size, text, BEAROFF_LINE, needed);
 }
 
 /* each call of a position that is refused, and those that ask no position; what is lent stays as
@@ -57,28 +57,28 @@ static uint32_t open_built(size_t size, size_t *needed) {
 static void try_calls(bearoff_position position, uint32_t status, uint32_t general,
                       const char *what) {
     static struct {
-        bearoff_long mean;
-        bearoff_long_pips pips;
-        bearoff_long_shares shares;
+        bearoff_number mean;
+        bearoff_rounded pips;
+        bearoff_shares shares;
         bearoff_recorded_play play;
-        bearoff_long_fraction loss;
-        bearoff_long_result results[2];
+        bearoff_fraction loss;
+        bearoff_result results[2];
         size_t count;
     } lent;
     size_t needed = 7;
     uint8_t reply[64];
     memset(&lent, MARK, sizeof lent);
-    expect(bearoff_board_mean(&board, &position, &lent.mean) == status, what, 1);
-    expect(bearoff_board_epc(&board, &position, &lent.pips) == status, what, 2);
-    expect(bearoff_board_distribution(&board, &position, &lent.shares) == status, what, 3);
-    expect(bearoff_board_play(&board, &position, 2, 1, &lent.play) == status, what, 4);
-    expect(bearoff_board_loss(&board, &position, 2, 1, &position, &lent.loss) == status, what, 5);
-    expect(bearoff_board_moves(&board, &position, 2, 1, lent.results, 2, &lent.count) == status,
-           what, 6);
-    expect(bearoff_board_means(&board, 0, &lent.mean, 0) == general, what, 7);
-    expect(bearoff_board_distributions(&board, 0, &lent.shares, 0) == general, what, 8);
-    expect(bearoff_board_answer_line(&board, (const uint8_t *)"", 0, reply, sizeof reply,
-                                     &needed) == general,
+    expect(bearoff_mean(&board, &position, &lent.mean) == status, what, 1);
+    expect(bearoff_epc(&board, &position, &lent.pips) == status, what, 2);
+    expect(bearoff_distribution(&board, &position, &lent.shares) == status, what, 3);
+    expect(bearoff_play(&board, &position, 2, 1, &lent.play) == status, what, 4);
+    expect(bearoff_loss(&board, &position, 2, 1, &position, &lent.loss) == status, what, 5);
+    expect(bearoff_moves(&board, &position, 2, 1, lent.results, 2, &lent.count) == status, what,
+           6);
+    expect(bearoff_listed_means(&board, 0, &lent.mean, 0) == general, what, 7);
+    expect(bearoff_listed_distributions(&board, 0, &lent.shares, 0) == general, what, 8);
+    expect(bearoff_answer_line(&board, (const uint8_t *)"", 0, reply, sizeof reply, &needed) ==
+               general,
            what, 9);
     expect(is_marked((const uint8_t *)&lent, sizeof lent), what, 10);
     expect(general == BEAROFF_OK || needed == 7, what, 11);
@@ -89,24 +89,23 @@ static void try_refusals(size_t size) {
     static const char bad_version[] = "header bad-version";
     size_t needed;
     bearoff_position none = {{0}};
-    bearoff_long mean;
-    room[9] ^= 1;
+    bearoff_number mean;
+    room[9] ^= 7;
     expect(open_built(size, &needed) == BEAROFF_BAD_VERSION, "a wrong version", 0);
     expect(needed == strlen(bad_version) && !memcmp(text, bad_version, needed), "its line",
            (long)needed);
     expect(!board.is_open && is_marked(text + needed, sizeof text - needed), "behind its line",
            (long)needed);
-    room[9] ^= 1;
+    room[9] ^= 7;
     room[size - 1] ^= 1;
     expect(open_built(size, &needed) >= BEAROFF_BAD_PLAY && !board.is_open, "a wrong count", 0);
     room[size - 1] ^= 1;
     expect(open_built(size - 1, &needed) == BEAROFF_BAD_LENGTH, "a byte too few", 0);
-    expect(bearoff_board_mean(&board, &none, &mean) == BEAROFF_NOT_OPEN, "not open", 0);
+    expect(bearoff_mean(&board, &none, &mean) == BEAROFF_NOT_OPEN, "not open", 0);
     expect(open_built(size, &needed) == BEAROFF_OK && needed == 0 && is_marked(text, sizeof text),
            "the file", 0);
-    expect(bearoff_board_close(&board) == BEAROFF_OK && !board.is_open, "closed", 0);
-    expect(bearoff_board_mean(&board, &none, &mean) == BEAROFF_NOT_OPEN, "asked of a closed one",
-           0);
+    expect((board.is_open = 0, true), "closed", 0);
+    expect(bearoff_mean(&board, &none, &mean) == BEAROFF_NOT_OPEN, "asked of a closed one", 0);
     try_calls(none, BEAROFF_NOT_OPEN, BEAROFF_NOT_OPEN, "each call of a closed one");
     none.points[5] = 16;
     expect(open_built(size, &needed) == BEAROFF_OK, "opened again", 0);
@@ -116,14 +115,14 @@ static void try_refusals(size_t size) {
 }
 
 /* the text that is made of numbers, to be compared with what a line is answered */
-static char made[BEAROFF_BOARD_REPLY + 1];
+static char made[BEAROFF_REPLY + 1];
 static size_t made_length;
 
 static void put(const char *format, long number) {
     made_length += (size_t)snprintf(made + made_length, sizeof made - made_length, format, number);
 }
 
-static void put_long(bearoff_long number) {
+static void put_long(bearoff_number number) {
     char digits[64];
     int place = sizeof digits;
     do {
@@ -140,7 +139,7 @@ static void put_long(bearoff_long number) {
     while (place < (int)sizeof digits) put("%c", digits[place++]);
 }
 
-static void put_fraction(bearoff_long_fraction fraction) {
+static void put_fraction(bearoff_fraction fraction) {
     put_long(fraction.numerator);
     put("/", 0);
     put_long(fraction.denominator);
@@ -153,8 +152,8 @@ static void put_position(bearoff_position position) {
 /* what a line is answered, which has to end with what was made */
 static const char *answered(const char *line) {
     size_t needed;
-    expect(bearoff_board_answer_line(&board, (const uint8_t *)line, strlen(line), text,
-                                     BEAROFF_BOARD_REPLY, &needed) == BEAROFF_OK,
+    expect(bearoff_answer_line(&board, (const uint8_t *)line, strlen(line), text, BEAROFF_REPLY,
+                               &needed) == BEAROFF_OK,
            line, 0);
     text[needed] = 0;
     return (const char *)text;
@@ -170,32 +169,31 @@ static void compare(const char *line) {
 
 /* one roll of a position: the play, each result with what it costs, and the same of each alone */
 static void ask_roll(const char *name, bearoff_position position, uint8_t one, uint8_t other) {
-    static bearoff_long_result results[BEAROFF_RESULTS];
+    static bearoff_result results[BEAROFF_RESULTS];
     char line[320];
     bearoff_recorded_play play;
-    bearoff_long_fraction loss;
+    bearoff_fraction loss;
     size_t count, less = BEAROFF_RESULTS;
-    expect(bearoff_board_moves(&board, &position, one, other, results, BEAROFF_RESULTS, &count) ==
+    expect(bearoff_moves(&board, &position, one, other, results, BEAROFF_RESULTS, &count) ==
                BEAROFF_OK,
            name, one);
-    expect(bearoff_board_moves(&board, &position, other, one, results, count - 1, &less) ==
-                   BEAROFF_SHORT &&
-               less == count,
-           "a room too small for the moves", (long)count);
+    expect(
+        bearoff_moves(&board, &position, other, one, results, count - 1, &less) == BEAROFF_SHORT &&
+            less == count,
+        "a room too small for the moves", (long)count);
     put("moves", 0);
     for (size_t i = 0; i < count; i++) {
         put(" ", 0);
         put_position(results[i].to);
         put(":", 0);
         put_fraction(results[i].loss);
-        expect(bearoff_board_loss(&board, &position, one, other, &results[i].to, &loss) ==
-                       BEAROFF_OK &&
+        expect(bearoff_loss(&board, &position, one, other, &results[i].to, &loss) == BEAROFF_OK &&
                    !memcmp(&loss, &results[i].loss, sizeof loss),
                "a loss", (long)i);
     }
     snprintf(line, sizeof line, "moves %s %d%d", name, one, other);
     compare(line);
-    expect(bearoff_board_play(&board, &position, one, other, &play) == BEAROFF_OK, name, other);
+    expect(bearoff_play(&board, &position, one, other, &play) == BEAROFF_OK, name, other);
     put("play", 0);
     for (int i = 0; i < play.count; i++) {
         put(" %ld/", play.moves[i].from);
@@ -205,21 +203,18 @@ static void ask_roll(const char *name, bearoff_position position, uint8_t one, u
     put_position(play.to);
     snprintf(line, sizeof line, "play %s %d%d", name, one, other);
     compare(line);
-    expect(
-        bearoff_board_loss(&board, &position, one, other, &position, &loss) == BEAROFF_NOT_LEGAL,
-        "no play", 0);
-    expect(bearoff_board_play(&board, &position, 0, other, &play) == BEAROFF_BAD_ROLL, "no die",
-           0);
+    expect(bearoff_loss(&board, &position, one, other, &position, &loss) == BEAROFF_NOT_LEGAL,
+           "no play", 0);
+    expect(bearoff_play(&board, &position, 0, other, &play) == BEAROFF_BAD_ROLL, "no die", 0);
     memset(&position, 0, sizeof position);
-    expect(
-        bearoff_board_moves(&board, &position, one, other, results, 1, &less) == BEAROFF_FINISHED,
-        "finished", 0);
+    expect(bearoff_moves(&board, &position, one, other, results, 1, &less) == BEAROFF_FINISHED,
+           "finished", 0);
 }
 
 typedef unsigned __int128 number;
 
 /* a number of three words times another one, and one more */
-static bearoff_long times(bearoff_long of, uint64_t factor, uint64_t more) {
+static bearoff_number times(bearoff_number of, uint64_t factor, uint64_t more) {
     for (int word = 2; word >= 0; word--) {
         number product = (number)of.words[word] * factor + more;
         of.words[word] = (uint64_t)product;
@@ -229,17 +224,17 @@ static bearoff_long times(bearoff_long of, uint64_t factor, uint64_t more) {
 }
 
 /* a fraction in thousandths, or that it can't be told, which is -1 */
-static void round_off(bearoff_long numerator, bearoff_long denominator, int wanted,
+static void round_off(bearoff_number numerator, bearoff_number denominator, int wanted,
                       const char *what) {
-    bearoff_long_fraction fraction = {numerator, denominator};
+    bearoff_fraction fraction = {numerator, denominator};
     uint64_t told = MARK;
-    bool is_told = bearoff_board_thousandths(&fraction, &told);
+    bool is_told = bearoff_thousandths(&fraction, &told);
     expect(is_told == (wanted >= 0) && told == (is_told ? (uint64_t)wanted : MARK), what,
            (long)told);
 }
 
 static void try_thousandths(void) {
-    bearoff_long zero = {{0}}, one = {{0, 0, 1}}, power = one, whole, most;
+    bearoff_number zero = {{0}}, one = {{0, 0, 1}}, power = one, whole, most;
     for (int k = 0; k < 30; k++) power = times(power, 36, 0);
     whole = times(power, 36 * 36 * 36, 0);
     most = times(whole, 6, 0);
@@ -269,33 +264,33 @@ static void try_thousandths(void) {
 static void ask_position(const char *name) {
     char line[320];
     bearoff_position position;
-    bearoff_long mean, listed;
-    bearoff_long_pips pips;
-    static bearoff_long_shares shares, table[2];
+    bearoff_number mean, listed;
+    bearoff_rounded pips;
+    static bearoff_shares shares, table[2];
     double sum = 0;
     if (bearoff_parse_position((const uint8_t *)name, strlen(name), &position) ||
-        bearoff_board_mean(&board, &position, &mean))
+        bearoff_mean(&board, &position, &mean))
         return;
-    expect(bearoff_board_epc(&board, &position, &pips) == BEAROFF_OK, name, 1);
-    expect(fabs(bearoff_long_as_double(mean) * 49 / 6 * 1000 - (double)pips.thousandths) < 0.6,
+    expect(bearoff_epc(&board, &position, &pips) == BEAROFF_OK, name, 1);
+    expect(fabs(bearoff_as_double(&board, mean) * 49 / 6 * 1000 - (double)pips.thousandths) < 0.6,
            name, 2);
     uint64_t told = 0;
-    expect(bearoff_board_thousandths(&pips.exact, &told) && told == pips.thousandths, name, 7);
+    expect(bearoff_thousandths(&pips.exact, &told) && told == pips.thousandths, name, 7);
     put(" epc ", 0);
     put_fraction(pips.exact);
     put(" %ld.", (long)(pips.thousandths / 1000));
     put("%03ld", (long)(pips.thousandths % 1000));
     snprintf(line, sizeof line, "mean %s", name);
     compare(line);
-    expect(bearoff_board_distribution(&board, &position, &shares) == BEAROFF_OK, name, 3);
-    for (int k = 0; k < 34; k++) sum += bearoff_long_as_double(shares.shares[k]);
+    expect(bearoff_distribution(&board, &position, &shares) == BEAROFF_OK, name, 3);
+    for (int k = 0; k < 34; k++) sum += bearoff_as_double(&board, shares.shares[k]);
     expect(fabs(sum - 1) < 1e-12, name, 4);
     snprintf(line, sizeof line, "rank %s", name);
     uint16_t rank = (uint16_t)atoi(answered(line) + 5);
-    expect(bearoff_board_means(&board, rank, &listed, 1) == BEAROFF_OK &&
+    expect(bearoff_listed_means(&board, rank, &listed, 1) == BEAROFF_OK &&
                !memcmp(&listed, &mean, sizeof mean),
            name, 5);
-    expect(bearoff_board_distributions(&board, rank, table, 1) == BEAROFF_OK &&
+    expect(bearoff_listed_distributions(&board, rank, table, 1) == BEAROFF_OK &&
                !memcmp(table, &shares, sizeof shares),
            name, 6);
     if (rank) ask_roll(name, position, 6, 5), ask_roll(name, position, 3, 3);
@@ -303,21 +298,22 @@ static void ask_position(const char *name) {
 
 /* the whole tables, and a rank more than there are */
 static void try_tables(uint16_t positions) {
-    bearoff_long *means = (bearoff_long *)malloc((positions + 1) * sizeof *means);
-    bearoff_long_shares *shares = (bearoff_long_shares *)malloc((positions + 1) * sizeof *shares);
+    bearoff_number *means = (bearoff_number *)malloc((positions + 1) * sizeof *means);
+    bearoff_shares *shares = (bearoff_shares *)malloc((positions + 1) * sizeof *shares);
     if (!means || !shares) exit(2);
     memset(means, MARK, (positions + 1) * sizeof *means);
     memset(shares, MARK, (positions + 1) * sizeof *shares);
-    expect(bearoff_board_means(&board, 0, means, positions + 1) == BEAROFF_NO_RANK,
+    expect(bearoff_listed_means(&board, 0, means, positions + 1) == BEAROFF_NO_RANK,
            "a rank too many", positions);
-    expect(bearoff_board_distributions(&board, 1, shares, positions) == BEAROFF_NO_RANK,
+    expect(bearoff_listed_distributions(&board, 1, shares, positions) == BEAROFF_NO_RANK,
            "a rank too many", positions);
     expect(is_marked((uint8_t *)means, (positions + 1) * sizeof *means), "means left alone",
            positions);
     expect(is_marked((uint8_t *)shares, (positions + 1) * sizeof *shares), "shares left alone",
            positions);
-    expect(bearoff_board_means(&board, 0, means, positions) == BEAROFF_OK, "all means", positions);
-    expect(bearoff_board_distributions(&board, 0, shares, positions) == BEAROFF_OK, "all shares",
+    expect(bearoff_listed_means(&board, 0, means, positions) == BEAROFF_OK, "all means",
+           positions);
+    expect(bearoff_listed_distributions(&board, 0, shares, positions) == BEAROFF_OK, "all shares",
            positions);
     expect(is_marked((uint8_t *)(means + positions), sizeof *means), "behind the means",
            positions);
@@ -325,9 +321,9 @@ static void try_tables(uint16_t positions) {
            positions);
     for (uint16_t rank = 0; rank < positions; rank++) {
         double mean = 0;
-        for (int k = 0; k < 34; k++) mean += k * bearoff_long_as_double(shares[rank].shares[k]);
-        expect(fabs(mean - bearoff_long_as_double(means[rank])) < 1e-9, "the mean of the shares",
-               rank);
+        for (int k = 0; k < 34; k++) mean += k * bearoff_as_double(&board, shares[rank].shares[k]);
+        expect(fabs(mean - bearoff_as_double(&board, means[rank])) < 1e-9,
+               "the mean of the shares", rank);
     }
     free(means);
     free(shares);
@@ -336,11 +332,11 @@ static void try_tables(uint16_t positions) {
 /* bytes that are changed after they were opened: each call answers, or says that they were changed
  */
 static void try_changes(size_t size) {
-    static bearoff_long_shares shares;
-    static bearoff_long_result results[BEAROFF_RESULTS];
+    static bearoff_shares shares;
+    static bearoff_result results[BEAROFF_RESULTS];
     static const uint8_t fills[] = {0, 1, 0x7F, 0xFF};
-    bearoff_long mean;
-    bearoff_long_pips pips;
+    bearoff_number mean;
+    bearoff_rounded pips;
     bearoff_recorded_play play;
     size_t found, needed;
     uint32_t state = 1;
@@ -353,15 +349,15 @@ static void try_changes(size_t size) {
             bearoff_position position = {{0}};
             for (int i = 0; i < 6; i++) position.points[i] = (uint8_t)(points >> i & 1);
             uint32_t told[] = {
-                bearoff_board_mean(&board, &position, &mean),
-                bearoff_board_epc(&board, &position, &pips),
-                bearoff_board_distribution(&board, &position, &shares),
-                bearoff_board_play(&board, &position, 2, 1, &play),
-                bearoff_board_moves(&board, &position, 6, 6, results, BEAROFF_RESULTS, &found),
-                bearoff_board_means(&board, (uint16_t)points, &mean, 1),
-                bearoff_board_distributions(&board, (uint16_t)points, &shares, 1),
-                bearoff_board_answer_line(&board, (const uint8_t *)"dist 1,1,1,0,0,0", 16, text,
-                                          BEAROFF_BOARD_REPLY, &needed),
+                bearoff_mean(&board, &position, &mean),
+                bearoff_epc(&board, &position, &pips),
+                bearoff_distribution(&board, &position, &shares),
+                bearoff_play(&board, &position, 2, 1, &play),
+                bearoff_moves(&board, &position, 6, 6, results, BEAROFF_RESULTS, &found),
+                bearoff_listed_means(&board, (uint16_t)points, &mean, 1),
+                bearoff_listed_distributions(&board, (uint16_t)points, &shares, 1),
+                bearoff_answer_line(&board, (const uint8_t *)"dist 1,1,1,0,0,0", 16, text,
+                                    BEAROFF_REPLY, &needed),
             };
             for (size_t i = 0; i < sizeof told / sizeof *told; i++)
                 expect(told[i] == BEAROFF_OK || told[i] == BEAROFF_CHANGED ||
@@ -391,13 +387,13 @@ int main(int count, char **words) {
     while (fgets(line, sizeof line, stdin)) {
         size_t length = strcspn(line, "\n");
         memset(text, MARK, sizeof text);
-        uint32_t status = bearoff_board_answer_line(&board, (const uint8_t *)line, length, text,
-                                                    BEAROFF_BOARD_REPLY, &needed);
+        uint32_t status = bearoff_answer_line(&board, (const uint8_t *)line, length, text,
+                                              BEAROFF_REPLY, &needed);
         expect(status == BEAROFF_OK && is_marked(text + needed, sizeof text - needed), "a line",
                (long)status);
         printf("%.*s\n", (int)needed, (const char *)text);
-        expect(bearoff_board_answer_line(&board, (const uint8_t *)line, length, text, needed - 1,
-                                         &needed) == BEAROFF_SHORT,
+        expect(bearoff_answer_line(&board, (const uint8_t *)line, length, text, needed - 1,
+                                   &needed) == BEAROFF_SHORT,
                "a room too small for a reply", (long)needed);
         line[length] = 0;
         if (!strncmp(line, "mean ", 5)) ask_position(line + 5);

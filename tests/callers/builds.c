@@ -15,6 +15,8 @@
 
 #include "bearoff.h"
 
+enum { OLD_BOUND = 44 };
+
 static uint8_t work[BEAROFF_FILE], room[BEAROFF_FILE];
 static size_t filled;
 static uint32_t status;
@@ -22,8 +24,9 @@ static int is_board;
 
 static void *build(void *of) {
     uint8_t pips = *(uint8_t *)of;
-    status = is_board ? bearoff_board_build(pips, room, sizeof room, &filled)
-                      : bearoff_build(pips, work, sizeof work, room, sizeof room, &filled);
+    uint16_t version = is_board ? 3 : pips > OLD_BOUND ? 2 : 1;
+    status =
+        bearoff_build(version, pips, work, is_board ? 0 : sizeof work, room, sizeof room, &filled);
     return NULL;
 }
 

@@ -1,14 +1,14 @@
 /*
- * What the calls for files of any version say, against those for a database or a board.
+ * What the calls say of each position of a file, against each other and against its lines.
  *
  * usage: files FILE STEP       a right database or board file
  *
- * It opens the file by both, and asks each position everything, in a thread with a stack of 128
- * KB: what it says of itself, its ranks, its means, its shares, and with every STEPth roll its
- * plays, their losses and its lines; then its whole tables. All has to be the same. What boards
- * have no call for is made of what their calls say. The opening is tried on bytes with a fault
- * too, and each call on a file that is not open, and on one whose bytes were changed since they
- * were opened. Says how many answers were compared, and ends with 1 where one differed.
+ * It asks each position everything, in a thread with a stack of 128 KB: its rank, its mean, its
+ * shares, and with every STEPth roll its plays, their losses and its lines; then the whole tables.
+ * Each number has to be what the others make it, and each list in the order of its line. The
+ * opening is tried on bytes with a fault too, and each call on a file that is not open, and on one
+ * whose bytes were changed since they were opened. Says how many answers were looked at, and ends
+ * with 1 where one was wrong.
  */
 #define _POSIX_C_SOURCE 200809L
 #include <pthread.h>
@@ -24,10 +24,8 @@ static uint8_t bytes[MOST];
 static size_t length;
 static int step, is_board;
 static uint64_t compared, failed;
-static bearoff_database database = BEAROFF_CLOSED;
-static bearoff_board board = BEAROFF_BOARD_CLOSED;
-static bearoff_file file = BEAROFF_FILE_CLOSED;
-static bearoff_about about;
+static bearoff_file file = BEAROFF_CLOSED;
+static bearoff_facts about;
 
 static void expect(int holds, const char *what, long number) {
     compared++;
@@ -40,26 +38,8 @@ static void expect_same(const void *one, const void *other, size_t size, const c
     expect(!memcmp(one, other, size), what, number);
 }
 
-/* a number of a database in three words */
-static bearoff_long widened(bearoff_wide number) {
-    bearoff_long told = {{0, number.high, number.low}};
-    return told;
-}
-
-static bearoff_long_fraction widened_fraction(bearoff_fraction fraction) {
-    bearoff_long_fraction told = {widened(fraction.numerator), widened(fraction.denominator)};
-    return told;
-}
-
-static bearoff_long_shares widened_shares(const bearoff_shares *shares) {
-    bearoff_long_shares told;
-    memset(&told, 0, sizeof told);
-    for (int k = 0; k < 23; k++) told.shares[k] = widened(shares->shares[k]);
-    return told;
-}
-
-static bearoff_long sum_of(bearoff_long one, bearoff_long other) {
-    bearoff_long sum = {{0}};
+static bearoff_number sum_of(bearoff_number one, bearoff_number other) {
+    bearoff_number sum = {{0}};
     uint64_t carry = 0;
     for (int word = 2; word >= 0; word--) {
         sum.words[word] = one.words[word] + other.words[word] + carry;
@@ -69,10 +49,10 @@ static bearoff_long sum_of(bearoff_long one, bearoff_long other) {
 }
 
 /* 36 to the power of the most rolls */
-static bearoff_long whole(void) {
-    bearoff_long power = {{0, 0, 1}};
+static bearoff_number whole(void) {
+    bearoff_number power = {{0, 0, 1}};
     for (int k = 0; k < about.rolls; k++) {
-        bearoff_long times = power;
+        bearoff_number times = power;
         for (int n = 1; n < 36; n++) times = sum_of(times, power);
         power = times;
     }
@@ -87,155 +67,87 @@ static int pips_of(const bearoff_position *at) {
 
 /* the numbers of a position */
 static void ask_numbers(const bearoff_position *at, long rank) {
-    bearoff_long mean, old_mean = {{0}};
-    bearoff_long_rolls rolls;
-    bearoff_long_pips epc, old_epc;
-    bearoff_long_shares shares, old_shares;
-    bearoff_wasted wasted, old_wasted;
+    bearoff_number mean, sum = {{0}};
+    bearoff_rounded rolls, epc;
+    bearoff_shares shares;
+    bearoff_wasted wasted;
     bearoff_chance chance;
     uint64_t told = 0;
-    memset(&wasted, 0, sizeof wasted);
-    memset(&old_wasted, 0, sizeof old_wasted);
-    expect(bearoff_file_mean(&file, at, &mean) == BEAROFF_OK, "mean", rank);
-    expect(bearoff_file_rounded_mean(&file, at, &rolls) == BEAROFF_OK, "rounded_mean", rank);
-    expect(bearoff_file_epc(&file, at, &epc) == BEAROFF_OK, "epc", rank);
-    expect(bearoff_file_wastage(&file, at, &wasted) == BEAROFF_OK, "wastage", rank);
-    expect(bearoff_file_distribution(&file, at, &shares) == BEAROFF_OK, "distribution", rank);
-    bearoff_long sum = {{0}};
-    if (is_board) {
-        expect(bearoff_board_mean(&board, at, &old_mean) == BEAROFF_OK &&
-                   bearoff_board_epc(&board, at, &old_epc) == BEAROFF_OK &&
-                   bearoff_board_distribution(&board, at, &old_shares) == BEAROFF_OK,
-               "asked of the board", rank);
-        int64_t more = (int64_t)old_epc.thousandths - 1000 * (int64_t)pips_of(at);
-        old_wasted.is_below = more < 0;
-        old_wasted.thousandths = (uint64_t)(more < 0 ? -more : more);
-    } else {
-        bearoff_wide wide;
-        bearoff_rolls old_rolls;
-        bearoff_pips pips;
-        bearoff_shares spread;
-        expect(bearoff_mean(&database, at, &wide) == BEAROFF_OK &&
-                   bearoff_rounded_mean(&database, at, &old_rolls) == BEAROFF_OK &&
-                   bearoff_epc(&database, at, &pips) == BEAROFF_OK &&
-                   bearoff_wastage(&database, at, &old_wasted) == BEAROFF_OK &&
-                   bearoff_distribution(&database, at, &spread) == BEAROFF_OK,
-               "asked of the database", rank);
-        old_mean = widened(wide);
-        old_epc.exact = widened_fraction(pips.exact);
-        old_epc.thousandths = pips.thousandths;
-        old_shares = widened_shares(&spread);
-        bearoff_long_fraction exact = widened_fraction(old_rolls.exact);
-        expect_same(&rolls.exact, &exact, sizeof exact, "the exact mean", rank);
-        expect(rolls.thousandths == old_rolls.thousandths, "the rounded mean", rank);
-    }
-    expect_same(&mean, &old_mean, sizeof mean, "the mean", rank);
-    expect_same(&epc, &old_epc, sizeof epc, "the effective pip count", rank);
-    expect(wasted.thousandths == old_wasted.thousandths && wasted.is_below == old_wasted.is_below,
-           "the wastage", rank);
-    expect_same(&shares, &old_shares, sizeof shares, "the shares", rank);
-    expect(bearoff_board_thousandths(&rolls.exact, &told) && told == rolls.thousandths,
+    expect(bearoff_mean(&file, at, &mean) == BEAROFF_OK, "mean", rank);
+    expect(bearoff_rounded_mean(&file, at, &rolls) == BEAROFF_OK, "rounded_mean", rank);
+    expect(bearoff_epc(&file, at, &epc) == BEAROFF_OK, "epc", rank);
+    expect(bearoff_wastage(&file, at, &wasted) == BEAROFF_OK, "wastage", rank);
+    expect(bearoff_distribution(&file, at, &shares) == BEAROFF_OK, "distribution", rank);
+    int64_t more = (int64_t)epc.thousandths - 1000 * (int64_t)pips_of(at);
+    expect(
+        wasted.is_below == (more < 0) && wasted.thousandths == (uint64_t)(more < 0 ? -more : more),
+        "the wastage", rank);
+    expect(bearoff_thousandths(&epc.exact, &told) && told == epc.thousandths,
+           "the effective pip count in thousandths", rank);
+    expect(bearoff_thousandths(&rolls.exact, &told) && told == rolls.thousandths,
            "the mean in thousandths", rank);
-    bearoff_long_fraction part = {{{0}}, whole()};
+    bearoff_fraction part = {{{0}}, whole()};
     part.numerator = mean;
-    expect(bearoff_board_thousandths(&part, &told) && told == rolls.thousandths,
+    expect(bearoff_thousandths(&part, &told) && told == rolls.thousandths,
            "the mean over the whole", rank);
-    double near = bearoff_file_as_double(&file, mean) * 1000 - (double)rolls.thousandths;
+    double near = bearoff_as_double(&file, mean) * 1000 - (double)rolls.thousandths;
     expect(near < 0.501 && near > -0.501, "the mean as a double", rank);
     for (int k = 0; k < 36; k++) {
         if (k < 34) sum = sum_of(sum, shares.shares[k]);
         part.numerator = sum;
-        expect(bearoff_file_within(&file, at, (uint8_t)k, &chance) == BEAROFF_OK &&
+        expect(bearoff_within(&file, at, (uint8_t)k, &chance) == BEAROFF_OK &&
                    !memcmp(&chance.numerator, &sum, sizeof sum) &&
-                   bearoff_board_thousandths(&part, &told) && told == chance.thousandths,
+                   bearoff_thousandths(&part, &told) && told == chance.thousandths,
                "within", rank);
-        if (is_board) continue;
-        expect(bearoff_within(&database, at, (uint8_t)k, &told) == BEAROFF_OK &&
-                   told == chance.thousandths,
-               "within by the database", rank);
     }
-    bearoff_long all = whole();
-    expect(bearoff_file_within(&file, at, 255, &chance) == BEAROFF_OK &&
-               chance.thousandths == 1000 && !memcmp(&chance.numerator, &all, sizeof all),
+    bearoff_number all = whole();
+    expect(bearoff_within(&file, at, 255, &chance) == BEAROFF_OK && chance.thousandths == 1000 &&
+               !memcmp(&chance.numerator, &all, sizeof all),
            "within any", rank);
 }
 
-static uint8_t reply[BEAROFF_BOARD_REPLY], old_reply[BEAROFF_BOARD_REPLY];
+static uint8_t reply[BEAROFF_REPLY + 1];
 
-/* a line, by both */
 static const char *ask_line(const char *line, long rank) {
-    size_t size = strlen(line), needed = 0, old_needed = 0;
-    uint32_t status = is_board
-                          ? bearoff_board_answer_line(&board, (const uint8_t *)line, size,
-                                                      old_reply, sizeof old_reply, &old_needed)
-                          : bearoff_answer_line(&database, (const uint8_t *)line, size, old_reply,
-                                                sizeof old_reply, &old_needed);
-    expect(status == BEAROFF_OK, "a line of before", rank);
-    expect(bearoff_file_answer_line(&file, (const uint8_t *)line, size, reply, sizeof reply - 1,
-                                    &needed) == BEAROFF_OK,
+    size_t size = strlen(line), needed = 0;
+    expect(bearoff_answer_line(&file, (const uint8_t *)line, size, reply, sizeof reply - 1,
+                               &needed) == BEAROFF_OK,
            line, rank);
-    expect(needed == old_needed && !memcmp(reply, old_reply, needed), line, rank);
     reply[needed] = 0;
     return (const char *)reply;
 }
 
 /* what a roll is played with, and what each play costs */
 static void ask_roll(const bearoff_position *at, uint8_t one, uint8_t other, long rank) {
-    static bearoff_long_result results[BEAROFF_RESULTS], old[BEAROFF_RESULTS];
-    static bearoff_result short_results[BEAROFF_RESULTS];
+    static bearoff_result results[BEAROFF_RESULTS];
     char line[96], place[64];
     const uint8_t *on = at->points;
-    bearoff_recorded_play play, old_play;
-    bearoff_long_fraction loss;
-    size_t count = 0, old_count = 0, less = 0;
+    bearoff_recorded_play play, first;
+    bearoff_fraction loss;
+    size_t count = 0, less = 0;
     memset(&play, 0, sizeof play);
-    memset(&old_play, 0, sizeof old_play);
-    uint32_t status = bearoff_file_play(&file, at, one, other, &play);
+    memset(&first, 0, sizeof first);
+    uint32_t status = bearoff_play(&file, at, one, other, &play);
     if (rank == 0) {
         expect(status == BEAROFF_FINISHED, "nothing to play", rank);
         return;
     }
     expect(status == BEAROFF_OK, "play", rank);
-    expect((is_board ? bearoff_board_play(&board, at, other, one, &old_play)
-                     : bearoff_play(&database, at, other, one, &old_play)) == BEAROFF_OK,
-           "play of before", rank);
-    expect_same(&play, &old_play, sizeof play, "the play", rank);
-    expect(
-        bearoff_file_moves(&file, at, one, other, results, BEAROFF_RESULTS, &count) == BEAROFF_OK,
-        "moves", rank);
-    expect(bearoff_file_moves(&file, at, one, other, results, count - 1, &less) == BEAROFF_SHORT &&
+    expect(bearoff_play_to(at, other, one, &play.to, &first) == BEAROFF_OK &&
+               !memcmp(&play, &first, sizeof play),
+           "the first play to the recorded position", rank);
+    expect(bearoff_moves(&file, at, one, other, results, BEAROFF_RESULTS, &count) == BEAROFF_OK,
+           "moves", rank);
+    expect(bearoff_moves(&file, at, one, other, results, count - 1, &less) == BEAROFF_SHORT &&
                less == count,
            "moves without room", rank);
-    if (is_board) {
-        expect(bearoff_board_moves(&board, at, one, other, old, BEAROFF_RESULTS, &old_count) ==
-                   BEAROFF_OK,
-               "moves of before", rank);
-    } else {
-        expect(bearoff_results(&database, at, one, other, short_results, BEAROFF_RESULTS,
-                               &old_count) == BEAROFF_OK,
-               "results of before", rank);
-    }
-    expect(count == old_count, "so many moves", rank);
     snprintf(line, sizeof line, "moves %d,%d,%d,%d,%d,%d %d%d", on[0], on[1], on[2], on[3], on[4],
              on[5], one, other);
     const char *listed = ask_line(line, rank);
     for (size_t i = 0; i < count && i < BEAROFF_RESULTS; i++) {
         const uint8_t *to = results[i].to.points;
-        if (is_board) {
-            expect_same(&results[i], &old[i], sizeof old[i].to, "a result", rank);
-            expect_same(&results[i].loss, &old[i].loss, sizeof old[i].loss, "its loss", rank);
-        } else {
-            size_t found = 0;
-            while (found < old_count &&
-                   memcmp(&short_results[found].to, &results[i].to, sizeof results[i].to))
-                found++;
-            expect(found < old_count, "a result", rank);
-            if (found == old_count) continue;
-            bearoff_long_fraction wanted = widened_fraction(short_results[found].loss);
-            expect_same(&results[i].loss, &wanted, sizeof wanted, "its loss", rank);
-        }
-        expect(bearoff_file_loss(&file, at, one, other, &results[i].to, &loss) == BEAROFF_OK,
-               "loss", rank);
+        expect(bearoff_loss(&file, at, one, other, &results[i].to, &loss) == BEAROFF_OK, "loss",
+               rank);
         expect_same(&results[i].loss, &loss, sizeof loss, "the loss of one", rank);
         /* in the order of the line */
         snprintf(place, sizeof place, " %d,%d,%d,%d,%d,%d:", to[0], to[1], to[2], to[3], to[4],
@@ -244,42 +156,41 @@ static void ask_roll(const bearoff_position *at, uint8_t one, uint8_t other, lon
         expect(next != NULL, "the order", rank);
         if (next) listed = next + 1;
     }
-    expect(bearoff_file_loss(&file, at, one, other, at, &loss) == BEAROFF_NOT_LEGAL, "no play",
-           rank);
+    expect(bearoff_loss(&file, at, one, other, at, &loss) == BEAROFF_NOT_LEGAL, "no play", rank);
     snprintf(line, sizeof line, "play %d,%d,%d,%d,%d,%d %d%d", on[0], on[1], on[2], on[3], on[4],
              on[5], one, other);
     ask_line(line, rank);
 }
 
 static bearoff_position positions[RANKS + 1];
-static bearoff_long means[RANKS + 1];
-static bearoff_long_pips epcs[RANKS + 1];
-static bearoff_long_shares shares[RANKS + 1];
+static bearoff_number means[RANKS + 1];
+static bearoff_rounded epcs[RANKS + 1];
+static bearoff_shares shares[RANKS + 1];
 
 /* the whole tables, each element as the call for one position tells it */
 static void ask_tables(void) {
     size_t count = about.positions;
     memset(&positions[count], MARK, sizeof positions[0]);
-    expect(bearoff_file_listed_positions(&file, 0, positions, count) == BEAROFF_OK &&
-               bearoff_file_listed_means(&file, 0, means, count) == BEAROFF_OK &&
-               bearoff_file_listed_epcs(&file, 0, epcs, count) == BEAROFF_OK &&
-               bearoff_file_listed_distributions(&file, 0, shares, count) == BEAROFF_OK,
+    expect(bearoff_listed_positions(&file, 0, positions, count) == BEAROFF_OK &&
+               bearoff_listed_means(&file, 0, means, count) == BEAROFF_OK &&
+               bearoff_listed_epcs(&file, 0, epcs, count) == BEAROFF_OK &&
+               bearoff_listed_distributions(&file, 0, shares, count) == BEAROFF_OK,
            "the tables", (long)count);
     expect(positions[count].points[0] == MARK, "behind the table", (long)count);
-    expect(bearoff_file_listed_positions(&file, 1, positions, count) == BEAROFF_NO_RANK &&
-               bearoff_file_listed_means(&file, 1, means, count) == BEAROFF_NO_RANK &&
-               bearoff_file_listed_epcs(&file, 1, epcs, count) == BEAROFF_NO_RANK &&
-               bearoff_file_listed_distributions(&file, 1, shares, count) == BEAROFF_NO_RANK,
+    expect(bearoff_listed_positions(&file, 1, positions, count) == BEAROFF_NO_RANK &&
+               bearoff_listed_means(&file, 1, means, count) == BEAROFF_NO_RANK &&
+               bearoff_listed_epcs(&file, 1, epcs, count) == BEAROFF_NO_RANK &&
+               bearoff_listed_distributions(&file, 1, shares, count) == BEAROFF_NO_RANK,
            "one too many", (long)count);
     for (size_t rank = 0; rank < count; rank++) {
         bearoff_position at;
-        bearoff_long mean;
-        bearoff_long_pips epc;
-        bearoff_long_shares spread;
-        expect(bearoff_file_position_of(&file, (uint16_t)rank, &at) == BEAROFF_OK &&
-                   bearoff_file_mean(&file, &at, &mean) == BEAROFF_OK &&
-                   bearoff_file_epc(&file, &at, &epc) == BEAROFF_OK &&
-                   bearoff_file_distribution(&file, &at, &spread) == BEAROFF_OK,
+        bearoff_number mean;
+        bearoff_rounded epc;
+        bearoff_shares spread;
+        expect(bearoff_position_of(&file, (uint16_t)rank, &at) == BEAROFF_OK &&
+                   bearoff_mean(&file, &at, &mean) == BEAROFF_OK &&
+                   bearoff_epc(&file, &at, &epc) == BEAROFF_OK &&
+                   bearoff_distribution(&file, &at, &spread) == BEAROFF_OK,
                "an element", (long)rank);
         expect_same(&positions[rank], &at, sizeof at, "a position listed", (long)rank);
         expect_same(&means[rank], &mean, sizeof mean, "a mean listed", (long)rank);
@@ -293,17 +204,12 @@ static void *ask_all(void *nothing) {
     static const char *const words[] = {"mean", "dist", "rank"};
     int roll = 0;
     for (long rank = 0; rank < (long)about.positions; rank++) {
-        bearoff_position at, old_at;
+        bearoff_position at;
         uint16_t told = 0;
         char line[96];
-        expect(bearoff_file_position_of(&file, (uint16_t)rank, &at) == BEAROFF_OK &&
-                   bearoff_file_rank(&file, &at, &told) == BEAROFF_OK && told == rank,
+        expect(bearoff_position_of(&file, (uint16_t)rank, &at) == BEAROFF_OK &&
+                   bearoff_rank(&file, &at, &told) == BEAROFF_OK && told == rank,
                "the rank", rank);
-        if (!is_board) {
-            expect(bearoff_position_of(&database, (uint16_t)rank, &old_at) == BEAROFF_OK &&
-                       !memcmp(&at, &old_at, sizeof at),
-                   "the position", rank);
-        }
         for (int i = 0; i < 3; i++) {
             snprintf(line, sizeof line, "%s %d,%d,%d,%d,%d,%d", words[i], at.points[0],
                      at.points[1], at.points[2], at.points[3], at.points[4], at.points[5]);
@@ -322,16 +228,16 @@ static void *ask_all(void *nothing) {
 /* each call of a file that is not open, which leaves alone what is lent */
 static void try_closed(void) {
     static struct {
-        bearoff_about about;
+        bearoff_facts about;
         bearoff_position at;
-        bearoff_long mean;
-        bearoff_long_rolls rolls;
-        bearoff_long_pips pips;
+        bearoff_number mean;
+        bearoff_rounded rolls;
+        bearoff_rounded pips;
         bearoff_wasted wasted;
-        bearoff_long_shares shares;
+        bearoff_shares shares;
         bearoff_recorded_play play;
-        bearoff_long_fraction loss;
-        bearoff_long_result results[2];
+        bearoff_fraction loss;
+        bearoff_result results[2];
         bearoff_chance chance;
         uint16_t rank;
         size_t count;
@@ -340,42 +246,39 @@ static void try_closed(void) {
     const uint8_t *marks = (const uint8_t *)&lent;
     memset(&lent, MARK, sizeof lent);
     uint32_t told[] = {
-        bearoff_file_about(&file, &lent.about),
-        bearoff_file_rank(&file, &none, &lent.rank),
-        bearoff_file_position_of(&file, 0, &lent.at),
-        bearoff_file_mean(&file, &none, &lent.mean),
-        bearoff_file_rounded_mean(&file, &none, &lent.rolls),
-        bearoff_file_epc(&file, &none, &lent.pips),
-        bearoff_file_wastage(&file, &none, &lent.wasted),
-        bearoff_file_distribution(&file, &none, &lent.shares),
-        bearoff_file_within(&file, &none, 1, &lent.chance),
-        bearoff_file_play(&file, &none, 2, 1, &lent.play),
-        bearoff_file_loss(&file, &none, 2, 1, &none, &lent.loss),
-        bearoff_file_moves(&file, &none, 2, 1, lent.results, 2, &lent.count),
-        bearoff_file_answer_line(&file, (const uint8_t *)"", 0, (uint8_t *)lent.results, 100,
-                                 &lent.count),
-        bearoff_file_listed_positions(&file, 0, &lent.at, 1),
-        bearoff_file_listed_means(&file, 0, &lent.mean, 1),
-        bearoff_file_listed_epcs(&file, 0, &lent.pips, 1),
-        bearoff_file_listed_distributions(&file, 0, &lent.shares, 1),
+        bearoff_about(&file, &lent.about),
+        bearoff_rank(&file, &none, &lent.rank),
+        bearoff_position_of(&file, 0, &lent.at),
+        bearoff_mean(&file, &none, &lent.mean),
+        bearoff_rounded_mean(&file, &none, &lent.rolls),
+        bearoff_epc(&file, &none, &lent.pips),
+        bearoff_wastage(&file, &none, &lent.wasted),
+        bearoff_distribution(&file, &none, &lent.shares),
+        bearoff_within(&file, &none, 1, &lent.chance),
+        bearoff_play(&file, &none, 2, 1, &lent.play),
+        bearoff_loss(&file, &none, 2, 1, &none, &lent.loss),
+        bearoff_moves(&file, &none, 2, 1, lent.results, 2, &lent.count),
+        bearoff_answer_line(&file, (const uint8_t *)"", 0, (uint8_t *)lent.results, 100,
+                            &lent.count),
+        bearoff_listed_positions(&file, 0, &lent.at, 1),
+        bearoff_listed_means(&file, 0, &lent.mean, 1),
+        bearoff_listed_epcs(&file, 0, &lent.pips, 1),
+        bearoff_listed_distributions(&file, 0, &lent.shares, 1),
     };
     for (size_t i = 0; i < sizeof told / sizeof *told; i++)
         expect(told[i] == BEAROFF_NOT_OPEN, "not open", (long)i);
     expect(!memcmp(marks, marks + 1, sizeof lent - 1), "left alone", 0);
 }
 
-/* the status, the line and the struct of an opening, by the new call and by that of its kind */
-static uint32_t open_both(size_t size, int as_board) {
-    uint8_t line[BEAROFF_LINE], old_line[BEAROFF_LINE];
-    size_t needed = 0, old_needed = 0;
+/* the status of an opening, its line and its struct */
+static uint32_t open_front(size_t size) {
+    uint8_t line[BEAROFF_LINE];
+    size_t needed = 0;
     memset(line, MARK, sizeof line);
-    memset(old_line, MARK, sizeof old_line);
-    uint32_t status = bearoff_file_open(&file, bytes, size, line, sizeof line, &needed);
-    uint32_t old_status =
-        as_board ? bearoff_board_open(&board, bytes, size, old_line, sizeof old_line, &old_needed)
-                 : bearoff_open(&database, bytes, size, old_line, sizeof old_line, &old_needed);
-    expect(status == old_status && needed == old_needed, "the status of an opening", status);
-    expect_same(line, old_line, sizeof line, "the line of an opening", status);
+    uint32_t status = bearoff_open(&file, bytes, size, line, sizeof line, &needed);
+    expect(needed <= sizeof line && (status == BEAROFF_OK) == !needed, "the line", status);
+    for (size_t i = 0; i < sizeof line; i++)
+        expect((line[i] == MARK) == (i >= needed), "the bytes of the line", (long)i);
     expect(file.is_open == (status == BEAROFF_OK), "whether it is open", status);
     return status;
 }
@@ -385,26 +288,24 @@ static void try_openings(void) {
     static const size_t places[] = {0, 11, 15, 19, 31, 55, 70};
     for (size_t i = 0; i < sizeof places / sizeof *places; i++) {
         bytes[places[i]] ^= 1;
-        expect(open_both(length, is_board) != BEAROFF_OK, "a wrong byte", (long)places[i]);
+        expect(open_front(length) != BEAROFF_OK, "a wrong byte", (long)places[i]);
         bytes[places[i]] ^= 1;
     }
     bytes[length - 1] ^= 1;
-    expect(open_both(length, is_board) != BEAROFF_OK, "a wrong last byte", 0);
+    expect(open_front(length) != BEAROFF_OK, "a wrong last byte", 0);
     bytes[length - 1] ^= 1;
     for (size_t size = 0; size <= 32; size++)
-        expect(open_both(size, is_board) != BEAROFF_OK, "a front", (long)size);
-    expect(open_both(length - 1, is_board) == BEAROFF_BAD_LENGTH, "a byte too few", 0);
+        expect(open_front(size) != BEAROFF_OK, "a front", (long)size);
+    expect(open_front(length - 1) == BEAROFF_BAD_LENGTH, "a byte too few", 0);
     uint8_t version = bytes[9];
     for (int other = 0; other < 8; other++) {
         bytes[9] = (uint8_t)other;
         /* a version of none is that of no board file either */
-        if (other != version)
-            expect(open_both(length, other == 0 || other >= 3) != BEAROFF_OK, "another version",
-                   other);
+        if (other != version) expect(open_front(length) != BEAROFF_OK, "another version", other);
     }
     bytes[9] = version;
     bytes[8] ^= 1;
-    expect(open_both(length, 1) == BEAROFF_BAD_VERSION, "a version over 255", 0);
+    expect(open_front(length) == BEAROFF_BAD_VERSION, "a version over 255", 0);
     bytes[8] ^= 1;
 }
 
@@ -412,16 +313,16 @@ static void try_openings(void) {
  * position there each call says so, and leaves alone what is lent, also the means before it */
 static void try_changed(void) {
     static struct {
-        bearoff_long mean;
-        bearoff_long_rolls rolls;
-        bearoff_long_pips pips;
+        bearoff_number mean;
+        bearoff_rounded rolls;
+        bearoff_rounded pips;
         bearoff_wasted wasted;
-        bearoff_long_shares shares;
+        bearoff_shares shares;
         bearoff_chance chance;
         bearoff_recorded_play play;
-        bearoff_long_fraction loss;
-        bearoff_long_result results[BEAROFF_RESULTS];
-        uint8_t text[BEAROFF_BOARD_REPLY];
+        bearoff_fraction loss;
+        bearoff_result results[BEAROFF_RESULTS];
+        uint8_t text[BEAROFF_REPLY];
         size_t count, needed;
     } lent;
     static const char *const words[] = {"mean", "dist", "play", "moves"};
@@ -429,8 +330,8 @@ static void try_changed(void) {
     size_t half = 32 + (length - 32) / 2, size = about.positions;
     bearoff_position at;
     char line[96];
-    expect(bearoff_file_position_of(&file, (uint16_t)(size - 1), &at) == BEAROFF_OK &&
-               bearoff_file_moves(&file, &at, 2, 1, lent.results, BEAROFF_RESULTS, &lent.count) ==
+    expect(bearoff_position_of(&file, (uint16_t)(size - 1), &at) == BEAROFF_OK &&
+               bearoff_moves(&file, &at, 2, 1, lent.results, BEAROFF_RESULTS, &lent.count) ==
                    BEAROFF_OK,
            "the last position", (long)size);
     bearoff_position to = lent.results[0].to;
@@ -440,18 +341,18 @@ static void try_changed(void) {
     memset(shares, MARK, sizeof shares);
     memset(bytes + half, 0xFF, length - half);
     uint32_t told[] = {
-        bearoff_file_mean(&file, &at, &lent.mean),
-        bearoff_file_rounded_mean(&file, &at, &lent.rolls),
-        bearoff_file_epc(&file, &at, &lent.pips),
-        bearoff_file_wastage(&file, &at, &lent.wasted),
-        bearoff_file_distribution(&file, &at, &lent.shares),
-        bearoff_file_within(&file, &at, 1, &lent.chance),
-        bearoff_file_play(&file, &at, 2, 1, &lent.play),
-        bearoff_file_loss(&file, &at, 2, 1, &to, &lent.loss),
-        bearoff_file_moves(&file, &at, 2, 1, lent.results, BEAROFF_RESULTS, &lent.count),
-        bearoff_file_listed_means(&file, 0, means, size),
-        bearoff_file_listed_epcs(&file, 0, epcs, size),
-        bearoff_file_listed_distributions(&file, 0, shares, size),
+        bearoff_mean(&file, &at, &lent.mean),
+        bearoff_rounded_mean(&file, &at, &lent.rolls),
+        bearoff_epc(&file, &at, &lent.pips),
+        bearoff_wastage(&file, &at, &lent.wasted),
+        bearoff_distribution(&file, &at, &lent.shares),
+        bearoff_within(&file, &at, 1, &lent.chance),
+        bearoff_play(&file, &at, 2, 1, &lent.play),
+        bearoff_loss(&file, &at, 2, 1, &to, &lent.loss),
+        bearoff_moves(&file, &at, 2, 1, lent.results, BEAROFF_RESULTS, &lent.count),
+        bearoff_listed_means(&file, 0, means, size),
+        bearoff_listed_epcs(&file, 0, epcs, size),
+        bearoff_listed_distributions(&file, 0, shares, size),
     };
     for (size_t i = 0; i < sizeof told / sizeof *told; i++)
         expect(told[i] == BEAROFF_CHANGED, "changed", (long)i);
@@ -459,8 +360,8 @@ static void try_changed(void) {
         int count = snprintf(line, sizeof line, "%s %d,%d,%d,%d,%d,%d%s", words[i], at.points[0],
                              at.points[1], at.points[2], at.points[3], at.points[4], at.points[5],
                              i < 2 ? "" : " 21");
-        expect(bearoff_file_answer_line(&file, (const uint8_t *)line, (size_t)count, lent.text,
-                                        sizeof lent.text, &lent.needed) == BEAROFF_CHANGED,
+        expect(bearoff_answer_line(&file, (const uint8_t *)line, (size_t)count, lent.text,
+                                   sizeof lent.text, &lent.needed) == BEAROFF_CHANGED,
                line, i);
     }
     expect(!memcmp(marks, marks + 1, sizeof lent - 1), "changed, and left alone", 0);
@@ -482,8 +383,8 @@ int main(int count, char **words) {
     try_closed();
     try_openings();
     try_closed();
-    expect(open_both(length, is_board) == BEAROFF_OK, "the file", 0);
-    expect(bearoff_file_about(&file, &about) == BEAROFF_OK, "about", 0);
+    expect(open_front(length) == BEAROFF_OK, "the file", 0);
+    expect(bearoff_about(&file, &about) == BEAROFF_OK, "about", 0);
     expect(about.version == bytes[9] && about.bound == bytes[11] &&
                about.positions == (uint32_t)(bytes[14] << 8 | bytes[15]) &&
                about.rolls == (is_board ? 33 : 22),

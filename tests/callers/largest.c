@@ -20,7 +20,7 @@ enum { GUARD = 64, MARK = 0xA5, LONG = 64 };
 static uint8_t bytes[BEAROFF_FILE + 1],
     result_block[2 * GUARD + BEAROFF_RESULTS * sizeof(bearoff_result)];
 static uint8_t text_block[2 * GUARD + BEAROFF_REPLY];
-static bearoff_database database = BEAROFF_CLOSED;
+static bearoff_file database = BEAROFF_CLOSED;
 static size_t most_results, most_bytes;
 static int failed;
 
@@ -51,7 +51,7 @@ static size_t list(bearoff_position at, uint8_t one, uint8_t other, size_t room,
                    long rank) {
     size_t count = 0, size = room * sizeof(bearoff_result);
     bearoff_result *results = (bearoff_result *)lend(result_block, size);
-    uint32_t status = bearoff_results(&database, &at, one, other, results, room, &count);
+    uint32_t status = bearoff_moves(&database, &at, one, other, results, room, &count);
     int fits = count <= room;
     expect(status == (fits ? BEAROFF_OK : BEAROFF_SHORT), "the status of the results", rank,
            (long)room);
@@ -94,12 +94,12 @@ int main(int count, char **words) {
     if (!file) return 2;
     size_t length = fread(bytes, 1, sizeof bytes, file), needed;
     uint8_t line[BEAROFF_LINE];
-    uint32_t positions;
     fclose(file);
     if (bearoff_open(&database, bytes, length, line, sizeof line, &needed)) return 2;
-    if (bearoff_positions(&database, &positions)) return 2;
+    bearoff_facts about;
+    if (bearoff_about(&database, &about)) return 2;
     /* the finished position, of rank 0, has no play */
-    for (uint32_t rank = 1; rank < positions; rank++) {
+    for (uint32_t rank = 1; rank < about.positions; rank++) {
         bearoff_position at;
         if (bearoff_position_of(&database, (uint16_t)rank, &at)) return 2;
         for (uint8_t one = 1; one <= 6; one++) {

@@ -69,7 +69,11 @@ static void put(text *to, const char *form, ...) {
     }
 }
 
-static number value(bearoff_wide halves) { return ((number)halves.high << 64) + halves.low; }
+/* a number of a database, which has two words */
+static number value(bearoff_number of) {
+    if (of.words[0]) fail("a number of three words");
+    return ((number)of.words[1] << 64) + of.words[2];
+}
 
 static number whole(void) {
     number w = 1;
@@ -143,9 +147,9 @@ static int same_position(bearoff_position one, bearoff_position other) {
 
 /* the mean of a position as a fraction and rounded, and its wastage, beside its numerator and
  * effective pip count */
-static void check_rounded(const bearoff_database *database, bearoff_position at, bearoff_wide mean,
-                          bearoff_pips pips) {
-    bearoff_rolls rolls;
+static void check_rounded(const bearoff_file *database, bearoff_position at, bearoff_number mean,
+                          bearoff_rounded pips) {
+    bearoff_rounded rolls;
     bearoff_wasted wasted;
     bearoff_stand stand;
     uint64_t told;
@@ -173,14 +177,14 @@ static void check_rounded(const bearoff_database *database, bearoff_position at,
 }
 
 /* the chances to be off within so many rolls, beside the shares */
-static void check_within(const bearoff_database *database, bearoff_position at,
+static void check_within(const bearoff_file *database, bearoff_position at,
                          bearoff_shares shares) {
     number total = 0;
     for (int rolls = 0; rolls < 256; rolls++) {
-        uint64_t told;
-        if (rolls < 23) total += value(shares.shares[rolls]);
+        bearoff_chance told;
+        if (rolls < 34) total += value(shares.shares[rolls]);
         if (bearoff_within(database, &at, (uint8_t)rolls, &told) ||
-            told != rounded(total, whole()))
+            value(told.numerator) != total || told.thousandths != rounded(total, whole()))
             fail("within");
     }
 }
@@ -197,24 +201,7 @@ static void check_play_to(bearoff_position at, uint8_t one, uint8_t other, bearo
     if (!same_position(at, to)) fail("the moves of a play to a position");
 }
 
-/* the results by rising loss, and those of equal loss by rising rank, in which they come */
-static void sort(bearoff_result *results, size_t count) {
-    number w = whole();
-    for (size_t i = 1; i < count; i++) {
-        bearoff_result one = results[i];
-        number loss = value(one.loss.numerator) * (w / value(one.loss.denominator));
-        size_t j = i;
-        for (; j > 0; j--) {
-            number before = value(results[j - 1].loss.numerator) *
-                            (w / value(results[j - 1].loss.denominator));
-            if (before <= loss) break;
-            results[j] = results[j - 1];
-        }
-        results[j] = one;
-    }
-}
-
-static void answer(const bearoff_database *database, const char *line, text *reply) {
+static void answer(const bearoff_file *database, const char *line, text *reply) {
     char word[6] = {0};
     size_t length = strcspn(line, " \n");
     uint32_t status = BEAROFF_BAD_ROLL;
@@ -227,8 +214,8 @@ static void answer(const bearoff_database *database, const char *line, text *rep
     }
     memcpy(word, line, length);
     if (!strcmp(word, "mean")) {
-        bearoff_wide mean;
-        bearoff_pips pips;
+        bearoff_number mean;
+        bearoff_rounded pips;
         status = bearoff_mean(database, &at, &mean);
         if (!status) status = bearoff_epc(database, &at, &pips);
         if (!status) {
@@ -250,7 +237,7 @@ static void answer(const bearoff_database *database, const char *line, text *rep
         if (!status) {
             check_within(database, at, shares);
             put(reply, "dist");
-            for (int k = 0; k < 23; k++) {
+            for (int k = 0; k < 34; k++) {
                 if (!value(shares.shares[k])) continue;
                 put(reply, " %d:", k);
                 put_fraction(reply, value(shares.shares[k]), whole());
@@ -293,10 +280,9 @@ static void answer(const bearoff_database *database, const char *line, text *rep
         bearoff_result *results = (bearoff_result *)calloc(room, sizeof *results);
         size_t count = 0;
         if (!results) fail("memory");
-        status = bearoff_results(database, &at, one, other, results, room, &count);
+        status = bearoff_moves(database, &at, one, other, results, room, &count);
         if (!status) {
             put(reply, "moves");
-            sort(results, count);
             for (size_t i = 0; i < count; i++) {
                 check_play_to(at, one, other, results[i].to);
                 put(reply, " ");
@@ -311,7 +297,7 @@ static void answer(const bearoff_database *database, const char *line, text *rep
 }
 
 /* the reply to a line as the library has it, whatever its bytes are */
-static void answer_line(const bearoff_database *database, const char *line, size_t length,
+static void answer_line(const bearoff_file *database, const char *line, size_t length,
                         text *reply) {
     uint8_t mark = 0xA5;
     size_t needed = 0, told = 0;
@@ -351,7 +337,7 @@ static text read_all(FILE *from) {
 
 static text file, lines;
 
-static void open_it(bearoff_database *database) {
+static void open_it(bearoff_file *database) {
     uint8_t line[BEAROFF_LINE];
     size_t needed;
     uint32_t status = bearoff_open(database, (const uint8_t *)file.bytes, file.length, line,
@@ -369,13 +355,13 @@ static void *room_of(size_t count, size_t size) {
 }
 
 /* whole tables, from a rank on, beside the single calls for each position */
-static void check_tables(const bearoff_database *database, uint16_t first) {
-    uint32_t all;
-    if (bearoff_positions(database, &all)) fail("positions");
-    size_t count = all - first;
+static void check_tables(const bearoff_file *database, uint16_t first) {
+    bearoff_facts about;
+    if (bearoff_about(database, &about)) fail("about");
+    size_t count = about.positions - first;
     bearoff_position *positions = (bearoff_position *)room_of(count, sizeof *positions);
-    bearoff_wide *means = (bearoff_wide *)room_of(count, sizeof *means);
-    bearoff_pips *epcs = (bearoff_pips *)room_of(count, sizeof *epcs);
+    bearoff_number *means = (bearoff_number *)room_of(count, sizeof *means);
+    bearoff_rounded *epcs = (bearoff_rounded *)room_of(count, sizeof *epcs);
     bearoff_shares *distributions = (bearoff_shares *)room_of(count, sizeof *distributions);
     if (bearoff_listed_positions(database, first, positions, count) ||
         bearoff_listed_means(database, first, means, count) ||
@@ -385,8 +371,8 @@ static void check_tables(const bearoff_database *database, uint16_t first) {
     }
     for (size_t i = 0; i < count; i++) {
         bearoff_position at;
-        bearoff_wide mean;
-        bearoff_pips pips;
+        bearoff_number mean;
+        bearoff_rounded pips;
         bearoff_shares shares;
         uint16_t rank;
         if (bearoff_position_of(database, (uint16_t)(first + i), &at) ||
@@ -407,7 +393,7 @@ static void check_tables(const bearoff_database *database, uint16_t first) {
 
 static void *answer_all(void *to) {
     text *replies = (text *)to;
-    bearoff_database *database = (bearoff_database *)calloc(1, sizeof *database);
+    bearoff_file *database = (bearoff_file *)calloc(1, sizeof *database);
     if (!database) fail("memory");
     open_it(database);
     check_tables(database, 0);
@@ -422,7 +408,7 @@ static void *answer_all(void *to) {
 }
 
 static void answer_by_text(void) {
-    static bearoff_database database;
+    static bearoff_file database;
     text replies = {0, 0, 0};
     open_it(&database);
     const char *end = lines.bytes + lines.length;
@@ -465,20 +451,18 @@ static double now(void) {
 }
 
 static void speed(long calls) {
-    static bearoff_database database;
-    uint8_t bound;
-    uint32_t positions;
+    static bearoff_file database;
+    bearoff_facts about;
     open_it(&database);
-    bearoff_bound(&database, &bound);
-    bearoff_positions(&database, &positions);
-    bearoff_position *at = (bearoff_position *)malloc(positions * sizeof *at);
-    if (!at || all_positions(at, bound) != positions) fail("positions");
+    if (bearoff_about(&database, &about)) fail("about");
+    bearoff_position *at = (bearoff_position *)malloc(about.positions * sizeof *at);
+    if (!at || all_positions(at, about.bound) != about.positions) fail("positions");
     number sum = 0;
     double start = now();
     size_t place = 0;
     for (long i = 0; i < calls; i++) {
-        bearoff_wide mean;
-        place = (place + 7919) % positions;
+        bearoff_number mean;
+        place = (place + 7919) % about.positions;
         if (bearoff_mean(&database, &at[place], &mean)) fail("mean");
         sum += value(mean);
     }
@@ -488,20 +472,21 @@ static void speed(long calls) {
 }
 
 static void tables(void) {
-    static bearoff_database database;
-    uint32_t positions;
+    static bearoff_file database;
+    bearoff_facts about;
     open_it(&database);
-    bearoff_positions(&database, &positions);
+    if (bearoff_about(&database, &about)) fail("about");
+    size_t positions = about.positions;
     for (int which = 0; which < 2; which++) {
         double least = 1;
         for (int i = 0; i < 9; i++) {
             double start = now();
             void *room =
-                malloc(positions * (which ? sizeof(bearoff_shares) : sizeof(bearoff_wide)));
+                malloc(positions * (which ? sizeof(bearoff_shares) : sizeof(bearoff_number)));
             if (!room ||
                 (which ? bearoff_listed_distributions(&database, 0, (bearoff_shares *)room,
                                                       positions)
-                       : bearoff_listed_means(&database, 0, (bearoff_wide *)room, positions))) {
+                       : bearoff_listed_means(&database, 0, (bearoff_number *)room, positions))) {
                 fail("a table");
             }
             double taken = now() - start;

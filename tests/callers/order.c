@@ -3,11 +3,10 @@
  *
  * usage: order FILE          a right database of 8 pips
  *
- * It reads rows of tests/refusals.txt, and writes for each the status of the calls of a database,
- * that of the calls of a board of 8 pips, and those of the calls of a file of any version, which
- * is each of the two in turn; a line where no call has such arguments. What is lent is too small,
- * or nothing, wherever the header lets it be refused. Calls that are asked the same and don't
- * agree have the status 99.
+ * It reads rows of tests/refusals.txt, and writes for each the status of the calls of the
+ * database, and that of the calls of a board file of 8 pips; a line where no call has such
+ * arguments. What is lent is too small, or nothing, wherever the header lets it be refused. Calls
+ * that are asked the same and don't agree have the status 99.
  */
 #include <stdio.h>
 #include <stdlib.h>
@@ -15,13 +14,10 @@
 
 #include "bearoff.h"
 
-enum { DIFFER = 99, NONE = 100 };
+enum { DIFFER = 99, NONE = 100, BOARD_VERSION = 3, OLD_BOUND = 44 };
 
 static uint8_t file[BEAROFF_FILE], board_file[1 << 20], work[BEAROFF_FILE], room[1];
-static bearoff_database database = BEAROFF_CLOSED, closed = BEAROFF_CLOSED;
-static bearoff_board board = BEAROFF_BOARD_CLOSED, closed_board = BEAROFF_BOARD_CLOSED;
-static bearoff_file files[2] = {BEAROFF_FILE_CLOSED, BEAROFF_FILE_CLOSED},
-                    closed_file = BEAROFF_FILE_CLOSED;
+static bearoff_file files[2] = {BEAROFF_CLOSED, BEAROFF_CLOSED}, closed = BEAROFF_CLOSED;
 
 /* the statuses of calls that have to agree, one by one */
 static uint32_t told;
@@ -39,18 +35,18 @@ static int read_position(const char *text, bearoff_position *position) {
     return count == 6 && !text[end];
 }
 
-static void ask_database(const char *call, const bearoff_database *asked, bearoff_position at,
-                         bearoff_position to, uint8_t one, uint8_t other, unsigned number) {
-    bearoff_wide mean;
-    bearoff_rolls rolls;
-    bearoff_pips pips;
+static void ask_file(const char *call, const bearoff_file *asked, bearoff_position at,
+                     bearoff_position to, uint8_t one, uint8_t other, unsigned number) {
+    bearoff_number mean;
+    bearoff_rounded rolls;
+    bearoff_rounded pips;
     bearoff_wasted wasted;
     bearoff_shares shares;
     bearoff_recorded_play play;
     bearoff_fraction loss;
     bearoff_result result;
     bearoff_position position;
-    uint64_t thousandths;
+    bearoff_chance chance;
     uint16_t rank;
     size_t count;
     if (!strcmp(call, "mean")) {
@@ -59,10 +55,10 @@ static void ask_database(const char *call, const bearoff_database *asked, bearof
         tell(bearoff_epc(asked, &at, &pips));
         tell(bearoff_wastage(asked, &at, &wasted));
         tell(bearoff_distribution(asked, &at, &shares));
-        tell(bearoff_within(asked, &at, 3, &thousandths));
+        tell(bearoff_within(asked, &at, 3, &chance));
         tell(bearoff_rank(asked, &at, &rank));
     } else if (!strcmp(call, "play")) {
-        uint32_t listed = bearoff_results(asked, &at, one, other, &result, 0, &count);
+        uint32_t listed = bearoff_moves(asked, &at, one, other, &result, 0, &count);
         tell(bearoff_play(asked, &at, one, other, &play));
         if (listed != BEAROFF_SHORT) tell(listed);
     } else if (!strcmp(call, "loss")) {
@@ -73,8 +69,8 @@ static void ask_database(const char *call, const bearoff_database *asked, bearof
         tell(bearoff_position_of(asked, (uint16_t)number, &position));
     } else if (!strcmp(call, "table")) {
         static bearoff_position positions[8];
-        static bearoff_wide means[8];
-        static bearoff_pips epcs[8];
+        static bearoff_number means[8];
+        static bearoff_rounded epcs[8];
         static bearoff_shares spreads[8];
         tell(bearoff_listed_positions(asked, (uint16_t)number, positions, 5));
         tell(bearoff_listed_means(asked, (uint16_t)number, means, 5));
@@ -84,87 +80,13 @@ static void ask_database(const char *call, const bearoff_database *asked, bearof
         const char *line = "rank 0,0,0,0,0,1";
         tell(bearoff_answer_line(asked, (const uint8_t *)line, strlen(line), room, 0, &count));
     } else if (!strcmp(call, "build")) {
-        tell(bearoff_build((uint8_t)number, work, sizeof work, room, 0, &count));
-        tell(bearoff_build((uint8_t)number, room, 0, work, sizeof work, &count));
-    }
-}
-
-static void ask_board(const char *call, const bearoff_board *asked, bearoff_position at,
-                      bearoff_position to, uint8_t one, uint8_t other, unsigned number) {
-    bearoff_long mean;
-    bearoff_long_pips pips;
-    bearoff_long_shares shares;
-    bearoff_recorded_play play;
-    bearoff_long_fraction loss;
-    bearoff_long_result result;
-    size_t count;
-    if (!strcmp(call, "mean")) {
-        tell(bearoff_board_mean(asked, &at, &mean));
-        tell(bearoff_board_epc(asked, &at, &pips));
-        tell(bearoff_board_distribution(asked, &at, &shares));
-    } else if (!strcmp(call, "play")) {
-        uint32_t listed = bearoff_board_moves(asked, &at, one, other, &result, 0, &count);
-        tell(bearoff_board_play(asked, &at, one, other, &play));
-        if (listed != BEAROFF_SHORT) tell(listed);
-    } else if (!strcmp(call, "loss")) {
-        tell(bearoff_board_loss(asked, &at, one, other, &to, &loss));
-    } else if (!strcmp(call, "table")) {
-        static bearoff_long means[8];
-        static bearoff_long_shares spreads[8];
-        tell(bearoff_board_means(asked, (uint16_t)number, means, 5));
-        tell(bearoff_board_distributions(asked, (uint16_t)number, spreads, 5));
-    } else if (!strcmp(call, "line")) {
-        const char *line = "rank 0,0,0,0,0,1";
-        tell(bearoff_board_answer_line(asked, (const uint8_t *)line, strlen(line), room, 0,
-                                       &count));
-    } else if (!strcmp(call, "build")) {
-        tell(bearoff_board_build((uint8_t)number, room, 0, &count));
-    }
-}
-
-static void ask_file(const char *call, const bearoff_file *asked, bearoff_position at,
-                     bearoff_position to, uint8_t one, uint8_t other, unsigned number) {
-    bearoff_long mean;
-    bearoff_long_rolls rolls;
-    bearoff_long_pips pips;
-    bearoff_wasted wasted;
-    bearoff_long_shares shares;
-    bearoff_recorded_play play;
-    bearoff_long_fraction loss;
-    bearoff_long_result result;
-    bearoff_position position;
-    bearoff_chance chance;
-    uint16_t rank;
-    size_t count;
-    if (!strcmp(call, "mean")) {
-        tell(bearoff_file_mean(asked, &at, &mean));
-        tell(bearoff_file_rounded_mean(asked, &at, &rolls));
-        tell(bearoff_file_epc(asked, &at, &pips));
-        tell(bearoff_file_wastage(asked, &at, &wasted));
-        tell(bearoff_file_distribution(asked, &at, &shares));
-        tell(bearoff_file_within(asked, &at, 3, &chance));
-        tell(bearoff_file_rank(asked, &at, &rank));
-    } else if (!strcmp(call, "play")) {
-        uint32_t listed = bearoff_file_moves(asked, &at, one, other, &result, 0, &count);
-        tell(bearoff_file_play(asked, &at, one, other, &play));
-        if (listed != BEAROFF_SHORT) tell(listed);
-    } else if (!strcmp(call, "loss")) {
-        tell(bearoff_file_loss(asked, &at, one, other, &to, &loss));
-    } else if (!strcmp(call, "position")) {
-        tell(bearoff_file_position_of(asked, (uint16_t)number, &position));
-    } else if (!strcmp(call, "table")) {
-        static bearoff_position positions[8];
-        static bearoff_long means[8];
-        static bearoff_long_pips epcs[8];
-        static bearoff_long_shares spreads[8];
-        tell(bearoff_file_listed_positions(asked, (uint16_t)number, positions, 5));
-        tell(bearoff_file_listed_means(asked, (uint16_t)number, means, 5));
-        tell(bearoff_file_listed_epcs(asked, (uint16_t)number, epcs, 5));
-        tell(bearoff_file_listed_distributions(asked, (uint16_t)number, spreads, 5));
-    } else if (!strcmp(call, "line")) {
-        const char *line = "rank 0,0,0,0,0,1";
-        tell(
-            bearoff_file_answer_line(asked, (const uint8_t *)line, strlen(line), room, 0, &count));
+        if (asked->version == BOARD_VERSION) {
+            tell(bearoff_build(3, (uint8_t)number, work, 0, room, 0, &count));
+        } else {
+            uint16_t version = number > OLD_BOUND ? 2 : 1;
+            tell(bearoff_build(version, (uint8_t)number, work, sizeof work, room, 0, &count));
+            tell(bearoff_build(version, (uint8_t)number, room, 0, work, sizeof work, &count));
+        }
     }
 }
 
@@ -173,11 +95,9 @@ int main(int count, char **words) {
     size_t length = from ? fread(file, 1, sizeof file, from) : 0, filled, needed;
     uint8_t fault[BEAROFF_LINE];
     char row[256], call[16], state[16], at[32], roll[8], to[32];
-    if (bearoff_open(&database, file, length, fault, sizeof fault, &needed) ||
-        bearoff_board_build(8, board_file, sizeof board_file, &filled) ||
-        bearoff_board_open(&board, board_file, filled, fault, sizeof fault, &needed) ||
-        bearoff_file_open(&files[0], file, length, fault, sizeof fault, &needed) ||
-        bearoff_file_open(&files[1], board_file, filled, fault, sizeof fault, &needed)) {
+    if (bearoff_build(3, 8, work, 0, board_file, sizeof board_file, &filled) ||
+        bearoff_open(&files[0], file, length, fault, sizeof fault, &needed) ||
+        bearoff_open(&files[1], board_file, filled, fault, sizeof fault, &needed)) {
         fprintf(stderr, "usage: order FILE\n");
         return 2;
     }
@@ -191,17 +111,11 @@ int main(int count, char **words) {
         uint8_t one = (uint8_t)(has_roll ? roll[0] - '0' : 0);
         uint8_t other = (uint8_t)(has_roll && roll[1] ? roll[1] - '0' : 0);
         unsigned number = (unsigned)strtoul(at, NULL, 10);
-        for (int kind = 0; kind < 4; kind++) {
+        for (int kind = 0; kind < 2; kind++) {
             told = NONE;
-            if (is_read && kind > 1) {
-                ask_file(call, is_open ? &files[kind - 2] : &closed_file, first, target, one,
-                         other, number);
-            } else if (is_read && kind == 0) {
-                ask_database(call, is_open ? &database : &closed, first, target, one, other,
-                             number);
-            } else if (is_read) {
-                ask_board(call, is_open ? &board : &closed_board, first, target, one, other,
-                          number);
+            if (is_read) {
+                ask_file(call, is_open ? &files[kind] : &closed, first, target, one, other,
+                         number);
             }
             if (kind) printf(" ");
             if (told == NONE)

@@ -21,31 +21,22 @@
 #include "bearoff.h"
 
 enum { MOST_STATUS = 28, MOST_BYTES = 1 << 20, MOST_LISTED = 8, GUARD = 64, MARK = 0xA5 };
-enum { CALLERS = 2, CALLS = 32, BOARD_VERSION = 3 };
+enum { CALLERS = 2, BOARD_VERSION = 3 };
 
 static uint8_t right[MOST_BYTES], bytes[MOST_BYTES];
 static size_t length;
 static int version, bound, positions;
 static long rounds;
 static uint64_t seed = 88172645463325252u;
-static bearoff_database database = BEAROFF_CLOSED;
-static bearoff_board board = BEAROFF_BOARD_CLOSED;
-static bearoff_file any_file = BEAROFF_FILE_CLOSED;
+static bearoff_file opened = BEAROFF_CLOSED;
 static atomic_bool ended;
 
 /* the names of the calls, the opening first, in the order in which each thread makes them */
-#define OF_FILES                                                                     \
-    "file_open", "file_mean", "file_rounded_mean", "file_epc", "file_wastage",       \
-        "file_distribution", "file_within", "file_listed_means", "file_listed_epcs", \
-        "file_listed_distributions", "file_play", "file_loss", "file_moves", "file_answer_line"
-static const char *const of_databases[CALLS] = {
-    "open",         "upgrade", "mean",         "epc",         "rounded_mean",         "wastage",
-    "distribution", "within",  "listed_means", "listed_epcs", "listed_distributions", "play",
-    "loss",         "results", "answer_line",  OF_FILES};
-static const char *const of_boards[CALLS] = {
-    "board_open",  "board_mean",          "board_epc",  "board_distribution",
-    "board_means", "board_distributions", "board_play", "board_loss",
-    "board_moves", "board_answer_line",   OF_FILES};
+static const char *const names[] = {
+    "open",         "mean",   "rounded_mean", "epc",         "wastage",
+    "distribution", "within", "listed_means", "listed_epcs", "listed_distributions",
+    "play",         "loss",   "moves",        "answer_line", "upgrade"};
+enum { CALLS = sizeof names / sizeof *names };
 
 /* one of the threads that call: what it counts, and room for a call, with guards about it */
 typedef struct caller {
@@ -53,8 +44,6 @@ typedef struct caller {
     uint64_t state;
     int call;
     unsigned long counts[CALLS][MOST_STATUS + 1], others, writes;
-    bearoff_database database;
-    bearoff_board board;
     bearoff_file file;
     uint8_t *room;
     size_t size;
@@ -138,113 +127,46 @@ static int some_line(caller *by, char *line, size_t size, bearoff_position at, b
     return count;
 }
 
-/* every call that reads the bytes of a database */
-static void ask_database(caller *by, bearoff_position at, bearoff_position to, uint8_t one,
-                         uint8_t other) {
+/* every call that reads the bytes */
+static void ask_file(caller *by, bearoff_position at, bearoff_position to, uint8_t one,
+                     uint8_t other) {
     size_t needed, half = length, count = 1 + next_number(&by->state) % MOST_LISTED;
     uint16_t first = (uint16_t)(next_number(&by->state) % (uint64_t)positions);
     char line[128];
     uint8_t *text = (uint8_t *)lend(by, BEAROFF_LINE);
-    take(by, bearoff_open(&by->database, bytes, length, text, BEAROFF_LINE, &needed));
-    text = (uint8_t *)lend(by, 2 * half);
-    take(by, bearoff_upgrade(bytes, length, text, half, text + half, half, &needed));
-    take(by, bearoff_mean(&database, &at, (bearoff_wide *)lend(by, sizeof(bearoff_wide))));
-    take(by, bearoff_epc(&database, &at, (bearoff_pips *)lend(by, sizeof(bearoff_pips))));
+    take(by, bearoff_open(&by->file, bytes, length, text, BEAROFF_LINE, &needed));
+    take(by, bearoff_mean(&opened, &at, (bearoff_number *)lend(by, sizeof(bearoff_number))));
     take(by,
-         bearoff_rounded_mean(&database, &at, (bearoff_rolls *)lend(by, sizeof(bearoff_rolls))));
-    take(by, bearoff_wastage(&database, &at, (bearoff_wasted *)lend(by, sizeof(bearoff_wasted))));
+         bearoff_rounded_mean(&opened, &at, (bearoff_rounded *)lend(by, sizeof(bearoff_rounded))));
+    take(by, bearoff_epc(&opened, &at, (bearoff_rounded *)lend(by, sizeof(bearoff_rounded))));
+    take(by, bearoff_wastage(&opened, &at, (bearoff_wasted *)lend(by, sizeof(bearoff_wasted))));
     take(by,
-         bearoff_distribution(&database, &at, (bearoff_shares *)lend(by, sizeof(bearoff_shares))));
-    take(by, bearoff_within(&database, &at, one, (uint64_t *)lend(by, sizeof(uint64_t))));
-    take(by, bearoff_listed_means(&database, first,
-                                  (bearoff_wide *)lend(by, count * sizeof(bearoff_wide)), count));
-    take(by, bearoff_listed_epcs(&database, first,
-                                 (bearoff_pips *)lend(by, count * sizeof(bearoff_pips)), count));
+         bearoff_distribution(&opened, &at, (bearoff_shares *)lend(by, sizeof(bearoff_shares))));
+    take(by,
+         bearoff_within(&opened, &at, one, (bearoff_chance *)lend(by, sizeof(bearoff_chance))));
+    take(by,
+         bearoff_listed_means(&opened, first,
+                              (bearoff_number *)lend(by, count * sizeof(bearoff_number)), count));
+    take(by,
+         bearoff_listed_epcs(&opened, first,
+                             (bearoff_rounded *)lend(by, count * sizeof(bearoff_rounded)), count));
     take(by,
          bearoff_listed_distributions(
-             &database, first, (bearoff_shares *)lend(by, count * sizeof(bearoff_shares)), count));
-    take(by, bearoff_play(&database, &at, one, other,
+             &opened, first, (bearoff_shares *)lend(by, count * sizeof(bearoff_shares)), count));
+    take(by, bearoff_play(&opened, &at, one, other,
                           (bearoff_recorded_play *)lend(by, sizeof(bearoff_recorded_play))));
-    take(by, bearoff_loss(&database, &at, one, other, &to,
+    take(by, bearoff_loss(&opened, &at, one, other, &to,
                           (bearoff_fraction *)lend(by, sizeof(bearoff_fraction))));
-    take(by, bearoff_results(&database, &at, one, other,
-                             (bearoff_result *)lend(by, BEAROFF_RESULTS * sizeof(bearoff_result)),
-                             BEAROFF_RESULTS, &needed));
+    size_t size = BEAROFF_RESULTS * sizeof(bearoff_result);
+    take(by, bearoff_moves(&opened, &at, one, other, (bearoff_result *)lend(by, size),
+                           BEAROFF_RESULTS, &needed));
     int bytes_of_line = some_line(by, line, sizeof line, at, to, one, other);
     text = (uint8_t *)lend(by, BEAROFF_REPLY);
-    take(by, bearoff_answer_line(&database, (const uint8_t *)line, (size_t)bytes_of_line, text,
+    take(by, bearoff_answer_line(&opened, (const uint8_t *)line, (size_t)bytes_of_line, text,
                                  BEAROFF_REPLY, &needed));
-}
-
-/* every call that reads the bytes of a board */
-static void ask_board(caller *by, bearoff_position at, bearoff_position to, uint8_t one,
-                      uint8_t other) {
-    size_t needed, count = 1 + next_number(&by->state) % MOST_LISTED;
-    uint16_t first = (uint16_t)(next_number(&by->state) % (uint64_t)positions);
-    char line[128];
-    uint8_t *text = (uint8_t *)lend(by, BEAROFF_LINE);
-    take(by, bearoff_board_open(&by->board, bytes, length, text, BEAROFF_LINE, &needed));
-    take(by, bearoff_board_mean(&board, &at, (bearoff_long *)lend(by, sizeof(bearoff_long))));
-    take(by,
-         bearoff_board_epc(&board, &at, (bearoff_long_pips *)lend(by, sizeof(bearoff_long_pips))));
-    take(by, bearoff_board_distribution(
-                 &board, &at, (bearoff_long_shares *)lend(by, sizeof(bearoff_long_shares))));
-    take(by, bearoff_board_means(&board, first,
-                                 (bearoff_long *)lend(by, count * sizeof(bearoff_long)), count));
-    take(by, bearoff_board_distributions(
-                 &board, first,
-                 (bearoff_long_shares *)lend(by, count * sizeof(bearoff_long_shares)), count));
-    take(by, bearoff_board_play(&board, &at, one, other,
-                                (bearoff_recorded_play *)lend(by, sizeof(bearoff_recorded_play))));
-    take(by, bearoff_board_loss(&board, &at, one, other, &to,
-                                (bearoff_long_fraction *)lend(by, sizeof(bearoff_long_fraction))));
-    size_t size = BEAROFF_RESULTS * sizeof(bearoff_long_result);
-    take(by, bearoff_board_moves(&board, &at, one, other, (bearoff_long_result *)lend(by, size),
-                                 BEAROFF_RESULTS, &needed));
-    int bytes_of_line = some_line(by, line, sizeof line, at, to, one, other);
-    text = (uint8_t *)lend(by, BEAROFF_BOARD_REPLY);
-    take(by, bearoff_board_answer_line(&board, (const uint8_t *)line, (size_t)bytes_of_line, text,
-                                       BEAROFF_BOARD_REPLY, &needed));
-}
-
-/* every call that reads the bytes of a file of any version */
-static void ask_file(caller *by, bearoff_position at, bearoff_position to, uint8_t one,
-                     uint8_t other) {
-    size_t needed, count = 1 + next_number(&by->state) % MOST_LISTED;
-    uint16_t first = (uint16_t)(next_number(&by->state) % (uint64_t)positions);
-    char line[128];
-    uint8_t *text = (uint8_t *)lend(by, BEAROFF_LINE);
-    take(by, bearoff_file_open(&by->file, bytes, length, text, BEAROFF_LINE, &needed));
-    take(by, bearoff_file_mean(&any_file, &at, (bearoff_long *)lend(by, sizeof(bearoff_long))));
-    take(by, bearoff_file_rounded_mean(
-                 &any_file, &at, (bearoff_long_rolls *)lend(by, sizeof(bearoff_long_rolls))));
-    take(by, bearoff_file_epc(&any_file, &at,
-                              (bearoff_long_pips *)lend(by, sizeof(bearoff_long_pips))));
-    take(by,
-         bearoff_file_wastage(&any_file, &at, (bearoff_wasted *)lend(by, sizeof(bearoff_wasted))));
-    take(by, bearoff_file_distribution(
-                 &any_file, &at, (bearoff_long_shares *)lend(by, sizeof(bearoff_long_shares))));
-    take(by, bearoff_file_within(&any_file, &at, one,
-                                 (bearoff_chance *)lend(by, sizeof(bearoff_chance))));
-    take(by, bearoff_file_listed_means(
-                 &any_file, first, (bearoff_long *)lend(by, count * sizeof(bearoff_long)), count));
-    take(by, bearoff_file_listed_epcs(
-                 &any_file, first,
-                 (bearoff_long_pips *)lend(by, count * sizeof(bearoff_long_pips)), count));
-    take(by, bearoff_file_listed_distributions(
-                 &any_file, first,
-                 (bearoff_long_shares *)lend(by, count * sizeof(bearoff_long_shares)), count));
-    take(by, bearoff_file_play(&any_file, &at, one, other,
-                               (bearoff_recorded_play *)lend(by, sizeof(bearoff_recorded_play))));
-    take(by, bearoff_file_loss(&any_file, &at, one, other, &to,
-                               (bearoff_long_fraction *)lend(by, sizeof(bearoff_long_fraction))));
-    size_t size = BEAROFF_RESULTS * sizeof(bearoff_long_result);
-    take(by, bearoff_file_moves(&any_file, &at, one, other, (bearoff_long_result *)lend(by, size),
-                                BEAROFF_RESULTS, &needed));
-    int bytes_of_line = some_line(by, line, sizeof line, at, to, one, other);
-    text = (uint8_t *)lend(by, BEAROFF_BOARD_REPLY);
-    take(by, bearoff_file_answer_line(&any_file, (const uint8_t *)line, (size_t)bytes_of_line,
-                                      text, BEAROFF_BOARD_REPLY, &needed));
+    if (version == BOARD_VERSION) return;
+    text = (uint8_t *)lend(by, 2 * half);
+    take(by, bearoff_upgrade(bytes, length, text, half, text + half, half, &needed));
 }
 
 static void *call(void *of) {
@@ -254,7 +176,6 @@ static void *call(void *of) {
         uint64_t roll = next_number(&by->state);
         uint8_t one = (uint8_t)(1 + roll % 6), other = (uint8_t)(1 + roll / 6 % 6);
         by->call = 0;
-        (version == BOARD_VERSION ? ask_board : ask_database)(by, at, to, one, other);
         ask_file(by, at, to, one, other);
     }
     return of;
@@ -263,19 +184,14 @@ static void *call(void *of) {
 static void open_right(void) {
     uint8_t line[BEAROFF_LINE];
     size_t needed;
-    uint32_t status = version == BOARD_VERSION
-                          ? bearoff_board_open(&board, bytes, length, line, sizeof line, &needed)
-                          : bearoff_open(&database, bytes, length, line, sizeof line, &needed);
-    if (status != BEAROFF_OK) fail("no right database or board");
-    status = bearoff_file_open(&any_file, bytes, length, line, sizeof line, &needed);
-    if (status != BEAROFF_OK) fail("no right file");
+    if (bearoff_open(&opened, bytes, length, line, sizeof line, &needed)) fail("no right file");
 }
 
 /* how often each status came of each call; whether all is as it should be */
 static int tell(void) {
-    const char *const *names = version == BOARD_VERSION ? of_boards : of_databases;
+    int made = version == BOARD_VERSION ? CALLS - 1 : CALLS;
     unsigned long others = 0, writes = 0, refused = 0, accepted = 0;
-    for (int call_number = 0; call_number < CALLS && names[call_number]; call_number++) {
+    for (int call_number = 0; call_number < made; call_number++) {
         printf("%s", names[call_number]);
         for (int status = 0; status <= MOST_STATUS; status++) {
             unsigned long count = 0;
@@ -304,9 +220,9 @@ int main(int word_count, char **words) {
     bound = right[11];
     positions = right[14] << 8 | right[15];
     open_right();
-    size_t most = BEAROFF_RESULTS * sizeof(bearoff_long_result) + BEAROFF_BOARD_REPLY + 2 * length;
+    size_t most = BEAROFF_RESULTS * sizeof(bearoff_result) + BEAROFF_REPLY + 2 * length;
     pthread_attr_init(&attributes);
-    pthread_attr_setstacksize(&attributes, 2 * BEAROFF_BOARD_STACK);
+    pthread_attr_setstacksize(&attributes, 2 * BEAROFF_STACK);
     if (pthread_create(&changer, &attributes, change, NULL)) fail("no thread");
     for (int i = 0; i < CALLERS; i++) {
         callers[i].state = seed + (uint64_t)i + 1;

@@ -5,8 +5,7 @@
  * usage: reads_outside FILE ROUNDS [SEED]       a right database or board file
  *
  * All that a call is lent lies between two pages that nobody may read or write: it begins right
- * behind the first or ends right before the second. The bytes are opened by the call of their kind
- * and by that of any file, and both are asked, by every call that they have.
+ * behind the first or ends right before the second. The bytes are opened, and asked by every call.
  *
  * First the file is opened, cut at each length to 100 and about the ends of records. Then each
  * byte of the header gets each other value in turn, and, ROUNDS times, records get numbers that
@@ -34,10 +33,7 @@
 
 enum { HEADER = 32, GUARD = 64, MARK = 0xA5, ASKED = 12, LISTED = 5, SHOWN = 20, CUT = 100 };
 enum { MOST_POSITIONS = 54264, MOST_PIPS = 90, FEW_PIPS = 10, FEW_BYTES = 1 << 16 };
-enum { MOST_ROOM = 1 << 15, BOARD_VERSION = 3 };
-
-/* by which family of calls a file is asked */
-enum { DATABASE, BOARD, ANY_FILE, KINDS };
+enum { MOST_ROOM = 1 << 15, BOARD_VERSION = 3, DATABASE_REPLY = 12070 };
 
 /* the statuses that a call may answer with, a bit for each; those of an opening by the header, and
  * by the records */
@@ -56,13 +52,6 @@ typedef struct room {
     size_t size, length;
 } room;
 
-/* what an opening writes, and the calls are given */
-typedef union handle {
-    bearoff_database database;
-    bearoff_board board;
-    bearoff_file file;
-} handle;
-
 /* what is asked, whether rooms of exactly the size are tried too, and the bit of the status of a
  * refusal, or 0, of the calls that are given the position alone, the roll too, a play too, a rank,
  * and the ranks from one on */
@@ -77,10 +66,10 @@ typedef struct question {
 
 static uint8_t *right;
 static size_t page, length, ends[MOST_PIPS + 1];
-static int kinds[2], bound, counts[MOST_PIPS + 1];
+static int is_board, bound, counts[MOST_PIPS + 1];
 static bearoff_position positions[MOST_POSITIONS];
-static room bytes, handles[KINDS], answer, told, from_room, to_room, line_room;
-static handle opened[KINDS];
+static room bytes, handle, answer, told, from_room, to_room, line_room;
+static bearoff_file opened;
 static const char *now = "nothing";
 static int at_end, is_closed, is_counted;
 static size_t element, hole, hole_end;
@@ -106,10 +95,9 @@ static void tell_signal(int number) {
     static const struct {
         const char *name;
         const room *of;
-    } rows[] = {{"the bytes", &bytes},           {"the struct", &handles[DATABASE]},
-                {"the struct", &handles[BOARD]}, {"the struct", &handles[ANY_FILE]},
-                {"the answer", &answer},         {"the count", &told},
-                {"the position", &from_room},    {"the other position", &to_room},
+    } rows[] = {{"the bytes", &bytes},        {"the struct", &handle},
+                {"the answer", &answer},      {"the count", &told},
+                {"the position", &from_room}, {"the other position", &to_room},
                 {"the line", &line_room}};
     const uint8_t *place = (const uint8_t *)reached;
     char text[96];
@@ -238,42 +226,31 @@ static size_t take_count(uint32_t status, size_t count, size_t most, size_t lent
 }
 
 /* a line, in a room of so many bytes; how many there are */
-static size_t answer_line(int kind, size_t size, uint32_t others) {
-    const handle *by = (const handle *)handles[kind].lent;
+static size_t answer_line(size_t size, uint32_t others) {
+    const bearoff_file *by = (const bearoff_file *)handle.lent;
     uint8_t *text = (uint8_t *)lend(size);
-    size_t *needed = lend_count(), most = kind == BOARD ? BEAROFF_BOARD_REPLY : BEAROFF_REPLY;
-    const uint8_t *line = line_room.lent;
-    uint32_t allowed = allow(0, others), status = 0;
-    if (kind == DATABASE)
-        status = TAKE(bearoff_answer_line, allowed, &by->database, line, line_room.length, text,
-                      size, needed);
-    if (kind == BOARD)
-        status = TAKE(bearoff_board_answer_line, allowed, &by->board, line, line_room.length, text,
-                      size, needed);
-    if (kind == ANY_FILE) {
-        status = TAKE(bearoff_file_answer_line, allowed, &by->file, line, line_room.length, text,
-                      size, needed);
-        if (kinds[0] == BOARD) most = BEAROFF_BOARD_REPLY;
-    }
+    size_t *needed = lend_count(), most = is_board ? BEAROFF_REPLY : DATABASE_REPLY;
+    uint32_t status = TAKE(bearoff_answer_line, allow(0, others), by, line_room.lent,
+                           line_room.length, text, size, needed);
     return take_count(status, *needed, most, size);
 }
 
 /* a line of the query language, of which now and then only the front is given */
-static void ask_line(int kind, const question *asked, const char *text, uint32_t others) {
+static void ask_line(const question *asked, const char *text, uint32_t others) {
     size_t size = strlen(text);
     if (next_number() % 8 == 0) size = next_number() % (size + 1);
     memcpy(lend_of(&line_room, size, (int)(next_number() & 1)), text, size);
-    size_t needed = answer_line(kind, asked->room * 60, others);
+    size_t needed = answer_line(asked->room * 60, others);
     if (needed && asked->is_exact) {
-        answer_line(kind, needed, BIT(OK));
-        answer_line(kind, needed - 1, BIT(SHORT));
-        answer_line(kind, 0, BIT(SHORT));
+        answer_line(needed, BIT(OK));
+        answer_line(needed - 1, BIT(SHORT));
+        answer_line(0, BIT(SHORT));
     }
     now = "a line";
     if (!is_kept(&line_room) || memcmp(line_room.lent, text, size)) fail(&writes, text, size);
 }
 
-static void ask_lines(int kind, const question *asked) {
+static void ask_lines(const question *asked) {
     static const char *const words[] = {"mean", "dist", "rank", "play", "moves", "loss"};
     const uint8_t *on = asked->at->points, *to = asked->to->points;
     for (size_t i = 0; i < sizeof words / sizeof *words; i++) {
@@ -286,36 +263,29 @@ static void ask_lines(int kind, const question *asked) {
         if (i > 4)
             snprintf(text + size, sizeof text - (size_t)size, " %d,%d,%d,%d,%d,%d", to[0], to[1],
                      to[2], to[3], to[4], to[5]);
-        ask_line(kind, asked, text, i == 2 ? BIT(OK) | BIT(SHORT) : any_length);
+        ask_line(asked, text, i == 2 ? BIT(OK) | BIT(SHORT) : any_length);
     }
 }
 
 /* the positions that a roll leads to, in a room for so many; how many there are */
-static size_t list_moves(int kind, const question *asked, size_t lent, uint32_t others) {
-    const handle *by = (const handle *)handles[kind].lent;
+static size_t list_moves(const question *asked, size_t lent, uint32_t others) {
+    const bearoff_file *by = (const bearoff_file *)handle.lent;
     const bearoff_position *at = asked->at;
-    size_t size = kind == DATABASE ? sizeof(bearoff_result) : sizeof(bearoff_long_result);
+    size_t size = sizeof(bearoff_result);
     void *results = lend_padded(lent * size, size, sizeof *at, offsetof(bearoff_result, loss));
     size_t *count = lend_count();
-    uint32_t allowed = allow(asked->of_roll, others), status = 0;
-    if (kind == DATABASE)
-        status = TAKE(bearoff_results, allowed, &by->database, at, asked->one, asked->other,
-                      (bearoff_result *)results, lent, count);
-    if (kind == BOARD)
-        status = TAKE(bearoff_board_moves, allowed, &by->board, at, asked->one, asked->other,
-                      (bearoff_long_result *)results, lent, count);
-    if (kind == ANY_FILE)
-        status = TAKE(bearoff_file_moves, allowed, &by->file, at, asked->one, asked->other,
-                      (bearoff_long_result *)results, lent, count);
+    uint32_t allowed = allow(asked->of_roll, others);
+    uint32_t status = TAKE(bearoff_moves, allowed, by, at, asked->one, asked->other,
+                           (bearoff_result *)results, lent, count);
     return take_count(status, *count, BEAROFF_RESULTS, lent);
 }
 
-static void ask_moves(int kind, const question *asked) {
-    size_t count = list_moves(kind, asked, asked->room, any_length);
+static void ask_moves(const question *asked) {
+    size_t count = list_moves(asked, asked->room, any_length);
     if (count && asked->is_exact) {
-        list_moves(kind, asked, count, BIT(OK));
-        list_moves(kind, asked, count - 1, BIT(SHORT));
-        list_moves(kind, asked, 0, BIT(SHORT));
+        list_moves(asked, count, BIT(OK));
+        list_moves(asked, count - 1, BIT(SHORT));
+        list_moves(asked, 0, BIT(SHORT));
     }
 }
 
@@ -328,87 +298,38 @@ static bearoff_recorded_play *lend_play(void) {
     return (bearoff_recorded_play *)lend(sizeof(bearoff_recorded_play));
 }
 
-/* every other call for a database */
-static void ask_database(const question *asked) {
-    const bearoff_database *by = (const bearoff_database *)handles[DATABASE].lent;
+/* every other call */
+static void ask_file(const question *asked) {
+    const bearoff_file *by = (const bearoff_file *)handle.lent;
     const bearoff_position *at = asked->at, *to = asked->to;
     uint8_t one = asked->one, other = asked->other;
-    uint32_t always = allow(0, BIT(OK)), place = allow(asked->of_position, BIT(OK)),
-             number = allow(asked->of_position, told_or_changed),
-             listed = allow(asked->of_ranks, BIT(OK)),
+    uint32_t number = allow(asked->of_position, told_or_changed),
              table = allow(asked->of_ranks, told_or_changed);
-    TAKE(bearoff_version, always, by, (uint16_t *)lend(2));
-    TAKE(bearoff_bound, always, by, (uint8_t *)lend(1));
-    TAKE(bearoff_positions, always, by, (uint32_t *)lend(4));
+    bearoff_number mean;
+    if (OF_POSITION(bearoff_mean, number, bearoff_number) == BEAROFF_OK) {
+        now = "bearoff_as_double";
+        memcpy(&mean, answer.lent, sizeof mean);
+        double rolls = bearoff_as_double(by, mean);
+        if (!(rolls >= 0 && rolls <= (is_board ? 33 : 22)))
+            fail(&statuses, "no number of rolls", (unsigned long)rolls);
+    }
+    TAKE(bearoff_about, allow(0, BIT(OK)), by, (bearoff_facts *)lend(sizeof(bearoff_facts)));
     TAKE(bearoff_position_of, allow(asked->of_rank, BIT(OK)), by, asked->rank,
          (bearoff_position *)lend(6));
-    OF_POSITION(bearoff_rank, place, uint16_t);
-    OF_POSITION(bearoff_mean, number, bearoff_wide);
-    OF_POSITION(bearoff_epc, number, bearoff_pips);
-    OF_POSITION(bearoff_rounded_mean, number, bearoff_rolls);
-    OF_POSITION(bearoff_distribution, place, bearoff_shares);
+    OF_POSITION(bearoff_rank, allow(asked->of_position, BIT(OK)), uint16_t);
+    OF_POSITION(bearoff_epc, number, bearoff_rounded);
+    OF_POSITION(bearoff_rounded_mean, number, bearoff_rounded);
+    OF_POSITION(bearoff_distribution, number, bearoff_shares);
     TAKE(bearoff_wastage, number, by, at, lend_wastage());
-    TAKE(bearoff_within, number, by, at, asked->rolls, (uint64_t *)lend(8));
-    OF_RANKS(bearoff_listed_positions, listed, bearoff_position);
-    OF_RANKS(bearoff_listed_means, table, bearoff_wide);
-    OF_RANKS(bearoff_listed_epcs, table, bearoff_pips);
-    OF_RANKS(bearoff_listed_distributions, listed, bearoff_shares);
+    TAKE(bearoff_within, number, by, at, asked->rolls,
+         (bearoff_chance *)lend(sizeof(bearoff_chance)));
+    OF_RANKS(bearoff_listed_positions, allow(asked->of_ranks, BIT(OK)), bearoff_position);
+    OF_RANKS(bearoff_listed_means, table, bearoff_number);
+    OF_RANKS(bearoff_listed_epcs, table, bearoff_rounded);
+    OF_RANKS(bearoff_listed_distributions, table, bearoff_shares);
     TAKE(bearoff_play, allow(asked->of_roll, told_or_changed), by, at, one, other, lend_play());
     TAKE(bearoff_loss, allow(asked->of_play, told_or_changed), by, at, one, other, to,
          (bearoff_fraction *)lend(sizeof(bearoff_fraction)));
-}
-
-/* .. for a board */
-static void ask_board(const question *asked) {
-    const bearoff_board *by = (const bearoff_board *)handles[BOARD].lent;
-    const bearoff_position *at = asked->at, *to = asked->to;
-    uint8_t one = asked->one, other = asked->other;
-    uint32_t number = allow(asked->of_position, told_or_changed),
-             table = allow(asked->of_ranks, told_or_changed);
-    OF_POSITION(bearoff_board_mean, number, bearoff_long);
-    OF_POSITION(bearoff_board_epc, number, bearoff_long_pips);
-    OF_POSITION(bearoff_board_distribution, number, bearoff_long_shares);
-    OF_RANKS(bearoff_board_means, table, bearoff_long);
-    OF_RANKS(bearoff_board_distributions, table, bearoff_long_shares);
-    TAKE(bearoff_board_play, allow(asked->of_roll, told_or_changed), by, at, one, other,
-         lend_play());
-    TAKE(bearoff_board_loss, allow(asked->of_play, told_or_changed), by, at, one, other, to,
-         (bearoff_long_fraction *)lend(sizeof(bearoff_long_fraction)));
-}
-
-/* .. and for a file of any version */
-static void ask_file(const question *asked) {
-    const bearoff_file *by = (const bearoff_file *)handles[ANY_FILE].lent;
-    const bearoff_position *at = asked->at, *to = asked->to;
-    uint8_t one = asked->one, other = asked->other;
-    uint32_t number = allow(asked->of_position, told_or_changed),
-             table = allow(asked->of_ranks, told_or_changed);
-    bearoff_long mean;
-    if (OF_POSITION(bearoff_file_mean, number, bearoff_long) == BEAROFF_OK) {
-        now = "bearoff_file_as_double";
-        memcpy(&mean, answer.lent, sizeof mean);
-        double rolls = bearoff_file_as_double(by, mean);
-        if (!(rolls >= 0 && rolls <= (kinds[0] == BOARD ? 33 : 22)))
-            fail(&statuses, "no number of rolls", (unsigned long)rolls);
-    }
-    TAKE(bearoff_file_about, allow(0, BIT(OK)), by, (bearoff_about *)lend(sizeof(bearoff_about)));
-    TAKE(bearoff_file_position_of, allow(asked->of_rank, BIT(OK)), by, asked->rank,
-         (bearoff_position *)lend(6));
-    OF_POSITION(bearoff_file_rank, allow(asked->of_position, BIT(OK)), uint16_t);
-    OF_POSITION(bearoff_file_epc, number, bearoff_long_pips);
-    OF_POSITION(bearoff_file_rounded_mean, number, bearoff_long_rolls);
-    OF_POSITION(bearoff_file_distribution, number, bearoff_long_shares);
-    TAKE(bearoff_file_wastage, number, by, at, lend_wastage());
-    TAKE(bearoff_file_within, number, by, at, asked->rolls,
-         (bearoff_chance *)lend(sizeof(bearoff_chance)));
-    OF_RANKS(bearoff_file_listed_positions, allow(asked->of_ranks, BIT(OK)), bearoff_position);
-    OF_RANKS(bearoff_file_listed_means, table, bearoff_long);
-    OF_RANKS(bearoff_file_listed_epcs, table, bearoff_long_pips);
-    OF_RANKS(bearoff_file_listed_distributions, table, bearoff_long_shares);
-    TAKE(bearoff_file_play, allow(asked->of_roll, told_or_changed), by, at, one, other,
-         lend_play());
-    TAKE(bearoff_file_loss, allow(asked->of_play, told_or_changed), by, at, one, other, to,
-         (bearoff_long_fraction *)lend(sizeof(bearoff_long_fraction)));
 }
 
 static int checkers_of(bearoff_position at) {
@@ -489,15 +410,9 @@ static void ask_some(void) {
     for (int i = 0; i < ASKED; i++) {
         make_question(&asked);
         bearoff_position at = *asked.at, to = *asked.to;
-        if (kinds[0] == DATABASE)
-            ask_database(&asked);
-        else
-            ask_board(&asked);
         ask_file(&asked);
-        for (int k = 0; k < 2; k++) {
-            ask_moves(kinds[k], &asked);
-            ask_lines(kinds[k], &asked);
-        }
+        ask_moves(&asked);
+        ask_lines(&asked);
         now = "a question";
         if (!is_kept(&from_room) || !is_kept(&to_room) || memcmp(asked.at, &at, sizeof at) ||
             memcmp(asked.to, &to, sizeof to))
@@ -517,7 +432,7 @@ static uint8_t *changing(size_t size) {
     return bytes.lent;
 }
 
-/* one try: whether a signal ended it, and that it left the structs alone; neither they nor the
+/* one try: whether a signal ended it, and that it left the struct alone; neither it nor the
  * bytes can be written meanwhile */
 static void try_once(uint64_t from) {
     uint64_t kept = state;
@@ -525,64 +440,53 @@ static void try_once(uint64_t from) {
     digest = 0;
     state = from;
     protect(bytes.pages, bytes.size, PROT_READ);
-    for (int k = 0; k < 2; k++) protect(handles[kinds[k]].pages, sizeof(handle), PROT_READ);
+    protect(handle.pages, sizeof opened, PROT_READ);
     int number = sigsetjmp(before_try, 1);
     if (number == 0)
         ask_some();
     else
         tell_signal(number);
-    for (int k = 0; k < 2; k++)
-        protect(handles[kinds[k]].pages, sizeof(handle), PROT_READ | PROT_WRITE);
+    protect(handle.pages, sizeof opened, PROT_READ | PROT_WRITE);
     state = kept;
 }
 
-/* what both families are asked by, where they begin or end a page */
-static void put_handles(const handle *from) {
-    for (int k = 0; k < 2; k++)
-        memcpy(lend_of(&handles[kinds[k]], sizeof *from, (int)(next_number() & 1)),
-               &from[kinds[k]], sizeof *from);
+/* what is asked, where it begins or ends a page */
+static void put_handle(const bearoff_file *from) {
+    memcpy(lend_of(&handle, sizeof *from, (int)(next_number() & 1)), from, sizeof *from);
 }
 
 /* opens the bytes, with so much room for the line of a fault */
-static uint32_t open_in(int kind, size_t size, uint32_t allowed) {
-    static const char *const names[] = {"bearoff_open", "bearoff_board_open", "bearoff_file_open"};
-    handle *by = (handle *)handles[kind].lent;
+static uint32_t open_in(size_t size, uint32_t allowed) {
     uint8_t *line = (uint8_t *)lend(size);
     size_t *needed = lend_count();
-    now = names[kind];
+    now = "bearoff_open";
     uint32_t status =
-        kind == DATABASE
-            ? bearoff_open(&by->database, bytes.lent, bytes.length, line, size, needed)
-        : kind == BOARD
-            ? bearoff_board_open(&by->board, bytes.lent, bytes.length, line, size, needed)
-            : bearoff_file_open(&by->file, bytes.lent, bytes.length, line, size, needed);
+        bearoff_open((bearoff_file *)handle.lent, bytes.lent, bytes.length, line, size, needed);
     take_status(status, allowed);
     size_t written = status != BEAROFF_OK && *needed <= size ? *needed : 0;
     if (*needed > BEAROFF_LINE || (status == BEAROFF_OK) != (*needed == 0))
         fail(&statuses, "so many", *needed);
-    else if (!is_kept(&answer) || !is_kept(&told) || !is_kept(&handles[kind]) ||
+    else if (!is_kept(&answer) || !is_kept(&told) || !is_kept(&handle) ||
              !is_marked(line + written, size - written))
         fail(&writes, "wrote beside the fault's line", status);
     return status;
 }
 
-/* opens the bytes by both calls that may; a refusal leaves a struct as it was, but not open */
+/* opens the bytes; a refusal leaves the struct as it was, but not open */
 static void try_opening(uint32_t allowed) {
     tries++;
     protect(bytes.pages, bytes.size, PROT_READ);
     int number = sigsetjmp(before_try, 1);
     if (number == 0) {
-        for (int k = 0; k < 2; k++) {
-            static handle was;
-            handle *by = (handle *)handles[kinds[k]].lent;
-            memcpy(&was, by, sizeof was);
-            uint32_t status = open_in(kinds[k], next_number() % (BEAROFF_LINE + 1), allowed);
-            was.file.is_open = 0;
-            if (by->file.is_open != (status == BEAROFF_OK))
-                fail(&statuses, "whether it is open", status);
-            else if (status != BEAROFF_OK && memcmp(by, &was, sizeof was))
-                fail(&writes, "wrote into what it refused", status);
-        }
+        static bearoff_file was;
+        bearoff_file *by = (bearoff_file *)handle.lent;
+        memcpy(&was, by, sizeof was);
+        uint32_t status = open_in(next_number() % (BEAROFF_LINE + 1), allowed);
+        was.is_open = 0;
+        if (by->is_open != (status == BEAROFF_OK))
+            fail(&statuses, "whether it is open", status);
+        else if (status != BEAROFF_OK && memcmp(by, &was, sizeof was))
+            fail(&writes, "wrote into what it refused", status);
     } else {
         tell_signal(number);
     }
@@ -648,14 +552,14 @@ static void change_records(void) {
  * them all */
 static void change_header(void) {
     uint64_t asked = next_number() | 1;
-    put_handles(opened);
+    put_handle(&opened);
     try_once(asked);
     uint64_t wanted = digest;
     for (size_t place = 0; place < HEADER; place++) {
         for (int by = 1; by < 256; by++) {
             changing(HEADER)[place] = (uint8_t)(right[place] ^ by);
             try_opening(header_faults);
-            put_handles(opened);
+            put_handle(&opened);
             try_once(asked);
             now = "the header";
             if (digest != wanted) fail(&differing, "another answer", place);
@@ -671,7 +575,7 @@ static void change_all(uint64_t rounds) {
         if (i % 4 == 0) changing(HEADER)[next_number() % HEADER] = (uint8_t)next_number();
         if (bytes.length <= FEW_BYTES || i % 8 == 1)
             try_opening(header_faults | record_faults | BIT(OK));
-        put_handles(opened);
+        put_handle(&opened);
         try_once(next_number() | 1);
         if (i % 3 == 0) put_front(bytes.length);
     }
@@ -679,23 +583,15 @@ static void change_all(uint64_t rounds) {
 
 /* what is not open: as it begins, of zeros, and after a refusal */
 static void ask_closed(void) {
-    static const bearoff_database database = BEAROFF_CLOSED;
-    static const bearoff_board board = BEAROFF_BOARD_CLOSED;
-    static const bearoff_file file = BEAROFF_FILE_CLOSED;
-    static handle closed[KINDS];
+    static const bearoff_file begun = BEAROFF_CLOSED;
+    static bearoff_file closed;
     is_closed = 1;
-    memset(closed, 0, sizeof closed);
+    memset(&closed, 0, sizeof closed);
     for (int i = 0; i < 3; i++) {
-        if (i == 1) {
-            closed[DATABASE].database = database;
-            closed[BOARD].board = board;
-            closed[ANY_FILE].file = file;
-        }
-        if (i == 2) {
-            memcpy(closed, opened, sizeof closed);
-            for (int k = 0; k < KINDS; k++) closed[k].file.is_open = 0;
-        }
-        put_handles(closed);
+        if (i == 1) closed = begun;
+        if (i == 2) closed = opened;
+        closed.is_open = 0;
+        put_handle(&closed);
         try_once(next_number() | 1);
     }
     is_closed = 0;
@@ -703,9 +599,9 @@ static void ask_closed(void) {
 
 /* opens bytes that are right, and keeps what is opened */
 static void open_right(void) {
-    put_handles(opened);
+    put_handle(&opened);
     try_opening(BIT(OK));
-    for (int k = 0; k < 2; k++) memcpy(&opened[kinds[k]], handles[kinds[k]].lent, sizeof *opened);
+    memcpy(&opened, handle.lent, sizeof opened);
 }
 
 static void put_header(int pips) {
@@ -773,16 +669,15 @@ int main(int count, char **words) {
     if (count < 3 || !read_file(words[1])) return 2;
     uint64_t rounds = strtoull(words[2], 0, 10);
     state = count > 3 ? strtoull(words[3], 0, 10) : 88172645463325252u;
-    kinds[0] = right[9] == BOARD_VERSION ? BOARD : DATABASE;
-    kinds[1] = ANY_FILE;
+    is_board = right[9] == BOARD_VERSION;
     page = (size_t)sysconf(_SC_PAGESIZE);
     count_positions();
     bound = right[11];
     if (bound > MOST_PIPS || ends[bound] != length) return 2;
     int is_made = make_room(&bytes, length) && make_room(&answer, MOST_ROOM) &&
                   make_room(&told, GUARD) && make_room(&from_room, GUARD) &&
-                  make_room(&to_room, GUARD) && make_room(&line_room, 2 * GUARD);
-    for (int k = 0; k < KINDS; k++) is_made = is_made && make_room(&handles[k], sizeof(handle));
+                  make_room(&to_room, GUARD) && make_room(&line_room, 2 * GUARD) &&
+                  make_room(&handle, sizeof opened);
     if (!is_made) return 2;
     struct sigaction action;
     memset(&action, 0, sizeof action);

@@ -59,18 +59,18 @@ static statuses statuses_of(uint32_t numbers, uint32_t play, uint32_t loss) {
     return all;
 }
 
-static void ask(const bearoff_database *database, bearoff_position at, uint8_t one, uint8_t other,
+static void ask(const bearoff_file *database, bearoff_position at, uint8_t one, uint8_t other,
                 bearoff_position to, statuses wanted, const char *what) {
-    bearoff_wide *mean = (bearoff_wide *)guarded(sizeof *mean);
-    bearoff_pips *pips = (bearoff_pips *)guarded(sizeof *pips);
+    bearoff_number *mean = (bearoff_number *)guarded(sizeof *mean);
+    bearoff_rounded *pips = (bearoff_rounded *)guarded(sizeof *pips);
     bearoff_shares *shares = (bearoff_shares *)guarded(sizeof *shares);
     bearoff_recorded_play *play = (bearoff_recorded_play *)guarded(sizeof *play);
     bearoff_fraction *loss = (bearoff_fraction *)guarded(sizeof *loss);
     bearoff_result *results = (bearoff_result *)guarded(64 * sizeof *results);
     size_t *count = (size_t *)guarded(sizeof *count);
-    bearoff_rolls *rolls = (bearoff_rolls *)guarded(sizeof *rolls);
+    bearoff_rounded *rolls = (bearoff_rounded *)guarded(sizeof *rolls);
     bearoff_wasted *wasted = (bearoff_wasted *)guarded(sizeof *wasted);
-    uint64_t *within = (uint64_t *)guarded(sizeof *within);
+    bearoff_chance *within = (bearoff_chance *)guarded(sizeof *within);
     uint16_t *rank = (uint16_t *)guarded(sizeof *rank);
     expect(bearoff_rounded_mean(database, &at, rolls) == wanted.numbers, what, 15);
     expect(bearoff_wastage(database, &at, wasted) == wanted.numbers, what, 16);
@@ -81,7 +81,7 @@ static void ask(const bearoff_database *database, bearoff_position at, uint8_t o
     expect(bearoff_distribution(database, &at, shares) == wanted.numbers, what, 3);
     expect(bearoff_play(database, &at, one, other, play) == wanted.play, what, 4);
     expect(bearoff_loss(database, &at, one, other, &to, loss) == wanted.loss, what, 5);
-    expect(bearoff_results(database, &at, one, other, results, 64, count) == wanted.play, what, 6);
+    expect(bearoff_moves(database, &at, one, other, results, 64, count) == wanted.play, what, 6);
     if (wanted.numbers) {
         expect(untouched(mean, sizeof *mean), what, 7);
         expect(untouched(pips, sizeof *pips), what, 8);
@@ -118,18 +118,18 @@ static void ask(const bearoff_database *database, bearoff_position at, uint8_t o
 }
 
 /* the calls that list so many from a rank on, and what stays as it was where they are refused */
-static void list(const bearoff_database *database, uint16_t first, size_t count, uint32_t wanted,
+static void list(const bearoff_file *database, uint16_t first, size_t count, uint32_t wanted,
                  const char *what) {
-    static const size_t sizes[] = {sizeof(bearoff_position), sizeof(bearoff_wide),
-                                   sizeof(bearoff_pips), sizeof(bearoff_shares)};
+    static const size_t sizes[] = {sizeof(bearoff_position), sizeof(bearoff_number),
+                                   sizeof(bearoff_rounded), sizeof(bearoff_shares)};
     for (size_t call = 0; call < sizeof sizes / sizeof *sizes; call++) {
         size_t size = count <= 64 ? count * sizes[call] : 0;
         void *room = guarded(size);
         uint32_t status =
             call == 0 ? bearoff_listed_positions(database, first, (bearoff_position *)room, count)
-            : call == 1 ? bearoff_listed_means(database, first, (bearoff_wide *)room, count)
+            : call == 1 ? bearoff_listed_means(database, first, (bearoff_number *)room, count)
             : call == 2
-                ? bearoff_listed_epcs(database, first, (bearoff_pips *)room, count)
+                ? bearoff_listed_epcs(database, first, (bearoff_rounded *)room, count)
                 : bearoff_listed_distributions(database, first, (bearoff_shares *)room, count);
         expect(status == wanted && guards_stand(room, size), what, (long)call);
         expect((wanted || !size) == untouched(room, size), what, 10 + (long)call);
@@ -165,8 +165,8 @@ typedef unsigned __int128 number;
 
 /* a fraction in thousandths, or that it can't be told, which is -1 */
 static void round_off(number numerator, number denominator, int wanted, const char *what) {
-    bearoff_fraction fraction = {{(uint64_t)(numerator >> 64), (uint64_t)numerator},
-                                 {(uint64_t)(denominator >> 64), (uint64_t)denominator}};
+    bearoff_fraction fraction = {{{0, (uint64_t)(numerator >> 64), (uint64_t)numerator}},
+                                 {{0, (uint64_t)(denominator >> 64), (uint64_t)denominator}}};
     uint64_t *told = (uint64_t *)guarded(sizeof *told);
     bool is_told = bearoff_thousandths(&fraction, told);
     expect(is_told == (wanted >= 0) && guards_stand(told, sizeof *told), what, wanted);
@@ -175,8 +175,8 @@ static void round_off(number numerator, number denominator, int wanted, const ch
 }
 
 /* opens bytes with so much room for the line */
-static uint32_t open_with(bearoff_database *database, const uint8_t *bytes, size_t length,
-                          size_t room, const char *line, const char *what) {
+static uint32_t open_with(bearoff_file *database, const uint8_t *bytes, size_t length, size_t room,
+                          const char *line, const char *what) {
     uint8_t *buffer = guarded(room);
     size_t *needed = (size_t *)guarded(sizeof *needed);
     uint32_t status = bearoff_open(database, bytes, length, buffer, room, needed);
@@ -195,7 +195,7 @@ static uint32_t open_with(bearoff_database *database, const uint8_t *bytes, size
 }
 
 /* answers a line with so much room, and gives the status */
-static uint32_t answer_with(const bearoff_database *database, const char *line, size_t room,
+static uint32_t answer_with(const bearoff_file *database, const char *line, size_t room,
                             const char *reply, const char *what) {
     uint8_t *buffer = guarded(room);
     size_t *needed = (size_t *)guarded(sizeof *needed);
@@ -319,7 +319,7 @@ int main(int count, char **words) {
         const char *text;
     } said[] = {
         {BEAROFF_OK, "success"},
-        {BEAROFF_NOT_OPEN, "the database or board was never opened, or its bytes were refused"},
+        {BEAROFF_NOT_OPEN, "the file was never opened, or its bytes were refused"},
         {BEAROFF_BAD_ROLL, "a die is not 1 to 6"},
         {BEAROFF_TOO_MANY, "a position has more than 15 checkers"},
         {BEAROFF_OVER_BOUND, "more pips than the bound, or a bound over the greatest"},
@@ -424,7 +424,7 @@ int main(int count, char **words) {
     size_t length = bytes ? fread(bytes, 1, 32 + 426 * 64, from) : 0;
     fclose(from);
     expect(length == 32 + 426 * 64, "the file", (long)length);
-    bearoff_database *database = (bearoff_database *)guarded(sizeof *database);
+    bearoff_file *database = (bearoff_file *)guarded(sizeof *database);
 
     /* the library is of the header's version */
     uint16_t major = MARK, minor = MARK, patch = MARK;
@@ -435,44 +435,39 @@ int main(int count, char **words) {
     expect(strcmp(release, BEAROFF_VERSION) == 0, release, 0);
 
     /* a struct of zeros is not open */
-    uint8_t bound = MARK;
-    uint16_t version = MARK;
-    uint32_t positions = MARK;
+    bearoff_facts about, unsaid;
+    memset(&about, MARK, sizeof about);
+    unsaid = about;
     memset(database, 0, sizeof *database);
-    expect(bearoff_version(database, &version) == BEAROFF_NOT_OPEN && version == MARK,
-           "zeros, version", version);
+    expect(bearoff_about(database, &about) == BEAROFF_NOT_OPEN &&
+               !memcmp(&about, &unsaid, sizeof about),
+           "zeros, about", about.version);
     expect(answer_with(database, "mean 0,0,0,0,0,1", 64, 0, "zeros, line") == BEAROFF_NOT_OPEN,
            "zeros, line", 0);
     expect(answer_with(database, "nothing", 64, 0, "zeros, bad line") == BEAROFF_NOT_OPEN,
            "zeros, bad line", 0);
-    expect(bearoff_bound(database, &bound) == BEAROFF_NOT_OPEN && bound == MARK, "zeros, bound",
-           bound);
-    expect(bearoff_positions(database, &positions) == BEAROFF_NOT_OPEN && positions == MARK,
-           "zeros", positions);
     ask(database, six, 2, 1, five, closed, "zeros");
     ask(database, most, 0, 9, most, closed, "zeros and all else wrong");
     list(database, 0, 1, BEAROFF_NOT_OPEN, "zeros, lists");
 
     /* nor is one that was made closed */
-    bearoff_database made = BEAROFF_CLOSED;
+    bearoff_file made = BEAROFF_CLOSED;
     memcpy(database, &made, sizeof made);
-    expect(bearoff_bound(database, &bound) == BEAROFF_NOT_OPEN && bound == MARK, "closed, bound",
-           bound);
+    expect(bearoff_about(database, &about) == BEAROFF_NOT_OPEN &&
+               !memcmp(&about, &unsaid, sizeof about),
+           "closed, about", about.version);
     ask(database, six, 2, 1, five, closed, "closed");
     list(database, 0, 0, BEAROFF_NOT_OPEN, "closed, lists of none");
     list(database, 0, 1, BEAROFF_NOT_OPEN, "closed, lists");
     list(database, 65535, 2, BEAROFF_NOT_OPEN, "closed, lists beyond");
-    expect(bearoff_version(database, &version) == BEAROFF_NOT_OPEN && version == MARK,
-           "closed, version", version);
     expect(answer_with(database, "mean 0,0,0,0,0,1", 64, 0, "closed, line") == BEAROFF_NOT_OPEN,
            "closed, line", 0);
 
     /* a right file */
     expect(open_with(database, bytes, length, 0, "", "open") == BEAROFF_OK, "open", 0);
-    expect(bearoff_bound(database, &bound) == BEAROFF_OK && bound == 8, "bound", bound);
-    expect(bearoff_positions(database, &positions) == BEAROFF_OK && positions == 64, "positions",
-           positions);
-    expect(bearoff_version(database, &version) == BEAROFF_OK && version == 1, "version", version);
+    expect(bearoff_about(database, &about) == BEAROFF_OK && about.version == 1 &&
+               about.bound == 8 && about.rolls == 22 && about.positions == 64,
+           "about", about.version);
     ask(database, six, 2, 1, ace, statuses_of(BEAROFF_OK, BEAROFF_OK, BEAROFF_NOT_LEGAL),
         "not legal");
     ask(database, six, 0, 1, ace, statuses_of(BEAROFF_OK, BEAROFF_BAD_ROLL, BEAROFF_BAD_ROLL),
@@ -531,9 +526,8 @@ int main(int count, char **words) {
     }
     state("0,0,0,0,0,1", 12, BEAROFF_BAD_TEXT);
 
-    /* a denominator is at most 6 * 36^22, and a fraction at most 180 */
-    number limit = 6, greatest = ~(number)0;
-    for (int i = 0; i < 22; i++) limit *= 36;
+    /* a fraction is at most 180; boards.c has the greatest numbers */
+    number greatest = ~(number)0;
     round_off(0, 1, 0, "nothing");
     round_off(1, 2, 500, "a half");
     round_off(1, 2000, 1, "half a thousandth");
@@ -542,9 +536,7 @@ int main(int count, char **words) {
     round_off(greatest, 1, -1, "the greatest numerator");
     round_off(1, 0, -1, "by zero");
     round_off(0, 0, -1, "zero by zero");
-    round_off(limit, limit, 1000, "the greatest denominator");
-    round_off(limit + 1, limit + 1, -1, "a denominator that is greater");
-    round_off(greatest, greatest, -1, "the greatest numbers");
+    round_off(greatest, greatest, 1000, "the greatest numbers of two words");
 
     /* the room for the reply to a line */
     for (size_t room = 0; room < 64; room++) {
@@ -563,7 +555,7 @@ int main(int count, char **words) {
     size_t *told = (size_t *)guarded(sizeof *told);
     for (size_t room = 0; room <= 3; room++) {
         bearoff_result *results = (bearoff_result *)guarded(room * sizeof *results);
-        uint32_t status = bearoff_results(database, &fours, 2, 1, results, room, told);
+        uint32_t status = bearoff_moves(database, &fours, 2, 1, results, room, told);
         expect(status == (room < 2 ? BEAROFF_SHORT : BEAROFF_OK) && *told == 2, "results",
                (long)room);
         expect(guards_stand(results, room * sizeof *results) && guards_stand(told, sizeof *told),
@@ -626,8 +618,8 @@ int main(int count, char **words) {
         if (!lack) {
             expect(open_with(database, room, 7696, 0, "", "upgraded") == BEAROFF_OK, "upgraded",
                    0);
-            expect(bearoff_version(database, &version) == BEAROFF_OK && version == 2,
-                   "upgraded, version", version);
+            expect(bearoff_about(database, &about) == BEAROFF_OK && about.version == 2,
+                   "upgraded, version", about.version);
             expect(bearoff_upgrade(room, 7696, work, 7696, work, 0, filled) == BEAROFF_NOT_OLD,
                    "upgrade again", 0);
         }
@@ -672,9 +664,9 @@ int main(int count, char **words) {
         expect(!changes[i].play || untouched(told_play, sizeof *told_play), changes[i].what, 2);
         expect(bearoff_loss(database, &fours, 2, 1, &dearer, told_loss) == BEAROFF_CHANGED,
                changes[i].what, 3);
-        expect(bearoff_results(database, &fours, 2, 1, told_results, 2, told_count) ==
-                   BEAROFF_CHANGED,
-               changes[i].what, 4);
+        expect(
+            bearoff_moves(database, &fours, 2, 1, told_results, 2, told_count) == BEAROFF_CHANGED,
+            changes[i].what, 4);
         expect(untouched(told_loss, sizeof *told_loss) &&
                    untouched(told_results, 2 * sizeof *told_results) &&
                    untouched(told_count, sizeof *told_count),
@@ -695,19 +687,19 @@ int main(int count, char **words) {
     uint8_t record[426];
     memcpy(record, bytes + 32 + 426 * 19, sizeof record);
     memset(bytes + 32 + 426 * 19, 0xFF, 426);
-    bearoff_wide mean;
-    bearoff_pips pips;
+    bearoff_number mean;
+    bearoff_rounded pips;
     bearoff_shares shares;
     bearoff_recorded_play play;
     bearoff_fraction loss;
     bearoff_result results[4];
     bearoff_position three = {{0, 0, 1, 0, 0, 0}};
     size_t told_last = 0;
-    bearoff_rolls rolls;
+    bearoff_rounded rolls;
     bearoff_wasted wasted;
-    bearoff_wide means[20];
-    bearoff_pips epcs[20];
-    uint64_t within;
+    bearoff_number means[20];
+    bearoff_rounded epcs[20];
+    bearoff_chance within;
     memset(means, MARK, sizeof means);
     memset(epcs, MARK, sizeof epcs);
     memset(&within, MARK, sizeof within);
@@ -722,10 +714,10 @@ int main(int count, char **words) {
     expect(is_marked((uint8_t *)&within, sizeof within), "changed", 13);
     expect(bearoff_mean(database, &six, &mean) == BEAROFF_CHANGED, "changed", 1);
     expect(bearoff_epc(database, &six, &pips) == BEAROFF_CHANGED, "changed", 2);
-    expect(bearoff_distribution(database, &six, &shares) == BEAROFF_OK, "changed", 3);
+    expect(bearoff_distribution(database, &six, &shares) == BEAROFF_CHANGED, "changed", 3);
     expect(bearoff_play(database, &six, 2, 1, &play) == BEAROFF_CHANGED, "changed", 4);
     expect(bearoff_loss(database, &six, 2, 1, &three, &loss) == BEAROFF_CHANGED, "changed", 5);
-    expect(bearoff_results(database, &six, 2, 1, results, 4, &told_last) == BEAROFF_CHANGED,
+    expect(bearoff_moves(database, &six, 2, 1, results, 4, &told_last) == BEAROFF_CHANGED,
            "changed", 6);
     static const char *const lines[] = {"mean 0,0,0,0,0,1", "dist 0,0,0,0,0,1",
                                         "play 0,0,0,0,0,1 21", "loss 0,0,0,0,0,1 21 0,0,1,0,0,0"};

@@ -15,7 +15,7 @@
 
 #include "bearoff.h"
 
-enum { GUARD = 64, MARK = 0xA5, MOST = BEAROFF_FILE, OVER_BOUND = 59 };
+enum { GUARD = 64, MARK = 0xA5, MOST = BEAROFF_FILE, OVER_BOUND = 59, OLD_BOUND = 44 };
 
 static uint8_t work_block[GUARD + MOST + GUARD], room_block[GUARD + MOST + GUARD], built[MOST],
     upgraded[MOST];
@@ -40,10 +40,10 @@ static uint32_t call_with(int bound, size_t old_length, size_t work_length, size
     memset(work - GUARD, MARK, GUARD + work_length + GUARD);
     memset(room - GUARD, MARK, GUARD + room_length + GUARD);
     *filled = MARK;
-    uint32_t status =
-        old_length
-            ? bearoff_upgrade(built, old_length, work, work_length, room, room_length, filled)
-            : bearoff_build((uint8_t)bound, work, work_length, room, room_length, filled);
+    uint32_t status = old_length ? bearoff_upgrade(built, old_length, work, work_length, room,
+                                                   room_length, filled)
+                                 : bearoff_build(bound > OLD_BOUND ? 2 : 1, (uint8_t)bound, work,
+                                                 work_length, room, room_length, filled);
     expect(is_marked(work - GUARD, GUARD) && is_marked(work + work_length, GUARD),
            "beside the work room", bound, status);
     expect(is_marked(room - GUARD, GUARD) && is_marked(room + room_length, GUARD),
@@ -75,7 +75,7 @@ static size_t try_rooms(int bound, size_t old_length, uint8_t *file) {
 
 /* what the file that was built is refused for */
 static uint32_t open_built(size_t size) {
-    static bearoff_database database;
+    static bearoff_file database;
     uint8_t line[BEAROFF_LINE];
     size_t needed;
     return bearoff_open(&database, built, size, line, sizeof line, &needed);

@@ -7,7 +7,7 @@ use Rattle.race_model.specs.BoardFiles.{board_layout, board_book}
 use Rattle.race_model.specs.RightFiles.{kind_by, kind_of, IsRightDatabase, IsRightBoard}
 use Rattle.race_model.proofs.FirstFaults.HeaderFacts.{stated_number}
 use Rattle.bearoff_c.specs.FileBooks.{file_book, version_in}
-use Rattle.bearoff_c.proofs.Opened.{right_known}
+use Rattle.bearoff_c.proofs.KnownRight.{right_known}
 use Rattle.bearoff_c.proofs.OpenedBoards.{file_known}
 
 -- a file whose header doesn't state the version 3 says what it does as a database

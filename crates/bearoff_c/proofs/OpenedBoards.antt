@@ -10,7 +10,7 @@ use Rattle.race_model.specs.RightFiles.{IsRightBoard}
 use Rattle.race_model.specs.BoardEquations.{IsLocalBoard}
 use Rattle.race_model.proofs.Books.Boards.{right_board, local_board}
 use Rattle.race_model.proofs.FirstFaults.Decisions.{lists_same_or_not}
-use Rattle.bearoff_c.proofs.Opened.{equations_known}
+use Rattle.bearoff_c.proofs.KnownRight.{equations_known}
 
 -- that two lists of numbers are the same can be looked up
 list_known : (xs ys : List ℕ) → ∥ xs ≡ ys ∥₁ → xs ≡ ys

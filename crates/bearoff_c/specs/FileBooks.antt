@@ -9,8 +9,8 @@ use Rattle.race_model.specs.Books.{Book, whole_in, follow_in}
 use Rattle.race_model.specs.BoardFiles.{board_book}
 use Rattle.race_model.specs.RightFiles.{kind_of, IsRightDatabase, IsRightBoard}
 use Rattle.race_model.specs.Fractions.{IsFraction, IsThousandths}
-use Rattle.bearoff_c.specs.declared.opened_file.OpenedFile.{OpenedFile}
-use Rattle.bearoff_c.specs.declared.opened_file.OpenedFile.TheVariants.{Database as OfDatabase, Board as OfBoard}
+use Rattle.bearoff_c.specs.declared.opened.OpenedFile.{OpenedFile}
+use Rattle.bearoff_c.specs.declared.opened.OpenedFile.TheVariants.{Database as OfDatabase, Board as OfBoard}
 
 -- what a file says, which is the book of the kind that its header states
 abbrev pub file_book : List ℕ → Book

@@ -5,7 +5,7 @@ use Rattle.std.specs.Prelude.{ℕ, ◌==◌, if◌then◌else◌, List, codes}
 abbrev pub status_text : ℕ → List ℕ
 status_text n =
     if n == 0 then codes "success"
-    else if n == 1 then codes "the database or board was never opened, or its bytes were refused"
+    else if n == 1 then codes "the file was never opened, or its bytes were refused"
     else if n == 2 then codes "a die is not 1 to 6"
     else if n == 3 then codes "a position has more than 15 checkers"
     else if n == 4 then codes "more pips than the bound, or a bound over the greatest"

@@ -1,22 +1,24 @@
 //! Files that are made in rooms that the caller lends: a build, and an upgrade.
-ghost use Rattle.std.specs.Prelude.{◌≡◌, ◌+◌, ◌<◌, ◌≤◌, ◌↔◌, ◌⊎◌, ◌++◌, Some, [], length, take, drop};
+ghost use Rattle.std.specs.Prelude.{◌≡◌, ◌+◌, ◌<◌, ◌≤◌, ◌↔◌, ◌⊎◌, ◌++◌, Some, length, take, drop};
 ghost use Rattle.std.specs.Prelude.{if◌then◌else◌, nat_le};
 ghost use Rattle.race_model.specs.BuiltFile.{IsBuilt};
-ghost use Rattle.race_model.specs.Versions.{compact};
+ghost use Rattle.race_model.specs.Versions.{compact, version_by, greatest_bound};
 ghost use Rattle.race_model.specs.Ranks.{count_to};
 ghost use Rattle.race_model.specs.Files.{version_of, record_place};
+ghost use Rattle.race_model.specs.BoardFiles.{board_place};
 ghost use Rattle.race_model.specs.RightFiles.{IsRightDatabase};
 ghost use Rattle.race_model.specs.Upgrades.{IsUpgrade};
-ghost use Rattle.retrograde.specs.UsualVersion.{usual_version};
+ghost use Rattle.db_layout.specs.Records.{IsVersion};
+ghost use Rattle.retrograde.specs.BuiltBoards.{IsBuiltBoard};
 ghost use Rattle.certificate.specs.declared.check_fault.CheckFault.{CheckFault as Fault};
 ghost use Rattle.certificate.specs.CheckFaults.{IsFirst};
 ghost use Rattle.bearoff_c.specs.FileFaults.{fault_status as status_of_fault};
 
 use crate::statuses::{OK, Refusal, SHORT, fault_status};
 use certificate::{UpgradeFault, check};
-use db_layout::Header;
+use db_layout::{BOARD_VERSION, Header};
 use db_reader::Whole;
-use retrograde::{build_in_room, usual_version};
+use retrograde::{BoardBuildFault, build_board, build_in_room};
 use std::io;
 use std::io::Write;
 
@@ -74,31 +76,51 @@ fn hand_over(bytes: &[u8], room: &mut [u8], filled: &mut usize) -> u32
     OK
 }
 
-/// Builds the database of a pip bound into the front of a room; `filled` is how many bytes it has.
-/// `work` is a room of at least as many bytes, which the build uses as it likes; both need
-/// 11,209,796 bytes for 44 pips and 15,060,844 for 58. It needs less than 1.5 MB of stack, and less
-/// than 128 KB to 8 pips. Refused as `OverBound` exactly where the bound is over 58, and else with
-/// the status 8 exactly where one of the rooms is smaller than the file; then `room` and `filled`
-/// stay as they were.
+/// Builds the file of a version and a pip bound into the front of a room; `filled` is how many
+/// bytes it has. A database, of version 1 or 2, needs a second room of at least as many bytes,
+/// `work`, which the build uses as it likes: 11,209,796 for 44 pips of version 1 and 15,060,844 for
+/// 58 of version 2. A board file, of version 3, needs none, and has 14,643,664 bytes for 90 pips.
+/// It needs less than 1.5 MB of stack, and a database to 8 pips less than 128 KB. Refused as
+/// `OverBound` exactly where no file of that version has that bound, and else with the status 8
+/// exactly where a room that is needed is smaller than the file; then `room` and `filled` stay as
+/// they were.
 #[unsafe(no_mangle)]
 pub extern "C" fn bearoff_build(
+    version: u16,
     bound: u8,
     work: &mut [u8],
     room: &mut [u8],
     filled: &mut usize,
 ) -> u32
-    ensures built { result ≡ 0 → IsBuilt (usual_version bound) bound (take filled.new room.new) }
+    ensures database { result ≡ 0 → ¬ (version ≡ 3)
+        → IsBuilt (version_by version) bound (take filled.new room.new) }
+    ensures board { result ≡ 0 → version ≡ 3 → IsBuiltBoard bound (take filled.new room.new) }
     ensures fits { result ≡ 0 → filled.new ≤ length room.old }
     ensures rest { result ≡ 0 → drop filled.new room.new ≡ drop filled.new room.old }
-    ensures over { (result ≡ 4) ↔ (58 < bound) }
-    ensures short { (result ≡ 8) ↔ ((bound ≤ 58)
-        × ((length work.old < record_place (usual_version bound) (count_to bound))
-        ⊎ (length room.old < record_place (usual_version bound) (count_to bound)))) }
+    ensures over { ¬ (version ≡ 3) → (result ≡ 4)
+        ↔ (¬ (IsVersion version × (bound ≤ greatest_bound (version_by version)))) }
+    ensures short { ¬ (version ≡ 3) → (result ≡ 8)
+        ↔ ((IsVersion version × (bound ≤ greatest_bound (version_by version)))
+        × ((length work.old < record_place (version_by version) (count_to bound))
+        ⊎ (length room.old < record_place (version_by version) (count_to bound)))) }
+    ensures over_board { version ≡ 3 → (result ≡ 4) ↔ (90 < bound) }
+    ensures short_board { version ≡ 3 → (result ≡ 8) ↔
+        ((bound ≤ 90) × (length room.old < board_place (count_to bound))) }
     ensures read { ¬ (result ≡ 0) → ¬ (result ≡ 4) → result ≡ 8 }
     ensures left { ¬ (result ≡ 0) → room.new ≡ room.old }
     ensures untold { ¬ (result ≡ 0) → filled.new ≡ filled.old }
 {
-    let Some(header) = Header::new(usual_version(bound), bound) else {
+    if version == BOARD_VERSION {
+        return match build_board(bound, room) {
+            Ok(count) => {
+                *filled = count;
+                OK
+            }
+            Err(BoardBuildFault::OverBound) => Refusal::OverBound.status(),
+            Err(BoardBuildFault::Room) => SHORT,
+        };
+    }
+    let Some(header) = Header::new(version, bound) else {
         return Refusal::OverBound.status();
     };
     match build_in_room(&header, work, room) {

@@ -1,20 +1,21 @@
-//! The database as C keeps it.
+//! A file of any version as C keeps it.
 ghost use Rattle.std.specs.Prelude.{◌≡◌, IsTrue, IfOk, OnOk};
-ghost use Rattle.race_model.specs.Files.{IsFile, bound_of};
 ghost use Rattle.ranking.specs.Tables.{IsRankTable};
-ghost use Rattle.book.specs.Opened.{IsOpened};
+ghost use Rattle.bearoff_c.specs.FileBooks.{file_book, book_by, version_in, IsOpenedFile};
 ghost use Rattle.bearoff_c.specs.Refusals.{open_refusal, refusal_in};
 
+use crate::opened::OpenedFile;
 use crate::statuses::Refusal;
-use book::{Accepted, Database as Opened};
+use book::{Accepted, Board, Database};
+use db_layout::{BOARD_VERSION, BoardHeader};
 use ranking::RankTable;
 
-/// A database in bytes that the caller keeps. It is open where `bearoff_open` has opened it, for as
-/// long as neither it nor its bytes are changed, and not open where its flag says so, whatever
-/// else stands in it.
+/// A file of any version in bytes that the caller keeps. It is open where `bearoff_open` has
+/// opened it, for as long as neither it nor its bytes are changed, and not open where its flag says
+/// so, whatever else stands in it.
 #[repr(C)]
 #[derive(Drop)]
-pub struct Database<'a> {
+pub struct File<'a> {
     /// The bytes of the file.
     pub bytes: &'a [u8],
 
@@ -24,7 +25,7 @@ pub struct Database<'a> {
     /// The pip bound of the file, where it is open.
     pub bound: u8,
 
-    /// The version of the file, where it is open.
+    /// The version of the file, where it is open: 1 or 2 of a database, 3 of a board file.
     pub version: u16,
 
     /// The numbers by which ranks are found, where it is open.
@@ -32,25 +33,30 @@ pub struct Database<'a> {
 
     // by what ranks are found, and what is known for as long as the bytes are unchanged
     pub ghost ranked: { IsTrue is_open → IsRankTable ranks },
-    pub ghost filed: { IsTrue is_open → IsFile bytes.now },
-    pub ghost opened: { ∥ (IsTrue is_open → IsOpened bytes.now version bound ranks) ∥₁ },
+    pub ghost opened: { ∥ (IsTrue is_open → IsOpenedFile bytes.now version bound) ∥₁ },
 }
 
-impl<'a> Database<'a> {
-    /// The database that answers, where this one is open. Refused as `NotOpen`, and as nothing
-    /// else.
-    pub fn opened(&self) -> Result<Opened<'_>, Refusal>
+impl<'a> File<'a> {
+    /// The file that answers, where this one is open. Refused as `NotOpen`, and as nothing else.
+    pub fn opened(&self) -> Result<OpenedFile<'_>, Refusal>
         ensures refusal { refusal_in result ≡ open_refusal self.now.is_open }
-        ensures bytes { IfOk result (λ opened. opened ≡ self.now.bytes.now) }
-        ensures bound { OnOk result (self.now.bound ≡ bound_of self.now.bytes.now) }
+        ensures book { IfOk result (λ opened. book_by opened ≡ file_book self.now.bytes.now) }
+        ensures bound { IfOk result (λ opened. (book_by opened).bound ≡ self.now.bound) }
+        ensures version { OnOk result (self.now.version ≡ version_in self.now.bytes.now) }
     {
         if !self.is_open {
             return Err(Refusal::NotOpen);
         }
-        let accepted = Accepted {
-            version: self.version,
-            bound: self.bound,
-        };
-        Ok(Opened::kept(self.bytes, accepted, &self.ranks))
+        if self.version != BOARD_VERSION {
+            let accepted = Accepted {
+                version: self.version,
+                bound: self.bound,
+            };
+            return Ok(OpenedFile::Database(Database::kept(self.bytes, accepted, &self.ranks)));
+        }
+        match BoardHeader::new(self.bound) {
+            Some(header) => Ok(OpenedFile::Board(Board::accepted(self.bytes, header, &self.ranks))),
+            None => Err(Refusal::Changed),
+        }
     }
 }

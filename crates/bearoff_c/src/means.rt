@@ -1,110 +1,23 @@
-//! The least mean number of rolls of a position, its effective pip count, and its wastage.
-ghost use Rattle.std.specs.Prelude.{◌≡◌, ◌+◌, ◌-◌, ◌*◌, ◌<◌, ◌≤◌, ◌↔◌, true, false, IsTrue, IfOk};
+//! The least mean number of rolls of a position by a file of any version, its effective pip count,
+//! and its wastage.
+ghost use Rattle.std.specs.Prelude.{◌≡◌, ◌+◌, ◌-◌, ◌*◌, ◌<◌, ◌≤◌, ◌↔◌, true, false, IsTrue};
 ghost use Rattle.race_model.specs.Positions.{pips as pips_of};
-ghost use Rattle.race_model.specs.Files.{mean as mean_of};
-ghost use Rattle.race_model.specs.Strategies.{IsLeast};
-ghost use Rattle.race_model.specs.LocalEquations.{whole};
-ghost use Rattle.race_model.specs.Fractions.{IsMean, IsEffectivePips, IsThousandths};
-ghost use Rattle.bearoff_c.specs.Refusals.{position_refusal, refusal_in, status_of};
-ghost use Rattle.bearoff_c.specs.RoundedPips.{IsRoundedPips};
-ghost use Rattle.bearoff_c.specs.Wides.{number_of};
+ghost use Rattle.race_model.specs.Strategies.{IsLeastIn};
+ghost use Rattle.race_model.specs.Books.{mean_in, whole_in};
+ghost use Rattle.race_model.specs.Fractions.{IsFraction, IsThousandths};
+ghost use Rattle.fixed_fraction.specs.Board.{board_whole};
+ghost use Rattle.bearoff_c.specs.FileBooks.{file_book, rolls_in, IsRoundedPipsIn};
+ghost use Rattle.bearoff_c.specs.Longs.{long_number_of};
+ghost use Rattle.bearoff_c.specs.Refusals.{position_refusal, status_of};
+ghost use Rattle.bearoff_c.specs.Told.{SaysMean, SaysEpc};
 
-use crate::kept::Database;
-use crate::numbers::{Rounded, Wide, WideFraction};
-use crate::positions::{Counts, find};
+use crate::kept::File;
+use crate::long_numbers::{Long, LongFraction, RoundedLong};
+use crate::positions::Counts;
+use crate::ranks::find_in;
 use crate::statuses::{OK, Refusal};
-use fixed_fraction::{Scaled, WHOLE, epc, mean, thousandths_of};
-
-/// The least mean number of rolls of a position, as a numerator over 36 ^ 22. Refused as `find` is.
-fn scaled(database: &Database<'_>, counts: &Counts) -> Result<Scaled, Refusal>
-    ensures refusal { refusal_in result
-        ≡ position_refusal database.now.is_open database.now.bound counts.now.points }
-    ensures least { IfOk result (IsLeast counts.now.points) }
-    ensures recorded { IfOk result (λ rolls.
-        rolls ≡ mean_of database.now.bytes.now counts.now.points) }
-{
-    let found = find(database, counts)?;
-    match found.database.mean(&found.position) {
-        Some(rolls) => Ok(rolls),
-        None => Err(Refusal::Changed),
-    }
-}
-
-/// The least mean number of rolls of a position over all strategies, also those that look at the
-/// history, as a numerator over 36 ^ 22. Refused as `NotOpen`, `TooMany` or `OverBound`, and as
-/// `Changed` only where the bytes were changed since they were checked, of which no clause speaks;
-/// then `mean` stays as it was.
-#[unsafe(no_mangle)]
-pub extern "C" fn bearoff_mean(database: &Database<'_>, position: &Counts, mean: &mut Wide) -> u32
-    ensures status { result ≡ status_of
-        (position_refusal database.now.is_open database.now.bound position.now.points) }
-    ensures least { result ≡ 0 → IsLeast position.now.points (number_of mean.new) }
-    ensures recorded { result ≡ 0 →
-        number_of mean.new ≡ mean_of database.now.bytes.now position.now.points }
-    ensures left { ¬ (result ≡ 0) → mean.new ≡ mean.old }
-{
-    match scaled(database, position) {
-        Ok(rolls) => {
-            *mean = Wide::of(rolls.numerator());
-            OK
-        }
-        Err(refusal) => refusal.status(),
-    }
-}
-
-/// The effective pip count of a position: 49/6 of the least mean number of rolls (the GNU
-/// Backgammon manual). Refused as `bearoff_mean` is; then `pips` stays as it was.
-#[unsafe(no_mangle)]
-pub extern "C" fn bearoff_epc(database: &Database<'_>, position: &Counts, pips: &mut Rounded) -> u32
-    ensures status { result ≡ status_of
-        (position_refusal database.now.is_open database.now.bound position.now.points) }
-    ensures least { result ≡ 0 → IsLeast position.now.points
-        (mean_of database.now.bytes.now position.now.points) }
-    ensures pips { result ≡ 0 → IsEffectivePips
-        (mean_of database.now.bytes.now position.now.points)
-        (number_of pips.new.exact.numerator) (number_of pips.new.exact.denominator) }
-    ensures rounded { result ≡ 0 → IsThousandths
-        (number_of pips.new.exact.numerator) (number_of pips.new.exact.denominator)
-        pips.new.thousandths }
-    ensures left { ¬ (result ≡ 0) → pips.new ≡ pips.old }
-{
-    match scaled(database, position) {
-        Ok(rolls) => {
-            *pips = Rounded::of(epc(rolls));
-            OK
-        }
-        Err(refusal) => refusal.status(),
-    }
-}
-
-/// The least mean number of rolls of a position over all strategies, as a fraction and in
-/// thousandths. Refused as `bearoff_mean` is; then `rolls` stays as it was.
-#[unsafe(no_mangle)]
-pub extern "C" fn bearoff_rounded_mean(
-    database: &Database<'_>,
-    position: &Counts,
-    rolls: &mut Rounded,
-) -> u32
-    ensures status { result ≡ status_of
-        (position_refusal database.now.is_open database.now.bound position.now.points) }
-    ensures least { result ≡ 0 → IsLeast position.now.points
-        (mean_of database.now.bytes.now position.now.points) }
-    ensures mean { result ≡ 0 → IsMean
-        (mean_of database.now.bytes.now position.now.points)
-        (number_of rolls.new.exact.numerator) (number_of rolls.new.exact.denominator) }
-    ensures rounded { result ≡ 0 → IsThousandths
-        (number_of rolls.new.exact.numerator) (number_of rolls.new.exact.denominator)
-        rolls.new.thousandths }
-    ensures left { ¬ (result ≡ 0) → rolls.new ≡ rolls.old }
-{
-    match scaled(database, position) {
-        Ok(scaled) => {
-            *rolls = Rounded::of(mean(scaled));
-            OK
-        }
-        Err(refusal) => refusal.status(),
-    }
-}
+use crate::told::tell;
+use fixed_fraction::wide_thousandths;
 
 /// How much more than its pip count a position takes, in thousandths of a pip.
 #[repr(C)]
@@ -117,62 +30,135 @@ pub struct Wastage {
     pub is_below: bool,
 }
 
+/// The least mean number of rolls of a position over all strategies, also those that look at the
+/// history, as a numerator over 36 to the power of the file's most rolls. Refused as `NotOpen`,
+/// `TooMany` or `OverBound`, and as `Changed` only where the bytes were changed since they were
+/// checked, of which no clause speaks; then `mean` stays as it was.
+#[unsafe(no_mangle)]
+pub extern "C" fn bearoff_mean(file: &File<'_>, position: &Counts, mean: &mut Long) -> u32
+    ensures status { result ≡ status_of
+        (position_refusal file.now.is_open file.now.bound position.now.points) }
+    ensures mean { result ≡ 0 →
+        SaysMean (file_book file.now.bytes.now) position.now.points mean.new }
+    ensures left { ¬ (result ≡ 0) → mean.new ≡ mean.old }
+{
+    match file.opened() {
+        Ok(opened) => tell(&opened, position, mean),
+        Err(refusal) => refusal.status(),
+    }
+}
+
+/// The least mean number of rolls of a position over all strategies, as a fraction and in
+/// thousandths. Refused as `bearoff_mean` is; then `rolls` stays as it was.
+#[unsafe(no_mangle)]
+pub extern "C" fn bearoff_rounded_mean(
+    file: &File<'_>,
+    position: &Counts,
+    rolls: &mut RoundedLong,
+) -> u32
+    ensures status { result ≡ status_of
+        (position_refusal file.now.is_open file.now.bound position.now.points) }
+    ensures least { result ≡ 0 → IsLeastIn (rolls_in (file_book file.now.bytes.now))
+        position.now.points (mean_in (file_book file.now.bytes.now) position.now.points) }
+    ensures mean { result ≡ 0 → IsFraction
+        (mean_in (file_book file.now.bytes.now) position.now.points)
+        (whole_in (file_book file.now.bytes.now))
+        (long_number_of rolls.new.exact.numerator) (long_number_of rolls.new.exact.denominator) }
+    ensures rounded { result ≡ 0 → IsThousandths
+        (long_number_of rolls.new.exact.numerator) (long_number_of rolls.new.exact.denominator)
+        rolls.new.thousandths }
+    ensures left { ¬ (result ≡ 0) → rolls.new ≡ rolls.old }
+{
+    let opened = match file.opened() {
+        Ok(opened) => opened,
+        Err(refusal) => return refusal.status(),
+    };
+    let found = match find_in(&opened, position) {
+        Ok(found) => found,
+        Err(refusal) => return refusal.status(),
+    };
+    let _bound = opened.bound();
+    match opened.rolls(&found) {
+        Some(told) => {
+            *rolls = told;
+            OK
+        }
+        None => Refusal::Changed.status(),
+    }
+}
+
+/// The effective pip count of a position: 49/6 of the least mean number of rolls (the GNU
+/// Backgammon manual). Refused as `bearoff_mean` is; then `pips` stays as it was.
+#[unsafe(no_mangle)]
+pub extern "C" fn bearoff_epc(file: &File<'_>, position: &Counts, pips: &mut RoundedLong) -> u32
+    ensures status { result ≡ status_of
+        (position_refusal file.now.is_open file.now.bound position.now.points) }
+    ensures pips { result ≡ 0 →
+        SaysEpc (file_book file.now.bytes.now) position.now.points pips.new }
+    ensures left { ¬ (result ≡ 0) → pips.new ≡ pips.old }
+{
+    match file.opened() {
+        Ok(opened) => tell(&opened, position, pips),
+        Err(refusal) => refusal.status(),
+    }
+}
+
 /// The wastage of a position: its effective pip count, in thousandths, less its pip count. Refused
 /// as `bearoff_mean` is; then `wastage` stays as it was.
 #[unsafe(no_mangle)]
-pub extern "C" fn bearoff_wastage(
-    database: &Database<'_>,
-    position: &Counts,
-    wastage: &mut Wastage,
-) -> u32
+pub extern "C" fn bearoff_wastage(file: &File<'_>, position: &Counts, wastage: &mut Wastage) -> u32
     ensures status { result ≡ status_of
-        (position_refusal database.now.is_open database.now.bound position.now.points) }
-    ensures above { result ≡ 0 → wastage.new.is_below ≡ false → IsRoundedPips
-        (mean_of database.now.bytes.now position.now.points)
+        (position_refusal file.now.is_open file.now.bound position.now.points) }
+    ensures above { result ≡ 0 → wastage.new.is_below ≡ false →
+        IsRoundedPipsIn (file_book file.now.bytes.now)
+        (mean_in (file_book file.now.bytes.now) position.now.points)
         (1000 * pips_of position.now.points + wastage.new.thousandths) }
-    ensures below { result ≡ 0 → wastage.new.is_below ≡ true → IsRoundedPips
-        (mean_of database.now.bytes.now position.now.points)
+    ensures below { result ≡ 0 → wastage.new.is_below ≡ true →
+        IsRoundedPipsIn (file_book file.now.bytes.now)
+        (mean_in (file_book file.now.bytes.now) position.now.points)
         (1000 * pips_of position.now.points - wastage.new.thousandths) }
     ensures positive { result ≡ 0 → wastage.new.is_below ≡ true → 0 < wastage.new.thousandths }
     ensures within { result ≡ 0 → wastage.new.is_below ≡ true →
         wastage.new.thousandths ≤ 1000 * pips_of position.now.points }
     ensures left { ¬ (result ≡ 0) → wastage.new ≡ wastage.old }
 {
-    let found = match find(database, position) {
+    let opened = match file.opened() {
+        Ok(opened) => opened,
+        Err(refusal) => return refusal.status(),
+    };
+    let found = match find_in(&opened, position) {
         Ok(found) => found,
         Err(refusal) => return refusal.status(),
     };
-    let Some(rolls) = found.database.mean(&found.position) else {
+    let Some(told) = opened.epc(&found) else {
         return Refusal::Changed.status();
     };
-    let pips = 1000 * u64::from(found.position.pips());
-    let effective = Rounded::of(epc(rolls)).thousandths;
-    let is_below = effective < pips;
+    let pips = 1000 * u64::from(found.pips());
     *wastage = Wastage {
-        thousandths: effective.abs_diff(pips),
-        is_below,
+        thousandths: told.thousandths.abs_diff(pips),
+        is_below: told.thousandths < pips,
     };
     OK
 }
 
 /// A fraction in thousandths, rounded to the nearest, and a half upward, as of what another call
-/// has answered. Whether it could be told: so it is where the denominator is not 0 and at most
-/// 6 * 36 ^ 22, and the fraction at most 180; else `thousandths` stays as it was.
+/// has answered. Whether it could be told: so it is where the denominator is not 0
+/// and at most 6 * 36 ^ 33, and the fraction at most 180; else `thousandths` stays as it was.
 #[unsafe(no_mangle)]
-#[tactic(auto, unfolding(race_model::specs::LocalEquations::whole))]
-pub extern "C" fn bearoff_thousandths(fraction: &WideFraction, thousandths: &mut u64) -> bool
-    ensures value { IsTrue result → IsThousandths (number_of fraction.now.numerator)
-        (number_of fraction.now.denominator) thousandths.new }
-    ensures told { IsTrue result ↔ ((0 < number_of fraction.now.denominator)
-        × (number_of fraction.now.denominator ≤ 6 * whole)
-        × (number_of fraction.now.numerator ≤ 180 * number_of fraction.now.denominator)) }
+pub extern "C" fn bearoff_thousandths(fraction: &LongFraction, thousandths: &mut u64) -> bool
+    ensures value { IsTrue result → IsThousandths (long_number_of fraction.now.numerator)
+        (long_number_of fraction.now.denominator) thousandths.new }
+    ensures told { IsTrue result ↔ ((0 < long_number_of fraction.now.denominator)
+        × (long_number_of fraction.now.denominator ≤ 6 * board_whole)
+        × (long_number_of fraction.now.numerator
+        ≤ 180 * long_number_of fraction.now.denominator)) }
     ensures left { ¬ IsTrue result → thousandths.new ≡ thousandths.old }
 {
-    let numerator = fraction.numerator.number();
-    let denominator = fraction.denominator.number();
-    if denominator == 0 || denominator > 6 * WHOLE || numerator > 180 * denominator {
-        return false;
+    match wide_thousandths(fraction.numerator.number(), fraction.denominator.number()) {
+        Some(told) => {
+            *thousandths = told;
+            true
+        }
+        None => false,
     }
-    *thousandths = thousandths_of(numerator, denominator);
-    true
 }

@@ -1,50 +1,53 @@
-//! The opening of a database, and what it says of itself.
-ghost use Rattle.std.specs.Prelude.{◌≡◌, ◌<◌, ◌≤◌, ◌↔◌, IsTrue};
+//! The opening of a file of any version, and what it says of itself.
+ghost use Rattle.std.specs.Prelude.{◌≡◌, ◌<◌, ◌≤◌, ◌↔◌, IsTrue, IsOk, IfOk, IfErr, Err};
 ghost use Rattle.race_model.specs.Ranks.{count_to};
-ghost use Rattle.race_model.specs.Versions.{version_number};
-ghost use Rattle.race_model.specs.Files.{version_of, bound_of};
-ghost use Rattle.race_model.specs.RightFiles.{IsRightDatabase};
+ghost use Rattle.race_model.specs.Files.{bound_of};
+ghost use Rattle.race_model.specs.RightFiles.{IsRight};
 ghost use Rattle.certificate.specs.declared.check_fault.CheckFault.{CheckFault as Fault};
-ghost use Rattle.certificate.specs.CheckFaults.{IsFirst, line_of};
+ghost use Rattle.certificate.specs.CheckFaults.{line_of};
+ghost use Rattle.bearoff_c.specs.FileBooks.{file_book, rolls_in, version_in, IsOpenedFile};
 ghost use Rattle.bearoff_c.specs.FileFaults.{fault_status as status_of_fault};
+ghost use Rattle.bearoff_c.specs.Opening.{IsFirstOfFile, IsElseSameFile};
 ghost use Rattle.bearoff_c.specs.Buffers.{HasText};
-ghost use Rattle.bearoff_c.specs.Closing.{IsElseSame};
 ghost use Rattle.bearoff_c.specs.Refusals.{open_refusal, status_of};
 
-use crate::kept::Database;
+use crate::kept::File;
 use crate::lines::put_text;
 use crate::statuses::{OK, fault_status};
-use book::accept;
-use certificate::fault_line;
+use book::{Accepted, accept};
+use certificate::{CheckFault, check_board, fault_line};
+use db_layout::{BOARD_VERSION, HeaderFault};
+use race_model::laws;
 use ranking::RankTable;
 
-/// Checks the bytes of a file and opens a database over them. The status is 0 exactly where they
-/// are a right database of at most 58 pips; then the database answers for as long as neither it
-/// nor the bytes are changed. Any other status, 16 to 27, names the first fault of the bytes, and
-/// the database is not open, and else as it was; the line of the fault, without a line feed, stands
-/// in `line` where there is room for all of it, and else `line` stays as it was. `needed` is how
-/// many bytes the line has, at most 32, and 0 where there is no fault.
+/// Checks the bytes of a file and opens it. The status is 0 exactly where they are a right file, of
+/// whichever version their header states: a database of at most 58 pips or a board file of at most
+/// 90. Then the file answers for as long as neither it nor the bytes are changed. Any other status,
+/// 16 to 27, names the first fault of the bytes, which is that of a board file where their version
+/// is none of a database's, and the file is not open, and else as it was; the line of the fault,
+/// without a line feed, stands in `line` where there is room for all of it, and else `line` stays
+/// as it was. `needed` is how many bytes the line has, at most 32, and 0 where there is no fault.
 #[unsafe(no_mangle)]
 pub extern "C" fn bearoff_open<'a>(
-    database: &mut Database<'a>,
+    file: &mut File<'a>,
     bytes: &'a [u8],
     line: &mut [u8],
     needed: &mut usize,
 ) -> u32
-    ensures right { (result ≡ 0) ↔ IsRightDatabase bytes.now }
-    ensures opened { IsTrue database.new.is_open ↔ (result ≡ 0) }
-    ensures bytes { result ≡ 0 → database.new.bytes.now ≡ bytes.now }
-    ensures bound { result ≡ 0 → database.new.bound ≡ bound_of bytes.now }
-    ensures fault { ¬ (result ≡ 0) → (fault : Fault) × IsFirst bytes.now fault
+    ensures right { (result ≡ 0) ↔ IsRight bytes.now }
+    ensures opened { IsTrue file.new.is_open ↔ (result ≡ 0) }
+    ensures bytes { result ≡ 0 → file.new.bytes.now ≡ bytes.now }
+    ensures bound { result ≡ 0 → file.new.bound ≡ bound_of bytes.now }
+    ensures fault { ¬ (result ≡ 0) → (fault : Fault) × IsFirstOfFile bytes.now fault
         × (result ≡ status_of_fault fault) × HasText (line_of fault) line.old line.new needed.new }
     ensures read { result < 28 }
     ensures none { result ≡ 0 → (needed.new ≡ 0) × (line.new ≡ line.old) }
     ensures most { needed.new ≤ 32 }
-    ensures left { ¬ (result ≡ 0) → IsElseSame database.old database.new }
+    ensures left { ¬ (result ≡ 0) → IsElseSameFile file.old file.new }
 {
-    match accept(bytes) {
+    match accept_any(bytes) {
         Ok(accepted) => {
-            *database = Database {
+            *file = File {
                 bytes,
                 is_open: true,
                 bound: accepted.bound,
@@ -55,58 +58,75 @@ pub extern "C" fn bearoff_open<'a>(
             OK
         }
         Err(fault) => {
-            database.is_open = false;
+            file.is_open = false;
             put_text(fault_line(&fault).as_str().as_bytes(), line, needed);
             fault_status(&fault)
         }
     }
 }
 
-/// The version of the database's file: 1, whose records are full, or 2, whose records leave out the
-/// shares that are known. Refused as `NotOpen`; then `version` stays as it was.
-#[unsafe(no_mangle)]
-pub extern "C" fn bearoff_version(database: &Database<'_>, version: &mut u16) -> u32
-    ensures status { result ≡ status_of (open_refusal database.now.is_open) }
-    ensures value { result ≡ 0 →
-        version.new ≡ version_number (version_of database.now.bytes.now) }
-    ensures left { ¬ (result ≡ 0) → version.new ≡ version.old }
+/// Checks bytes: they are accepted exactly where they are a right file, of whichever version, and
+/// else refused with their first fault.
+fn accept_any(bytes: &[u8]) -> Result<Accepted, CheckFault>
+    ensures right { IsOk result ↔ IsRight bytes.now }
+    ensures opened { IfOk result (λ accepted.
+        IsOpenedFile bytes.now accepted.version accepted.bound) }
+    ensures fault { IfErr result (IsFirstOfFile bytes.now) }
+    ensures read { ¬ (result ≡ Err CheckFault.Read) }
 {
-    match database.opened() {
-        Ok(opened) => {
-            *version = opened.version();
-            OK
-        }
-        Err(refusal) => refusal.status(),
+    laws::law_versions();
+    let fault = match accept(bytes) {
+        Ok(accepted) => return Ok(accepted),
+        Err(fault) => fault,
+    };
+    match check_board(bytes) {
+        Ok(header) => Ok(Accepted {
+            version: BOARD_VERSION,
+            bound: header.bound,
+        }),
+        Err(found) => match fault {
+            CheckFault::Header(HeaderFault::BadVersion) => Err(found),
+            _ => Err(fault),
+        },
     }
 }
 
-/// The pip bound of the database, 0 to 58. Refused as `NotOpen`; then `bound` stays as it was.
-#[unsafe(no_mangle)]
-pub extern "C" fn bearoff_bound(database: &Database<'_>, bound: &mut u8) -> u32
-    ensures status { result ≡ status_of (open_refusal database.now.is_open) }
-    ensures value { result ≡ 0 → bound.new ≡ bound_of database.now.bytes.now }
-    ensures left { ¬ (result ≡ 0) → bound.new ≡ bound.old }
-{
-    match database.opened() {
-        Ok(opened) => {
-            *bound = opened.bound();
-            OK
-        }
-        Err(refusal) => refusal.status(),
-    }
+/// What a file says of itself.
+#[repr(C)]
+#[derive(Clone, Copy, Debug, PartialEq, Eq)]
+pub struct About {
+    /// The version: 1 or 2 of a database, 3 of a board file.
+    pub version: u16,
+
+    /// The pip bound.
+    pub bound: u8,
+
+    /// The most rolls that have a share, 22 or 33; numerators are over 36 to that power.
+    pub rolls: u8,
+
+    /// How many positions there are: those of at most the bound.
+    pub positions: u32,
 }
 
-/// How many positions the database has: those of at most its bound. Refused as `NotOpen`; then
-/// `positions` stays as it was.
+/// What a file says of itself. Refused as `NotOpen`; then `about` stays as it was.
 #[unsafe(no_mangle)]
-pub extern "C" fn bearoff_positions(database: &Database<'_>, positions: &mut u32) -> u32
-    ensures status { result ≡ status_of (open_refusal database.now.is_open) }
-    ensures value { result ≡ 0 → positions.new ≡ count_to (bound_of database.now.bytes.now) }
-    ensures left { ¬ (result ≡ 0) → positions.new ≡ positions.old }
+pub extern "C" fn bearoff_about(file: &File<'_>, about: &mut About) -> u32
+    ensures status { result ≡ status_of (open_refusal file.now.is_open) }
+    ensures version { result ≡ 0 → about.new.version ≡ version_in file.now.bytes.now }
+    ensures bound { result ≡ 0 → about.new.bound ≡ (file_book file.now.bytes.now).bound }
+    ensures rolls { result ≡ 0 → about.new.rolls ≡ rolls_in (file_book file.now.bytes.now) }
+    ensures positions { result ≡ 0 →
+        about.new.positions ≡ count_to (file_book file.now.bytes.now).bound }
+    ensures left { ¬ (result ≡ 0) → about.new ≡ about.old }
 {
-    match database.opened() {
+    match file.opened() {
         Ok(opened) => {
-            *positions = u32::from(opened.positions());
+            *about = About {
+                version: file.version,
+                bound: opened.bound(),
+                rolls: opened.most_rolls(),
+                positions: u32::from(opened.positions()),
+            };
             OK
         }
         Err(refusal) => refusal.status(),

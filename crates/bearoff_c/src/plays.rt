@@ -1,19 +1,14 @@
 //! What a roll is played with: the recorded play, and the play to a position.
 ghost use Rattle.std.specs.Prelude.{◌≡◌, ◌<◌, ◌≤◌, None, IfOk, map, take, length};
-ghost use Rattle.race_model.specs.Positions.{pips};
 ghost use Rattle.race_model.specs.Plays.{Legal};
-ghost use Rattle.race_model.specs.Files.{bound_of};
 ghost use Rattle.race_model.specs.FirstPlays.{IsFirstPlay};
-ghost use Rattle.race_model.specs.LocalEquations.{recorded};
 ghost use Rattle.legal_plays.specs.Faces.{face, roll_of};
 ghost use Rattle.legal_plays.specs.MoveLists.{moves_of};
 ghost use Rattle.bearoff_c.specs.PlayLists.{moves_in, AreZerosAfter};
-ghost use Rattle.bearoff_c.specs.Refusals.{lead_refusal, play_refusal, roll_refusal, refusal_in, status_of};
+ghost use Rattle.bearoff_c.specs.Refusals.{lead_refusal, roll_refusal, refusal_in, status_of};
 
-use crate::kept::Database;
-use crate::positions::{Counts, Found, find};
+use crate::positions::Counts;
 use crate::statuses::{OK, Refusal};
-use book::Database as Opened;
 use home_board::Position;
 use legal_plays::{Die, Play, Roll, play_to};
 
@@ -40,44 +35,6 @@ pub struct RecordedPlay {
 
     /// The position that the play leads to.
     pub to: Counts,
-}
-
-/// A position that is to be played, a roll, and the database that has a record of the position.
-#[derive(Drop)]
-pub struct Turn<'a> {
-    pub database: Opened<'a>,
-    pub position: Position,
-    pub roll: Roll,
-}
-
-/// The position that is to be played with a roll, which is given by its two dice in either order.
-/// Refused exactly as `play_refusal` says.
-pub fn find_turn<'a>(
-    database: &'a Database<'_>,
-    counts: &Counts,
-    one: u8,
-    other: u8,
-) -> Result<Turn<'a>, Refusal>
-    ensures refusal { refusal_in result ≡ play_refusal
-        database.now.is_open database.now.bound counts.now.points one other }
-    ensures bytes { IfOk result (λ turn. turn.database ≡ database.now.bytes.now) }
-    ensures position { IfOk result (λ turn. turn.position ≡ counts.now.points) }
-    ensures roll { IfOk result (λ turn. turn.roll ≡ roll_of (face one) (face other)) }
-    ensures within { IfOk result (λ turn. pips turn.position ≤ bound_of turn.database) }
-{
-    if !database.is_open {
-        return Err(Refusal::NotOpen);
-    }
-    let roll = read_roll(one, other)?;
-    let Found { database, position } = find(database, counts)?;
-    if position.is_finished() {
-        return Err(Refusal::Finished);
-    }
-    Ok(Turn {
-        database,
-        position,
-        roll,
-    })
 }
 
 /// The roll of two dice. Refused as `BadRoll` where one doesn't show a number from 1 to 6.
@@ -117,45 +74,6 @@ pub fn read_ends(position: &Counts, one: u8, other: u8, to: &Counts) -> Result<E
         }),
         _ => Err(Refusal::TooMany),
     }
-}
-
-/// The recorded play of a roll, given by its two dice in either order: no play has a smaller mean.
-/// Refused as `NotOpen`, else as `BadRoll` where a die isn't 1 to 6, else as `TooMany` or
-/// `OverBound`, and else as `Finished` where no checker is left, and as `Changed` only where the
-/// bytes were changed since they were checked; then `play` stays as it was.
-#[unsafe(no_mangle)]
-pub extern "C" fn bearoff_play(
-    database: &Database<'_>,
-    position: &Counts,
-    one: u8,
-    other: u8,
-    play: &mut RecordedPlay,
-) -> u32
-    ensures status { result ≡ status_of (play_refusal
-        database.now.is_open database.now.bound position.now.points one other) }
-    ensures recorded { result ≡ 0 → play.new.to.points
-        ≡ recorded database.now.bytes.now position.now.points (roll_of (face one) (face other)) }
-    ensures legal { result ≡ 0 →
-        Legal position.now.points (roll_of (face one) (face other)) play.new.to.points }
-    ensures first { result ≡ 0 → IsFirstPlay position.now.points (roll_of (face one) (face other))
-        play.new.to.points (moves_in play.new) }
-    ensures few { result ≡ 0 → play.new.count ≤ 4 }
-    ensures zeros { result ≡ 0 → AreZerosAfter play.new.count play.new.moves }
-    ensures left { ¬ (result ≡ 0) → play.new ≡ play.old }
-{
-    let turn = match find_turn(database, position, one, other) {
-        Ok(turn) => turn,
-        Err(refusal) => return refusal.status(),
-    };
-    let Some((found, to)) = turn.database.play(&turn.position, turn.roll) else {
-        return Refusal::Changed.status();
-    };
-    *play = RecordedPlay {
-        moves: listed(&found),
-        count: found.len() as u8,
-        to: Counts::of(&to),
-    };
-    OK
 }
 
 /// The moves of a play, and zeros after the last.

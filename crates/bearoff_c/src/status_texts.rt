@@ -4,7 +4,6 @@ ghost use Rattle.bearoff_c.specs.Buffers.{HasText};
 ghost use Rattle.bearoff_c.specs.StatusTexts.{status_text};
 
 use crate::lines::put_text;
-use crate::statuses::{OK, SHORT};
 
 /// What a status says. Of a number that no call answers with, that it is unknown.
 fn text_of(status: u32) -> &'static str
@@ -13,7 +12,7 @@ fn text_of(status: u32) -> &'static str
 {
     match status {
         0 => "success",
-        1 => "the database or board was never opened, or its bytes were refused",
+        1 => "the file was never opened, or its bytes were refused",
         2 => "a die is not 1 to 6",
         3 => "a position has more than 15 checkers",
         4 => "more pips than the bound, or a bound over the greatest",
@@ -51,8 +50,5 @@ pub extern "C" fn bearoff_status_text(status: u32, text: &mut [u8], needed: &mut
     ensures text { HasText (status_text status) text.old text.new needed.new }
     ensures most { needed.new ≤ 80 }
 {
-    match put_text(text_of(status).as_bytes(), text, needed) {
-        true => OK,
-        false => SHORT,
-    }
+    put_text(text_of(status).as_bytes(), text, needed)
 }

@@ -1,12 +1,11 @@
-use Rattle.std.specs.Prelude.{◌≡◌, ◌≤◌, sum_by}
+use Rattle.std.specs.Prelude.{◌≡◌, sum_by, map, slice_index}
 use Rattle.std.specs.List.{range_with_len}
-use Rattle.race_model.specs.Files.{share_of}
-use Rattle.race_model.specs.LocalEquations.{whole}
+use Rattle.bearoff_c.specs.Longs.{long_number_of}
 use Rattle.bearoff_c.proofs.distributions.shares_to.Given as goal
 
 -- the shares so far are added up
 abbrev pub invariant-loop-k : goal.invariant-loop-k
 invariant-loop-k l = record {
-  sum : l.total ≡ sum_by (share_of l.view) (range_with_len 0 l.k);
-  within : l.total ≤ whole;
+  sum : long_number_of l.total
+      ≡ sum_by (slice_index (map long_number_of l.shares)) (range_with_len 0 l.k);
 }

@@ -1,12 +1,13 @@
-use Rattle.std.proofs.Common.{ℕ, List, [], ◌∷◌, ◌++◌, subst}
-use Rattle.race_model.specs.Replies.{IsReply}
+use Rattle.std.proofs.Common.{[], ◌∷◌, ◌++◌, subst}
+use Rattle.race_model.specs.Books.{Book}
+use Rattle.race_model.specs.Replies.{IsReplyIn}
 use Rattle.bearoff_c.proofs.lines.bearoff_answer_line.Goals as goal
 
 pub returns-in-Ok-clause-reply : goal.returns-in-Ok-clause-reply
 returns-in-Ok-clause-reply c = λ is_open.
-    let told = c.tell_reply.ensures.reply in (
+    let told = c.tell_line.ensures.reply in (
       told.0,
       told.1,
-      subst (λ (f : List ℕ). IsReply f c.args.line.now (told.0 ++ 10 ∷ []))
-          (c.in-Ok.ensures {u = tt}).bytes told.2,
+      subst (λ (b : Book). IsReplyIn b c.args.line.now (told.0 ++ 10 ∷ []))
+          (c.in-Ok.ensures {u = tt}).book told.2,
     )

@@ -1,0 +1,31 @@
+-- Every result of a roll with what it costs by a book, as C has them.
+use Rattle.std.specs.Prelude.{◌≡◌, ℕ, List, length, map, All}
+use Rattle.race_model.specs.Positions.{Board}
+use Rattle.race_model.specs.Dice.{Throw}
+use Rattle.race_model.specs.Fractions.{IsFraction}
+use Rattle.race_model.specs.Books.{Book, whole_in}
+use Rattle.race_model.specs.Losses.{loss_in, IsMoveListIn}
+use Rattle.bearoff_c.specs.declared.choices.Choice.{Choice}
+use Rattle.bearoff_c.specs.Longs.{long_number_of}
+
+-- the positions of results
+abbrev pub places_of : List Choice → List Board
+places_of choices = map (λ choice. choice.to.points) choices
+
+-- the loss of a result is what its position costs, over a whole
+abbrev pub HasCost : ℕ → (Board → ℕ) → Choice → Type 0
+HasCost whole cost choice = IsFraction (cost choice.to.points) whole
+    (long_number_of choice.loss.numerator) (long_number_of choice.loss.denominator)
+
+-- the results are every position that the throw leads to, once, by rising loss and then by rising
+-- rank, each with its loss
+pub record IsChoiceList (b : Book) (x : Board) (v : Throw) (choices : List Choice) : Type 0
+  where
+    pub listed : IsMoveListIn b x v (places_of choices)
+    pub losses : All (HasCost (whole_in b) (loss_in b x v)) choices
+
+-- there are so many positions that the throw leads to: a list has each of them once
+pub record IsChoiceCount (b : Book) (x : Board) (v : Throw) (n : ℕ) : Type 0 where
+  pub found : List Board
+  pub listed : IsMoveListIn b x v found
+  pub count_is : n ≡ length found
