@@ -4,5 +4,6 @@ pub mod FileBooks
 pub mod Fronts
 pub mod KnownRight
 pub mod OpenedBoards
+pub mod Records
 pub mod Refusing
 pub mod FaultStatuses

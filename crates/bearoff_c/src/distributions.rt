@@ -1,9 +1,11 @@
 //! How the number of rolls of a position is spread by a file of any version, and the chance to be
 //! off within so many.
 ghost use Rattle.std.specs.Prelude.{◌≡◌, ℕ, ◌+◌, ◌-◌, ◌*◌, ◌^◌, ◌<◌, ◌≤◌, sum_by, map, slice_index};
-ghost use Rattle.std.specs.Prelude.{true, IfSome, IfNone};
+ghost use Rattle.std.specs.Prelude.{true, IsTrue, IfSome, IfNone};
 ghost use Rattle.std.specs.List.{range_with_len};
 ghost use Rattle.race_model.specs.Books.{whole_in};
+ghost use Rattle.race_model.specs.Files.{share_of};
+ghost use Rattle.race_model.specs.LocalEquations.{whole};
 ghost use Rattle.race_model.specs.Fractions.{IsThousandths};
 ghost use Rattle.bearoff_c.specs.FileBooks.{file_book, book_by, chance_in};
 ghost use Rattle.bearoff_c.specs.Longs.{long_number_of};
@@ -17,7 +19,8 @@ use crate::positions::Counts;
 use crate::ranks::find_in;
 use crate::statuses::{OK, Refusal};
 use crate::told::tell;
-use fixed_fraction::{LongCount, wide_thousandths};
+use db_layout::RecordView;
+use fixed_fraction::{LongCount, WHOLE, Wide, wide_thousandths};
 use race_model::laws;
 
 /// How the number of rolls is spread.
@@ -136,6 +139,34 @@ fn shares_to(shares: &[Long; 34], rolls: u8, most: u8) -> Option<Long>
         total = total.plus(shares[usize::from(k)])?;
     }
     Some(total)
+}
+
+/// Makes shares what stands in a record of a database for 0 to 22 rolls, and none beyond these.
+pub fn put_shares(view: &RecordView<'_>, shares: &mut [Long; 34])
+    ensures shares { (k : ℕ) → k ≤ 22 →
+        slice_index (map long_number_of shares.new) k ≡ share_of view.now k }
+    ensures beyond { (k : ℕ) → 22 < k → slice_index (map long_number_of shares.new) k ≡ 0 }
+{
+    *shares = [Long::ZERO; 34];
+    for k in 0..23 {
+        shares[usize::from(k)] = Long::of(Wide::of(view.spread(k)));
+    }
+}
+
+/// Whether what stands in a record of a database for the shares of 0 to 22 rolls adds up to the
+/// whole.
+#[tactic(auto, unfolding(race_model::specs::LocalEquations::whole))]
+pub fn add_up(view: &RecordView<'_>) -> bool
+    ensures { sum_by (share_of view.now) (range_with_len 0 23) ≡ whole → IsTrue result }
+{
+    let mut total: u128 = 0;
+    for k in 0..23 {
+        match total.checked_add(view.spread(k)) {
+            Some(sum) => total = sum,
+            None => return false,
+        }
+    }
+    total == WHOLE
 }
 
 /// The shares of 0 to 33 rolls, by how many sequences of so many throws end the game with the last

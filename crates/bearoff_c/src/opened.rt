@@ -15,11 +15,11 @@ ghost use Rattle.ranking.specs.Tables.{IsRankTable};
 ghost use Rattle.bearoff_c.specs.FileBooks.{book_by, rolls_in};
 ghost use Rattle.bearoff_c.specs.Longs.{long_number_of};
 
-use crate::distributions::shares_by;
+use crate::distributions::{put_shares, shares_by};
 use crate::long_means::LongMean;
 use crate::long_numbers::{Long, LongFraction, RoundedLong};
 use book::{Board, Database, MOST_ROLLS};
-use fixed_fraction::{Spread, WHOLE, Wide};
+use fixed_fraction::{WHOLE, Wide};
 use home_board::Position;
 use legal_plays::{Play, Roll};
 use race_model::laws;
@@ -166,7 +166,12 @@ impl<'a> OpenedFile<'a> {
             → slice_index (map long_number_of shares) k ≡ 0) }
     {
         match self {
-            OpenedFile::Database(database) => Some(shares_of(&database.spread(position)?)),
+            OpenedFile::Database(database) => {
+                let _spread = database.spread(position)?;
+                let mut shares = [Long::ZERO; 34];
+                put_shares(&database.record(position), &mut shares);
+                Some(shares)
+            }
             OpenedFile::Board(board) => Some(shares_by(&board.counts(position)?)),
         }
     }
@@ -213,17 +218,4 @@ impl<'a> OpenedFile<'a> {
             }
         }
     }
-}
-
-/// The shares of a database in three words each, and none beyond the most rolls of its games.
-fn shares_of(spread: &Spread) -> [Long; 34]
-    ensures shares { (k : ℕ) → k ≤ 22 →
-        slice_index (map long_number_of result) k ≡ slice_index spread.now k }
-    ensures beyond { (k : ℕ) → 22 < k → slice_index (map long_number_of result) k ≡ 0 }
-{
-    let mut shares = [Long::ZERO; 34];
-    for k in 0..MOST_OF_DATABASE + 1 {
-        shares[usize::from(k)] = Long::of(Wide::of(spread.at(k)));
-    }
-    shares
 }

@@ -1,20 +1,23 @@
 //! What a file of any version tells of a position, alone or in whole tables: a mean, an effective
 //! pip count, shares, and the position itself.
-ghost use Rattle.std.specs.Prelude.{◌≡◌, ◌+◌, ◌<◌, ◌≤◌, true, IsTrue, IsSome, IfSome, length};
+ghost use Rattle.std.specs.Prelude.{◌≡◌, ◌+◌, ◌<◌, ◌≤◌, true, IsTrue, IsSome, IfSome, OnSome, length};
 ghost use Rattle.race_model.specs.Positions.{Board as Place, pips as pips_of};
-ghost use Rattle.race_model.specs.Ranks.{count_to};
+ghost use Rattle.race_model.specs.Ranks.{at_rank, count_to};
+ghost use Rattle.race_model.specs.Files.{bound_of, book_of};
 ghost use Rattle.race_model.specs.Books.{Book};
 ghost use Rattle.bearoff_c.specs.FileBooks.{book_by};
 ghost use Rattle.bearoff_c.specs.Listed.{SaysByRank};
 ghost use Rattle.bearoff_c.specs.Refusals.{position_refusal, rank_refusal, status_of};
 ghost use Rattle.bearoff_c.specs.Told.{SaysMean, SaysEpc, SaysShares};
 
-use crate::distributions::Distribution;
+use crate::distributions::{Distribution, add_up, put_shares};
+use crate::long_means::LongMean;
 use crate::long_numbers::{Long, RoundedLong};
 use crate::opened::OpenedFile;
 use crate::positions::Counts;
 use crate::ranks::{find_in, find_ranks_in};
 use crate::statuses::{OK, Refusal};
+use book::{Database, RisingRecords};
 use home_board::Position;
 
 /// What is told of a position.
@@ -22,10 +25,10 @@ pub trait Told: Copy {
     // that it is what a book says of a position
     ghost says: { Book → Place → Self → Type 0 };
 
-    /// Whether the bytes have it of a position of at most the bound, which is so unless they were
-    /// changed since they were checked.
-    fn stands(opened: &OpenedFile<'_>, position: &Position) -> bool
-        requires { pips_of position.now ≤ (book_by opened.now).bound }
+    /// Whether the bytes have it of the position of a rank that the file has, which is so unless
+    /// they were changed since they were checked.
+    fn stands(opened: &OpenedFile<'_>, rank: u16) -> bool
+        requires { rank < count_to (book_by opened.now).bound }
         ensures { IsTrue result };
 
     /// It, of a position of at most the bound.
@@ -33,25 +36,54 @@ pub trait Told: Copy {
         requires { pips_of position.now ≤ (book_by opened.now).bound }
         ensures some { IsSome result }
         ensures value { IfSome result (says (book_by opened.now) position.now) };
+
+    /// Whether the bytes of a database have it in the next record, as `stands` says.
+    fn next_stands(records: &mut RisingRecords<'_>) -> bool
+        requires { records.old.rank < count_to (bound_of records.old.database.now) }
+        ensures stands { IsTrue result }
+        ensures next { records.new.rank ≡ records.old.rank + 1 }
+        ensures database { records.new.database.now ≡ records.old.database.now };
+
+    /// Writes it of the position of the next record of a database; none, and whatever, only where
+    /// the bytes were changed since they were checked.
+    fn put_next(&mut self, records: &mut RisingRecords<'_>) -> Option<()>
+        requires { records.old.rank < count_to (bound_of records.old.database.now) }
+        ensures some { IsSome result }
+        ensures value { OnSome result (says
+            (book_of records.old.database.now) (at_rank records.old.rank) self.new) }
+        ensures next { records.new.rank ≡ records.old.rank + 1 }
+        ensures database { records.new.database.now ≡ records.old.database.now };
 }
 
 impl Told for Counts {
     ghost says = { λ b x counts. counts.points ≡ x };
 
-    fn stands(_opened: &OpenedFile<'_>, _position: &Position) -> bool {
+    fn stands(_opened: &OpenedFile<'_>, _rank: u16) -> bool {
         true
     }
 
     fn told(_opened: &OpenedFile<'_>, position: &Position) -> Option<Counts> {
         Some(Counts::of(position))
     }
+
+    fn next_stands(records: &mut RisingRecords<'_>) -> bool {
+        let _record = records.next_record();
+        true
+    }
+
+    fn put_next(&mut self, records: &mut RisingRecords<'_>) -> Option<()> {
+        let position = records.database.ranks().unrank(records.rank).unwrap();
+        let _record = records.next_record();
+        *self = Counts::of(&position);
+        Some(())
+    }
 }
 
 impl Told for Long {
     ghost says = { SaysMean };
 
-    fn stands(opened: &OpenedFile<'_>, position: &Position) -> bool {
-        opened.mean(position).is_some()
+    fn stands(opened: &OpenedFile<'_>, rank: u16) -> bool {
+        opened.mean(&opened.position_at(rank)).is_some()
     }
 
     fn told(opened: &OpenedFile<'_>, position: &Position) -> Option<Long> {
@@ -59,13 +91,23 @@ impl Told for Long {
         let _pips = position.pips();
         opened.mean(position)
     }
+
+    fn next_stands(records: &mut RisingRecords<'_>) -> bool {
+        records.next_mean().is_some()
+    }
+
+    fn put_next(&mut self, records: &mut RisingRecords<'_>) -> Option<()> {
+        let _bound = records.database.bound();
+        *self = records.next_mean()?.long();
+        Some(())
+    }
 }
 
 impl Told for RoundedLong {
     ghost says = { SaysEpc };
 
-    fn stands(opened: &OpenedFile<'_>, position: &Position) -> bool {
-        opened.mean(position).is_some()
+    fn stands(opened: &OpenedFile<'_>, rank: u16) -> bool {
+        opened.mean(&opened.position_at(rank)).is_some()
     }
 
     fn told(opened: &OpenedFile<'_>, position: &Position) -> Option<RoundedLong> {
@@ -73,13 +115,23 @@ impl Told for RoundedLong {
         let _pips = position.pips();
         opened.epc(position)
     }
+
+    fn next_stands(records: &mut RisingRecords<'_>) -> bool {
+        records.next_mean().is_some()
+    }
+
+    fn put_next(&mut self, records: &mut RisingRecords<'_>) -> Option<()> {
+        let _bound = records.database.bound();
+        *self = records.next_mean()?.epc();
+        Some(())
+    }
 }
 
 impl Told for Distribution {
     ghost says = { SaysShares };
 
-    fn stands(opened: &OpenedFile<'_>, position: &Position) -> bool {
-        opened.shares(position).is_some()
+    fn stands(opened: &OpenedFile<'_>, rank: u16) -> bool {
+        opened.shares(&opened.position_at(rank)).is_some()
     }
 
     fn told(opened: &OpenedFile<'_>, position: &Position) -> Option<Distribution> {
@@ -87,6 +139,17 @@ impl Told for Distribution {
         let _pips = position.pips();
         let shares = opened.shares(position)?;
         Some(Distribution { shares })
+    }
+
+    fn next_stands(records: &mut RisingRecords<'_>) -> bool {
+        let _bound = records.database.bound();
+        add_up(&records.next_record())
+    }
+
+    fn put_next(&mut self, records: &mut RisingRecords<'_>) -> Option<()> {
+        let _bound = records.database.bound();
+        put_shares(&records.next_record(), &mut self.shares);
+        Some(())
     }
 }
 
@@ -124,13 +187,51 @@ pub fn tell_by_rank<T: Told>(opened: &OpenedFile<'_>, first: u16, items: &mut [T
         Ok(()) => {}
         Err(refusal) => return refusal.status(),
     }
-    if !stand::<T>(opened, first, items.len()) {
-        return Refusal::Changed.status();
-    }
-    match put_by_rank(opened, first, items) {
+    let told = match opened {
+        OpenedFile::Database(database) => {
+            if !records_stand::<T>(database, first, items.len()) {
+                return Refusal::Changed.status();
+            }
+            put_records(database, first, items)
+        }
+        OpenedFile::Board(_) => {
+            if !stand::<T>(opened, first, items.len()) {
+                return Refusal::Changed.status();
+            }
+            put_by_rank(opened, first, items)
+        }
+    };
+    match told {
         Some(()) => OK,
         None => Refusal::Changed.status(),
     }
+}
+
+/// Whether the bytes of a database have it of so many positions from a rank on.
+fn records_stand<T: Told>(database: &Database<'_>, first: u16, count: usize) -> bool
+    requires { first + count ≤ count_to (bound_of database.now) }
+    ensures { IsTrue result }
+{
+    let mut records = database.records_from(first);
+    for _ in 0..count {
+        if !T::next_stands(&mut records) {
+            return false;
+        }
+    }
+    true
+}
+
+/// Writes it of the positions of the ranks of a database from one on.
+fn put_records<T: Told>(database: &Database<'_>, first: u16, items: &mut [T]) -> Option<()>
+    requires { first + length items.old ≤ count_to (bound_of database.now) }
+    ensures some { IsSome result }
+    ensures value { SaysByRank first items.new (T.says (book_of database.now)) }
+{
+    let mut records = database.records_from(first);
+    for row in 0..items.len() {
+        items[row].put_next(&mut records)?;
+    }
+    Some(())
 }
 
 /// The rank that comes so many after another.
@@ -148,8 +249,7 @@ fn stand<T: Told>(opened: &OpenedFile<'_>, first: u16, count: usize) -> bool
     ensures { IsTrue result }
 {
     for index in 0..count {
-        let position = opened.position_at(rank_after(opened, first, index));
-        if !T::stands(opened, &position) {
+        if !T::stands(opened, rank_after(opened, first, index)) {
             return false;
         }
     }

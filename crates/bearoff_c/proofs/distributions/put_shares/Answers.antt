@@ -1,8 +1,9 @@
-use Rattle.std.proofs.Common.{◌≢◌, slice_index, refl, ◌∙◌, arith, map, get_or-set_other}
+use Rattle.std.proofs.Common.{◌≢◌, refl, ◌∙◌, arith, map, get_or-set_other}
 use Rattle.std.proofs.lemmas.List.{map-set}
+use Rattle.race_model.specs.Files.{share_of}
 use Rattle.ranking.proofs.Cells.{filled_more, zeros}
 use Rattle.bearoff_c.specs.Longs.{long_number_of}
-use Rattle.bearoff_c.proofs.opened.shares_of.Goals as goal
+use Rattle.bearoff_c.proofs.distributions.put_shares.Goals as goal
 
 pub loop-k-init : goal.loop-k-init
 loop-k-init c = record {
@@ -15,9 +16,9 @@ loop-k-preserved c =
     let k = c.loop-k.k in
     rw (c.from.ensures, map-set)
     (record {
-      filled = filled_more (λ i. slice_index c.args.spread.now i) 34 k _ _
+      filled = filled_more (share_of c.args.view.now) 34 k _ _
           c.loop-k.invariant.filled (omega arith)
-          (c.of-in-loop-k.ensures ∙ c.of.ensures ∙ c.at.ensures.value);
+          (c.of-in-loop-k.ensures ∙ c.of.ensures ∙ c.spread.ensures.share (omega arith));
       beyond = λ m most.
           let other : m ≢ k = omega arith in
           get_or-set_other (map long_number_of c.loop-k.shares) k m _ 0 other
