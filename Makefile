@@ -15,17 +15,16 @@ help install uninstall release: export override DESTDIR := $(value DESTDIR)
 help install uninstall release: export override DIR := $(value DIR)
 VERSION := $(shell cat VERSION)
 
-# an edit, which the prover has to refuse, is no source
-SOURCES := crates.txt $(shell find crates \( -name out -o -name must-fail -o -name wrong_bodies \) -prune \
-	-o -type f -print)
-PROVED := crates/bearoff_cli/out/fresh
+# the sum of the sources, as old as their last change here: times of sources themselves tell nothing,
+# since a file may come from elsewhere with its own
+SOURCES := out/sources
 MODULES := $(OUT)/modules/wide.wasm $(OUT)/modules/narrow.wasm
 PAGE := $(OUT)/bearoff.html
 PACKAGE := $(OUT)/js/bearoff-$(VERSION).tgz
 
 TESTED := $(OUT)/tested/ready
 # programs that tests in Python run, which `rt ci` builds too
-TRIALS := $(foreach it,board_trials failing_calls number_trials,crates/$(it)/out/$(it))
+TRIALS := board_trials failing_calls number_trials
 
 WORK_PAGE := $(OUT)/work.html
 
@@ -36,7 +35,7 @@ UNPROVED := out/unproved
 SCRIPTS := git ls-files '*.py' && \
 	git grep -lE '^\#!.*python3' -- packaging tests tools ':!*.py' ':!tests/page/mutants'
 
-.PHONY: help needs prove library page work-page js tested trials install uninstall release
+.PHONY: help always needs prove library page work-page js tested trials install uninstall release
 .PHONY: unproved quick quick-python quick-node
 .PHONY: reference second-opinion format check test test-python test-node
 .DELETE_ON_ERROR:
@@ -60,20 +59,16 @@ help:
 needs:
 	tests/needs.py
 
-# proved by `./bearoff --prove` or `rt ci`, and as old as the start of that
-prove: $(PROVED)
-$(PROVED): $(SOURCES)
+$(SOURCES): always
+	@mkdir -p $(@D) && tools/sources >$@.new && \
+		if cmp -s $@.new $@; then rm $@.new; else mv $@.new $@; fi
+
+# does nothing where that is done already
+prove:
 	./bearoff --prove $(if $(JOBS),--jobs $(JOBS))
-	@[ $@ -nt .git/rt-ci.lock ] || touch -r .git/rt-ci.lock $@
 
-# only asked, by `make --question`, whether no source has changed since
-crates/bearoff_c/out/fresh .git/rt-ci.lock: $(SOURCES)
-	@echo 'a source has changed since $@ was made' >&2; exit 1
-
-trials: $(TRIALS)
-$(TRIALS) &: $(SOURCES)
-	tools/prove $(notdir $(TRIALS)) $(if $(JOBS),--jobs $(JOBS))
-	@touch $(TRIALS)
+trials:
+	tools/prove $(TRIALS) $(if $(JOBS),--jobs $(JOBS))
 
 library: $(ARCHIVE)
 $(ARCHIVE): $(SOURCES)
@@ -114,7 +109,7 @@ release:
 
 # what the tests under node compare with
 tested: $(TESTED)
-$(TESTED): $(PROVED) tests/page/prepare tests/callers/questions.py tests/callers/ask_gnubg.py
+$(TESTED): $(SOURCES) tests/page/prepare tests/callers/questions.py tests/callers/ask_gnubg.py | prove
 	tests/page/prepare crates/bearoff_cli/out/bearoff_cli $(@D)
 	@touch $@
 

@@ -15,7 +15,6 @@ import pytest
 
 from running import KNOWN, ROOT, expect_that, need, run, succeed
 
-PROGRAM = ROOT / "crates/bearoff_cli/out/bearoff_cli"
 # what was compiled as it is written
 UNPROVED = ROOT / "out/unproved"
 
@@ -140,29 +139,10 @@ def given(path):
     return path
 
 
-def is_fresh(target):
-    """Whether something was made of the sources as they are, which the Makefile knows."""
-    done = subprocess.run(
-        ["make", "--silent", "--question", "-C", ROOT, target], capture_output=True
-    )
-    return done.returncode == 0
-
-
-@pytest.fixture(scope="session")
-def program(request):
-    """The program: the one that an option names, or the one that was proved and built of the
-    sources as they are."""
-    if request.config.getoption("--program"):
-        return given(request.config.getoption("--program"))
-    if request.config.getoption("--unproved"):
-        return given(UNPROVED / "bearoff")
-    if not os.access(PROGRAM, os.X_OK):
-        pytest.fail(f"{PROGRAM} is not built: run ./bearoff --prove, or make prove", pytrace=False)
-    if not is_fresh("crates/bearoff_cli/out/fresh"):
-        pytest.fail(
-            f"a source has changed since {PROGRAM} was proved: run make prove", pytrace=False
-        )
-    return PROGRAM
+def is_fresh(crate):
+    """Whether a program was made of the sources as they are."""
+    fresh, sources = ROOT / "crates" / crate / "out/fresh", succeed(ROOT / "tools/sources")
+    return fresh.exists() and fresh.read_bytes().split()[:1] == sources.split()
 
 
 def program_of(request, crate, option):
@@ -171,22 +151,21 @@ def program_of(request, crate, option):
     if request.config.getoption(option):
         return given(request.config.getoption(option))
     if request.config.getoption("--unproved"):
-        return given(UNPROVED / crate)
-    program = ROOT / "crates" / crate / "out" / crate
-    if not os.access(program, os.X_OK):
-        pytest.fail(f"{program} is not built: run make trials, or rt ci", pytrace=False)
-    sources = [
-        ROOT / "crates.txt",
-        *(ROOT / "crates").glob("*/src/**/*.rt"),
-        *(ROOT / "crates").glob("*/*/**/*.antt"),
-    ]
-    newest = max(path.stat().st_mtime for path in sources if "out" not in path.parts)
-    if program.stat().st_mtime < newest:
+        return given(UNPROVED / ("bearoff" if crate == "bearoff_cli" else crate))
+    made = ROOT / "crates" / crate / "out" / crate
+    if not os.access(made, os.X_OK):
+        pytest.fail(f"{made} is not built: run make prove trials, or make check", pytrace=False)
+    if not is_fresh(crate):
         pytest.fail(
-            f"a source has changed since {program} was proved: run make trials",
-            pytrace=False,
+            f"a source has changed since {made} was proved: run make prove trials", pytrace=False
         )
-    return program
+    return made
+
+
+@pytest.fixture(scope="session")
+def program(request):
+    """The program."""
+    return program_of(request, "bearoff_cli", "--program")
 
 
 @pytest.fixture(scope="session")

@@ -1,33 +1,39 @@
-"""The launcher `bearoff`, in copies of what it reads: with a kit that only tells how it was
-called, what is run before a proof, after one, after a change of a source and without a kit, and
-what --prove does; and with the kit's own `rt`, in a copy where nothing is proved, the first
-command of the README."""
+"""The launcher `bearoff` and tools/prove, in copies of what they read: with a kit that only tells
+how it was called, what is run before a proof, after one, after a change of a source and without a
+kit, what --prove does, and what is taken for proved; and with the kit's own tools, in a copy where
+nothing is proved, the first command of the README."""
 
 import fnmatch
 import os
 import re
 import shutil
+import signal
 import subprocess
 import time
 from pathlib import Path
 
 import pytest
 
-from running import ROOT, expect_that, run
+from running import ROOT, expect_that, run, succeed, wait_until
 
 # what the launcher and tools/prove call beside the kit
 COMMANDS = (
     "sh bash cat sed find awk head tail dirname readlink mktemp date touch grep rm wc env"
-    " python3"
+    " python3 sort xargs sha256sum cut setpriv"
 ).split()
 
 RT = """#!/bin/sh
-# what it was called with, and where, and then its input, what `SAYS` has, and the status
-[ "$1" != doc ] || { echo "$KIT/START-HERE.md"; exit; }
-{ echo "in $(basename -- "$PWD"):$(printf ' <%s>' "$@")"; } >>"$TOLD"
-# .. and what stands in the folder LOOK, by its kind and its rights
-[ -z "$LOOK" ] || find "$LOOK" -mindepth 1 -maxdepth 1 -printf '%y %m\\n' >>"$TOLD"
-cat; printf '%s' "$SAYS" >&2; exit "$STATUS"
+echo "$KIT/START-HERE.md"
+"""
+
+# compiles nothing: it tells how it was called, and makes a program that tells its input
+AS_WRITTEN = """#!/bin/sh
+echo "unproved$(printf ' <%s>' "$@")" >>"$TOLD"
+[ -z "$FAILING" ] || { echo "unproved: $FAILING can't be compiled" >&2; exit 1; }
+mkdir -p "$(dirname "$0")/../out/unproved"
+printf '#!/bin/sh\\necho as written "$@"; cat; exit ${STATUS:-0}\\n' \
+    >"$(dirname "$0")/../out/unproved/bearoff"
+chmod +x "$(dirname "$0")/../out/unproved/bearoff"
 """
 
 RATTLE = """#!/bin/sh
@@ -43,7 +49,24 @@ echo "begin $name ($jobs):$uses" >>"$TOLD"
 sleep 0.5
 echo "end $name" >>"$TOLD"
 case " $FAILING " in *" $name "*) echo "error: no proof of $name"; exit 1 ;; esac
-: >"$made"
+mkdir -p out/incremental && echo "$name" >out/incremental/work
+case $made in *.rlib) mkdir -p "$made" && : >"$made/format" ;; *) : >"$made" ;; esac
+"""
+
+# the stamp of a library: the texts of its sources
+RTLIB = """import os
+
+
+class Crate:
+    def __init__(self, folder, root, known):
+        self.folder, self.name = folder, os.path.basename(folder)
+
+    def makes_rlib(self):
+        return os.path.isfile(f"{self.folder}/src/lib.rt")
+
+    def stamp(self):
+        with open(f"{self.folder}/src/lib.rt", encoding="ascii") as source:
+            return source.read()
 """
 
 RATTLE_LINK = """#!/bin/sh
@@ -56,14 +79,13 @@ NOTE = (
     "./bearoff --prove*"
 )
 CHANGED = "bearoff: a source has changed since the program was proved here: *"
-TRIED = "in bearoff_cli: <try> <--seconds> <600> <-->"
-ENDED = "checked: ended status=0\nrun=ended status=0 runners=1 proved=no\n"
+COMPILED = ["unproved <--quiet> <program>"]
 
 
-def age(path, **ago):
+def age(path, minutes):
     """Makes a file, or a file's time, so old."""
     Path(path).touch()
-    then = time.time() - 60 * ago.get("minutes", 0) - 3600 * ago.get("hours", 0)
+    then = time.time() - 60 * minutes
     os.utime(path, (then, then))
 
 
@@ -73,38 +95,40 @@ class Copy:
     def __init__(self, work):
         self.work, self.root = work, work / "a copy"
         self.launcher, self.told_file = self.root / "bearoff", work / "told"
-        for crate in ("bearoff_cli", "low", "other"):
+        for crate in ("bearoff_cli", "low", "other", "beside"):
             source = self.root / "crates" / crate / "src"
             source.mkdir(parents=True)
             (source / ("main.rt" if crate == "bearoff_cli" else "lib.rt")).write_text("one\n")
         (self.root / "tools").mkdir()
         shutil.copy(ROOT / "bearoff", self.launcher)
-        shutil.copy(ROOT / "tools/prove", self.root / "tools/prove")
+        for name in ("prove", "sources"):
+            shutil.copy(ROOT / "tools" / name, self.root / "tools")
+        (self.root / "tools/unproved").write_text(AS_WRITTEN)
+        (self.root / "tools/unproved").chmod(0o755)
         rows = "# a comment\nlow: \nother:\nbearoff_cli: low other clap\nbeside: low\n"
         (self.root / "crates.txt").write_text(rows)
         for folder in ("kit/bin", "kit/rlibs", "none", "elsewhere"):
             (work / folder).mkdir(parents=True)
         for command in COMMANDS:
             os.symlink(shutil.which(command), work / "none" / command)
-        for name, text in (("rt", RT), ("rattle", RATTLE), ("rattle-link", RATTLE_LINK)):
+        scripts = {"rt": RT, "rattle": RATTLE, "rattle-link": RATTLE_LINK, "rtlib.py": RTLIB}
+        for name, text in scripts.items():
             (work / "kit/bin" / name).write_text(text)
             (work / "kit/bin" / name).chmod(0o755)
         self.here = work / "elsewhere"
         self.program = self.root / "crates/bearoff_cli/out/bearoff_cli"
         self.fresh = self.root / "crates/bearoff_cli/out/fresh"
+        self.low = self.root / "crates/low/src/lib.rt"
 
-    def run(self, *words, input="a line", says="", status=0, failing="", has_kit=True, by=None):
-        path = f"{self.work}/kit/bin:{os.environ['PATH']}" if has_kit else f"{self.work}/none"
-        environment = {
-            **os.environ,
-            "PATH": path,
-            "KIT": f"{self.work}/kit",
-            "SAYS": says,
-            "TOLD": str(self.told_file),
-            "STATUS": str(status),
-            "FAILING": failing,
-        }
+    def run(self, *words, input="a line", status=0, failing="", has_kit=True, by=None):
+        environment = self.environment(has_kit, STATUS=str(status), FAILING=failing)
         return run(by or self.launcher, *words, input=input, env=environment, cwd=self.here)
+
+    def environment(self, has_kit=True, **more):
+        path = f"{self.work}/kit/bin:{os.environ['PATH']}" if has_kit else f"{self.work}/none"
+        more |= {"PATH": path, "KIT": f"{self.work}/kit", "TOLD": str(self.told_file)}
+        more |= {"XDG_CACHE_HOME": f"{self.work}/cache", "TMPDIR": str(self.work)}
+        return {**os.environ, **more}
 
     def told(self):
         """How the kit was called since this was asked last."""
@@ -112,11 +136,8 @@ class Copy:
         self.told_file.unlink(missing_ok=True)
         return lines
 
-    def prove(self, **how):
-        """A proof, of sources that are an hour old."""
-        for source in [self.root / "crates.txt", *self.root.glob("crates/*/src/*")]:
-            age(source, hours=1)
-        return self.run("--prove", "--jobs", "5", **how)
+    def prove(self, *words, **how):
+        return self.run("--prove", *words, "--jobs", "5", **how)
 
 
 @pytest.fixture
@@ -133,84 +154,36 @@ def expect(done, status, output, errors):
 
 
 class TestBeforeAProof:
-    """Input, output, errors and status are the program's, and each file has its whole path."""
+    """Words, folder, input, output, errors and status are those of the program as it is written,
+    which is compiled first."""
 
     def test_no_words(self, copy):
-        done = copy.run(says=ENDED)
-        expect(done, 0, "a line", NOTE)
+        done = copy.run()
+        expect(done, 0, "as written\na line", NOTE)
         assert done.errors.count(b"\n") == 1, "more than one line on standard error"
-        assert copy.told() == [TRIED]
+        assert copy.told() == COMPILED
 
-    def test_words_that_read_nothing(self, copy):
-        expect(copy.run("--version", says=ENDED), 0, "", NOTE)
-        assert copy.told() == [f"{TRIED} <--version>"]
+    def test_words(self, copy):
+        expect(
+            copy.run("check", "a file", "--", "-x"),
+            0,
+            "as written check a file -- -x\na line",
+            NOTE,
+        )
 
-    def test_a_refusal(self, copy):
-        says = "bearoff: refused mean rank 1\n" + ENDED.replace("status=0", "status=3")
-        done = copy.run("check", "a file", says=says, status=3)
-        expect(done, 3, "", NOTE + "\nbearoff: refused mean rank 1")
-        assert copy.told() == [f"{TRIED} <check> <{copy.here}/a file>"]
+    def test_a_status(self, copy):
+        expect(copy.run("check", "x", status=3), 3, "as written check x\na line", NOTE)
 
-    @pytest.mark.parametrize(
-        "words, wanted",
-        [
-            ("build --pips 8 x", "build --pips 8 @x"),
-            ("build --pips=8 /x", "build --pips=8 /x"),
-            ("build x --pips 8", "build @x --pips 8"),
-            ("query --cache 3 x", "query --cache 3 @x"),
-            ("ask x y /z", "ask @x y /z"),
-            ("ask -- -x -- y", "ask -- @-x -- y"),
-            ("audit --help", "audit --help"),
-            ("query x --cache=3", "query @x --cache=3"),
-            ("query --cache=3 -- x", "query --cache=3 -- @x"),
-            ("audit -- x", "audit -- @x"),
-            ("check -- -x", "check -- @-x"),
-            ("check -- /x", "check -- /x"),
-            ("check -", "check @-"),
-            ("check a:/x", "check @a:/x"),
-            ("build --pips 8 -- --pips", "build --pips 8 -- @--pips"),
-            ("build --board x", "build --board @x"),
-            ("query x --board", "query @x --board"),
-            ("check -- --board", "check -- @--board"),
-            ("upgrade x y", "upgrade @x @y"),
-            ("upgrade -- -x --", "upgrade -- @-x @--"),
-            ("help build", "help build"),
-            ("unknown x", "unknown x"),
-        ],
-    )
-    def test_whole_paths(self, copy, words, wanted):
-        copy.run(*words.split(), says="run=ended status=0 runners=2 proved=no\n")
-        wanted = wanted.replace("@", f"{copy.here}/").split()
-        assert copy.told() == [TRIED + "".join(f" <{word}>" for word in wanted)]
+    def test_what_can_not_be_compiled(self, copy):
+        expect(copy.run(failing="it"), 1, "", f"{NOTE}\nunproved: it can't be compiled")
 
-    def test_a_file_without_a_name(self, copy):
-        copy.run("check", "", says=ENDED)
-        assert copy.told() == [f"{TRIED} <check> <>"]
-
-    def test_query_reads(self, copy):
-        expect(copy.run("query", "x", says=ENDED), 0, "a line", NOTE)
-        assert copy.told() == [f"{TRIED} <query> <{copy.here}/x>"]
-
-    def test_a_folder_of_its_own(self, copy, monkeypatch):
-        """What it writes meanwhile stands in one folder that nobody else can enter."""
-        folder = copy.work / "for a while"
-        folder.mkdir()
-        for name in ("TMPDIR", "LOOK"):
-            monkeypatch.setenv(name, str(folder))
-        expect(copy.run("query", "x", says=ENDED), 0, "a line", NOTE)
-        assert copy.told() == [f"{TRIED} <query> <{copy.here}/x>", "d 700"]
-        assert list(folder.iterdir()) == []
-
-    def test_a_line_that_comes_late(self, copy):
-        late = copy.work / "late"
-        late.write_text(f'#!/bin/sh\n{{ sleep 3; echo late; }} | "{copy.launcher}" 2>/dev/null\n')
-        late.chmod(0o755)
-        expect(copy.run(by=late, says=ENDED), 0, "late", "")
-
-    def test_no_answer(self, copy):
-        says = "error: something\nrun=none proved=no\n"
-        said = NOTE + "\n" + says + "bearoff: rt try gave no answer*--prove*"
-        expect(copy.run("query", "x", says=says, status=2), 1, "a line", said)
+    def test_an_input_without_end(self, copy):
+        """What is read is what the program reads, and no file is filled with it."""
+        endless = copy.work / "endless"
+        endless.write_text(f'#!/bin/sh\nyes | "{copy.launcher}" 2>/dev/null | head -n 3\n')
+        endless.chmod(0o755)
+        expect(copy.run(by=endless), 0, "as written\ny\ny", "")
+        assert max(it.lstat().st_size for it in copy.work.rglob("*")) < 1_000_000
 
     @pytest.mark.parametrize("words", ["--jobs 0", "--jobs", "--jobs x", "now"])
     def test_wrong_words_of_prove(self, copy, words):
@@ -228,8 +201,7 @@ class TestWithoutAKit:
 
     def test_a_changed_source(self, copy):
         assert copy.prove().status == 0
-        (copy.root / "crates/low/src/lib.rt").touch()
-        age(copy.fresh, minutes=1)
+        copy.low.write_text("two\n")
         expect(copy.run("query", "x", has_kit=False), 0, "proved query x", "")
 
 
@@ -257,6 +229,19 @@ class TestProve:
         assert sorted(told[:2]) == ["begin low (2): std", "begin other (3): std"]
         assert told[-2:] == ["begin bearoff_cli (4): std low other clap", "end bearoff_cli"]
 
+    @pytest.mark.parametrize("number", [signal.SIGKILL, signal.SIGTERM])
+    def test_a_proof_that_is_ended(self, copy, number):
+        """Its provers end with it, and another one can begin."""
+        (copy.work / "kit/bin/rattle").write_text('#!/bin/sh\necho $$ >>"$TOLD"; exec sleep 600\n')
+        words, told = [copy.root / "tools/prove", "bearoff_cli", "--jobs", "2"], []
+        with subprocess.Popen(words, env=copy.environment(), stderr=subprocess.DEVNULL) as proving:
+            wait_until(lambda: told.extend(copy.told()) or len(told) == 2)
+            proving.send_signal(number)
+        wait_until(lambda: not any(os.path.exists(f"/proc/{it}") for it in told))
+        assert not [it for it in told if os.path.exists(f"/proc/{it}")]
+        (copy.work / "kit/bin/rattle").write_text(RATTLE)
+        assert copy.prove().status == 0
+
     def test_again(self, copy):
         copy.prove()
         copy.told()
@@ -279,43 +264,188 @@ class TestAfterAProof:
         expect(copy.run(by="./link"), 0, "proved", "")
         assert copy.told() == []
 
-    def test_a_changed_source(self, copy):
-        """As it is written, but for a machine without a kit."""
-        (copy.root / "crates/low/src/lib.rt").touch()
-        age(copy.fresh, minutes=1)
-        expect(copy.run(says=ENDED), 0, "a line", CHANGED)
+    @pytest.mark.parametrize("change", ["text", "old text", "name", "gone", "more", "row"])
+    def test_a_changed_source(self, copy, change):
+        """Whatever its time: it is run as it is written, and proved again."""
+        if change in ("text", "old text"):
+            copy.low.write_text("two\n")
+        elif change == "name":
+            copy.low.rename(copy.low.with_name("other.rt"))
+        elif change == "gone":
+            copy.low.unlink()
+        elif change == "more":
+            (copy.low.parent / "more.rt").touch()
+        else:
+            (copy.root / "crates.txt").write_text("low:\nother:\nbearoff_cli: low other clap\n")
+        if change != "text":
+            for path in [*copy.root.rglob("*.rt"), copy.root / "crates.txt"]:
+                os.utime(path, (0, 0))
+        expect(copy.run(), 0, "as written\na line", CHANGED)
+        assert copy.told() == COMPILED
+        assert copy.prove().status == 0
+        assert "end bearoff_cli" in copy.told()
 
-    # `rt ci` alone proves too, where no source has changed since it started
-    def test_a_program_of_an_unknown_run(self, copy):
-        copy.fresh.unlink()
-        expect(copy.run(says=ENDED), 0, "a line", CHANGED)
+    def test_times_alone(self, copy):
+        """A source that is newer and says the same is no change."""
+        copy.low.touch()
+        expect(copy.run("mean"), 0, "proved mean", "")
+        expect(copy.prove(), 0, "", "")
+        assert copy.told() == []
 
-    def test_after_rt_ci(self, copy):
-        copy.fresh.unlink()
-        (copy.root / ".git").mkdir()
-        age(copy.root / ".git/rt-ci.lock", minutes=1)
+    def test_a_wrong_body(self, copy):
+        """An edit that the prover has to refuse is no source."""
+        (copy.root / "crates/low/wrong_bodies").mkdir()
+        (copy.root / "crates/low/wrong_bodies/one.edit").touch()
         expect(copy.run("mean"), 0, "proved mean", "")
 
-    def test_rt_ci_that_has_not_come_so_far(self, copy):
+    @pytest.mark.parametrize(
+        "other", ["program", "program's sum", "sources' sum", "empty", "nothing"]
+    )
+    def test_what_was_not_proved(self, copy, other):
+        """A program that was put in the place of the proved one, or whose proof was of other
+        sources, is not run, and --prove makes the proved one again."""
+        sums = copy.fresh.read_text().split()
+        if other == "program":
+            copy.program.write_text("#!/bin/sh\necho unproved\n")
+        elif other == "nothing":
+            copy.fresh.unlink()
+        else:
+            sums = [sums[0], "0" * 64] if other == "program's sum" else ["0" * 64, sums[1]]
+            copy.fresh.write_text("" if other == "empty" else "".join(f"{it}\n" for it in sums))
+        expect(copy.run(), 0, "as written\na line", CHANGED)
+        copy.told()
+        assert copy.prove().status == 0
+        assert "end bearoff_cli" in copy.told()
+        expect(copy.run(), 0, "proved", "")
+
+    def test_what_is_compiled_as_it_is_written(self, copy):
+        """The program without a proof is no reason to leave the proof out."""
         copy.fresh.unlink()
-        (copy.root / ".git").mkdir()
-        age(copy.root / ".git/rt-ci.lock", minutes=1)
-        age(copy.program, minutes=2)
-        expect(copy.run("mean", says=ENDED), 0, "", CHANGED)
+        assert copy.run().status == 0
+        shutil.copy(copy.root / "out/unproved/bearoff", copy.program)
+        copy.told()
+        assert copy.prove().status == 0
+        assert "end bearoff_cli" in copy.told()
+
+
+class TestASecondClone:
+    """What another clone of the same user proved of the same texts is taken."""
+
+    @pytest.fixture
+    def other(self, copy):
+        assert copy.prove().status == 0
+        shutil.copytree(copy.root, copy.work / "another", ignore=shutil.ignore_patterns("out"))
+        copy.told()
+        copy.launcher = copy.work / "another/bearoff"
+        return copy.work / "another"
+
+    def begun(self, copy):
+        return {line.split()[1] for line in copy.told() if line.startswith("begin")}
+
+    def test_the_same_texts(self, copy, other):
+        expect(copy.prove(), 0, "", "*2 of them are proved already*is proved and built*")
+        assert self.begun(copy) == {"bearoff_cli"}
+        assert (other / "crates/low/out/rlib/low.rlib/format").exists()
+
+    def test_another_text(self, copy, other):
+        (other / "crates/low/src/lib.rt").write_text("two\n")
+        assert copy.prove().status == 0
+        assert self.begun(copy) == {"low", "bearoff_cli"}
+
+    def test_anew(self, copy, other):
+        assert copy.prove("--anew").status == 0
+        assert self.begun(copy) == {"low", "other", "bearoff_cli"}
+
+    @pytest.mark.parametrize("spoiled", ["lock", "low", ""])
+    def test_a_cache_that_can_not_be_used(self, copy, other, spoiled):
+        """It spares time and nothing else."""
+        place = copy.work / "cache/bearoff/proofs" / spoiled
+        shutil.rmtree(place) if place.is_dir() else place.unlink()
+        (place.mkdir if spoiled == "lock" else place.touch)()
+        expect(copy.prove(), 0, "", "*is proved and built*")
+        assert "bearoff_cli" in self.begun(copy)
+
+    def test_at_once(self, copy, other):
+        """Two clones that keep and take at the same time."""
+        (other / "crates/low/src/lib.rt").write_text("two\n")
+        words = [[it / "bearoff", "--prove", "--anew"] for it in (copy.root, other)]
+        provers = [subprocess.Popen(it, env=copy.environment()) for it in words]
+        assert [it.wait() for it in provers] == [0, 0]
+        kept = copy.work / "cache/bearoff/proofs/low/out/rlib/stamp"
+        assert kept.read_text() in ("one\n", "two\n")
+
+    def test_a_limit(self, copy, other):
+        """What was not wanted for longest goes first, and what was kept last stays."""
+        script = other / "tools/prove"
+        text = script.read_text()
+        assert text.count("MOST_KEPT = 6_000_000_000\n") == 1
+        script.write_text(text.replace("MOST_KEPT = 6_000_000_000\n", "MOST_KEPT = 12\n"))
+        assert copy.prove().status == 0
+        kept = copy.work / "cache/bearoff/proofs"
+        assert [it.name for it in kept.iterdir() if it.is_dir()] == ["bearoff_cli"]
+
+
+class TestAfterTheGate:
+    """What `rt ci` left counts, where tools/prove --gate finds the sources as they were when that
+    began, and what was made since."""
+
+    def gate(self, copy, is_newer=True):
+        begun = copy.work / "begun"
+        begun.write_bytes(succeed(copy.root / "tools/sources"))
+        age(begun, minutes=1)
+        for name in ("low", "other"):
+            library = copy.root / f"crates/{name}/out/rlib/{name}.rlib"
+            library.mkdir(parents=True, exist_ok=True)
+            age(library / "format", minutes=0 if is_newer else 2)
+            assert not (library.parent / "stamp").exists()
+        copy.program.parent.mkdir(exist_ok=True)
+        copy.program.write_text('#!/bin/sh\necho proved "$@"\n')
+        copy.program.chmod(0o755)
+        age(copy.program, minutes=0 if is_newer else 2)
+        return begun
+
+    def mark(self, copy, begun):
+        return copy.run("--gate", begun, by=copy.root / "tools/prove")
+
+    def test_what_it_built(self, copy):
+        expect(self.mark(copy, self.gate(copy)), 0, "", "")
+        expect(copy.run("mean"), 0, "proved mean", "")
+        assert (copy.root / "crates/low/out/rlib/stamp").read_text() == "one\n"
+
+    def test_what_was_there_before_it(self, copy):
+        expect(self.mark(copy, self.gate(copy, is_newer=False)), 0, "", "")
+        expect(copy.run(), 0, "as written\na line", CHANGED)
+        assert not (copy.root / "crates/low/out/rlib/stamp").exists()
+
+    def test_without_a_word_of_it(self, copy):
+        self.gate(copy)
+        expect(copy.run(), 0, "as written\na line", CHANGED)
+
+    def test_a_source_that_changed_meanwhile(self, copy):
+        begun = self.gate(copy)
+        copy.low.write_text("two\n")
+        expect(self.mark(copy, begun), 1, "", "prove: a source was changed while the gate ran*")
+        expect(copy.run(), 0, "as written\na line", CHANGED)
 
 
 def test_the_first_command_of_the_readme(room, note):
     """With the kit, in a copy where nothing is proved."""
     assert shutil.which("rt"), "the Rattle kit's command rt is missing"
-    for name in ("README.md", "crates.txt", "HANDLES", "bearoff"):
-        shutil.copy(ROOT / name, room)
+    (room / "tools").mkdir()
+    (room / "c").mkdir()
+    for name in ("crates.txt", "bearoff", "tools/sources", "tools/unproved", "c/bearoff.map"):
+        shutil.copy(ROOT / name, room / name)
     shutil.copytree(ROOT / "crates", room / "crates", ignore=shutil.ignore_patterns("out"))
     page = (ROOT / "README.md").read_text(encoding="utf-8")
     found = re.search(r"(?m)^    (printf .*\| \./bearoff)\n\n.*\n\n((?:    .*\n)+)", page)
     assert found, "the README has no first command, or no answer to it"
     answer = re.sub(r"(?m)^    ", "", found[2])
-    began = time.time()
-    done = subprocess.run(["bash", "-c", found[1]], capture_output=True, text=True, timeout=900)
-    note(f"the README's first command, where nothing is proved, took {time.time() - began:.1f} s")
-    assert (done.stdout, done.returncode) == (answer, 0), done.stderr
-    assert fnmatch.fnmatchcase(done.stderr.rstrip("\n"), NOTE) and done.stderr.count("\n") == 1
+    for what in ("first command", "first command, once more"):
+        began = time.time()
+        done = subprocess.run(
+            ["bash", "-c", found[1]], cwd=room, capture_output=True, text=True, timeout=900
+        )
+        note(f"the README's {what}, where nothing is proved, took {time.time() - began:.1f} s")
+        assert (done.stdout, done.returncode) == (answer, 0), done.stderr
+        assert fnmatch.fnmatchcase(done.stderr.rstrip("\n"), NOTE)
+        assert done.stderr.count("\n") == 1
