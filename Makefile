@@ -36,7 +36,7 @@ SCRIPTS := git ls-files '*.py' && \
 	git grep -lE '^\#!.*python3' -- packaging tests tools ':!*.py' ':!tests/page/mutants'
 
 .PHONY: help always needs prove library page work-page js tested trials install uninstall release
-.PHONY: unproved quick quick-python quick-node
+.PHONY: unproved quick
 .PHONY: reference second-opinion format check test test-python test-node
 .DELETE_ON_ERROR:
 
@@ -45,7 +45,7 @@ help:
 	@echo 'make prove              proves and builds the program'
 	@echo 'make check              all that has to pass, from nothing: Debian, proofs, builds, tests'
 	@echo 'make test               the tests in Python and under node, and what they run'
-	@echo 'make quick              the same tests over what is compiled as it is written, in minutes; NOTHING IS PROVED'
+	@echo 'make quick              all tests that need no prover, in minutes; NOTHING IS PROVED'
 	@echo 'make page               $(PAGE)'
 	@echo 'make work-page          $(WORK_PAGE), the same with source maps, for work on it'
 	@echo 'make js                 $(PACKAGE)'
@@ -119,28 +119,16 @@ check:
 
 test: test-python test-node
 
-# the same as it is written, for who changes a word and wants the tests in minutes. The page and the
-# package are made of modules that have the mark of tools/unproved, and say that they are not proved
-unproved: needs
+# what is tested, compiled as it is written. The page and the package are made of modules that have
+# the mark of tools/unproved, and say that they are not proved
+unproved:
 	tools/unproved
 	/usr/bin/python3 -I packaging/page.py web $(UNPROVED)/wasm VERSION $(UNPROVED)/bearoff.html
 	packaging/js $(UNPROVED)/wasm $(UNPROVED)/js
+	BEAROFF_UNPROVED=told tests/page/prepare $(UNPROVED)/bearoff $(UNPROVED)/given
 
-quick: quick-python quick-node
-
-quick-python: unproved
-	pytest -n 4 --dist loadgroup --unproved tests
-
-$(UNPROVED)/given/ready: $(UNPROVED)/.program tests/page/prepare tests/callers/questions.py \
-		tests/callers/ask_gnubg.py
-	BEAROFF_UNPROVED=told tests/page/prepare $(UNPROVED)/bearoff $(@D)
-	@touch $@
-$(UNPROVED)/.program: unproved
-
-quick-node: unproved $(UNPROVED)/given/ready
-	BEAROFF_UNPROVED=told PROGRAM=$(UNPROVED)/bearoff PAGE=$(UNPROVED)/bearoff.html \
-		MODULES=$(UNPROVED)/wasm TESTED=$(UNPROVED)/given \
-		node --test --test-concurrency=1 tests/page
+quick:
+	tools/check --quick
 
 test-python: needs prove library trials
 	pytest -n 4 --dist loadgroup tests

@@ -141,7 +141,13 @@ def expect_same(one, other, what):
 
 def need(*names):
     """Installs what a test needs where it is missing. What can't be had is a failure, or, where it
-    is optional, leaves the test out."""
+    is optional, leaves the test out. Over what is not proved nothing is installed, and what is
+    missing leaves the test out."""
+    if KNOWN:
+        missing = [name for name in names if not needs.BY_NAME[name].is_there()]
+        if missing:
+            pytest.skip(f"there is no {' '.join(missing)}: make needs installs it")
+        return
     for name in needs.install(names):
         packages = " ".join(needs.BY_NAME[name].packages)
         if needs.BY_NAME[name].is_optional:

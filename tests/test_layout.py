@@ -1,5 +1,6 @@
 """The Python, and the C of tests, are laid out as `make format` lays them out; no line of the crates
-is too long; and no test names a device of the machine to a program."""
+is too long; no test names a device of the machine to a program; and no sum that may only fall has
+risen."""
 
 import re
 import shutil
@@ -7,7 +8,7 @@ from pathlib import Path
 
 import pytest
 
-from running import ROOT, expect_same, need, succeed
+from running import ROOT, expect_same, expect_that, need, run, succeed
 
 # others break some lines elsewhere
 VERSIONS = {"black": " 23.", "clang-format": " 14."}
@@ -41,6 +42,26 @@ def test_columns():
         if len(line) > (120 if re.match(r"\s*(pub |ghost )?use ", line) else 100)
     ]
     assert not long, "\n".join(long)
+
+
+def test_ceilings(room):
+    """Each sum is at most its ceiling; in a copy, one line more of the page is one too many."""
+    succeed(ROOT / "tools/counts", "--sums")
+    for name in succeed("git", "ls-files", "-z", cwd=ROOT).decode("utf-8").split("\0")[:-1]:
+        if (ROOT / name).exists():
+            (room / name).parent.mkdir(parents=True, exist_ok=True)
+            shutil.copy(ROOT / name, room / name)
+    succeed("git", "init", "--quiet")
+    succeed("git", "add", "--all")
+    succeed(room / "tools/counts", "--lower")
+    with open(room / "web/why.js", "a", encoding="utf-8") as page:
+        page.write("\n")
+    done = run(room / "tools/counts", "--sums")
+    said = b"lines of the page: 1 OVER ITS CEILING\n"
+    expect_that(done.status == 1 and done.output.count(b"OVER") == 1, done, "a refusal")
+    expect_that(said in done.output, done, said)
+    done = run(room / "tools/counts", "--lower")
+    expect_that(done.status == 1 and said in done.output, done, "a ceiling that nothing raises")
 
 
 def test_devices():

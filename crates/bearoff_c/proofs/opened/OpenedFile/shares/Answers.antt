@@ -4,7 +4,8 @@ use Rattle.race_model.specs.Files.{share_of}
 use Rattle.certificate.proofs.RecordBytes.{share-of_record}
 use Rattle.bearoff_c.proofs.opened.OpenedFile.shares.Goals as goal
 
-pub returns-in_ok-_spread-in-Database-clause-recorded : goal.returns-in_ok-_spread-in-Database-clause-recorded
+pub returns-in_ok-_spread-in-Database-clause-recorded :
+    goal.returns-in_ok-_spread-in-Database-clause-recorded
 returns-in_ok-_spread-in-Database-clause-recorded c =
     rw c.in-Database.is
     (λ k few.
