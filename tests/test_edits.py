@@ -1,4 +1,4 @@
-"""The wrong bodies of crates/NAME/wrong_bodies, which tools/try_edits tries many in one check: what
+"""The wrong bodies of crates/NAME/wrong_bodies, a file each, which tools/try_edits tries many in one check: what
 it makes of what the prover says, which edits it tries together, and, over the prover itself, that
 a body which is right is told as PROVED and one that does not compile as a BAD EDIT."""
 
@@ -186,9 +186,11 @@ def test_prover(room):
         "is_not_there": ("Fault::Nowhere", "Fault::Memory"),
         "writes_nothing": ("write_bytes(line(fault).as_str().as_bytes(), errors)", "Ok(())"),
     }
-    (room / "edits").mkdir()
-    for name, (old, new) in rows.items():
-        (room / f"edits/{name}.edit").write_text(f"file: src/fault.rt\nold: {old}\nnew: {new}\n")
+    text = "\n".join(
+        f"name: {name}\nfile: src/fault.rt\nold: {old}\nnew: {new}\n"
+        for name, (old, new) in rows.items()
+    )
+    (room / "edits").write_text(text)
     words = (ROOT / "tools/try_edits", "exit_status", "--edits", room / "edits")
     here = {**os.environ, "XDG_CACHE_HOME": str(room / "cache")}
     done = run(*words, env=here, timeout=1200)
@@ -206,20 +208,21 @@ def test_prover(room):
 
 def test_each_edit_can_be_planted():
     """What an edit changes stands once in its crate."""
-    edits = [*ROOT.glob("crates/*/must-fail/*"), *ROOT.glob("crates/*/wrong_bodies/*")]
-    wrong = []
-    for path in sorted(edits):
+    wrong, count = [], 0
+    for path in [*ROOT.glob("crates/*/must-fail/*"), *ROOT.glob("crates/*/wrong_bodies")]:
+        crate = ROOT.joinpath(*path.relative_to(ROOT).parts[:2])
         for kind, text in re.findall(r"(?m)^(file|old): (.*)", path.read_text()):
             if kind == "file":
-                source = path.parents[1] / text.strip()
+                source, count = crate / text.strip(), count + 1
             elif source.read_text().count(text) != 1:
                 wrong.append(f"{path.relative_to(ROOT)}: '{text}' is not once in {source.name}")
-    assert len(edits) > 300 and not wrong, "\n".join(wrong)
+    assert count > 300 and not wrong, "\n".join(wrong)
 
 
 def test_parts():
     """`make check` names all parts."""
-    parts = re.findall(r'(?m)^    "(\w+)": Part', (ROOT / "tools/check").read_text())
+    rows = re.search(r"(?ms)^PARTS = \{$.*?^\}$", (ROOT / "tools/check").read_text())[0]
+    parts = re.findall(r'(?m)^    "(\w+)": Part', rows)
     # a make within another one says which folder it enters
     made = succeed("make", "--no-print-directory", "--dry-run", "check", cwd=ROOT)
     assert made.decode().split()[1:] == parts

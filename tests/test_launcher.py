@@ -294,8 +294,7 @@ class TestAfterAProof:
 
     def test_a_wrong_body(self, copy):
         """An edit that the prover has to refuse is no source."""
-        (copy.root / "crates/low/wrong_bodies").mkdir()
-        (copy.root / "crates/low/wrong_bodies/one.edit").touch()
+        (copy.root / "crates/low/wrong_bodies").touch()
         expect(copy.run("mean"), 0, "proved mean", "")
 
     @pytest.mark.parametrize(

@@ -12,7 +12,7 @@ have:
   [`check`](../crates/certificate/src/checked.rt) `exactly`, is a clause of that function's
   contract in that file;
 - an edit that stands after its crates, as `retrograde`: `writes_the_header_alone`, is in
-  must-fail/ or wrong_bodies/ of each;
+  must-fail/ or wrong_bodies of each;
 - each name in the pages by hand, as `IsRight` or `Checked::mean`, stands somewhere in the sources;
 - docs/definitions.md names the files and the number of lines that `IsRight` rests on;
 - docs/crates.md draws each crate in the layer that crates.txt gives it, and its two ways go
@@ -182,6 +182,15 @@ def compare_links(page):
                     wrong.append(f"{page}: {name.group(1)} of {path} has no clause {clause}")
 
 
+def edits_of(crate):
+    """The names of the edits of a crate."""
+    folder = ROOT / "crates" / crate
+    names = [path.stem for path in folder.glob("must-fail/*.edit")]
+    if (folder / "wrong_bodies").exists():
+        names += re.findall(r"(?m)^name: (\w+)$", (folder / "wrong_bodies").read_text())
+    return names
+
+
 def compare_edits(page):
     """Each wrong body that a row of the page names is an edit of the crates that stand before
     it."""
@@ -192,10 +201,7 @@ def compare_edits(page):
         for those, edits in re.findall(rf"({names}): ({names})", line):
             for crate in set(re.findall(r"\w+", those)) & set(crates()):
                 for edit in re.findall(r"\w+", edits):
-                    parts = ("must-fail", "wrong_bodies")
-                    if not any(
-                        (ROOT / "crates" / crate / it / f"{edit}.edit").exists() for it in parts
-                    ):
+                    if edit not in edits_of(crate):
                         wrong.append(f"{page}: {crate} has no edit {edit}")
 
 
@@ -888,13 +894,10 @@ def test_laws_have_rows():
 
 
 def test_edits_have_rows():
-    there = [
-        os.path.relpath(path, ROOT)
-        for crate in crates()
-        for part in ("must-fail", "wrong_bodies")
-        for path in (ROOT / "crates" / crate / part).glob("*.edit")
-    ]
-    told = re.findall(r"(?m)^\| \[[^\]]*\]\(\.\./\.\./([^)]*)\)", read("docs/ref/edits.md"))
+    there = [f"{crate}/{edit}" for crate in crates() for edit in edits_of(crate)]
+    row = r"(?m)^\| \[?([\w ]+)(?:\]\([^)]*\))? \| \[[^\]]*\]\(\.\./\.\./crates/(\w+)/"
+    rows = re.findall(row, read("docs/ref/edits.md"))
+    told = [f"{crate}/{edit.replace(' ', '_')}" for edit, crate in rows]
     none_wrong(compare_names, "docs/ref/edits.md", "edit", told, there)
 
 
