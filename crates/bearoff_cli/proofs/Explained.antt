@@ -28,12 +28,12 @@ check_of_file E (Spread rank k) = refl
 check_of_file E TableRead = tt
 
 -- a file that was not read ends it with nothing written
-pub unread_end : {F : Type 0} (remaining : F → Option (List ℕ)) (path : List ℕ)
+pub unread_end : (From : List ℕ → Type 0) (path : List ℕ)
     (old : Option (List ℕ)) (refusal : ProgramFault) → IsUnreadEnd path refusal
-    → IsAboutEnd remaining path old old refusal
-unread_end remaining path old (Words e) is = absurd is
-unread_end remaining path old (Failed fault) is = rw is (tt, inl refl)
-unread_end remaining path old (Explained it) is =
+    → IsAboutEnd From path old old refusal
+unread_end From path old (Words e) is = absurd is
+unread_end From path old (Failed fault) is = rw is (tt, inl refl)
+unread_end From path old (Explained it) is =
     (is.0, by_fault it.fault is.1, inl (status it.fault is.1), inl refl)
   where
     by_fault : (fault : Fault) → (fault ≡ Open) ⊎ (fault ≡ File) → IsOfFile fault it.reason
@@ -70,17 +70,17 @@ of_file_check (Refused cause) reason is = tt
 of_file_check NotOld reason is = absurd is
 
 -- such an end is a refusal of the request
-pub about_refusal : {A F : Type 0} (remaining : F → Option (List ℕ)) (path : List ℕ)
+pub about_refusal : {A : Type 0} (From : List ℕ → List ℕ → Type 0) (path : List ℕ)
     (input left old new : Option (List ℕ)) (r : Result A ProgramFault)
-    → IfErr r (λ refusal. IsAboutEnd remaining path old new refusal)
-    → IfErr r (λ refusal. IsRefusalOf remaining (about path) input left old new refusal)
-about_refusal remaining path input left old new (Ok x) is = tt
-about_refusal remaining path input left old new (Err (Words e)) is = absurd is
-about_refusal {A} remaining path input left old new (Err (Failed fault)) is =
+    → IfErr r (λ refusal. IsAboutEnd (From path) path old new refusal)
+    → IfErr r (λ refusal. IsRefusalOf From (about path) input left old new refusal)
+about_refusal From path input left old new (Ok x) is = tt
+about_refusal From path input left old new (Err (Words e)) is = absurd is
+about_refusal {A} From path input left old new (Err (Failed fault)) is =
     let can = no_file_check fault is.0 in
     let none = no_turns {A = A} IsCheckFault (λ is. is) input left (Err fault) can.0 in
     (is.0, (can.0, inl can.1, none, is.1))
-about_refusal {A} remaining path input left old new (Err (Explained it)) is =
+about_refusal {A} From path input left old new (Err (Explained it)) is =
     let can = of_file_check it.fault it.reason is.1 in (
       ap about (sym is.0),
       is.1,
@@ -88,23 +88,23 @@ about_refusal {A} remaining path input left old new (Err (Explained it)) is =
     )
 
 -- what is explained is of `about`, which is then the first word
-pub explained_for : {A F : Type 0} (remaining : F → Option (List ℕ)) (asked : Asked)
+pub explained_for : {A : Type 0} (From : List ℕ → List ℕ → Type 0) (asked : Asked)
     (words : List (List ℕ)) (input left old new : Option (List ℕ)) (r : Result A ProgramFault)
     → IsAskedBy words asked
-    → IfErr r (λ refusal. IsRefusalOf remaining asked input left old new refusal)
+    → IfErr r (λ refusal. IsRefusalOf From asked input left old new refusal)
     → IfErr r (λ refusal. IsExplainedFor words refusal)
-explained_for remaining asked words input left old new (Ok x) by refusal = tt
-explained_for remaining asked words input left old new (Err (Words e)) by refusal = tt
-explained_for remaining asked words input left old new (Err (Failed e)) by refusal = tt
-explained_for remaining asked words input left old new (Err (Explained it)) by refusal =
+explained_for From asked words input left old new (Ok x) by refusal = tt
+explained_for From asked words input left old new (Err (Words e)) by refusal = tt
+explained_for From asked words input left old new (Err (Failed e)) by refusal = tt
+explained_for From asked words input left old new (Err (Explained it)) by refusal =
     let is = subst (λ a. IsAskedBy words a) refusal.0 by in (is.0, is.1)
 
 -- a failed output ends it, with a part of what the file is
-pub written_end : {A F : Type 0} (remaining : F → Option (List ℕ)) (path : List ℕ)
+pub written_end : {A : Type 0} (From : List ℕ → Type 0) (path : List ℕ)
     (old new : Option (List ℕ)) (ended : Result A Fault) (r : Result A ProgramFault)
-    → IfErr ended (λ fault. fault ≡ Write) → OnErr ended (LeavesAbout remaining old new)
+    → IfErr ended (λ fault. fault ≡ Write) → OnErr ended (LeavesAbout From old new)
     → IfOk ended (λ done. r ≡ Ok done) → IfErr ended (λ fault. r ≡ Err (Failed fault))
-    → IfErr r (λ refusal. IsAboutEnd remaining path old new refusal)
-written_end remaining path old new (Ok x) r cause leaves done failed = rw done tt
-written_end remaining path old new (Err e) r cause leaves done failed =
+    → IfErr r (λ refusal. IsAboutEnd From path old new refusal)
+written_end From path old new (Ok x) r cause leaves done failed = rw done tt
+written_end From path old new (Err e) r cause leaves done failed =
     rw failed (rw cause tt, leaves)

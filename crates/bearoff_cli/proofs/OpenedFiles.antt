@@ -14,12 +14,16 @@ use Rattle.certificate.specs.Upgrades.{WritesUpgrade}
 use Rattle.race_model.specs.InputLines.{lines_of}
 use Rattle.epc_query.specs.Runs.{HasReplies}
 use Rattle.epc_query.proofs.Runs.{read_all, read_front}
+use Rattle.whole_file.specs.Disks.{Moment}
+use Rattle.whole_file.specs.Paths.{Paths, ReadsBehind}
 use Rattle.bearoff_cli.proofs.Requests.{IsNot}
 use Rattle.bearoff_cli.specs.InputAnswers.{AreAnswered}
-use Rattle.bearoff_cli.specs.Kinds.{stated_file}
-use Rattle.bearoff_cli.specs.FileAnswers.{AreAnsweredFrom, IsHandedTo, IsReadFrom, SaysLevels, SaysUpgraded}
-use Rattle.bearoff_cli.specs.FileAnswers.{WritesLevels, count_line}
-use Rattle.bearoff_cli.specs.declared.act.Done.TheVariants.{Upgraded}
+use Rattle.bearoff_cli.specs.Kinds.{stated_file, stated_kind}
+use Rattle.bearoff_cli.specs.FileAnswers.{AreAnsweredFrom, IsHandedTo, IsReadFrom, SaysAbout, SaysLevels}
+use Rattle.bearoff_cli.specs.FileAnswers.{SaysRight, SaysUpgraded, WritesLevels, about_file, about_text}
+use Rattle.bearoff_cli.specs.FileAnswers.{count_line, version_in}
+use Rattle.command_line.specs.declared.words.FileKind.{FileKind}
+use Rattle.bearoff_cli.specs.declared.act.Done.TheVariants.{Checked, Upgraded}
 
 -- a list of no length is none
 pub no_bytes : (bytes : List ℕ) → length bytes ≡ 0 → bytes ≡ []
@@ -42,23 +46,27 @@ first_read left new done most read long =
     subst (λ xs. take most done ≡ take most xs) front.1
     (sym (take-append-le most done front.0 long))
 
--- what was read of a file that was opened
-pub read_of : {F V E : Type 0} (remaining : F → Option (List ℕ)) (file : F) (items : V → List ℕ)
-    (r : Result V E)
+-- what was read of a file that was opened, to which a path leads
+pub read_of : {F V E : Type 0} (remaining : F → Option (List ℕ)) (paths : Paths) (path : List ℕ)
+    (told : Option (List Moment)) (file : F) (items : V → List ℕ) (r : Result V E)
+    → ReadsBehind paths path told (remaining file)
     → WhereTold (remaining file) (λ left. IfOk r (λ v. items v ≡ take 20000001 left))
-    → IfOk r (λ v. IsReadFrom remaining (items v))
-read_of remaining file items (Ok v) read = (file, read)
-read_of remaining file items (Err e) read = tt
+    → IfOk r (λ v. IsReadFrom remaining paths told path (items v))
+read_of remaining paths path told file items (Ok v) reads read = (
+  (file, read),
+  λ now past is to bytes leads holds. read bytes (reads now past is to bytes leads holds),
+)
+read_of remaining paths path told file items (Err e) reads read = tt
 
 -- the levels of what was read
-pub levels_read : {A E F : Type 0} (kind : List ℕ → AnyFile) (remaining : F → Option (List ℕ))
-    (file : List ℕ) (old new : Option (List ℕ)) (r : Result A E) → IsReadFrom remaining file
+pub levels_read : {A E : Type 0} (kind : List ℕ → AnyFile) (From : List ℕ → Type 0)
+    (file : List ℕ) (old new : Option (List ℕ)) (r : Result A E) → From file
     → IsRightBy (kind file)
     → OnOk r (WritesLevels (kind file) (suc (bound_by (kind file))) old new)
-    → OnOk r (SaysLevels kind remaining old new)
-levels_read kind remaining file old new (Ok x) read right levels =
+    → OnOk r (SaysLevels kind From old new)
+levels_read kind From file old new (Ok x) read right levels =
     record { file = file; read = read; right = right; levels = levels }
-levels_read kind remaining file old new (Err e) read right levels = tt
+levels_read kind From file old new (Err e) read right levels = tt
 
 -- the replies over a right file
 pub are_answered : {E : Type 0} (file : AnyFile) (given : List ℕ) (left old new : Option (List ℕ))
@@ -77,25 +85,25 @@ all_ok (Ok x) P Q R p q r = (p, q, r)
 all_ok (Err e) P Q R p q r = tt
 
 -- the replies over what was read
-pub over_read : {A E F : Type 0} (kind : List ℕ → AnyFile) (remaining : F → Option (List ℕ))
+pub over_read : {A E : Type 0} (kind : List ℕ → AnyFile) (From : List ℕ → Type 0)
     (file given : List ℕ) (left old new : Option (List ℕ)) (r : Result A E)
-    → IsReadFrom remaining file → IfOk r (λ _. AreAnswered (kind file) given left old new)
-    → IfOk r (λ _. AreAnsweredFrom kind remaining given left old new)
-over_read kind remaining file given left old new (Ok x) read is =
+    → From file → IfOk r (λ _. AreAnswered (kind file) given left old new)
+    → IfOk r (λ _. AreAnsweredFrom kind From given left old new)
+over_read kind From file given left old new (Ok x) read is =
     record { file = file; read = read; answered = is }
-over_read kind remaining file given left old new (Err e) read is = tt
+over_read kind From file given left old new (Err e) read is = tt
 
 -- .. to lines that are words, which were all read then
-pub words_answered : {A E F : Type 0} (remaining : F → Option (List ℕ)) (file given : List ℕ)
-    (left old new : Option (List ℕ)) (r : Result A E) → IsReadFrom remaining file
+pub words_answered : {A E : Type 0} (From : List ℕ → Type 0) (file given : List ℕ)
+    (left old new : Option (List ℕ)) (r : Result A E) → From file
     → IfOk r (λ _. AreAnswered (stated_file file) given left old new)
-    → OnOk r (AreAnsweredFrom stated_file remaining given (Some []) old new)
-words_answered remaining file given left old new (Ok x) read is = record {
+    → OnOk r (AreAnsweredFrom stated_file From given (Some []) old new)
+words_answered From file given left old new (Ok x) read is = record {
   file = file;
   read = read;
   answered = record { right = is.right; end = refl; replies = is.replies };
 }
-words_answered remaining file given left old new (Err e) read is = tt
+words_answered From file given left old new (Err e) read is = tt
 
 -- a version that is not the second is the first
 pub is_full : (v : Version) → ¬ (version_number v ≡ 2) → v ≡ full
@@ -103,15 +111,15 @@ is_full full other = refl
 is_full compact other = absurd (other refl)
 
 -- the line of what was read and upgraded
-pub upgrade_read : {A E F W : Type 0} (remaining : F → Option (List ℕ))
+pub upgrade_read : {A E W : Type 0} (From : List ℕ → Type 0)
     (contents : W → Option (List ℕ)) (file : List ℕ)
-    (old new : Option (List ℕ)) (r : Result A E) (pips positions : ℕ) → IsReadFrom remaining file
+    (old new : Option (List ℕ)) (r : Result A E) (pips positions : ℕ) → From file
     → IsRightDatabase file → version_of file ≡ full → IsHandedTo contents (WritesUpgrade file)
     → pips ≡ bound_of file
     → positions ≡ count_to (bound_of file)
     → OnOk r (Appends old new (count_line Upgraded pips positions))
-    → OnOk r (SaysUpgraded remaining contents old new)
-upgrade_read remaining contents file old new (Ok x) pips positions read right version handed p q
+    → OnOk r (SaysUpgraded From contents old new)
+upgrade_read From contents file old new (Ok x) pips positions read right version handed p q
     h = record {
       file = file;
       read = read;
@@ -121,7 +129,7 @@ upgrade_read remaining contents file old new (Ok x) pips positions read right ve
       written = subst (λ n. Appends old new (count_line Upgraded (bound_of file) n)) q
           (subst (λ n. Appends old new (count_line Upgraded n positions)) p h);
     }
-upgrade_read remaining contents file old new (Err e) pips positions read right version handed p q
+upgrade_read From contents file old new (Err e) pips positions read right version handed p q
     h = tt
 
 -- what was handed to a writer, where the end of the file is Ok only if that is
@@ -154,3 +162,44 @@ at_err (Err e) p is = p
 pub on_ok : {A E : Type 0} (r : Result A E) (P : Type 0) → P → OnOk r P
 on_ok (Ok x) P h = h
 on_ok (Err e) P h = tt
+
+-- the line of what was read and checked
+pub says_right : {A E : Type 0} (kind : List ℕ → AnyFile) (From : List ℕ → Type 0) (file : List ℕ)
+    (pips : ℕ) (old new : Option (List ℕ)) (r : Result A E) → From file → IsRightBy (kind file)
+    → pips ≡ bound_by (kind file)
+    → OnOk r (Appends old new (count_line Checked pips (count_to pips)))
+    → OnOk r (SaysRight kind From old new)
+says_right kind From file pips old new (Ok x) read right same h = record {
+  file = file;
+  read = read;
+  right = right;
+  written = subst (λ n. Appends old new (count_line Checked n (count_to n))) same h;
+}
+says_right kind From file pips old new (Err e) read right same h = tt
+
+-- the lines of what a file is
+pub about_is : (file : List ℕ) (kind : FileKind) (version pips : ℕ) → kind ≡ stated_kind file
+    → version ≡ version_in (stated_file file) → pips ≡ bound_by (stated_file file)
+    → about_text kind version pips (count_to pips) ≡ about_file file
+about_is file kind version pips k v p =
+    subst (λ x. about_text x version pips (count_to pips) ≡ about_file file) (sym k)
+    (subst (λ x. about_text (stated_kind file) x pips (count_to pips) ≡ about_file file) (sym v)
+    (subst (λ x. about_text (stated_kind file) (version_in (stated_file file)) x (count_to x)
+    ≡ about_file file) (sym p) refl))
+
+-- .. which were written
+pub says_about : {A E : Type 0} (From : List ℕ → Type 0) (file text : List ℕ)
+    (old new : Option (List ℕ)) (r : Result A E) → From file → IsRightBy (stated_file file)
+    → text ≡ about_file file → OnOk r (Appends old new text) → OnOk r (SaysAbout From old new)
+says_about From file text old new (Ok x) read right same h = record {
+  file = file;
+  read = read;
+  right = right;
+  written = subst (λ text. Appends old new text) same h;
+}
+says_about From file text old new (Err e) read right same h = tt
+
+-- a version that is the second
+pub is_compact : (v : Version) → version_number v ≡ 2 → v ≡ compact
+is_compact full same = absurd (omega (arith, same))
+is_compact compact same = refl

@@ -20,7 +20,7 @@ use Rattle.epc_query.specs.declared.run_fault.RunFault.TheVariants.{Read, Write,
 use Rattle.epc_query.proofs.Held.{appends_same, part_after, part_all}
 use Rattle.epc_query.proofs.Runs.{failed_flush, flushed, read_front, stopped_in}
 use Rattle.exit_status.specs.declared.fault.Fault.{Fault}
-use Rattle.bearoff_cli.specs.FileAnswers.{IsReadFrom, WritesLevels, count_line}
+use Rattle.bearoff_cli.specs.FileAnswers.{WritesLevels, count_line}
 use Rattle.bearoff_cli.specs.Kinds.{stated_file}
 use Rattle.bearoff_cli.specs.StoppedRuns.{AreStopped, IsNothingOr, LeavesReplies, WritesLevelsPart, WritesLevelPart}
 use Rattle.bearoff_cli.specs.Turns.{UsesTurns}
@@ -60,12 +60,12 @@ line_part old new done bound pips positions p q h =
     (subst (λ n. AppendsPart old new (count_line done n positions)) p h)
 
 -- what was written of a file that was read
-pub read_part : {A F : Type 0} (kind : List ℕ → AnyFile) (remaining : F → Option (List ℕ))
+pub read_part : {A : Type 0} (kind : List ℕ → AnyFile) (From : List ℕ → Type 0)
     (Says : List ℕ → Type 0) (file : List ℕ) (old new : Option (List ℕ)) (r : Result A Fault)
-    → IsReadFrom remaining file → IsRightBy (kind file) → OnErr r (Says file)
-    → OnErr r (IsNothingOr kind remaining Says old new)
-read_part kind remaining Says file old new (Ok x) read right says = tt
-read_part kind remaining Says file old new (Err e) read right says = inr (file, read, right, says)
+    → From file → IsRightBy (kind file) → OnErr r (Says file)
+    → OnErr r (IsNothingOr kind From Says old new)
+read_part kind From Says file old new (Ok x) read right says = tt
+read_part kind From Says file old new (Err e) read right says = inr (file, read, right, says)
 
 -- where it stopped, it did so with nothing written, or so
 pub may_be_stopped : {A : Type 0} (N : Type 0) (Stops : Fault → Type 0) (r : Result A Fault)
@@ -74,30 +74,30 @@ may_be_stopped N Stops (Ok x) stops = tt
 may_be_stopped N Stops (Err e) stops = inr stops
 
 -- .. over a file that was read
-pub read_stopped : {A F : Type 0} (kind : List ℕ → AnyFile) (remaining : F → Option (List ℕ))
+pub read_stopped : {A : Type 0} (kind : List ℕ → AnyFile) (From : List ℕ → Type 0)
     (file given : List ℕ) (left old new : Option (List ℕ)) (r : Result A Fault)
-    → IsReadFrom remaining file
+    → From file
     → IfErr r (λ fault. (new ≡ old) ⊎ AreStopped (kind file) given left old new fault)
     → IfErr r (λ fault.
-    IsNothingOr kind remaining (λ f. AreStopped (kind f) given left old new fault) old new)
-read_stopped kind remaining file given left old new (Ok x) read stops = tt
-read_stopped kind remaining file given left old new (Err e) read (inl same) = inl same
-read_stopped kind remaining file given left old new (Err e) read (inr stops) =
+    IsNothingOr kind From (λ f. AreStopped (kind f) given left old new fault) old new)
+read_stopped kind From file given left old new (Ok x) read stops = tt
+read_stopped kind From file given left old new (Err e) read (inl same) = inl same
+read_stopped kind From file given left old new (Err e) read (inr stops) =
     inr (file, read, stops.right, stops)
 
 -- .. where the lines are words
-pub words_stopped : {A F : Type 0} (remaining : F → Option (List ℕ)) (file given : List ℕ)
-    (rest old new : Option (List ℕ)) (r : Result A Fault) → IsReadFrom remaining file
+pub words_stopped : {A : Type 0} (From : List ℕ → Type 0) (file given : List ℕ)
+    (rest old new : Option (List ℕ)) (r : Result A Fault) → From file
     → IfErr r (UsesTurns (Some given) rest)
     → WhereTold (Some given) (λ lines. IfErr r
     (λ fault. (new ≡ old) ⊎ AreStopped (stated_file file) lines rest old new fault))
     → IfErr r (λ fault. (left : Option (List ℕ)) × UsesTurns (Some given) left fault
-    × LeavesReplies stated_file remaining (Some given) left old new fault)
-words_stopped remaining file given rest old new (Ok x) read turns stops = tt
-words_stopped {A} remaining file given rest old new (Err e) read turns stops = (
+    × LeavesReplies stated_file From (Some given) left old new fault)
+words_stopped From file given rest old new (Ok x) read turns stops = tt
+words_stopped {A} From file given rest old new (Err e) read turns stops = (
   rest,
   turns,
-  λ lines told. read_stopped {A = A} stated_file remaining file lines rest old new (Err e) read
+  λ lines told. read_stopped {A = A} stated_file From file lines rest old new (Err e) read
       (stops lines told),
 )
 

@@ -22,7 +22,6 @@ use Rattle.exit_status.specs.Statuses.{status_of}
 use Rattle.exit_status.specs.declared.fault.Fault.{Fault}
 use Rattle.exit_status.specs.declared.fault.Fault.TheVariants.{Open, File, Read, Write, Memory, Turns, OverBound}
 use Rattle.exit_status.specs.declared.fault.Fault.TheVariants.{Refused, NotOld}
-use Rattle.bearoff_cli.specs.FileAnswers.{IsReadFrom}
 use Rattle.command_line.specs.Asked.{Asked, default, build, check, query, ask, about, audit, upgrade}
 use Rattle.bearoff_cli.specs.Faults.{CanEnd, IsBoundFault, IsFaultIn, IsFirstBy, IsOwnFault, IsFaultOf}
 use Rattle.bearoff_cli.specs.StoppedRuns.{IsBare, IsEndOf, IsOfFile, IsRefusalOf, Leaves, RunsOut}
@@ -68,12 +67,12 @@ run_in file NoMemoryLeft = tt
 run_in file NoTurns = tt
 
 -- the fault of a file that was read
-pub own_of : {A F : Type 0} (kind : List ℕ → AnyFile) (remaining : F → Option (List ℕ))
-    (file : List ℕ) (r : Result A Fault) → IsReadFrom remaining file
+pub own_of : {A : Type 0} (kind : List ℕ → AnyFile) (From : List ℕ → Type 0)
+    (file : List ℕ) (r : Result A Fault) → From file
     → IfErr r (λ fault. IsFaultIn (kind file) fault)
-    → IfErr r (λ fault. IsOwnFault kind remaining fault)
-own_of kind remaining file (Ok x) read is = tt
-own_of kind remaining file (Err fault) read is = inr (file, read, is)
+    → IfErr r (λ fault. IsOwnFault kind From fault)
+own_of kind From file (Ok x) read is = tt
+own_of kind From file (Err fault) read is = inr (file, read, is)
 
 abbrev IsFull : Version → Type 0
 IsFull full = Unit {0}
@@ -89,40 +88,40 @@ old_status OldRead version r is says old = refl
 old_status NewWrite version r is says old = refl
 
 -- want of memory may come to each request
-pub memory_of : {F : Type 0} (remaining : F → Option (List ℕ)) (asked : Asked)
-    → IsFaultOf remaining asked Memory
-memory_of remaining default = tt
-memory_of remaining (build kind pips path) = tt
-memory_of remaining (check kind path) = inl refl
-memory_of remaining (query kind path None) = inl refl
-memory_of remaining (query kind path (Some records)) = tt
-memory_of remaining (ask path lines) = inl refl
-memory_of remaining (about path) = inl refl
-memory_of remaining (audit kind path) = inl refl
-memory_of remaining (upgrade before after) = inl refl
+pub memory_of : (From : List ℕ → List ℕ → Type 0) (asked : Asked)
+    → IsFaultOf From asked Memory
+memory_of From default = tt
+memory_of From (build kind pips path) = tt
+memory_of From (check kind path) = inl refl
+memory_of From (query kind path None) = inl refl
+memory_of From (query kind path (Some records)) = tt
+memory_of From (ask path lines) = inl refl
+memory_of From (about path) = inl refl
+memory_of From (audit kind path) = inl refl
+memory_of From (upgrade before after) = inl refl
 
 -- .. before anything was written
-pub nothing_of : {F : Type 0} (remaining : F → Option (List ℕ)) (asked : Asked)
-    (input old : Option (List ℕ)) → Leaves remaining asked input input old old Memory
-nothing_of remaining default input old = λ given told. inl refl
-nothing_of remaining (build kind pips path) input old = (0, appends_none old)
-nothing_of remaining (check kind path) input old = inl refl
-nothing_of remaining (query kind path None) input old = λ given told. inl refl
-nothing_of remaining (query kind path (Some records)) input old = tt
-nothing_of remaining (ask path lines) input old =
+pub nothing_of : (From : List ℕ → List ℕ → Type 0) (asked : Asked)
+    (input old : Option (List ℕ)) → Leaves From asked input input old old Memory
+nothing_of From default input old = λ given told. inl refl
+nothing_of From (build kind pips path) input old = (0, appends_none old)
+nothing_of From (check kind path) input old = inl refl
+nothing_of From (query kind path None) input old = λ given told. inl refl
+nothing_of From (query kind path (Some records)) input old = tt
+nothing_of From (ask path lines) input old =
     (refl, (Some lines, (λ given told. tt), (λ given told. inl refl)))
-nothing_of remaining (about path) input old = inl refl
-nothing_of remaining (audit kind path) input old = inl refl
-nothing_of remaining (upgrade before after) input old = inl refl
+nothing_of From (about path) input old = inl refl
+nothing_of From (audit kind path) input old = inl refl
+nothing_of From (upgrade before after) input old = inl refl
 
 -- .. so it may be the end of each
-pub memory_end : {F : Type 0} (remaining : F → Option (List ℕ)) (asked : Asked)
-    (input old : Option (List ℕ)) → IsEndOf remaining asked input input old old Memory
-memory_end remaining asked input old = (
+pub memory_end : (From : List ℕ → List ℕ → Type 0) (asked : Asked)
+    (input old : Option (List ℕ)) → IsEndOf From asked input input old old Memory
+memory_end From asked input old = (
   can_want asked,
-  memory_of remaining asked,
+  memory_of From asked,
   none_out asked,
-  nothing_of remaining asked input old,
+  nothing_of From asked input old,
 )
   where
     none_out : (asked : Asked) → RunsOut asked input input Memory
@@ -146,10 +145,10 @@ memory_end remaining asked input old = (
     can_want (upgrade before after) = tt
 
 -- .. with no explanation
-pub memory_refusal : {F : Type 0} (remaining : F → Option (List ℕ)) (asked : Asked)
+pub memory_refusal : (From : List ℕ → List ℕ → Type 0) (asked : Asked)
     (input old : Option (List ℕ))
-    → IsRefusalOf remaining asked input input old old (Failed Memory)
-memory_refusal remaining asked input old = (bare asked, memory_end remaining asked input old)
+    → IsRefusalOf From asked input input old old (Failed Memory)
+memory_refusal From asked input old = (bare asked, memory_end From asked input old)
   where
     bare : (asked : Asked) → IsBare asked Memory
     bare default = tt
@@ -162,18 +161,18 @@ memory_refusal remaining asked input old = (bare asked, memory_end remaining ask
     bare (upgrade before after) = tt
 
 -- the fault of a request that explains none is the refusal
-pub ended_refusal : {A F : Type 0} (remaining : F → Option (List ℕ)) (asked : Asked)
+pub ended_refusal : {A : Type 0} (From : List ℕ → List ℕ → Type 0) (asked : Asked)
     (bare : (fault : Fault) → IsBare asked fault) (input left old new : Option (List ℕ))
     (ended : Result A Fault) (r : Result A ProgramFault)
     → IfErr ended (λ fault. CanEnd asked fault)
-    → IfErr ended (λ fault. IsFaultOf remaining asked fault)
+    → IfErr ended (λ fault. IsFaultOf From asked fault)
     → IfErr ended (λ fault. RunsOut asked input left fault)
-    → IfErr ended (λ fault. Leaves remaining asked input left old new fault)
+    → IfErr ended (λ fault. Leaves From asked input left old new fault)
     → IfOk ended (λ done. r ≡ Ok done) → IfErr ended (λ fault. r ≡ Err (Failed fault))
-    → IfErr r (λ refusal. IsRefusalOf remaining asked input left old new refusal)
-ended_refusal remaining asked bare input left old new (Ok x) r can fault turns leaves done failed =
+    → IfErr r (λ refusal. IsRefusalOf From asked input left old new refusal)
+ended_refusal From asked bare input left old new (Ok x) r can fault turns leaves done failed =
     rw done tt
-ended_refusal remaining asked bare input left old new (Err e) r can fault turns leaves done failed =
+ended_refusal From asked bare input left old new (Err e) r can fault turns leaves done failed =
     rw failed (bare e, (can, fault, turns, leaves))
 
 -- what was done where no refusal came is done
@@ -278,23 +277,23 @@ told_any words (Err (Explained it)) status Line Same silent told for some other 
     )
 
 -- the end of a request that was refused, as it was told
-pub told_end : {A F : Type 0} (remaining : F → Option (List ℕ)) (asked : Asked)
+pub told_end : {A : Type 0} (From : List ℕ → List ℕ → Type 0) (asked : Asked)
     (input left old new : Option (List ℕ)) (r : Result A ProgramFault) (status : ℕ)
     (Line : List ℕ → Type 0) (Same : Type 0) → OnOk r ((status ≡ 0) × Same)
     → IfErr r (λ refusal. IsToldBy refusal status Line)
-    → IfErr r (λ refusal. IsRefusalOf remaining asked input left old new refusal)
+    → IfErr r (λ refusal. IsRefusalOf From asked input left old new refusal)
     → 0 < status
     → (fault : Fault) × (text : List ℕ) × ((status ≡ status_of fault) × Tells asked fault text
-    × Line text × IsEndOf remaining asked input left old new fault)
-told_end remaining asked input left old new (Ok x) status Line Same silent told refusal some =
+    × Line text × IsEndOf From asked input left old new fault)
+told_end From asked input left old new (Ok x) status Line Same silent told refusal some =
     absurd (omega (arith, silent.0, some))
-told_end remaining asked input left old new (Err (Words e)) status Line Same silent told refusal
+told_end From asked input left old new (Err (Words e)) status Line Same silent told refusal
     some =
     absurd refusal
-told_end remaining asked input left old new (Err (Failed e)) status Line Same silent told refusal
+told_end From asked input left old new (Err (Failed e)) status Line Same silent told refusal
     some =
     (e, error_line e, (told.0, bare_text asked e refusal.0, told.1, refusal.1))
-told_end remaining asked input left old new (Err (Explained it)) status Line Same silent told
+told_end From asked input left old new (Err (Explained it)) status Line Same silent told
     refusal some =
     let text = error_line it.fault ++ meaning_line it.path.now it.fault told.1.0 in
     let tells = explained_text it.path.now it.fault it.reason told.1.0 told.1.1 refusal.1 in (

@@ -11,7 +11,6 @@ use Rattle.exit_status.specs.Statuses.{status_of}
 use Rattle.exit_status.specs.declared.fault.Fault.{Fault}
 use Rattle.exit_status.specs.declared.fault.Fault.TheVariants.{Open, File, Read, Write, Memory, Turns, OverBound}
 use Rattle.exit_status.specs.declared.fault.Fault.TheVariants.{Refused, NotOld}
-use Rattle.bearoff_cli.specs.FileAnswers.{IsReadFrom}
 use Rattle.bearoff_cli.specs.Kinds.{file_of, greatest, stated_file}
 use Rattle.bearoff_cli.specs.declared.files.Unread.{Unread}
 use Rattle.bearoff_cli.specs.declared.files.Unread.TheVariants as unread
@@ -40,20 +39,20 @@ IsFaultIn file (Refused cause) = IsFirstBy file cause
 IsFaultIn file NotOld = IsNotOld file
 
 -- what failed is no file that is refused, or the fault is that of some opened file of this kind
-abbrev pub IsOwnFault : {F : Type 0} → (List ℕ → AnyFile) → (F → Option (List ℕ)) → Fault → Type 0
-IsOwnFault kind remaining fault = (status_of fault ≡ 1)
-    ⊎ ((file : List ℕ) × IsReadFrom remaining file × IsFaultIn (kind file) fault)
+abbrev pub IsOwnFault : (List ℕ → AnyFile) → (List ℕ → Type 0) → Fault → Type 0
+IsOwnFault kind From fault = (status_of fault ≡ 1)
+    ⊎ ((file : List ℕ) × From file × IsFaultIn (kind file) fault)
 
 -- what the fault of a request says of the file that it reads. Which fault a refused database has is
 -- not said of the answers by pages
-abbrev pub IsFaultOf : {F : Type 0} → (F → Option (List ℕ)) → Asked → Fault → Type 0
-IsFaultOf remaining (check kind path) = IsOwnFault (file_of kind) remaining
-IsFaultOf remaining (query kind path None) = IsOwnFault (file_of kind) remaining
-IsFaultOf remaining (ask path lines) = IsOwnFault stated_file remaining
-IsFaultOf remaining (about path) = IsOwnFault stated_file remaining
-IsFaultOf remaining (audit kind path) = IsOwnFault (file_of kind) remaining
-IsFaultOf remaining (upgrade before after) = IsOwnFault database_file remaining
-IsFaultOf remaining _ = λ fault. Unit {0}
+abbrev pub IsFaultOf : (List ℕ → List ℕ → Type 0) → Asked → Fault → Type 0
+IsFaultOf From (check kind path) = IsOwnFault (file_of kind) (From path)
+IsFaultOf From (query kind path None) = IsOwnFault (file_of kind) (From path)
+IsFaultOf From (ask path lines) = IsOwnFault stated_file (From path)
+IsFaultOf From (about path) = IsOwnFault stated_file (From path)
+IsFaultOf From (audit kind path) = IsOwnFault (file_of kind) (From path)
+IsFaultOf From (upgrade before after) = IsOwnFault database_file (From before)
+IsFaultOf From _ = λ fault. Unit {0}
 
 -- what a command that writes a file, and reads none, can fail by
 abbrev pub IsBuildFault : Fault → Type 0

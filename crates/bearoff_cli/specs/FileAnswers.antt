@@ -10,15 +10,21 @@ use Rattle.certificate.specs.Upgrades.{WritesUpgrade}
 use Rattle.epc_query.specs.AnyFiles.{AnyFile, database_file, board_file, bound_by, IsRightBy, IsLevelLineBy}
 use Rattle.command_line.specs.declared.words.FileKind.{FileKind}
 use Rattle.command_line.specs.declared.words.FileKind.TheVariants.{Database, Board}
+use Rattle.whole_file.specs.Disks.{Moment, Holds, Lastly}
+use Rattle.whole_file.specs.Paths.{Paths, LeadsTo, place_of}
 use Rattle.bearoff_cli.specs.InputAnswers.{AreAnswered}
 use Rattle.bearoff_cli.specs.Kinds.{stated_file, stated_kind}
 use Rattle.bearoff_cli.specs.declared.act.Done.{Done}
 use Rattle.bearoff_cli.specs.declared.act.Done.TheVariants.{Built, Checked, Upgraded}
 
--- the bytes are the first 20,000,001 of what some opened file had left, where it tells them
-abbrev pub IsReadFrom : {F : Type 0} → (F → Option (List ℕ)) → List ℕ → Type 0
-IsReadFrom {F} remaining bytes =
-    (opened : F) × WhereTold (remaining opened) (λ left. bytes ≡ take 20000001 left)
+-- the bytes are the first 20,000,001 of what some opened file had left, where it tells them, and of
+-- the file to which a path leads, where a disk tells its moments and these were made sure of
+abbrev pub IsReadFrom : {F : Type 0} → (F → Option (List ℕ)) → Paths → Option (List Moment)
+    → List ℕ → List ℕ → Type 0
+IsReadFrom {F} remaining paths told path bytes =
+    ((opened : F) × WhereTold (remaining opened) (λ left. bytes ≡ take 20000001 left))
+    × Lastly (λ now. (to file : List ℕ) → LeadsTo paths path to → Holds now (place_of paths to) file
+    → bytes ≡ take 20000001 file) told
 
 -- a writer was handed bytes, of which this holds
 abbrev pub IsHandedTo : {W : Type 0} → (W → Option (List ℕ))
@@ -27,11 +33,11 @@ IsHandedTo {W} contents Writes =
     (before : W) × (after : W) × Writes (contents before) (contents after)
 
 -- the replies over some opened file of this kind were written
-pub record AreAnsweredFrom {F : Type 0} (kind : List ℕ → AnyFile)
-    (remaining : F → Option (List ℕ)) (given : List ℕ)
+pub record AreAnsweredFrom (kind : List ℕ → AnyFile)
+    (From : List ℕ → Type 0) (given : List ℕ)
     (left old new : Option (List ℕ)) : Type 0 where
   pub file : List ℕ
-  pub read : IsReadFrom remaining file
+  pub read : From file
   pub answered : AreAnswered (kind file) given left old new
 
 -- the words for what was done
@@ -47,10 +53,10 @@ count_line done pips positions =
 
 -- the line of an accepted file was written: an opened file of this kind is right, and has this
 -- bound
-pub record SaysRight {F : Type 0} (kind : List ℕ → AnyFile) (remaining : F → Option (List ℕ))
+pub record SaysRight (kind : List ℕ → AnyFile) (From : List ℕ → Type 0)
     (old new : Option (List ℕ)) : Type 0 where
   pub file : List ℕ
-  pub read : IsReadFrom remaining file
+  pub read : From file
   pub right : IsRightBy (kind file)
   pub written : Appends old new
       (count_line Checked (bound_by (kind file)) (count_to (bound_by (kind file))))
@@ -78,19 +84,19 @@ about_file f = about_text (stated_kind f) (version_in (stated_file f)) (bound_by
 
 -- what an accepted file is was written: an opened file of the kind that its header states is right,
 -- and is this
-pub record SaysAbout {F : Type 0} (remaining : F → Option (List ℕ))
+pub record SaysAbout (From : List ℕ → Type 0)
     (old new : Option (List ℕ)) : Type 0 where
   pub file : List ℕ
-  pub read : IsReadFrom remaining file
+  pub read : From file
   pub right : IsRightBy (stated_file file)
   pub written : Appends old new (about_file file)
 
 -- the line of an upgraded database was written: an opened file is right and of version 1, and has
 -- this bound, and its upgrade was handed to the writer of a file
-pub record SaysUpgraded {F W : Type 0} (remaining : F → Option (List ℕ))
+pub record SaysUpgraded {W : Type 0} (From : List ℕ → Type 0)
     (contents : W → Option (List ℕ)) (old new : Option (List ℕ)) : Type 0 where
   pub file : List ℕ
-  pub read : IsReadFrom remaining file
+  pub read : From file
   pub right : IsRightDatabase file
   pub version_is : version_of file ≡ full
   pub handed : IsHandedTo contents (WritesUpgrade file)
@@ -115,9 +121,9 @@ pub record WritesLevels (file : AnyFile) (count : ℕ) (old new : Option (List �
   pub written : Appends old new lines
 
 -- the lines of all pip counts of some opened file of this kind were written
-pub record SaysLevels {F : Type 0} (kind : List ℕ → AnyFile) (remaining : F → Option (List ℕ))
+pub record SaysLevels (kind : List ℕ → AnyFile) (From : List ℕ → Type 0)
     (old new : Option (List ℕ)) : Type 0 where
   pub file : List ℕ
-  pub read : IsReadFrom remaining file
+  pub read : From file
   pub right : IsRightBy (kind file)
   pub levels : WritesLevels (kind file) (suc (bound_by (kind file))) old new

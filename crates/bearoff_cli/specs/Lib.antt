@@ -8,3 +8,4 @@ pub mod Requests
 pub mod StoppedRuns
 pub mod Tellings
 pub mod Turns
+pub mod TypedLines

@@ -39,22 +39,22 @@ Asks words (upgrade before after) = IsPlain before × IsPlain after
 -- what was read of the input and of an opened file and written to the output, where the request was
 -- fulfilled. Nothing is said of the answers by pages: what a seek and a read give, no contract of
 -- the library says together. Where lines are words of the request the input is left alone
-abbrev pub IsDone : {F W : Type 0} → (F → Option (List ℕ)) → (W → Option (List ℕ)) → Asked
+abbrev pub IsDone : {W : Type 0} → (List ℕ → List ℕ → Type 0) → (W → Option (List ℕ)) → Asked
     → Option (List ℕ) → Option (List ℕ) → Option (List ℕ) → Option (List ℕ) → Type 0
-IsDone remaining contents default input left old new =
+IsDone From contents default input left old new =
     WhereTold input (λ given. AreAnsweredOver 8 given left old new)
-IsDone remaining contents (build kind pips path) input left old new =
+IsDone From contents (build kind pips path) input left old new =
     (pips ≤ greatest kind) × IsHandedTo contents (WritesBuiltOf kind pips)
     × Appends old new (count_line Built pips (count_to pips))
-IsDone remaining contents (check kind path) input left old new =
-    SaysRight (file_of kind) remaining old new
-IsDone remaining contents (query kind path None) input left old new =
-    WhereTold input (λ given. AreAnsweredFrom (file_of kind) remaining given left old new)
-IsDone remaining contents (query kind path (Some records)) input left old new = Unit {0}
-IsDone remaining contents (ask path lines) input left old new =
-    (left ≡ input) × AreAnsweredFrom stated_file remaining lines (Some []) old new
-IsDone remaining contents (about path) input left old new = SaysAbout remaining old new
-IsDone remaining contents (audit kind path) input left old new =
-    SaysLevels (file_of kind) remaining old new
-IsDone remaining contents (upgrade before after) input left old new =
-    SaysUpgraded remaining contents old new
+IsDone From contents (check kind path) input left old new =
+    SaysRight (file_of kind) (From path) old new
+IsDone From contents (query kind path None) input left old new =
+    WhereTold input (λ given. AreAnsweredFrom (file_of kind) (From path) given left old new)
+IsDone From contents (query kind path (Some records)) input left old new = Unit {0}
+IsDone From contents (ask path lines) input left old new =
+    (left ≡ input) × AreAnsweredFrom stated_file (From path) lines (Some []) old new
+IsDone From contents (about path) input left old new = SaysAbout (From path) old new
+IsDone From contents (audit kind path) input left old new =
+    SaysLevels (file_of kind) (From path) old new
+IsDone From contents (upgrade before after) input left old new =
+    SaysUpgraded (From before) contents old new

@@ -17,7 +17,7 @@ use Rattle.exit_status.specs.Causes.{of_run}
 use Rattle.exit_status.specs.declared.fault.Fault.{Fault}
 use Rattle.exit_status.specs.declared.fault.Fault.TheVariants.{Open, File, Write, Memory, Refused}
 use Rattle.bearoff_cli.specs.Faults.{CanEnd, IsFaultOf, IsOwnFault}
-use Rattle.bearoff_cli.specs.FileAnswers.{AreLevelLines, IsReadFrom, about_file, count_line}
+use Rattle.bearoff_cli.specs.FileAnswers.{AreLevelLines, about_file, count_line}
 use Rattle.bearoff_cli.specs.Kinds.{file_of, stated_file}
 use Rattle.bearoff_cli.specs.Turns.{UsesTurns}
 use Rattle.bearoff_cli.specs.declared.act.Done.TheVariants.{Built, Checked, Upgraded}
@@ -58,58 +58,58 @@ SaysUpgradedPart file old new = (version_of file ≡ full)
     × AppendsPart old new (count_line Upgraded (bound_of file) (count_to (bound_of file)))
 
 -- nothing was written, or this was, of a right file of this kind that was read from some opened one
-abbrev pub IsNothingOr : {F : Type 0} → (List ℕ → AnyFile) → (F → Option (List ℕ))
+abbrev pub IsNothingOr : (List ℕ → AnyFile) → (List ℕ → Type 0)
     → (List ℕ → Type 0) → Option (List ℕ) → Option (List ℕ) → Type 0
-IsNothingOr kind remaining Says old new = (new ≡ old)
-    ⊎ ((file : List ℕ) × IsReadFrom remaining file × IsRightBy (kind file) × Says file)
+IsNothingOr kind From Says old new = (new ≡ old)
+    ⊎ ((file : List ℕ) × From file × IsRightBy (kind file) × Says file)
 
 -- what was written of the lines of an input over an opened file of this kind
-abbrev pub LeavesReplies : {F : Type 0} → (List ℕ → AnyFile) → (F → Option (List ℕ))
+abbrev pub LeavesReplies : (List ℕ → AnyFile) → (List ℕ → Type 0)
     → Option (List ℕ) → Option (List ℕ) → Option (List ℕ) → Option (List ℕ) → Fault → Type 0
-LeavesReplies kind remaining input left old new fault = WhereTold input (λ given.
-    IsNothingOr kind remaining (λ file. AreStopped (kind file) given left old new fault) old new)
+LeavesReplies kind From input left old new fault = WhereTold input (λ given.
+    IsNothingOr kind From (λ file. AreStopped (kind file) given left old new fault) old new)
 
 -- .. of the line of an accepted one
-abbrev pub LeavesLine : {F : Type 0} → (List ℕ → AnyFile) → (F → Option (List ℕ))
+abbrev pub LeavesLine : (List ℕ → AnyFile) → (List ℕ → Type 0)
     → Option (List ℕ) → Option (List ℕ) → Type 0
-LeavesLine kind remaining old new =
-    IsNothingOr kind remaining (λ file. SaysRightPart (kind file) old new) old new
+LeavesLine kind From old new =
+    IsNothingOr kind From (λ file. SaysRightPart (kind file) old new) old new
 
 -- .. of the lines of what it is
-abbrev pub LeavesAbout : {F : Type 0} → (F → Option (List ℕ)) → Option (List ℕ)
+abbrev pub LeavesAbout : (List ℕ → Type 0) → Option (List ℕ)
     → Option (List ℕ) → Type 0
-LeavesAbout remaining old new =
-    IsNothingOr stated_file remaining (λ file. AppendsPart old new (about_file file)) old new
+LeavesAbout From old new =
+    IsNothingOr stated_file From (λ file. AppendsPart old new (about_file file)) old new
 
 -- .. and of the lines of its pip counts
-abbrev pub LeavesLevels : {F : Type 0} → (List ℕ → AnyFile) → (F → Option (List ℕ))
+abbrev pub LeavesLevels : (List ℕ → AnyFile) → (List ℕ → Type 0)
     → Option (List ℕ) → Option (List ℕ) → Type 0
-LeavesLevels kind remaining old new =
-    IsNothingOr kind remaining (λ file. WritesLevelsPart (kind file) old new) old new
+LeavesLevels kind From old new =
+    IsNothingOr kind From (λ file. WritesLevelsPart (kind file) old new) old new
 
 -- what was written for a request where the program ended with this fault. Of the answers by pages
 -- nothing is said. Where lines are words of the request the input is left alone, and they are read
 -- as one
-abbrev pub Leaves : {F : Type 0} → (F → Option (List ℕ)) → Asked → Option (List ℕ)
+abbrev pub Leaves : (List ℕ → List ℕ → Type 0) → Asked → Option (List ℕ)
     → Option (List ℕ) → Option (List ℕ) → Option (List ℕ) → Fault → Type 0
-Leaves remaining default input left old new fault = WhereTold input (λ given. (new ≡ old)
+Leaves From default input left old new fault = WhereTold input (λ given. (new ≡ old)
     ⊎ ((file : List ℕ) × IsBuilt (usual_version 8) 8 file
     × AreStopped (database_file file) given left old new fault))
-Leaves remaining (build kind pips path) input left old new fault =
+Leaves From (build kind pips path) input left old new fault =
     AppendsPart old new (count_line Built pips (count_to pips))
-Leaves remaining (check kind path) input left old new fault =
-    LeavesLine (file_of kind) remaining old new
-Leaves remaining (query kind path None) input left old new fault =
-    LeavesReplies (file_of kind) remaining input left old new fault
-Leaves remaining (query kind path (Some records)) input left old new fault = Unit {0}
-Leaves remaining (ask path lines) input left old new fault = (left ≡ input)
+Leaves From (check kind path) input left old new fault =
+    LeavesLine (file_of kind) (From path) old new
+Leaves From (query kind path None) input left old new fault =
+    LeavesReplies (file_of kind) (From path) input left old new fault
+Leaves From (query kind path (Some records)) input left old new fault = Unit {0}
+Leaves From (ask path lines) input left old new fault = (left ≡ input)
     × ((rest : Option (List ℕ)) × UsesTurns (Some lines) rest fault
-    × LeavesReplies stated_file remaining (Some lines) rest old new fault)
-Leaves remaining (about path) input left old new fault = LeavesAbout remaining old new
-Leaves remaining (audit kind path) input left old new fault =
-    LeavesLevels (file_of kind) remaining old new
-Leaves remaining (upgrade before after) input left old new fault =
-    IsNothingOr database_file remaining (λ file. SaysUpgradedPart file old new) old new
+    × LeavesReplies stated_file (From path) (Some lines) rest old new fault)
+Leaves From (about path) input left old new fault = LeavesAbout (From path) old new
+Leaves From (audit kind path) input left old new fault =
+    LeavesLevels (file_of kind) (From path) old new
+Leaves From (upgrade before after) input left old new fault =
+    IsNothingOr database_file (From before) (λ file. SaysUpgradedPart file old new) old new
 
 -- how much was read of the input where the reads ran out. `Leaves` says so of lines that are words
 abbrev pub RunsOut : Asked → Option (List ℕ) → Option (List ℕ) → Fault → Type 0
@@ -118,11 +118,11 @@ RunsOut _ input left fault = UsesTurns input left fault
 
 -- a request ended so: with a fault that it can end with, which comes where it is said to, and with
 -- what was read and written by then
-abbrev pub IsEndOf : {F : Type 0} → (F → Option (List ℕ)) → Asked → Option (List ℕ)
+abbrev pub IsEndOf : (List ℕ → List ℕ → Type 0) → Asked → Option (List ℕ)
     → Option (List ℕ) → Option (List ℕ) → Option (List ℕ) → Fault → Type 0
-IsEndOf remaining asked input left old new fault = CanEnd asked fault
-    × IsFaultOf remaining asked fault × RunsOut asked input left fault
-    × Leaves remaining asked input left old new fault
+IsEndOf From asked input left old new fault = CanEnd asked fault
+    × IsFaultOf From asked fault × RunsOut asked input left fault
+    × Leaves From asked input left old new fault
 
 -- a fault is not that of a file
 abbrev pub IsNoFile : Fault → Type 0
@@ -149,19 +149,19 @@ IsUnreadEnd path (Failed fault) = fault ≡ Memory
 IsUnreadEnd path (Explained it) = (it.path.now ≡ path) × ((it.fault ≡ Open) ⊎ (it.fault ≡ File))
 
 -- .. and a file of any kind so
-abbrev pub IsAboutEnd : {F : Type 0} → (F → Option (List ℕ)) → List ℕ → Option (List ℕ)
+abbrev pub IsAboutEnd : (List ℕ → Type 0) → List ℕ → Option (List ℕ)
     → Option (List ℕ) → ProgramFault → Type 0
-IsAboutEnd remaining path old new (Words error) = ⊥
-IsAboutEnd remaining path old new (Failed fault) = IsNoFile fault × LeavesAbout remaining old new
-IsAboutEnd remaining path old new (Explained it) = (it.path.now ≡ path)
-    × IsOfFile it.fault it.reason × IsOwnFault stated_file remaining it.fault
-    × LeavesAbout remaining old new
+IsAboutEnd From path old new (Words error) = ⊥
+IsAboutEnd From path old new (Failed fault) = IsNoFile fault × LeavesAbout From old new
+IsAboutEnd From path old new (Explained it) = (it.path.now ≡ path)
+    × IsOfFile it.fault it.reason × IsOwnFault stated_file From it.fault
+    × LeavesAbout From old new
 
 -- .. as a refusal: its words are not wrong
-abbrev pub IsRefusalOf : {F : Type 0} → (F → Option (List ℕ)) → Asked → Option (List ℕ)
+abbrev pub IsRefusalOf : (List ℕ → List ℕ → Type 0) → Asked → Option (List ℕ)
     → Option (List ℕ) → Option (List ℕ) → Option (List ℕ) → ProgramFault → Type 0
-IsRefusalOf remaining asked input left old new (Words error) = ⊥
-IsRefusalOf remaining asked input left old new (Failed fault) =
-    IsBare asked fault × IsEndOf remaining asked input left old new fault
-IsRefusalOf remaining asked input left old new (Explained it) = (asked ≡ about it.path.now)
-    × IsOfFile it.fault it.reason × IsEndOf remaining asked input left old new it.fault
+IsRefusalOf From asked input left old new (Words error) = ⊥
+IsRefusalOf From asked input left old new (Failed fault) =
+    IsBare asked fault × IsEndOf From asked input left old new fault
+IsRefusalOf From asked input left old new (Explained it) = (asked ≡ about it.path.now)
+    × IsOfFile it.fault it.reason × IsEndOf From asked input left old new it.fault

@@ -1,5 +1,5 @@
 //! The whole program, over the files of a system, a reader and two writers.
-ghost use Rattle.std.specs.Prelude.{◌≡◌, ℕ, ◌<◌, ◌≤◌, ◌⊎◌, List, [], ◌++◌, map, Option, Some, Ok, Err};
+ghost use Rattle.std.specs.Prelude.{◌≡◌, ℕ, ◌<◌, ◌≤◌, ◌⊎◌, List, [], ◌++◌, map, Option, Some, None, Ok, Err};
 ghost use Rattle.std.specs.Prelude.{IfOk, IfErr, OnOk, OnErr};
 ghost use Rattle.std.specs.Io.KnownBytes.{Appends};
 ghost use Rattle.race_model.specs.BuiltFile.{IsBuilt};
@@ -21,8 +21,9 @@ ghost use Rattle.bearoff_cli.specs.Turns.{UsesTurns};
 ghost use Rattle.bearoff_cli.specs.Faults.{IsAnswerFault, IsBoundFault, IsCheckFault, IsFaultIn};
 ghost use Rattle.bearoff_cli.specs.Faults.{IsOwnFault, IsQueryFault, IsUpgradeFault};
 ghost use Rattle.bearoff_cli.specs.InputAnswers.{AreAnswered, AreAnsweredOver};
-ghost use Rattle.bearoff_cli.specs.FileAnswers.{AreAnsweredFrom, IsHandedTo, SaysAbout, SaysRight, SaysUpgraded};
+ghost use Rattle.bearoff_cli.specs.FileAnswers.{AreAnsweredFrom, IsHandedTo, IsReadFrom, SaysAbout, SaysRight, SaysUpgraded};
 ghost use Rattle.bearoff_cli.specs.FileAnswers.{SaysLevels, about_text};
+ghost use Rattle.whole_file.specs.Paths.{untold_paths};
 ghost use Rattle.whole_file.specs.Puts.{Puts};
 ghost use Rattle.bearoff_cli.specs.PutFiles.{KeepsBehind, KeepsUpgrade, LeavesBy, LeavesFor, LeavesInput};
 ghost use Rattle.bearoff_cli.specs.PutFiles.{PutsFor, PutsUpgrade};
@@ -92,10 +93,12 @@ where
         → (fault : Fault) × (text : List ℕ) × ((result ≡ status_of fault)
         × Tells asked fault text
         × AppendsPart (E.contents errors.old) (E.contents errors.new) text
-        × IsEndOf R.File.remaining asked (I.remaining input.old) (I.remaining input.new)
+        × IsEndOf (IsReadFrom R.File.remaining untold_paths None) asked
+        (I.remaining input.old) (I.remaining input.new)
         (O.contents output.old) (O.contents output.new) fault) }
     ensures done { (asked : Asked) → Asks (map S.text words.entry.now) asked → result ≡ 0
-        → IsDone R.File.remaining ⟦<BufWriter<R::File> as Write>⟧.contents asked
+        → IsDone (IsReadFrom R.File.remaining untold_paths None)
+        ⟦<BufWriter<R::File> as Write>⟧.contents asked
         (I.remaining input.old) (I.remaining input.new)
         (O.contents output.old) (O.contents output.new) }
     ensures unread { (asked : Asked) → Asks (map S.text words.entry.now) asked
@@ -138,11 +141,13 @@ pub fn act_on<D: Disk, S: AsStr, I: Read, O: Write, E: Write>(
         → 0 < result.status → (fault : Fault) × (text : List ℕ)
         × ((result.status ≡ status_of fault) × Tells asked fault text × IsWritten result.line
         (E.contents errors.old) (E.contents errors.new) text
-        × IsEndOf D.Reader.remaining asked (I.remaining input.old) (I.remaining input.new)
+        × IsEndOf (IsReadFrom D.Reader.remaining
+        (D.paths disk.old) (D.told disk.old)) asked (I.remaining input.old) (I.remaining input.new)
         (O.contents output.old) (O.contents output.new) fault) }
     ensures done { (asked : Asked) → Asks (map S.text words.entry.now) asked
         → result.status ≡ 0
-        → IsDone D.Reader.remaining ⟦<BufWriter<D::File> as Write>⟧.contents asked
+        → IsDone (IsReadFrom D.Reader.remaining
+        (D.paths disk.old) (D.told disk.old)) ⟦<BufWriter<D::File> as Write>⟧.contents asked
         (I.remaining input.old) (I.remaining input.new)
         (O.contents output.old) (O.contents output.new) }
     ensures put { (asked : Asked) → Asks (map S.text words.entry.now) asked
@@ -259,12 +264,14 @@ fn perform<'a, D: Disk, S: AsStr, I: Read, O: Write>(
 ) -> Result<(), ProgramFault<'a>>
     ensures refused { KeepsIfTold result (O.contents output.old) (O.contents output.new) }
     ensures fault { (asked : Asked) → Asks (map S.text words.entry.now) asked
-        → IfErr result (λ refusal. IsRefusalOf D.Reader.remaining asked
+        → IfErr result (λ refusal. IsRefusalOf (IsReadFrom D.Reader.remaining
+        (D.paths disk.old) (D.told disk.old)) asked
         (I.remaining input.old) (I.remaining input.new)
         (O.contents output.old) (O.contents output.new) refusal) }
     ensures explained { IfErr result (IsExplainedFor (map S.text words.entry.now)) }
     ensures done { (asked : Asked) → Asks (map S.text words.entry.now) asked
-        → OnOk result (IsDone D.Reader.remaining ⟦<BufWriter<D::File> as Write>⟧.contents asked
+        → OnOk result (IsDone (IsReadFrom D.Reader.remaining
+        (D.paths disk.old) (D.told disk.old)) ⟦<BufWriter<D::File> as Write>⟧.contents asked
         (I.remaining input.old) (I.remaining input.new)
         (O.contents output.old) (O.contents output.new)) }
     ensures put { (asked : Asked) → Asks (map S.text words.entry.now) asked
@@ -317,10 +324,12 @@ fn fulfil<'a, D: Disk, I: Read, O: Write>(
     output: &mut O,
 ) -> Result<(), ProgramFault<'a>>
     ensures refused { KeepsIfTold result (O.contents output.old) (O.contents output.new) }
-    ensures fault { IfErr result (IsRefusalOf D.Reader.remaining (asked_by request.entry)
+    ensures fault { IfErr result (IsRefusalOf (IsReadFrom D.Reader.remaining
+        (D.paths disk.old) (D.told disk.old)) (asked_by request.entry)
         (I.remaining input.old) (I.remaining input.new)
         (O.contents output.old) (O.contents output.new)) }
-    ensures done { OnOk result (IsDone D.Reader.remaining
+    ensures done { OnOk result (IsDone (IsReadFrom D.Reader.remaining
+        (D.paths disk.old) (D.told disk.old))
         ⟦<BufWriter<D::File> as Write>⟧.contents (asked_by request.entry) (I.remaining input.old)
         (I.remaining input.new) (O.contents output.old) (O.contents output.new)) }
     ensures put { OnOk result (PutsFor (D.paths disk.old) (asked_by request.entry)
@@ -393,12 +402,15 @@ fn answer_file<D: Disk, I: Read, O: Write>(
     ensures refused { KeepsIfRefused result (O.contents output.old) (O.contents output.new) }
     ensures cause { IfErr result IsQueryFault }
     ensures turns { IfErr result (UsesTurns (I.remaining input.old) (I.remaining input.new)) }
-    ensures fault { IfErr result (λ fault. IsOwnFault (file_of kind) D.Reader.remaining fault) }
-    ensures left { IfErr result (LeavesReplies (file_of kind) D.Reader.remaining
+    ensures fault { IfErr result (λ fault. IsOwnFault (file_of kind) (IsReadFrom D.Reader.remaining
+        (D.paths disk.old) (D.told disk.old) path.now) fault) }
+    ensures left { IfErr result (LeavesReplies (file_of kind) (IsReadFrom D.Reader.remaining
+        (D.paths disk.old) (D.told disk.old) path.now)
         (I.remaining input.old) (I.remaining input.new)
         (O.contents output.old) (O.contents output.new)) }
     ensures answers { OnOk result (WhereTold (I.remaining input.old) (λ given.
-        AreAnsweredFrom (file_of kind) D.Reader.remaining given (I.remaining input.new)
+        AreAnsweredFrom (file_of kind) (IsReadFrom D.Reader.remaining
+        (D.paths disk.old) (D.told disk.old) path.now) given (I.remaining input.new)
         (O.contents output.old) (O.contents output.new))) }
     ensures stays { D.told disk.new ≡ D.told disk.old }
 {
@@ -418,12 +430,15 @@ fn ask_file<D: Disk, O: Write>(
 ) -> Result<(), Fault>
     ensures refused { KeepsIfRefused result (O.contents output.old) (O.contents output.new) }
     ensures cause { IfErr result IsQueryFault }
-    ensures fault { IfErr result (λ fault. IsOwnFault stated_file D.Reader.remaining fault) }
+    ensures fault { IfErr result (λ fault. IsOwnFault stated_file (IsReadFrom D.Reader.remaining
+        (D.paths disk.old) (D.told disk.old) path.now) fault) }
     ensures left { IfErr result (λ fault. (rest : Option (List ℕ))
         × UsesTurns (Some lines.now) rest fault
-        × LeavesReplies stated_file D.Reader.remaining (Some lines.now) rest
+        × LeavesReplies stated_file (IsReadFrom D.Reader.remaining
+        (D.paths disk.old) (D.told disk.old) path.now) (Some lines.now) rest
         (O.contents output.old) (O.contents output.new) fault) }
-    ensures answers { OnOk result (AreAnsweredFrom stated_file D.Reader.remaining lines.now
+    ensures answers { OnOk result (AreAnsweredFrom stated_file (IsReadFrom D.Reader.remaining
+        (D.paths disk.old) (D.told disk.old) path.now) lines.now
         (Some []) (O.contents output.old) (O.contents output.new)) }
     ensures stays { D.told disk.new ≡ D.told disk.old }
 {
@@ -585,11 +600,14 @@ fn check_file<D: Disk, O: Write>(
 ) -> Result<(), Fault>
     ensures refused { KeepsIfRefused result (O.contents output.old) (O.contents output.new) }
     ensures cause { IfErr result IsCheckFault }
-    ensures fault { IfErr result (λ fault. IsOwnFault (file_of kind) D.Reader.remaining fault) }
-    ensures left { OnErr result (LeavesLine (file_of kind) D.Reader.remaining
+    ensures fault { IfErr result (λ fault. IsOwnFault (file_of kind) (IsReadFrom D.Reader.remaining
+        (D.paths disk.old) (D.told disk.old) path.now) fault) }
+    ensures left { OnErr result (LeavesLine (file_of kind) (IsReadFrom D.Reader.remaining
+        (D.paths disk.old) (D.told disk.old) path.now)
         (O.contents output.old) (O.contents output.new)) }
     ensures right { OnOk result
-        (SaysRight (file_of kind) D.Reader.remaining
+        (SaysRight (file_of kind) (IsReadFrom D.Reader.remaining
+        (D.paths disk.old) (D.told disk.old) path.now)
         (O.contents output.old) (O.contents output.new)) }
     ensures stays { D.told disk.new ≡ D.told disk.old }
 {
@@ -608,9 +626,11 @@ fn about_file<'a, D: Disk, O: Write>(
     output: &mut O,
 ) -> Result<(), ProgramFault<'a>>
     ensures refused { KeepsIfTold result (O.contents output.old) (O.contents output.new) }
-    ensures fault { IfErr result (IsAboutEnd D.Reader.remaining path.now
+    ensures fault { IfErr result (IsAboutEnd (IsReadFrom D.Reader.remaining
+        (D.paths disk.old) (D.told disk.old) path.now) path.now
         (O.contents output.old) (O.contents output.new)) }
-    ensures about { OnOk result (SaysAbout D.Reader.remaining
+    ensures about { OnOk result (SaysAbout (IsReadFrom D.Reader.remaining
+        (D.paths disk.old) (D.told disk.old) path.now)
         (O.contents output.old) (O.contents output.new)) }
     ensures stays { D.told disk.new ≡ D.told disk.old }
 {
@@ -700,11 +720,14 @@ fn audit_file<D: Disk, O: Write>(
 ) -> Result<(), Fault>
     ensures refused { KeepsIfRefused result (O.contents output.old) (O.contents output.new) }
     ensures cause { IfErr result IsCheckFault }
-    ensures fault { IfErr result (λ fault. IsOwnFault (file_of kind) D.Reader.remaining fault) }
-    ensures left { OnErr result (LeavesLevels (file_of kind) D.Reader.remaining
+    ensures fault { IfErr result (λ fault. IsOwnFault (file_of kind) (IsReadFrom D.Reader.remaining
+        (D.paths disk.old) (D.told disk.old) path.now) fault) }
+    ensures left { OnErr result (LeavesLevels (file_of kind) (IsReadFrom D.Reader.remaining
+        (D.paths disk.old) (D.told disk.old) path.now)
         (O.contents output.old) (O.contents output.new)) }
     ensures levels { OnOk result
-        (SaysLevels (file_of kind) D.Reader.remaining
+        (SaysLevels (file_of kind) (IsReadFrom D.Reader.remaining
+        (D.paths disk.old) (D.told disk.old) path.now)
         (O.contents output.old) (O.contents output.new)) }
     ensures stays { D.told disk.new ≡ D.told disk.old }
 {
@@ -725,12 +748,15 @@ fn upgrade_database<D: Disk, O: Write>(
 ) -> Result<(), Fault>
     ensures refused { KeepsIfRefused result (O.contents output.old) (O.contents output.new) }
     ensures cause { IfErr result IsUpgradeFault }
-    ensures fault { IfErr result (λ fault. IsOwnFault database_file D.Reader.remaining fault) }
-    ensures left { OnErr result (IsNothingOr database_file D.Reader.remaining
+    ensures fault { IfErr result (λ fault. IsOwnFault database_file (IsReadFrom D.Reader.remaining
+        (D.paths disk.old) (D.told disk.old) old.now) fault) }
+    ensures left { OnErr result (IsNothingOr database_file (IsReadFrom D.Reader.remaining
+        (D.paths disk.old) (D.told disk.old) old.now)
         (λ file. SaysUpgradedPart file (O.contents output.old) (O.contents output.new))
         (O.contents output.old) (O.contents output.new)) }
     ensures upgraded { OnOk result
-        (SaysUpgraded D.Reader.remaining ⟦<BufWriter<D::File> as Write>⟧.contents
+        (SaysUpgraded (IsReadFrom D.Reader.remaining
+        (D.paths disk.old) (D.told disk.old) old.now) ⟦<BufWriter<D::File> as Write>⟧.contents
         (O.contents output.old) (O.contents output.new)) }
     ensures put { OnOk result (PutsUpgrade (D.paths disk.old) new.now
         (D.told disk.old) (D.told disk.new)) }

@@ -80,7 +80,8 @@ impl From<AllocError> for Unread {
 /// that a check needs, `Open` where the file can't be opened, `Read` where a read fails, and
 /// `Memory` where there is no room for the bytes.
 pub fn read_file<D: Disk>(disk: &mut D, alloc: Global, path: &str) -> Result<Vec<u8>, Unread>
-    ensures read { IfOk result (λ bytes. IsReadFrom D.Reader.remaining bytes.items) }
+    ensures read { IfOk result (λ bytes. IsReadFrom D.Reader.remaining (D.paths disk.old)
+        (D.told disk.old) path.now bytes.items) }
     ensures paths { D.paths disk.new ≡ D.paths disk.old }
     ensures stays { D.told disk.new ≡ D.told disk.old }
 {

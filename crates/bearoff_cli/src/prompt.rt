@@ -1,4 +1,7 @@
 //! The prompt that stands before each line of standard input where it is typed at a terminal.
+ghost use Rattle.std.specs.Prelude.{◌≡◌, Option, Some, None, List};
+ghost use Rattle.bearoff_cli.specs.TypedLines.{handed_on};
+
 use std::io;
 use std::io::{Read, Write};
 
@@ -25,7 +28,10 @@ pub struct Prompted<'a, I, T> {
 
 impl<'a, I, T> Prompted<'a, I, T> {
     /// An input, and the terminal at which its lines are typed, if they are.
-    pub fn new(input: &'a mut I, terminal: Option<&'a mut T>) -> Self {
+    pub fn new(input: &'a mut I, terminal: Option<&'a mut T>) -> Self
+        ensures input { result.input.now ≡ input.old }
+        ensures terminal { result.terminal ≡ terminal.entry }
+    {
         Prompted {
             input,
             terminal,
@@ -35,6 +41,8 @@ impl<'a, I, T> Prompted<'a, I, T> {
 }
 
 impl<I: Read, T: Write> Read for Prompted<'_, I, T> {
+    ghost remaining = { λ prompted. handed_on (I.remaining prompted.input.now) prompted.terminal };
+
     fn read(&mut self, buf: &mut [u8]) -> io::Result<usize> {
         let Some(terminal) = &mut self.terminal else {
             return self.input.read(buf);

@@ -5,7 +5,7 @@ use Rattle.std.specs.Prelude.{Option, Some, None, codes, if◌then◌else◌}
 use Rattle.std.specs.List.{starts_with}
 use Rattle.std.specs.Prelude.{nat_eq}
 use Rattle.std.specs.Path.{rsplit_once}
-use Rattle.whole_file.specs.Disks.{Moment, IsSameAt, Runs}
+use Rattle.whole_file.specs.Disks.{Moment, Holds, IsSameAt, Lastly, Runs}
 
 -- how the paths of a disk are read: the number of the folder that a text names, where a path leads
 -- that names a link, of which folders the names can't be made sure of, and in which of them no file
@@ -15,6 +15,15 @@ pub record Paths : Type 0 where
   pub link : List ℕ → Option (List ℕ)
   pub fleeting : ℕ → Bool
   pub fixed : ℕ → Bool
+
+-- the paths of a disk that tells nothing, of which no clause says anything
+abbrev pub untold_paths : Paths
+untold_paths = record {
+  folder = λ _. 0;
+  link = λ _. None;
+  fleeting = λ _. true;
+  fixed = λ _. true;
+}
 
 -- the folder in the two parts of a path, with a slash at its end
 abbrev pub folder_in : Option (List ℕ × List ℕ) → List ℕ
@@ -63,6 +72,12 @@ IsSameBehind paths path old new =
 -- .. so it stays
 abbrev pub PathStays : Paths → List ℕ → Option (List Moment) → Option (List Moment) → Type 0
 PathStays paths path old new = Runs (IsSameBehind paths path) old new
+
+-- where a disk tells its moments, a reader has left the bytes of the file to which a path leads,
+-- where they were made sure of
+abbrev pub ReadsBehind : Paths → List ℕ → Option (List Moment) → Option (List ℕ) → Type 0
+ReadsBehind paths path told left = Lastly (λ now. (to bytes : List ℕ) → LeadsTo paths path to
+    → Holds now (place_of paths to) bytes → left ≡ Some bytes) told
 
 -- whether a path is the name of an open file
 abbrev pub is_open_name : List ℕ → Bool

@@ -3,7 +3,7 @@ ghost use Rattle.std.specs.Prelude.{◌≡◌, ℕ, true, false, IsTrue, List, [
 ghost use Rattle.std.specs.Prelude.{IfOk, OnOk, OnErr};
 ghost use Rattle.std.specs.String.{string_bytes};
 ghost use Rattle.whole_file.specs.Disks.{Moment, Steps, Settles, Renames, Removes, SettlesNames};
-ghost use Rattle.whole_file.specs.Paths.{Paths, folder_of, place_of};
+ghost use Rattle.whole_file.specs.Paths.{Paths, ReadsBehind, folder_of, place_of};
 ghost use Rattle.whole_file.specs.Calls.{AnswersLink, AnswersMade, AnswersSettled, IsAllowed};
 
 use std::alloc::{AllocError, Global};
@@ -86,7 +86,9 @@ pub trait Disk {
     /// Opens a file to be read, or says why it can't be.
     fn open_to_read(&mut self, path: &str) -> io::Result<Self::Reader>
         ensures paths { paths self.new ≡ paths self.old }
-        ensures stays { told self.new ≡ told self.old };
+        ensures stays { told self.new ≡ told self.old }
+        ensures read { IfOk result (λ file. ReadsBehind (paths self.old) path.now (told self.old)
+            (Self.Reader.remaining file)) };
 
     /// What is said of an open file. A disk that tells its moments has plain files alone.
     fn facts(&mut self, file: &Self::File) -> Result<FileFacts, DiskFault>

@@ -1,5 +1,6 @@
 //! The disk of the system.
-ghost use Rattle.std.specs.Prelude.{None, true};
+ghost use Rattle.std.specs.Prelude.{None};
+ghost use Rattle.whole_file.specs.Paths.{untold_paths};
 
 use crate::disk::{Disk, DiskFault, FileFacts, Link, Made};
 use std::alloc::{AllocError, Global};
@@ -57,12 +58,7 @@ where
 
     ghost told = { λ _. None };
 
-    ghost paths = { λ _. record {
-      folder = λ _. 0;
-      link = λ _. None;
-      fleeting = λ _. true;
-      fixed = λ _. true;
-    } };
+    ghost paths = { λ _. untold_paths };
 
     ghost kept = { λ _. Unit {0} };
 

@@ -2,14 +2,20 @@
 use Rattle.std.proofs.Common.{inl, inr, refl, subst, sym}
 use Rattle.bearoff_cli.specs.FileAnswers.{IsReadFrom}
 use Rattle.bearoff_cli.specs.Kinds.{file_of}
-use Rattle.bearoff_cli.proofs.Explained.{check_of_file}
-use Rattle.bearoff_cli.proofs.ToldFaults.{first_in}
+use Rattle.bearoff_cli.specs.FileAnswers.{about_file}
+use Rattle.db_layout.specs.Writes.{AppendsPart}
+use Rattle.bearoff_cli.specs.Kinds.{stated_file}
+use Rattle.bearoff_cli.proofs.Explained.{check_of_file, written_end}
+use Rattle.bearoff_cli.proofs.OpenedFiles.{about_is, err-weaker, says_about}
+use Rattle.bearoff_cli.proofs.StoppedRuns.{read_part}
+use Rattle.bearoff_cli.proofs.ToldFaults.{done_if, first_in}
 use Rattle.bearoff_cli.proofs.act.about_file.Goals as goal
 
 pub returns-clause-fault : goal.returns-clause-fault
 returns-clause-fault g c =
     let file = c.as_slice-bytes.result.now in
-    let read = subst (λ bytes. IsReadFrom g.D.Reader.Read.remaining bytes)
+    let read = subst (λ bytes. (IsReadFrom g.D.Reader.Read.remaining
+    (g.D.Disk.paths c.args.disk.now) (g.D.Disk.told c.args.disk.now) c.args.path.now) bytes)
     (sym c.as_slice-bytes.ensures.value) c.in-Ok.ensures.read in
     let first = c.in-Err-accept.ensures.fault in (
       refl,
@@ -22,3 +28,39 @@ returns-clause-fault g c =
       ),
       inl refl,
     )
+
+pub returns-in-Ok-accept-clause-about : goal.returns-in-Ok-accept-clause-about
+returns-in-Ok-accept-clause-about g c =
+    let from = (IsReadFrom g.D.Reader.Read.remaining
+    (g.D.Disk.paths c.args.disk.now) (g.D.Disk.told c.args.disk.now) c.args.path.now) in
+    let file = c.as_slice-bytes.result.now in
+    let read = subst from (sym c.as_slice-bytes.ensures.value) c.in-Ok.ensures.read in
+    let kind = c.stated_kind-kind.ensures in
+    let kept = c.in-Ok-accept.ensures in
+    let right = rw kind at kept.right in
+    let text = about_is file _ _ _ kind (rw kind at (c.version.ensures file kept.kept))
+    (rw kind at kept.bound) in
+    let old = g.O.Write.contents c.args.output.now in
+    let new = g.O.Write.contents c.write_about.new.output in
+    done_if c.write_about.result c.refused.result
+    (says_about from file _ old new c.write_about.result read right text
+    c.write_about.ensures.all) (λ said. said) c.refused.ensures.fault
+
+pub returns-in-Ok-accept-clause-fault : goal.returns-in-Ok-accept-clause-fault
+returns-in-Ok-accept-clause-fault g c =
+    let from = (IsReadFrom g.D.Reader.Read.remaining
+    (g.D.Disk.paths c.args.disk.now) (g.D.Disk.told c.args.disk.now) c.args.path.now) in
+    let file = c.as_slice-bytes.result.now in
+    let read = subst from (sym c.as_slice-bytes.ensures.value) c.in-Ok.ensures.read in
+    let kind = c.stated_kind-kind.ensures in
+    let kept = c.in-Ok-accept.ensures in
+    let right = rw kind at kept.right in
+    let text = about_is file _ _ _ kind (rw kind at (c.version.ensures file kept.kept))
+    (rw kind at kept.bound) in
+    let old = g.O.Write.contents c.args.output.now in
+    let new = g.O.Write.contents c.write_about.new.output in
+    written_end from c.args.path.now old new c.write_about.result c.refused.result
+    c.write_about.ensures.cause (read_part stated_file from
+    (λ f. AppendsPart old new (about_file f)) file old new c.write_about.result read right
+    (err-weaker c.write_about.result (λ part. subst (λ text. AppendsPart old new text) text part)
+    c.write_about.ensures.part)) c.refused.ensures.done c.refused.ensures.fault

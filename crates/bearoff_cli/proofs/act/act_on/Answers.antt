@@ -1,5 +1,6 @@
 -- The end of a request that was refused is told.
 use Rattle.std.proofs.Common.{map}
+use Rattle.bearoff_cli.specs.FileAnswers.{IsReadFrom}
 use Rattle.bearoff_cli.specs.Tellings.{IsWritten}
 use Rattle.bearoff_cli.proofs.ToldFaults.{told_any, told_done, told_end}
 use Rattle.bearoff_cli.proofs.act.act_on.Goals as goal
@@ -13,7 +14,9 @@ returns-clause-told g c some other =
 
 pub returns-clause-fault : goal.returns-clause-fault
 returns-clause-fault g c asked asks some =
-    told_end g.D.Reader.Read.remaining asked (g.I.Read.remaining c.args.input.now)
+    told_end (IsReadFrom g.D.Reader.Read.remaining
+    (g.D.Disk.paths c.args.disk.now) (g.D.Disk.told c.args.disk.now))
+    asked (g.I.Read.remaining c.args.input.now)
     (g.I.Read.remaining c.perform.new.input) (g.O.Write.contents c.args.output.now)
     (g.O.Write.contents c.perform.new.output) c.perform.result c.tell.result.status
     (λ line. IsWritten c.tell.result.line (g.E.Write.contents c.args.errors.now)

@@ -11,7 +11,8 @@ use Rattle.bearoff_cli.proofs.act.audit_file.Goals as goal
 pub returns-in_err-kept-clause-fault : goal.returns-in_err-kept-clause-fault
 returns-in_err-kept-clause-fault g c =
     let file = c.as_slice.result.now in
-    let read = subst (λ bytes. IsReadFrom g.D.Reader.Read.remaining bytes)
+    let read = subst (λ bytes. (IsReadFrom g.D.Reader.Read.remaining
+    (g.D.Disk.paths c.args.disk.now) (g.D.Disk.told c.args.disk.now) c.args.path.now) bytes)
     (sym c.as_slice.ensures.value) c.in_ok-bytes.ensures.read in
     let same : c.from_residual-in_err-kept.result ≡ Err c.in_err-kept.field-0.0 =
     search rules in
@@ -24,21 +25,26 @@ returns-in_err-kept-clause-fault g c =
 pub returns-clause-levels : goal.returns-clause-levels
 returns-clause-levels g c =
     let file = c.as_slice.result.now in
-    let read = subst (λ bytes. IsReadFrom g.D.Reader.Read.remaining bytes)
+    let read = subst (λ bytes. (IsReadFrom g.D.Reader.Read.remaining
+    (g.D.Disk.paths c.args.disk.now) (g.D.Disk.told c.args.disk.now) c.args.path.now) bytes)
     (sym c.as_slice.ensures.value) c.in_ok-bytes.ensures.read in
     let same = c.as_slice-2.ensures.value ∙ sym c.as_slice.ensures.value in
-    levels_read (file_of c.args.kind) g.D.Reader.Read.remaining file _ _ c.write_levels.result read
+    levels_read (file_of c.args.kind) (IsReadFrom g.D.Reader.Read.remaining
+    (g.D.Disk.paths c.args.disk.now) (g.D.Disk.told c.args.disk.now) c.args.path.now)
+    file _ _ c.write_levels.result read
     c.in_ok-kept.ensures.right (rw same at c.write_levels.ensures.levels)
 
 pub returns-clause-left : goal.returns-clause-left
 returns-clause-left g c =
     let file = c.as_slice.result.now in
-    let read = subst (λ bytes. IsReadFrom g.D.Reader.Read.remaining bytes)
+    let read = subst (λ bytes. (IsReadFrom g.D.Reader.Read.remaining
+    (g.D.Disk.paths c.args.disk.now) (g.D.Disk.told c.args.disk.now) c.args.path.now) bytes)
     (sym c.as_slice.ensures.value) c.in_ok-bytes.ensures.read in
     let same = c.as_slice-2.ensures.value ∙ sym c.as_slice.ensures.value in
     let old = g.O.Write.contents c.args.output.now in
     let new = g.O.Write.contents c.write_levels.new.output in
-    read_part (file_of c.args.kind) g.D.Reader.Read.remaining
+    read_part (file_of c.args.kind) (IsReadFrom g.D.Reader.Read.remaining
+    (g.D.Disk.paths c.args.disk.now) (g.D.Disk.told c.args.disk.now) c.args.path.now)
     (λ f. WritesLevelsPart (file_of c.args.kind f) old new) file old new
     c.write_levels.result read c.in_ok-kept.ensures.right
     (rw same at c.write_levels.ensures.part)

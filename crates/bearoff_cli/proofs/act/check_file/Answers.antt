@@ -5,7 +5,7 @@ use Rattle.bearoff_cli.specs.Kinds.{file_of}
 use Rattle.bearoff_cli.specs.FileAnswers.{IsReadFrom}
 use Rattle.bearoff_cli.specs.StoppedRuns.{SaysRightPart}
 use Rattle.bearoff_cli.specs.declared.act.Done.TheVariants.{Checked}
-use Rattle.bearoff_cli.proofs.OpenedFiles.{err-weaker}
+use Rattle.bearoff_cli.proofs.OpenedFiles.{err-weaker, says_right}
 use Rattle.bearoff_cli.proofs.StoppedRuns.{line_part, read_part}
 use Rattle.bearoff_cli.proofs.ToldFaults.{first_in}
 use Rattle.bearoff_cli.proofs.act.check_file.Goals as goal
@@ -13,7 +13,8 @@ use Rattle.bearoff_cli.proofs.act.check_file.Goals as goal
 pub returns-in_err-kept-clause-fault : goal.returns-in_err-kept-clause-fault
 returns-in_err-kept-clause-fault g c =
     let file = c.as_slice.result.now in
-    let read = subst (λ bytes. IsReadFrom g.D.Reader.Read.remaining bytes)
+    let read = subst (λ bytes. (IsReadFrom g.D.Reader.Read.remaining
+    (g.D.Disk.paths c.args.disk.now) (g.D.Disk.told c.args.disk.now) c.args.path.now) bytes)
     (sym c.as_slice.ensures.value) c.in_ok-bytes.ensures.read in
     let same : c.from_residual-in_err-kept.result ≡ Err c.in_err-kept.field-0.0 =
     search rules in
@@ -26,13 +27,25 @@ returns-in_err-kept-clause-fault g c =
 pub returns-clause-left : goal.returns-clause-left
 returns-clause-left g c =
     let file = c.as_slice.result.now in
-    let read = subst (λ bytes. IsReadFrom g.D.Reader.Read.remaining bytes)
+    let read = subst (λ bytes. (IsReadFrom g.D.Reader.Read.remaining
+    (g.D.Disk.paths c.args.disk.now) (g.D.Disk.told c.args.disk.now) c.args.path.now) bytes)
     (sym c.as_slice.ensures.value) c.in_ok-bytes.ensures.read in
     let kept = c.in_ok-kept.ensures in
     let old = g.O.Write.contents c.args.output.now in
     let new = g.O.Write.contents c.write_count.new.output in
-    read_part (file_of c.args.kind) g.D.Reader.Read.remaining
+    read_part (file_of c.args.kind) (IsReadFrom g.D.Reader.Read.remaining
+    (g.D.Disk.paths c.args.disk.now) (g.D.Disk.told c.args.disk.now) c.args.path.now)
     (λ f. SaysRightPart (file_of c.args.kind f) old new) file old new
     c.write_count.result read kept.right (err-weaker c.write_count.result
     (line_part old new Checked _ _ _ kept.bound (ap count_to kept.bound))
     c.write_count.ensures.part)
+
+pub returns-clause-right : goal.returns-clause-right
+returns-clause-right g c =
+    let from = (IsReadFrom g.D.Reader.Read.remaining
+    (g.D.Disk.paths c.args.disk.now) (g.D.Disk.told c.args.disk.now) c.args.path.now) in
+    let file = c.as_slice.result.now in
+    let read = subst from (sym c.as_slice.ensures.value) c.in_ok-bytes.ensures.read in
+    let kept = c.in_ok-kept.ensures in
+    says_right (file_of c.args.kind) from file _ _ _ c.write_count.result read kept.right kept.bound
+    c.write_count.ensures.all

@@ -2,6 +2,7 @@
 use Rattle.std.proofs.Common.{◌≡◌, IfErr, None, Some, refl, rules, subst}
 use Rattle.std.proofs.lemmas.Result.{IfErr-weaker}
 use Rattle.command_line.specs.Asked.{asked_by, default, build, check, query, ask, audit, upgrade}
+use Rattle.bearoff_cli.specs.FileAnswers.{IsReadFrom}
 use Rattle.bearoff_cli.specs.Faults.{IsBoundFault, IsCheckFault, IsUpgradeFault}
 use Rattle.bearoff_cli.specs.Kinds.{greatest}
 use Rattle.bearoff_cli.specs.StoppedRuns.{IsRefusalOf}
@@ -20,7 +21,8 @@ returns-in-Default-clause-done g c =
 pub returns-in-Default-clause-fault : goal.returns-in-Default-clause-fault
 returns-in-Default-clause-fault g c =
     let it = c.answer_default.ensures in
-    rw c.in-Default.is (ended_refusal g.D.Reader.Read.remaining default (λ fault. tt) _ _ _ _
+    rw c.in-Default.is (ended_refusal (IsReadFrom g.D.Reader.Read.remaining
+    (g.D.Disk.paths c.args.disk.now) (g.D.Disk.told c.args.disk.now)) default (λ fault. tt) _ _ _ _
     c.answer_default.result c.refused.result it.cause (any_fault c.answer_default.result) it.turns
     (told_left c.answer_default.result _ _ it.left)
     c.refused.ensures.done c.refused.ensures.fault)
@@ -37,7 +39,8 @@ returns-in-Build-clause-fault g c =
     let it = c.write_built.ensures in
     let most = greatest c.in-Build.kind in
     let pips = c.in-Build.pips in
-    rw c.in-Build.is (ended_refusal g.D.Reader.Read.remaining
+    rw c.in-Build.is (ended_refusal (IsReadFrom g.D.Reader.Read.remaining
+    (g.D.Disk.paths c.args.disk.now) (g.D.Disk.told c.args.disk.now))
     (build c.in-Build.kind pips c.in-Build.path.now) (λ fault. tt) _ _ _ _
     c.write_built.result c.refused-in-Build.result it.cause (any_fault c.write_built.result)
     (no_turns (IsBoundFault most pips) (no_turns_built most pips) _ _ c.write_built.result it.cause)
@@ -58,7 +61,8 @@ returns-in-Check-clause-done g c =
 pub returns-in-Check-clause-fault : goal.returns-in-Check-clause-fault
 returns-in-Check-clause-fault g c =
     let it = c.check_file.ensures in
-    rw c.in-Check.is (ended_refusal g.D.Reader.Read.remaining
+    rw c.in-Check.is (ended_refusal (IsReadFrom g.D.Reader.Read.remaining
+    (g.D.Disk.paths c.args.disk.now) (g.D.Disk.told c.args.disk.now))
     (check c.in-Check.kind c.in-Check.path.now) (λ fault. tt) _ _ _ _
     c.check_file.result c.refused-in-Check.result it.cause it.fault
     (no_turns IsCheckFault (λ is. is) _ _ c.check_file.result it.cause)
@@ -73,7 +77,8 @@ returns-in-Audit-clause-done g c =
 pub returns-in-Audit-clause-fault : goal.returns-in-Audit-clause-fault
 returns-in-Audit-clause-fault g c =
     let it = c.audit_file.ensures in
-    rw c.in-Audit.is (ended_refusal g.D.Reader.Read.remaining
+    rw c.in-Audit.is (ended_refusal (IsReadFrom g.D.Reader.Read.remaining
+    (g.D.Disk.paths c.args.disk.now) (g.D.Disk.told c.args.disk.now))
     (audit c.in-Audit.kind c.in-Audit.path.now) (λ fault. tt) _ _ _ _
     c.audit_file.result c.refused-in-Audit.result it.cause it.fault
     (no_turns IsCheckFault (λ is. is) _ _ c.audit_file.result it.cause)
@@ -87,7 +92,8 @@ returns-in-Upgrade-clause-done g c =
 pub returns-in-Upgrade-clause-fault : goal.returns-in-Upgrade-clause-fault
 returns-in-Upgrade-clause-fault g c =
     let it = c.upgrade_database.ensures in
-    rw c.in-Upgrade.is (ended_refusal g.D.Reader.Read.remaining
+    rw c.in-Upgrade.is (ended_refusal (IsReadFrom g.D.Reader.Read.remaining
+    (g.D.Disk.paths c.args.disk.now) (g.D.Disk.told c.args.disk.now))
     (upgrade c.in-Upgrade.old.now c.in-Upgrade.new.now) (λ fault. tt) _ _ _ _
     c.upgrade_database.result c.refused-in-Upgrade.result it.cause it.fault
     (no_turns IsUpgradeFault (λ is. is) _ _ c.upgrade_database.result it.cause)
@@ -100,7 +106,8 @@ returns-in-Upgrade-clause-put g c =
 
 pub returns-in-About-clause-fault : goal.returns-in-About-clause-fault
 returns-in-About-clause-fault g c =
-    rw c.in-About.is (about_refusal g.D.Reader.Read.remaining c.in-About.path.now _ _ _ _
+    rw c.in-About.is (about_refusal (IsReadFrom g.D.Reader.Read.remaining
+    (g.D.Disk.paths c.args.disk.now) (g.D.Disk.told c.args.disk.now)) c.in-About.path.now _ _ _ _
     c.about_file.result c.about_file.ensures.fault)
 
 pub returns-in-Query-default-default-None-clause-done :
@@ -118,7 +125,9 @@ returns-in-Query-default-default-None-clause-fault g c =
     let at = c.in-Query-default-default-None in
     let it = c.answer_file.ensures in
     let asked : asked_by c.args.request ≡ query at.kind at.path.now None = search rules in
-    rw asked (ended_refusal g.D.Reader.Read.remaining (query at.kind at.path.now None)
+    rw asked (ended_refusal (IsReadFrom g.D.Reader.Read.remaining
+    (g.D.Disk.paths c.args.disk.now) (g.D.Disk.told c.args.disk.now))
+    (query at.kind at.path.now None)
     (λ fault. tt) _ _ _ _ c.answer_file.result c.refused-in-Query-default-default-None.result
     it.cause it.fault it.turns it.left c.refused-in-Query-default-default-None.ensures.done
     c.refused-in-Query-default-default-None.ensures.fault)
@@ -130,7 +139,8 @@ returns-in-Query-default-default-Some-clause-fault g c =
     let it = c.answer_pages.ensures in
     let asked : asked_by c.args.request ≡ query at.kind at.path.now (Some at.records) =
     search rules in
-    rw asked (ended_refusal g.D.Reader.Read.remaining
+    rw asked (ended_refusal (IsReadFrom g.D.Reader.Read.remaining
+    (g.D.Disk.paths c.args.disk.now) (g.D.Disk.told c.args.disk.now))
     (query at.kind at.path.now (Some at.records)) (λ fault. tt) _ _
     (g.O.Write.contents c.args.output.now) (g.O.Write.contents c.answer_pages.new.output)
     c.answer_pages.result
@@ -141,7 +151,8 @@ returns-in-Query-default-default-Some-clause-fault g c =
 
 pub returns-in-Ask-clause-fault : goal.returns-in-Ask-clause-fault
 returns-in-Ask-clause-fault g c =
-    let remaining = g.D.Reader.Read.remaining in
+    let remaining = (IsReadFrom g.D.Reader.Read.remaining
+    (g.D.Disk.paths c.args.disk.now) (g.D.Disk.told c.args.disk.now)) in
     let input = g.I.Read.remaining c.args.input.now in
     let old = g.O.Write.contents c.args.output.now in
     let new = g.O.Write.contents c.ask_file.new.output in

@@ -4,6 +4,7 @@ use Rattle.clap.specs.Words.{kind_of}
 use Rattle.clap.specs.declared.error.kind.ErrorKind.TheVariants.{OutOfMemory}
 use Rattle.std.specs.Io.Buffered.{writer_contents}
 use Rattle.command_line.specs.Asked.{Asked, Gives, IsAskedBy, IsFor, asked_by}
+use Rattle.bearoff_cli.specs.FileAnswers.{IsReadFrom}
 use Rattle.bearoff_cli.specs.PutFiles.{LeavesFor, LeavesInput, PutsFor}
 use Rattle.bearoff_cli.specs.Requests.{Asks, IsDone}
 use Rattle.bearoff_cli.specs.StoppedRuns.{IsRefusalOf}
@@ -26,14 +27,17 @@ read g c =
 
 pub returns-in-Err-clause-fault : goal.returns-in-Err-clause-fault
 returns-in-Err-clause-fault g c asked asks =
-    memory_refusal g.D.Reader.Read.remaining asked (g.I.Read.remaining c.args.input.now)
+    memory_refusal (IsReadFrom g.D.Reader.Read.remaining
+    (g.D.Disk.paths c.args.disk.now) (g.D.Disk.told c.args.disk.now))
+    asked (g.I.Read.remaining c.args.input.now)
     (g.O.Write.contents c.args.output.now)
 
 pub returns-in-Ok-clause-done : goal.returns-in-Ok-clause-done
 returns-in-Ok-clause-done g c asked asks =
     let gives = read g (goal.at.returns-in-Ok-clause-done g c).After-read_words asked asks in
     let same = subst (λ r. IfOk r (IsFor asked)) c.in-Ok.is gives.0 in
-    subst (λ a. OnOk c.fulfil.result (IsDone g.D.Reader.Read.remaining
+    subst (λ a. OnOk c.fulfil.result (IsDone (IsReadFrom g.D.Reader.Read.remaining
+    (g.D.Disk.paths c.args.disk.now) (g.D.Disk.told c.args.disk.now))
     (writer_contents {A = Global} g.D.File.Write.contents) a
     (g.I.Read.remaining c.args.input.now) (g.I.Read.remaining c.fulfil.new.input)
     (g.O.Write.contents c.args.output.now) (g.O.Write.contents c.fulfil.new.output))) same
@@ -43,7 +47,8 @@ pub returns-in-Ok-clause-fault : goal.returns-in-Ok-clause-fault
 returns-in-Ok-clause-fault g c asked asks =
     let gives = read g (goal.at.returns-in-Ok-clause-fault g c).After-read_words asked asks in
     let same = subst (λ r. IfOk r (IsFor asked)) c.in-Ok.is gives.0 in
-    subst (λ a. IfErr c.fulfil.result (λ refusal. IsRefusalOf g.D.Reader.Read.remaining a
+    subst (λ a. IfErr c.fulfil.result (λ refusal. IsRefusalOf (IsReadFrom g.D.Reader.Read.remaining
+    (g.D.Disk.paths c.args.disk.now) (g.D.Disk.told c.args.disk.now)) a
     (g.I.Read.remaining c.args.input.now) (g.I.Read.remaining c.fulfil.new.input)
     (g.O.Write.contents c.args.output.now) (g.O.Write.contents c.fulfil.new.output) refusal)) same
     c.fulfil.ensures.fault
@@ -54,7 +59,8 @@ returns-in-Ok-clause-explained g c =
     let asked = subst (λ r. IfOk r (λ request.
     IsAskedBy (map g.S.AsStr.text c.args.words.now) (asked_by request))) c.in-Ok.is
     c.read_words.ensures.asked in
-    explained_for g.D.Reader.Read.remaining (asked_by c.in-Ok.request)
+    explained_for (IsReadFrom g.D.Reader.Read.remaining
+    (g.D.Disk.paths c.args.disk.now) (g.D.Disk.told c.args.disk.now)) (asked_by c.in-Ok.request)
     (map g.S.AsStr.text c.args.words.now) _ _ _ _ c.fulfil.result asked c.fulfil.ensures.fault
 
 -- words that ask for a request are not wrong

@@ -11,7 +11,7 @@ use Rattle.exit_status.specs.Statuses.{status_of}
 use Rattle.bearoff_cli.specs.FileAnswers.{IsReadFrom}
 use Rattle.bearoff_cli.specs.StoppedRuns.{SaysUpgradedPart}
 use Rattle.bearoff_cli.specs.declared.act.Done.TheVariants.{Upgraded}
-use Rattle.bearoff_cli.proofs.OpenedFiles.{err-weaker, is_full, on_ok, upgrade_read}
+use Rattle.bearoff_cli.proofs.OpenedFiles.{err-weaker, is_compact, is_full, on_ok, upgrade_read}
 use Rattle.bearoff_cli.proofs.StoppedRuns.{line_part, read_part}
 use Rattle.bearoff_cli.proofs.KeptFiles.{low_status}
 use Rattle.bearoff_cli.proofs.act.upgrade_database.Goals as goal
@@ -19,7 +19,8 @@ use Rattle.bearoff_cli.proofs.act.upgrade_database.Goals as goal
 pub returns-clause-upgraded : goal.returns-clause-upgraded
 returns-clause-upgraded g c =
     let file = c.as_slice.result.now in
-    let read = subst (λ bytes. IsReadFrom g.D.Reader.Read.remaining bytes)
+    let read = subst (λ bytes. (IsReadFrom g.D.Reader.Read.remaining
+    (g.D.Disk.paths c.args.disk.now) (g.D.Disk.told c.args.disk.now) c.args.old.now) bytes)
     (sym c.as_slice.ensures.value) c.in_ok-bytes.ensures.read in
     let accepted = c.in_ok-checked.ensures.checked in
     let told = subst (λ r. IfOk r (λ checked. checked.told ≡ Some file)) accepted
@@ -32,7 +33,9 @@ returns-clause-upgraded g c =
     is_full (version_of file) (λ e. c.if-version-eq-COMPACT_VERSION.false (version ∙ e)) in
     let bound = c.bound.ensures.bound ∙ (c.bound.ensures.right file
     (c.in_ok-upgrade_file.ensures.stays.0 ∙ told)).1 in
-    upgrade_read g.D.Reader.Read.remaining (writer_contents g.D.File.Write.contents) file _ _
+    upgrade_read (IsReadFrom g.D.Reader.Read.remaining
+    (g.D.Disk.paths c.args.disk.now) (g.D.Disk.told c.args.disk.now) c.args.old.now)
+    (writer_contents g.D.File.Write.contents) file _ _
     c.write_count.result _ _ read right old
     (c.in_ok-upgrade_file.ensures.upgraded file told) bound
     (ap count_to bound) c.write_count.ensures.all
@@ -60,7 +63,8 @@ returns-clause-put g c =
 pub returns-clause-left : goal.returns-clause-left
 returns-clause-left g c =
     let file = c.as_slice.result.now in
-    let read = subst (λ bytes. IsReadFrom g.D.Reader.Read.remaining bytes)
+    let read = subst (λ bytes. (IsReadFrom g.D.Reader.Read.remaining
+    (g.D.Disk.paths c.args.disk.now) (g.D.Disk.told c.args.disk.now) c.args.old.now) bytes)
     (sym c.as_slice.ensures.value) c.in_ok-bytes.ensures.read in
     let accepted = c.in_ok-checked.ensures.checked in
     let told = subst (λ r. IfOk r (λ checked. checked.told ≡ Some file)) accepted
@@ -75,7 +79,9 @@ returns-clause-left g c =
     (c.in_ok-upgrade_file.ensures.stays.0 ∙ told)).1 in
     let old = g.O.Write.contents c.args.output.now in
     let new = g.O.Write.contents c.write_count.new.output in
-    read_part database_file g.D.Reader.Read.remaining (λ f. SaysUpgradedPart f old new) file old new
+    read_part database_file (IsReadFrom g.D.Reader.Read.remaining
+    (g.D.Disk.paths c.args.disk.now) (g.D.Disk.told c.args.disk.now) c.args.old.now)
+    (λ f. SaysUpgradedPart f old new) file old new
     c.write_count.result read right (err-weaker c.write_count.result
     (λ part. (
       full,
@@ -87,7 +93,8 @@ returns-clause-left g c =
 pub returns-in_err-checked-clause-fault : goal.returns-in_err-checked-clause-fault
 returns-in_err-checked-clause-fault g c =
     let file = c.as_slice.result.now in
-    let read = subst (λ bytes. IsReadFrom g.D.Reader.Read.remaining bytes)
+    let read = subst (λ bytes. (IsReadFrom g.D.Reader.Read.remaining
+    (g.D.Disk.paths c.args.disk.now) (g.D.Disk.told c.args.disk.now) c.args.old.now) bytes)
     (sym c.as_slice.ensures.value) c.in_ok-bytes.ensures.read in
     let same : c.from_residual-in_err-checked.result ≡ Err c.in_err-checked.field-0.0 =
     search rules in
@@ -165,3 +172,23 @@ pub returns-clause-stays : goal.returns-clause-stays
 returns-clause-stays g c =
     IfErr-weaker c.write_count.result _ _ (λ fault is. low_status fault _ _ (ap status_of is))
     c.write_count.ensures.cause
+
+pub returns-then-version-eq-COMPACT_VERSION-clause-fault :
+    goal.returns-then-version-eq-COMPACT_VERSION-clause-fault
+returns-then-version-eq-COMPACT_VERSION-clause-fault g c =
+    let from = (IsReadFrom g.D.Reader.Read.remaining
+    (g.D.Disk.paths c.args.disk.now) (g.D.Disk.told c.args.disk.now) c.args.old.now) in
+    let file = c.as_slice.result.now in
+    let read = subst from (sym c.as_slice.ensures.value) c.in_ok-bytes.ensures.read in
+    let accepted = c.in_ok-checked.ensures.checked in
+    let told = subst (λ r. IfOk r (λ checked. checked.told ≡ Some file)) accepted
+    (IfOk-weaker c.check-told.result _ _ (λ checked is. is ∙ c.new.ensures.tells)
+    c.check-told.ensures.told) in
+    let right = subst (λ r. OnOk r (IsRightDatabase file)) accepted
+    (c.check-told.ensures.right file c.new.ensures.tells) in
+    let version = c.version.ensures.version file told in
+    inr (
+      file,
+      read,
+      (right, is_compact (version_of file) (sym version ∙ c.if-version-eq-COMPACT_VERSION.true)),
+    )
