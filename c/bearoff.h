@@ -1,11 +1,32 @@
 /*
  * bearoff.h: answers of a proved backgammon bearoff database, for C and C++.
  *
+ * Five calls do most of it: bearoff_open checks the bytes of a file; of a position, which
+ * bearoff_parse_position reads, bearoff_mean tells the least mean number of rolls, bearoff_epc the
+ * effective pip count, and bearoff_play what a roll is played with. A whole program, whose input
+ * is a file:
+ *
+ *     #include <stdio.h>
+ *     #include "bearoff.h"
+ *     static uint8_t bytes[BEAROFF_FILE], line[BEAROFF_LINE];
+ *     static bearoff_file file = BEAROFF_CLOSED;
+ *     int main(void) {
+ *         size_t length = fread(bytes, 1, sizeof bytes, stdin), needed;
+ *         if (bearoff_open(&file, bytes, length, line, sizeof line, &needed)) return 1;
+ *         bearoff_position position = {{0, 0, 0, 2, 0, 0}};
+ *         bearoff_rounded pips;
+ *         bearoff_recorded_play play;
+ *         if (bearoff_epc(&file, &position, &pips)) return 1;
+ *         if (bearoff_play(&file, &position, 2, 1, &play)) return 1;
+ *         printf("%.3f pips, %d/%d\n", (double)pips.thousandths / 1000,
+ *                play.moves[0].from, play.moves[0].to);
+ *     }
+ *
  * A file is the bytes of what `bearoff build` writes, or any bytes that are as right: a database,
  * of version 1 or 2, or a board file, of version 3, which has every position of the home board of
- * at most its pip bound. bearoff_open checks them once, and accepts them exactly where every mean
- * in them is the least over all strategies, the recorded plays reach these means, and the recorded
- * shares are those of these plays. That is proved, and so is what each call below answers.
+ * at most its pip bound. bearoff_open accepts them exactly where every mean in them is the least
+ * over all strategies, the recorded plays reach these means, and the recorded shares are those of
+ * these plays. That is proved, and so is what each call below answers.
  *
  * Who owns what. The library has no memory and no state of its own. The caller keeps the bytes
  * and the struct bearoff_file; neither may be changed, and the bytes may not go away, for as long

@@ -516,6 +516,18 @@ def test_status_texts(library):
         assert told == said.get(status, "unknown status"), status
 
 
+def test_the_program_of_the_header(library, room, built):
+    """It stands in the first lines of the header, and is compiled as it stands there."""
+    head = (ROOT / "c/bearoff.h").read_text(encoding="utf-8").split("#ifndef")[0]
+    program = re.findall(r"(?m)^ \*     (.*)$", head)
+    assert len(program) == 15
+    Path("it.c").write_text("\n".join(program) + "\n", encoding="utf-8")
+    words = ["-I", ROOT / "c", "-o", "it", "it.c", library / "libbearoff.a"]
+    expect(run("cc", "-std=c11", "-Wall", "-Wextra", "-Werror", *words), 0)
+    expect(run("./it", input=built(44).read_bytes()), 0, "17.191 pips, 4/2")
+    expect(run("./it", input=built(44).read_bytes()[:-1]), 1)
+
+
 def test_example_in_c(library, room, built):
     Path("example.c").write_text(code_blocks("docs/embedding.md", "c")[0], encoding="utf-8")
     shutil.copy(built(44), "race.db")
