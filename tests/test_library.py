@@ -524,7 +524,7 @@ def test_the_program_of_the_header(library, room, built):
     Path("it.c").write_text("\n".join(program) + "\n", encoding="utf-8")
     words = ["-I", ROOT / "c", "-o", "it", "it.c", library / "libbearoff.a"]
     expect(run("cc", "-std=c11", "-Wall", "-Wextra", "-Werror", *words), 0)
-    expect(run("./it", input=built(44).read_bytes()), 0, "17.191 pips, 4/2")
+    expect(run("./it", input=built(44).read_bytes()), 0, "13.964 pips, 4/2")
     expect(run("./it", input=built(44).read_bytes()[:-1]), 1)
 
 
