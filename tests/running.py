@@ -7,6 +7,7 @@ import shlex
 import subprocess
 import time
 from pathlib import Path
+from urllib.parse import unquote
 
 import pytest
 
@@ -156,6 +157,13 @@ def need(*names):
             f"Debian's {packages} is needed and can't be installed: tests/needs.py {name}",
             pytrace=False,
         )
+
+
+def position_texts():
+    """The rows of texts.txt: what C and Rust, and what Python and JavaScript make of a text."""
+    rows = (HERE / "texts.txt").read_text(encoding="ascii").splitlines()
+    parts = [row.split(" ", 2) for row in rows if not row.startswith("#")]
+    return [(one, other, unquote(*text or [""])) for one, other, *text in parts]
 
 
 def code_blocks(page, kind):

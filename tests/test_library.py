@@ -34,6 +34,7 @@ from running import (
     expect_same,
     expect_that,
     need,
+    position_texts,
     run,
     succeed,
 )
@@ -526,6 +527,18 @@ def test_the_program_of_the_header(library, room, built):
     expect(run("cc", "-std=c11", "-Wall", "-Wextra", "-Werror", *words), 0)
     expect(run("./it", input=built(44).read_bytes()), 0, "13.964 pips, 4/2")
     expect(run("./it", input=built(44).read_bytes()[:-1]), 1)
+
+
+def test_texts(library):
+    """What is a position as a text."""
+    call = ctypes.CDLL(str(library / "libbearoff.so")).bearoff_parse_position
+    call.argtypes = [ctypes.c_char_p, ctypes.c_size_t, ctypes.c_char_p]
+    for verdict, _, text in position_texts():
+        content, position = text.encode(), ctypes.create_string_buffer(b"-" * 6, 6)
+        status = call(content, len(content), position)
+        told = {11: "bad-text", 3: "too-many"}.get(status) or ",".join(map(str, position.raw))
+        assert told == verdict, text
+        assert status == 0 or position.raw == b"-" * 6, text
 
 
 def test_example_in_c(library, room, built):

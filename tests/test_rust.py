@@ -3,10 +3,11 @@ compiler warn of, and the example of its page, each by cargo without a network."
 
 import os
 import shutil
+import struct
 
 import pytest
 
-from running import ROOT, code_blocks, expect, expect_that, need, run
+from running import ROOT, code_blocks, expect, expect_that, need, position_texts, run
 
 pytestmark = pytest.mark.xdist_group("rust")
 
@@ -46,20 +47,98 @@ def test_its_documentation(cargo):
     expect_that(done.status == 0, done, "documentation without a warning")
 
 
-def test_a_program_over_it(cargo, built, room):
-    """The example of its page, in a crate that depends on it."""
-    [example] = code_blocks("rust/README.md", "rust")
+def write_caller(room, lines):
+    """Writes a crate that depends on it: what it uses, and behind an empty line what it does."""
     (room / "src").mkdir()
     crate = (ROOT / "rust").as_posix()
     (room / "Cargo.toml").write_text(
         f'[package]\nname = "caller"\nversion = "0.1.0"\nedition = "2021"\n'
         f'[dependencies]\nbearoff = {{ path = "{crate}" }}\n'
     )
-    head, *body = example.split("\n\n", 1)
+    head, *body = lines.split("\n\n", 1)
     told = "\n".join(f"    {line}" for line in body[0].splitlines())
     result = "Result<(), Box<dyn std::error::Error>>"
     (room / "src/main.rs").write_text(
         f"{head}\n\nfn main() -> {result} {{\n{told}\n    Ok(())\n}}\n"
     )
+
+
+def test_a_program_over_it(cargo, built, room):
+    """The example of its page, in a crate that depends on it."""
+    [example] = code_blocks("rust/README.md", "rust")
+    write_caller(room, example)
     shutil.copyfile(built(44), room / "race.db")
     expect(cargo("run", cwd=room), 0, "6.083 rolls, 4/2 4/3\n")
+
+
+NUMBERS = """
+use bearoff::{Database, Position, Whole};
+
+for (bound, step) in [(12, 1), (58, 97), (90, 97)] {
+    let database = Database::build(bound)?;
+    let asked = std::fs::read_to_string("positions")?;
+    for position in asked.lines().step_by(step) {
+        let position = position.parse()?;
+        if let Ok(epc) = database.epc(position) {
+            let mean = database.mean(position)?;
+            for told in database.distribution(position)?.iter().chain([&mean, &epc.exact]) {
+                let (above, below) = (told.numerator(), told.denominator());
+                println!("{}/{} {:x} {:.3}", above, below, told.as_f64().to_bits(), told);
+            }
+        }
+    }
+}
+for shift in 0..192 {
+    for near in 0..4_u64 {
+        // numbers of that many digits, of which the last ones decide
+        let mut words = [0; 3];
+        words[2 - shift / 64] = 1 << (shift % 64);
+        words[2] ^= near;
+        if shift > 53 {
+            let half = shift - 53;
+            words[2 - half / 64] ^= 1 << (half % 64);
+        }
+        println!("{}/1 {:x} -", Whole(words), Whole(words).as_f64().to_bits());
+    }
+}
+let texts = std::fs::read("texts")?;
+for text in texts.split(|byte| *byte == 0xff) {
+    match std::str::from_utf8(text)?.parse::<Position>() {
+        Ok(position) => println!("{}", position),
+        Err(bearoff::Error::BadText) => println!("bad-text"),
+        Err(bearoff::Error::Refused { status: 3 }) => println!("too-many"),
+        Err(error) => println!("{:?}", error),
+    }
+}
+"""
+
+
+def test_numbers_and_texts(cargo, room):
+    """Each number is the nearest double, and with a precision what that is; each text is read as
+    the library for C reads it."""
+    write_caller(room, NUMBERS.lstrip())
+    counts = [
+        f"{one},{two},{three},{four},{five},{six}"
+        for one in range(16)
+        for two in range(16 - one)
+        for three in range(16 - one - two)
+        for four in range(16 - one - two - three)
+        for five in range(16 - one - two - three - four)
+        for six in range(16 - one - two - three - four - five)
+    ]
+    (room / "positions").write_text("\n".join(counts))
+    rows = position_texts()
+    (room / "texts").write_bytes(b"\xff".join(text.encode() for _, _, text in rows))
+    done = cargo("run", "--release", cwd=room)
+    expect_that(done.status == 0, done, "status 0")
+    lines = done.output.decode().splitlines()
+    verdicts, lines = lines[-len(rows) :], lines[: -len(rows)]
+    assert verdicts == [verdict for verdict, _, _ in rows]
+    assert len(lines) > 20_000
+    for line in lines:
+        exact, bits, digits = line.split(" ")
+        [near] = struct.unpack(">d", int(bits, 16).to_bytes(8, "big"))
+        # which Python rounds rightly, also between whole numbers of any length
+        above, below = map(int, exact.split("/"))
+        assert near == above / below, line
+        assert digits in ("-", f"{near:.3f}"), line

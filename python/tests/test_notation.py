@@ -18,8 +18,9 @@ import unittest
 from functools import lru_cache
 from pathlib import Path
 from typing import Any, Dict, List, Optional, Tuple
+from urllib.parse import unquote
 
-from bearoff import BadArgument, BearoffError, NoRace, Position, notation
+from bearoff import BadArgument, BearoffError, Database, NoRace, Position, Refused, notation
 from bearoff.notation import REASONS, OnRoll, Race, from_gnubg, from_xgid, read, to_gnubg, to_xgid
 
 ROOT = Path(__file__).parents[2]
@@ -92,6 +93,22 @@ class Texts(unittest.TestCase):
             self.assertEqual((error.reason, str(error), error.line), (reason, line, line))
             self.assertEqual(pickle.loads(pickle.dumps(error)).args, error.args)
             self.assertIsInstance(error, BadArgument)
+
+    def test_the_texts_of_every_language(self) -> None:
+        rows = (ROOT / "tests/texts.txt").read_text("ascii").splitlines()
+        for row in rows:
+            if row.startswith("#"):
+                continue
+            _, verdict, *coded = row.split(" ", 2)
+            asked = unquote(*coded or [""])
+            try:
+                Database.standing(asked)
+                told = str(read(asked).mine)
+            except (NoRace, Refused) as refused:
+                is_many = isinstance(refused, Refused) or refused.reason == "too-many"
+                told = "too-many" if is_many else "bad-text"
+            self.assertEqual(told, verdict, asked)
+        self.assertGreater(len(rows), 40)
 
     def test_one_notation(self) -> None:
         """The reader of one notation doesn't take the other one."""

@@ -1,6 +1,7 @@
 //! The calls of the library for C, as `bearoff.h` declares them.
 
 pub const OK: u32 = 0;
+pub const BAD_TEXT: u32 = 11;
 pub const LINE: usize = 32;
 pub const STATUS_TEXT: usize = 80;
 pub const RESULTS: usize = 127;
@@ -184,6 +185,7 @@ extern "C" {
         to: *const Counts,
         play: *mut Play,
     ) -> u32;
+    pub fn bearoff_parse_position(text: *const u8, length: usize, position: *mut Counts) -> u32;
     pub fn bearoff_standing(position: *const Counts, standing: *mut Stand) -> u32;
 }
 

@@ -38,11 +38,70 @@ impl Whole {
         self == Whole::default()
     }
 
-    /// A double that is near to it.
+    /// The double that is nearest to it, and of two that are as near the even one.
     pub fn as_f64(self) -> f64 {
-        const WORD: f64 = 18_446_744_073_709_551_616.0;
-        self.0.iter().fold(0.0, |sum, word| sum * WORD + *word as f64)
+        nearest(self, Whole([0, 0, 1]))
     }
+
+    /// How many binary digits it has.
+    fn bits(self) -> u32 {
+        let first = self.0.iter().position(|word| *word != 0).unwrap_or(2);
+        64 * (3 - first as u32) - self.0[first].leading_zeros()
+    }
+}
+
+/// The double that is nearest to a quotient, and of two that are as near the even one. What
+/// divides is not 0.
+fn nearest(above: Whole, below: Whole) -> f64 {
+    const DIGITS: i32 = 53;
+    if above.is_zero() {
+        return 0.0;
+    }
+    // the quotient is rest / by times 2^exponent, and rest / by at least 1 and less than 2
+    let mut exponent = above.bits() as i32 - below.bits() as i32;
+    let mut rest = doubled(above, -exponent);
+    let by = doubled(below, exponent);
+    if rest < by {
+        exponent -= 1;
+        rest = twice(rest);
+    }
+    let mut digits: u64 = 0;
+    for _ in 0..DIGITS {
+        digits *= 2;
+        if rest >= by {
+            digits += 1;
+            rest = difference(rest, by);
+        }
+        rest = twice(rest);
+    }
+    if rest > by || (rest == by && digits % 2 == 1) {
+        digits += 1;
+    }
+    let last = (1023 + exponent - (DIGITS - 1)) as u64;
+    digits as f64 * f64::from_bits(last << 52)
+}
+
+/// A number in four words, the greatest first, doubled so many times, none where they are below 0.
+fn doubled(number: Whole, times: i32) -> [u64; 4] {
+    let [first, middle, last] = number.0;
+    (0..times).fold([0, first, middle, last], |told, _| twice(told))
+}
+
+fn twice(number: [u64; 4]) -> [u64; 4] {
+    let [first, second, third, last] = number;
+    [first << 1 | second >> 63, second << 1 | third >> 63, third << 1 | last >> 63, last << 1]
+}
+
+/// What is left of a number that is not less than the other one.
+fn difference(from: [u64; 4], taken: [u64; 4]) -> [u64; 4] {
+    let (mut left, mut borrowed) = ([0; 4], false);
+    for place in (0..4).rev() {
+        let (part, is_below) = from[place].overflowing_sub(taken[place]);
+        let (part, is_again) = part.overflowing_sub(u64::from(borrowed));
+        left[place] = part;
+        borrowed = is_below || is_again;
+    }
+    left
 }
 
 impl fmt::Display for Whole {
@@ -63,7 +122,8 @@ impl fmt::Display for Whole {
 }
 
 /// An exact number from 0 on, in lowest terms: of rolls, of pips, or a chance. As a text it is
-/// `5/4`, or `3` where it is whole.
+/// `5/4`, or `3` where it is whole; with a precision, as in `{:.3}`, it is the nearest double with
+/// so many digits.
 #[derive(Clone, Copy, Debug, PartialEq, Eq, Hash)]
 pub struct Fraction {
     numerator: Whole,
@@ -101,9 +161,9 @@ impl Fraction {
         self.denominator
     }
 
-    /// A double that is near to it: the relative error is below 1e-15.
+    /// The double that is nearest to it, and of two that are as near the even one.
     pub fn as_f64(&self) -> f64 {
-        self.numerator.as_f64() / self.denominator.as_f64()
+        nearest(self.numerator, self.denominator)
     }
 }
 
@@ -140,6 +200,9 @@ fn product(one: Whole, other: Whole) -> [u64; 6] {
 
 impl fmt::Display for Fraction {
     fn fmt(&self, formatter: &mut fmt::Formatter<'_>) -> fmt::Result {
+        if formatter.precision().is_some() {
+            return self.as_f64().fmt(formatter);
+        }
         if self.denominator == Whole([0, 0, 1]) {
             return self.numerator.fmt(formatter);
         }

@@ -68,14 +68,20 @@ impl fmt::Display for Position {
     }
 }
 
-/// Six counts with commas between them, and blanks where they are wanted.
+/// Six counts with commas between them, each of one to three digits, the first of several not 0,
+/// and nothing else. Refused where they add up to more than 15.
 impl FromStr for Position {
     type Err = Error;
 
     fn from_str(text: &str) -> Result<Position, Error> {
-        let counts: Result<Vec<u8>, _> = text.split(',').map(|it| it.trim().parse()).collect();
-        let points = counts.ok().and_then(|counts| counts.try_into().ok());
-        points.map(Position::new).ok_or(Error::BadText)
+        let counts = answered(calls::Counts::default(), |it| unsafe {
+            calls::bearoff_parse_position(text.as_ptr(), text.len(), it)
+        });
+        match counts {
+            Ok(counts) => Ok(Position::new(counts.points)),
+            Err(Error::Refused { status: calls::BAD_TEXT }) => Err(Error::BadText),
+            Err(error) => Err(error),
+        }
     }
 }
 
@@ -315,8 +321,8 @@ impl<'a> Database<'a> {
         Ok(self.asked(calls::Pips::default(), position, calls::bearoff_epc)?.into())
     }
 
-    /// The effective pip count less the pip count, in thousandths of a pip; of few positions it is
-    /// below 0.
+    /// The effective pip count less the pip count, in thousandths of a pip. It is 0 where no
+    /// checker is left, and else above 0.
     pub fn wastage(&self, position: Position) -> Result<i64, Error> {
         let none = calls::Wasted::default();
         let told = self.asked(none, position, calls::bearoff_wastage)?;

@@ -186,10 +186,9 @@ fn what_is_refused() {
     assert_eq!(database.answer("mean 1").unwrap(), "error bad-line");
     let told = Error::Refused { status: 2 };
     assert_eq!(told.to_string(), "a die is not 1 to 6");
-    for wrong in ["", "0,0,0,0,0", "0,0,0,0,0,256", "0,0,0,0,0,x", "0,0,0,0,0,0,0"] {
-        assert_eq!(wrong.parse::<Position>(), Err(Error::BadText));
-    }
-    assert_eq!(" 0, 0,0,0,0,1".parse(), Ok(six));
+    assert_eq!("six".parse::<Position>(), Err(Error::BadText));
+    assert_eq!("0,0,0,0,0,256".parse::<Position>(), Err(Error::Refused { status: 3 }));
+    assert_eq!("0,0,0,0,0,1".parse(), Ok(six));
 }
 
 #[test]
@@ -201,6 +200,10 @@ fn numbers() {
     assert_eq!((one.as_f64(), six.as_f64()), (1.0, 1.25));
     assert!(one < six && six > one);
     assert_eq!(format!("[{:>6}] [{:<5}]", six, one), "[   5/4] [1    ]");
+    assert_eq!(
+        format!("{:.3} {:7.1} {:<7.2}| {:+.0}", six, six, one, one),
+        "1.250     1.2 1.00   | +1"
+    );
     assert_eq!(Whole([0, 0, 7]).to_string(), "7");
     assert_eq!(Whole([0, 1, 0]).to_string(), "18446744073709551616");
     assert_eq!(Whole([1, 0, 0]).to_string(), "340282366920938463463374607431768211456");
