@@ -8,9 +8,10 @@
 
 `read_match` replays each game on a board of its own, and tells every roll with what was played. A
 text that isn't written so, or whose plays can't be made on the board, is refused as `BadMatch`
-with the number of its line; so is one of more than ten million characters, and a line or a name of
-more than a thousand. The time that it takes grows as the length of the text does. Outside the
-bearoff a play is not compared with all plays of its roll. Nothing here needs the shared library.
+with the number of its line; so is one of more than ten million characters, of more than 500,000
+lines or parts, or of more than 200,000 rolls, and a line or a name of more than a thousand
+characters. The time that it takes grows as the length of the text does. Outside the bearoff a play
+is not compared with all plays of its roll. Nothing here needs the shared library.
 """
 
 from __future__ import annotations
@@ -23,7 +24,7 @@ from .errors import BadArgument, BadMatch
 from .moves import BAR as _BAR
 from .moves import NoMoves, is_play, steps_of
 from .positions import Position, shown
-from .texts import MOST_MATCH, MOST_TEXT, short
+from .texts import MOST_MATCH, MOST_PARTS, MOST_ROLLS, MOST_TEXT, short
 
 __all__ = ["BadMatch", "Match", "MatchPlay", "read_match"]
 
@@ -120,7 +121,10 @@ def read_match(text: str) -> Match:
     if text.lstrip("\ufeff \t\r\n").startswith("("):
         return _SgfReader().whole(text)
     reader = _Reader()
-    for number, line in enumerate(text.lstrip("\ufeff").split("\n"), 1):
+    lines = text.lstrip("\ufeff").split("\n", MOST_PARTS)
+    if len(lines) > MOST_PARTS:
+        raise BadMatch("malformed", MOST_PARTS + 1, f"a match has at most {MOST_PARTS} lines")
+    for number, line in enumerate(lines, 1):
         reader.read(number, line.rstrip("\r"))
     return reader.end()
 
@@ -256,6 +260,8 @@ class _Reader:
         self, boards: List[List[int]], player: int, dice: Tuple[int, int], words: str
     ) -> None:
         """Makes a play on the board."""
+        if len(self.plays) == MOST_ROLLS:
+            self.refuse("malformed", f"a match has at most {MOST_ROLLS} rolls")
         if player == self.last:
             self.refuse("turn", "the same player rolls twice")
         self.last = player
@@ -330,10 +336,8 @@ class _Reader:
 
 
 _BLANKS = re.compile(r"\s*")
-# what stands between brackets, in which a bracket may come behind a backslash
-_SGF_INNER = r"[^\]\\]*(?:\\.[^\]\\]*)*"
-_SGF_PART = re.compile(rf"(?:([();])|([A-Z]+)((?:\s*\[{_SGF_INNER}\])+))", re.DOTALL)
-_SGF_VALUE = re.compile(rf"\[({_SGF_INNER})\]", re.DOTALL)
+_SGF_PART = re.compile(r"[();]|[A-Z]+(?=\s*\[)")
+_SGF_OPENING = re.compile(r"\s*\[")
 _SGF_PLAY = re.compile(r"([1-6])([1-6])((?:[a-z]{2}){0,4})")
 _SGF_CUBE = ("double", "take", "drop")
 _SGF_SET_UP = ("AB", "AE", "AW")
@@ -350,7 +354,8 @@ class _SgfReader(_Reader):
 
     def whole(self, text: str) -> Match:
         """Reads all of the text."""
-        place, depth = len(text) - len(text.lstrip("\ufeff")), 0
+        place, depth, parts = len(text) - len(text.lstrip("\ufeff")), 0, 0
+        values: List[slice] = []
         end = len(text.rstrip())
         self.number = 1
         while place < end:
@@ -361,16 +366,27 @@ class _SgfReader(_Reader):
             self.text = " ".join(text[start : start + 40].split())
             if not part:
                 self.refuse("malformed", "neither a property nor the start or the end of a game")
-            if part[1] == "(":
+            name, place = part[0], part.end()
+            parts += 1
+            if name == "(":
                 if depth:
                     self.refuse("malformed", "a game has variations")
                 self.start()
-            depth += {"(": 1, ")": -1}.get(part[1] or "", 0)
-            if depth < 0 or (part[2] and not depth):
+            depth += {"(": 1, ")": -1}.get(name, 0)
+            is_property = name not in ("(", ")", ";")
+            if depth < 0 or (is_property and not depth):
                 self.refuse("malformed", "what stands there is in no game")
-            if part[2]:
-                self.property(part[2], [value[1] for value in _SGF_VALUE.finditer(part[3])])
-            place = part.end()
+            if is_property:
+                values = [*itertools.islice(_sgf_values(text, place), MOST_PARTS)]
+                if not values:
+                    self.refuse("malformed", "a property has no value")
+                parts += len(values)
+                place = values[-1].stop + 1
+            if parts > MOST_PARTS:
+                what = f"a match has at most {MOST_PARTS} nodes, properties and values"
+                self.refuse("malformed", what)
+            if is_property:
+                self.property(name, [text[value] for value in values])
             self.number += text.count("\n", start, place)
         self.text = ""
         if depth:
@@ -401,6 +417,8 @@ class _SgfReader(_Reader):
 
     def head(self, name: str, values: List[str]) -> None:
         """Takes what a game tells of itself."""
+        if max(map(len, values)) > MOST_TEXT:
+            self.refuse("malformed", f"a name or a rule has at most {MOST_TEXT} characters")
         if name == "GM" and values != ["6"]:
             what = f"only backgammon is graded, and not the game {short(values[0])}"
             self.refuse("variation", what)
@@ -413,8 +431,6 @@ class _SgfReader(_Reader):
             if len(length) != 1 or self.length not in (None, int(length[0])):
                 self.refuse("malformed", "the length of the match isn't told, or is another one")
             self.length = int(length[0])
-        if name in ("PW", "PB") and len(values[0]) > MOST_TEXT:
-            self.refuse("malformed", f"a name has at most {MOST_TEXT} characters")
         self.told[name] = re.sub(r"\\(.)", r"\1", values[0], flags=re.DOTALL)
         if not self.is_named and "PW" in self.told and "PB" in self.told:
             names = (self.told["PW"], self.told["PB"])
@@ -438,6 +454,29 @@ class _SgfReader(_Reader):
             self.play(boards, player, (int(told[1]), int(told[2])), words)
         elif value not in _SGF_CUBE:
             self.refuse("malformed", "neither a roll nor a double nor what answers one")
+
+
+def _sgf_values(text: str, place: int) -> Iterator[slice]:
+    """Where the values of a property stand, each between brackets. A bracket behind a backslash
+    doesn't end one.
+    """
+    opening = _SGF_OPENING.match(text, place)
+    while opening:
+        end = text.find("]", opening.end())
+        while end >= 0 and _is_behind_backslash(text, end):
+            end = text.find("]", end + 1)
+        if end < 0:
+            return
+        yield slice(opening.end(), end)
+        opening = _SGF_OPENING.match(text, end + 1)
+
+
+def _is_behind_backslash(text: str, place: int) -> bool:
+    """Whether an odd number of backslashes stands before a place."""
+    first = place
+    while text[first - 1] == "\\":
+        first -= 1
+    return (place - first) % 2 == 1
 
 
 def _sgf_point(player: int, letter: str) -> int:

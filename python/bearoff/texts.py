@@ -14,6 +14,14 @@ as any that is written by a program.
 MOST_MATCH = 10_000_000
 """How many characters a match may have, and how many bytes its file."""
 
+MOST_PARTS = 500_000
+"""How many lines a match may have in the `.mat` form, and how many nodes, properties and values in
+the `.sgf` form; each is far longer than the twenty characters that this leaves for it.
+"""
+
+MOST_ROLLS = 200_000
+"""How many rolls a match may have: those of some thousand games."""
+
 _MOST_SHOWN = 100
 
 

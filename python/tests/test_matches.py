@@ -23,7 +23,7 @@ from typing import Any, Callable, Dict, List, Optional, Tuple
 from bearoff import BadArgument, BadMatch, Database, Graded, Refused, grade, grading, notation
 from bearoff.matches import Match, MatchPlay, read_match
 
-from .given import FILES, FOLDER, ROOT, database, replies, text
+from .given import FILES, FOLDER, ROOT, database, replies, run_alone, text
 
 STORED = ROOT / "python/tests/matches/short.mat"
 SHORT = STORED.read_text("ascii")
@@ -294,6 +294,20 @@ class Stored(unittest.TestCase):
             self.assertEqual(play.is_bearoff, is_bearoff, (mine, other))
 
 
+# the longest texts, of which each part costs memory, where there are some hundred megabytes of it
+WITH_LITTLE_MEMORY = r"""
+import resource
+from bearoff.matches import BadMatch, read_match
+resource.setrlimit(resource.RLIMIT_AS, (400 << 20,) * 2)
+for part, rest in (("PW[", "\\" * 4_990_000), ("C", "[a]" * 3_330_000), ("C[", "\\]" * 3_330_000),
+                   ("MI[length:5]PW[a]PB[b]", ";W[11];B[11]" * 832_000)):
+    try:
+        read_match("(;GM[6]" + part + rest + "])")
+    except BadMatch as refused:
+        print(refused.reason)
+"""
+
+
 class Refusals(unittest.TestCase):
     def refused(self, match: str, reason: str, line: int, what: str) -> None:
         with self.subTest(what=what, line=line), self.assertRaises(BadMatch) as refused:
@@ -522,7 +536,16 @@ class Refusals(unittest.TestCase):
             (
                 SAVED.replace("PW[gnubg]", f"PW[{'A' * 1001}]"),
                 1,
-                "a name has at most 1000 characters",
+                "a name or a rule has at most 1000 characters",
+            ),
+            (" 5 point match\n" + "\n" * 500_000, 500_001, "at most 500000 lines"),
+            (f"({';' * 500_001})", 1, "at most 500000 nodes"),
+            (f"(;C{'[a]' * 500_001})", 1, "at most 500000 nodes"),
+            (SAVED.replace("PW[", f"RU[{chr(58) * 1001}]PW["), 1, "a name or a rule has at most"),
+            (
+                named + "".join(f"{move:3}) 11: 11:\n" for move in range(1, 100_002)),
+                100_005,
+                "at most 200000 rolls",
             ),
         ):
             self.refused(match, "malformed", line, what)
@@ -533,6 +556,8 @@ class Refusals(unittest.TestCase):
             SAVED.replace("PW[gnubg]", f"PW[{'A' * 1000}]"),
         ):
             self.assertEqual(len(read_match(match).plays), 43)
+        told = run_alone(WITH_LITTLE_MEMORY)
+        self.assertEqual(told.stdout.split(), ["malformed"] * 4, told.stdout)
         with tempfile.TemporaryDirectory() as folder:
             file = Path(folder, "long.mat")
             file.write_bytes(b"\xc3\xa9" * (5 * 10**6) + b" ")
