@@ -295,20 +295,19 @@ class Database:
         return opened.share(*lib.NUMBER.unpack(told))
 
     def epc(self, position: AnyPosition) -> EffectivePips:
-        """The effective pip count, in pips, and in thousandths rounded to the nearest, half up."""
+        """The effective pip count, in pips: a fraction, and in thousandths rounded to the nearest,
+        half up.
+        """
         opened = self._opened
         told = lib.PipsRoom()
         _check(opened.epc(opened.at, counts_of(position), told), position)
-        *exact, thousandths = lib.PIPS.unpack(told)
-        return EffectivePips(fraction_of(*exact), thousandths)
+        return EffectivePips(fraction_of(*lib.PIPS.unpack(told)[: 2 * lib.WORDS]))
 
     def wastage(self, position: AnyPosition) -> Wastage:
-        """The effective pip count less the pip count, in pips, and in thousandths rounded to the
-        nearest, half up.
+        """The effective pip count less the pip count, in pips: a fraction, and in thousandths
+        rounded to the nearest, half up. It is 0 where no checker is left, and else above 0.
         """
-        exact, thousandths = self.epc(position)
-        pips = self.standing(position).pips
-        return Wastage(exact - pips, thousandths - 1000 * pips)
+        return Wastage(self.epc(position) - self.standing(position).pips)
 
     def distribution(self, position: AnyPosition) -> Tuple[Fraction, ...]:
         """The chances of being off in exactly 0 to 22 rolls, by the recorded plays, of a board

@@ -50,16 +50,25 @@ else:
 
         def kept(*operands: Any) -> Any:
             told = operator(*operands)
-            if type(told) is fractions.Fraction:
-                return lowest_terms(told.numerator, told.denominator)
-            return told
+            return tuple(map(_own, told)) if isinstance(told, tuple) else _own(told)
 
         return kept
 
-    for _name in ("add", "sub", "mul", "truediv", "mod", "pow"):
+    def _own(told: Any) -> Any:
+        if type(told) is fractions.Fraction:
+            return lowest_terms(told.numerator, told.denominator)
+        return told
+
+    for _name in ("add", "sub", "mul", "truediv", "mod", "divmod", "pow"):
         for _side in ("", "r"):
             _operator = f"__{_side}{_name}__"
             setattr(Fraction, _operator, _kept(getattr(fractions.Fraction, _operator)))
+
+    def _raised(exponent: Any, base: Any) -> Any:
+        # as a plain fraction, since a plain base would ask this one again
+        return base ** fractions.Fraction(exponent)
+
+    setattr(Fraction, "__rpow__", _kept(_raised))
     for _operator in ("__neg__", "__pos__", "__abs__", "__round__"):
         setattr(Fraction, _operator, _kept(getattr(fractions.Fraction, _operator)))
 

@@ -2,18 +2,16 @@
 
 from __future__ import annotations
 
-import math
-import operator
+import fractions
 import re
 from collections.abc import Mapping
-from fractions import Fraction
 from itertools import islice
 from numbers import Rational, Real
 from operator import index
 from reprlib import Repr
 from typing import (
     Any,
-    Callable,
+    Iterator,
     Literal,
     NamedTuple,
     Optional,
@@ -25,6 +23,7 @@ from typing import (
 )
 
 from .errors import BadArgument
+from .exact import Fraction, lowest_terms
 from .moves import NoMoves, is_play, steps_of
 from .texts import MOST_TEXT, printable, short
 
@@ -77,72 +76,26 @@ class Move(NamedTuple):
     target: int
 
 
-class _Rounded(NamedTuple):
-    exact: Fraction
-    thousandths: int
-
-
-def _exact(number: Any) -> Any:
-    return number.exact if isinstance(number, Rounded) else number
-
-
-def _of_exact(compute: Callable[..., Any]) -> Callable[..., Any]:
-    """What is computed with the exact numbers."""
-
-    def computed(*numbers: Any) -> Any:
-        return compute(*map(_exact, numbers))
-
-    return computed
-
-
-def _of_exact_turned(compute: Callable[..., Any]) -> Callable[..., Any]:
-    """.. where the other number stands first."""
-
-    def computed(own: Any, other: Any) -> Any:
-        return compute(_exact(other), _exact(own))
-
-    return computed
-
-
-class Rounded(_Rounded):
-    """A number of pips: exact, and in thousandths, rounded to the nearest and a half up. It is
-    compared and computed with as the exact one, and unpacked it is both. Beside another pair it is
-    equal where both are.
+class Rounded(Fraction):
+    """A number of pips: a `fractions.Fraction`, and so compared and computed with, hashed and
+    written as one. What is computed with it is a plain fraction. Unpacked it is `exact` and
+    `thousandths`.
     """
 
     __slots__ = ()
 
-    def __eq__(self, other: object) -> bool:
-        if isinstance(other, tuple) and not isinstance(other, Rounded):
-            return tuple.__eq__(self, other)
-        return bool(self.exact == _exact(other))
+    @property
+    def exact(self) -> fractions.Fraction:
+        """The same number as a plain fraction."""
+        return lowest_terms(self.numerator, self.denominator)
 
-    def __ne__(self, other: object) -> bool:
-        return not self == other
+    @property
+    def thousandths(self) -> int:
+        """The number in thousandths, rounded to the nearest and a half up."""
+        return (2000 * self.numerator + self.denominator) // (2 * self.denominator)
 
-    def __hash__(self) -> int:
-        return hash(self.exact)
-
-    def __format__(self, spec: str) -> str:
-        return format(self.exact, spec) if spec else str(self)
-
-    __bool__ = _of_exact(bool)
-    __float__ = _of_exact(float)
-    __int__ = __trunc__ = _of_exact(int)
-    __round__ = _of_exact(round)
-    __floor__ = _of_exact(math.floor)
-    __ceil__ = _of_exact(math.ceil)
-    __abs__ = _of_exact(abs)
-    __neg__ = _of_exact(operator.neg)
-    __pos__ = _of_exact(operator.pos)
-    __add__, __radd__ = _of_exact(operator.add), _of_exact_turned(operator.add)
-    __sub__, __rsub__ = _of_exact(operator.sub), _of_exact_turned(operator.sub)
-    __mul__, __rmul__ = _of_exact(operator.mul), _of_exact_turned(operator.mul)
-    __truediv__, __rtruediv__ = _of_exact(operator.truediv), _of_exact_turned(operator.truediv)
-    __floordiv__, __rfloordiv__ = _of_exact(operator.floordiv), _of_exact_turned(operator.floordiv)
-    __mod__, __rmod__ = _of_exact(operator.mod), _of_exact_turned(operator.mod)
-    __lt__, __le__ = _of_exact(operator.lt), _of_exact(operator.le)
-    __gt__, __ge__ = _of_exact(operator.gt), _of_exact(operator.ge)
+    def __iter__(self) -> Iterator[Any]:
+        return iter((self.exact, self.thousandths))
 
 
 class EffectivePips(Rounded):
@@ -153,7 +106,7 @@ class EffectivePips(Rounded):
 
 
 class Wastage(Rounded):
-    """An effective pip count less the pip count, in pips."""
+    """An effective pip count less the pip count, in pips. None of the home board is below 0."""
 
     __slots__ = ()
 
@@ -186,7 +139,7 @@ class Choice(NamedTuple):
     """A position that a roll can lead to, and what it costs in rolls beside the best one."""
 
     to: Position
-    loss: Fraction
+    loss: fractions.Fraction
 
 
 OnRoll = Literal["bottom", "top"]

@@ -114,7 +114,7 @@ class Answers(unittest.TestCase):
         self.assertEqual((eight.version, eight.bound, len(eight)), (1, 8, 64))
         self.assertEqual(eight.mean((0, 0, 0, 0, 0, 1)), Fraction(5, 4))
         self.assertEqual(eight.mean([0] * 6), 0)
-        self.assertEqual(eight.epc("0,0,0,0,0,1"), (Fraction(245, 24), 10208))
+        self.assertEqual([*eight.epc("0,0,0,0,0,1")], [Fraction(245, 24), 10208])
         self.assertEqual(sum(eight.distribution((5, 0, 0, 0, 0, 0))), 1)
         self.assertEqual(eight.distribution((5, 0, 0, 0, 0, 0))[2], Fraction(11, 36))
         play = eight.play((0, 0, 0, 2, 0, 0), (2, 1))

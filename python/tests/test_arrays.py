@@ -324,7 +324,7 @@ class Floats(Rows):
             self.assertEqual(
                 (wastage.exact, wastage.thousandths), (told[rank], flat[5 * rank + 4])
             )
-        self.assertEqual(here.wastage("0,0,0,0,0,1"), (Fraction(101, 24), 4208))
+        self.assertEqual([*here.wastage("0,0,0,0,0,1")], [Fraction(101, 24), 4208])
 
     def test_withins(self) -> None:
         for bound in (8, 44):

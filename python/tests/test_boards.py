@@ -81,7 +81,7 @@ class Replies(Compared):
         if name == "mean":
             self.assertEqual(here.mean(at), Fraction(told[0]), line)
             thousandths = int(told[3].replace(".", ""))
-            self.assertEqual(here.epc(at), (Fraction(told[2]), thousandths), line)
+            self.assertEqual([*here.epc(at)], [Fraction(told[2]), thousandths], line)
         elif name == "rank":
             self.assertEqual(here.rank(at), int(told[0]), line)
             self.assertEqual(here.position(int(told[0])), Position.parse(at), line)

@@ -1,15 +1,21 @@
 """What is taken as a position, a roll and a play, in each call; and effective pip counts and
 wastages as the numbers that they are."""
 
+import contextlib
 import copy
 import importlib
+import json
 import math
+import operator
 import pickle
+import statistics
 import tempfile
 import unittest
+from decimal import Decimal
 from fractions import Fraction
+from numbers import Rational
 from pathlib import Path
-from typing import Any, Tuple
+from typing import Any, Callable, Iterator, Tuple
 
 import bearoff
 from bearoff import BadArgument, Damaged, Database, Position, Race, Refused, notation
@@ -133,51 +139,128 @@ class Taken(unittest.TestCase):
         self.assertEqual(pickle.loads(pickle.dumps(Race(MINE))), Race(MINE))
 
 
+def told(compute: Callable[[], Any]) -> Any:
+    """What comes out: its value and its type, or that of the error."""
+    try:
+        made = compute()
+    except Exception as error:
+        return type(error)
+    return (made, [*map(type, made)] if isinstance(made, tuple) else type(made))
+
+
+OPERATORS: Tuple[Callable[[Any, Any], Any], ...] = (
+    *(operator.add, operator.sub, operator.mul, operator.truediv, operator.floordiv),
+    *(operator.mod, divmod, pow, operator.lt, operator.le, operator.gt, operator.ge),
+    *(operator.eq, operator.ne, math.isclose, round, math.copysign, format),
+)
+OTHERS: Tuple[Any, ...] = (
+    *(0, 1, 2, -3, True, 0.5, 10.208, -0.0, 1j),
+    *(Fraction(1, 3), Fraction(245, 24), Decimal("0.5"), "1", ".3f", "10.2f", ".1%", "g", ""),
+    *(None, (1, 2), (Fraction(245, 24), 10208), [1.5]),
+)
+OF_ONE: Tuple[Callable[[Any], Any], ...] = (
+    *(float, int, bool, abs, round, hash, str, complex, operator.neg, operator.pos, Fraction),
+    *(math.floor, math.ceil, math.trunc, math.sqrt, math.isfinite, Decimal, format),
+    *(lambda it: it.numerator, lambda it: it.denominator, lambda it: it.as_integer_ratio()),
+    *(lambda it: it.real, lambda it: it.imag, lambda it: it.conjugate(), math.fabs, math.exp),
+    *(lambda it: it.limit_denominator(10), lambda it: "%.3f" % it, lambda it: "%d|%s" % (it, it)),
+    *(lambda it: Decimal(it.numerator) / it.denominator, json.dumps, len, lambda it: it[0]),
+    *(lambda it: math.fsum([it, 1]), lambda it: math.prod([it, 2]), lambda it: sum([it, 0.5])),
+    *(
+        lambda it: {it: 1}[Fraction(it)],
+        lambda it: it in {Fraction(245, 24)},
+        lambda it: -(it**3),
+    ),
+    *(lambda it: 2**it, lambda it: 4.0**it, lambda it: it**0.5, lambda it: it**-2),
+    *(lambda it: isinstance(it, Rational), lambda it: isinstance(it, tuple)),
+    *(lambda it: f"{it - 1:.3f} {it:8.2f} {divmod(it, 2)[1]:.2f}",),
+)
+# .. of several, of which the first stands for each kind of number
+OF_MANY: Tuple[Callable[[Any], Any], ...] = (
+    *(sum, sorted, statistics.fmean, statistics.median, math.fsum),
+    *(lambda all: float(statistics.mean(all)), lambda all: float(statistics.pvariance(all))),
+    *(lambda all: float(statistics.stdev([*all, 57])), lambda all: max([*all, 1])),
+    *(lambda all: float(statistics.mean([*all, 57])), lambda all: statistics.mean([*all, 0.5])),
+    *(lambda all: statistics.quantiles(all, n=4)[1] > 1, lambda all: statistics.mode(all) > 1),
+    *(lambda all: float(statistics.mean([*all, Fraction(1, 7)])), math.prod),
+    *(lambda all: float(statistics.harmonic_mean(all)),),
+)
+
+
 class Numbers(unittest.TestCase):
-    def test_as_the_exact_number(self) -> None:
+    """Effective pip counts and wastages do all that a fraction does, and answer what it answers."""
+
+    AT = ("0,0,0,0,0,1", "0,0,0,4,4,1", "1,2,3,0,2,1", "0,0,0,0,0,0", "2,0,0,0,0,0")
+
+    def every(self) -> Iterator[Tuple[Any, Fraction]]:
+        for at in self.AT:
+            for pips in (database(44).epc(at), database(44).wastage(at)):
+                exact = pips.exact
+                self.assertNotIsInstance(exact, type(pips))
+                yield pips, exact
+
+    def test_each_operator(self) -> None:
+        for pips, exact in self.every():
+            for other in OTHERS:
+                for compute in OPERATORS:
+                    for turned in (False, True):
+
+                        def made(one: Any) -> Any:
+                            return compute(other, one) if turned else compute(one, other)
+
+                        row = (compute, exact, other, turned)
+                        self.assertEqual(told(lambda: made(pips)), told(lambda: made(exact)), row)
+
+    def test_each_of_one(self) -> None:
+        for pips, exact in self.every():
+            for compute in OF_ONE:
+                self.assertEqual(told(lambda: compute(pips)), told(lambda: compute(exact)), exact)
+            for digits in range(-2, 6):
+                self.assertEqual(round(pips, digits), round(exact, digits))
+            # as the line of the program rounds it
+            thousandths = math.floor(exact * 1000 + Fraction(1, 2))
+            self.assertEqual(([*pips], pips.thousandths), ([exact, thousandths], thousandths))
+            self.assertIs(type([*pips][0]), type(exact))
+            self.assertEqual({pips: 1}, {exact: 1})
+            kind = type(pips).__name__
+            self.assertEqual(repr(pips), f"{kind}({exact.numerator}, {exact.denominator})")
+            for protocol in range(pickle.HIGHEST_PROTOCOL + 1):
+                again = pickle.loads(pickle.dumps(pips, protocol))
+                self.assertEqual((type(again), again), (type(pips), pips))
+            for again in (copy.copy(pips), copy.deepcopy([pips])[0]):
+                self.assertEqual((type(again), again), (type(pips), pips))
+
+    def test_each_of_many(self) -> None:
         here = database(44)
-        for at in ("0,0,0,0,0,1", "0,0,0,4,4,1", "1,2,3,0,2,1", "0,0,0,0,0,0"):
-            for pips in (here.epc(at), here.wastage(at)):
-                exact, thousandths = pips
-                self.assertEqual((exact, thousandths), (pips.exact, pips.thousandths))
-                self.assertEqual(pips, exact)
-                self.assertEqual(pips, (exact, thousandths))
-                self.assertNotEqual(pips, (exact, thousandths + 1))
-                self.assertNotEqual(pips, exact + 1)
-                self.assertEqual(hash(pips), hash(exact))
-                self.assertEqual((pips + 1, 1 + pips), (exact + 1, exact + 1))
-                self.assertEqual((pips - 1, 1 - pips), (exact - 1, 1 - exact))
-                self.assertEqual((pips * 2, 2 * pips), (exact * 2, exact * 2))
-                self.assertEqual(
-                    (pips / 2, pips // 2, pips % 2), (exact / 2, exact // 2, exact % 2)
-                )
-                self.assertEqual((-pips, +pips, abs(-pips)), (-exact, exact, exact))
-                self.assertEqual((round(pips), round(pips, 2)), (round(exact), round(exact, 2)))
-                self.assertEqual((float(pips), int(pips)), (float(exact), int(exact)))
-                self.assertEqual(
-                    (math.floor(pips), math.ceil(pips)), (math.floor(exact), math.ceil(exact))
-                )
-                self.assertEqual(bool(pips), bool(exact))
-                self.assertEqual(pips + pips, exact * 2)
-                self.assertEqual(1.5 + pips, 1.5 + exact)
-                self.assertTrue(pips < 1000 and 1000 > pips and pips <= exact and pips >= exact)
-                self.assertFalse(pips > 1000 or pips < exact)
-                for again in (copy.copy(pips), pickle.loads(pickle.dumps(pips))):
-                    self.assertIs(type(again), type(pips))
-                    self.assertEqual((again, again.thousandths), (pips, pips.thousandths))
-        epcs = [here.epc(at) for at in positions(8)]
-        self.assertEqual(sum(epcs), sum(epc.exact for epc in epcs))
-        self.assertEqual(max(epcs), max(epc.exact for epc in epcs))
-        self.assertEqual(sorted(epcs), sorted(epc.exact for epc in epcs))
-        with self.assertRaises(TypeError):
-            here.epc(SIX) < "1"
-        with self.assertRaises(TypeError):
-            here.epc(SIX) + (1, 2)
+        for of in (here.epc, here.wastage):
+            several = [of(at) for at in self.AT]
+            exact = [pips.exact for pips in several]
+            for compute in OF_MANY:
+                wanted = told(lambda: compute(exact))
+                self.assertNotIsInstance(wanted, type)
+                self.assertEqual(told(lambda: compute(several))[0], wanted[0], compute)
+
+    def test_thousandths_are_those_of_the_library(self) -> None:
+        for here in (database(58), Database.build(90)):
+            some = range(0, len(here), 97)
+            for of, all_of in ((here.epc, here.epcs), (here.wastage, here.wastages)):
+                rows: Any = all_of().tolist()
+                told_of = [of(here[at]).thousandths for at in some]
+                self.assertEqual(told_of, [row[-1] for row in rows[::97]])
+
+    def test_no_wastage_is_below_0(self) -> None:
+        """It is 0 where no checker is left, and else at least that of one on the six point."""
+        nothing, *wasted = Database.build(90).wastages(floats=True).tolist()
+        self.assertEqual((nothing, min(wasted)), (0, float(Fraction(101, 24))))
 
     def test_as_a_column(self) -> None:
         here, pandas = database(8), importlib.import_module("pandas")
-        column = pandas.Series([here.epc(at) for at in positions(8)]).astype(float)
-        self.assertEqual(column.tolist(), here.epcs(floats=True).tolist())
+        column = pandas.Series([here.epc(at) for at in here])
+        self.assertEqual(column.astype(float).tolist(), here.epcs(floats=True).tolist())
+        self.assertEqual(column.sum(), sum(column))
+        self.assertEqual(float(column.mean()), float(sum(column) / 64))
+        self.assertEqual((column > 20).tolist(), [it > 20 for it in column])
+        self.assertEqual((10.5 - column).tolist(), [10.5 - it for it in column])
 
 
 class Winning(unittest.TestCase):
