@@ -37,8 +37,10 @@ def rows_of(positions: AnyPositions) -> Rows:
     numpy: Any = sys.modules.get("numpy")
     table: Any = positions
     try:
+        if isinstance(table, memoryview) and table.format == "?":
+            raise TypeError
         if numpy and (hasattr(table, "__array__") or isinstance(table, memoryview)):
-            table = numpy.asarray(table)
+            table = _unmasked(numpy, table)
             if table.dtype.kind != "O":
                 return Rows(numpy, _six_in_each(numpy, table))
             table = table.tolist()
@@ -51,18 +53,24 @@ def rows_of(positions: AnyPositions) -> Rows:
         raise BadArgument(f"not an array of positions: {shown(positions)}") from None
 
 
+def _unmasked(numpy: Any, table: Any) -> Any:
+    """An array, of which nothing is masked."""
+    masked = numpy.ma.getmaskarray(table).any() if numpy.ma.isMaskedArray(table) else False
+    if masked:
+        raise BadArgument("not an array of positions, as numbers of it are masked")
+    return numpy.asarray(table)
+
+
 def _six_in_each(numpy: Any, table: Any) -> Any:
-    if table.ndim != 2 or table.shape[1] != 6 or table.dtype.kind not in "iubf":
+    if table.ndim != 2 or table.shape[1] != 6 or table.dtype.kind not in "iuf":
         told = f"{table.dtype} {table.shape}"
         raise BadArgument(f"not an array of six whole numbers in each row: {told}")
-    if table.dtype.kind != "f":
-        return table
-    # a number beyond these has no rank either
-    whole = numpy.isfinite(table) & (numpy.floor(table) == table)
-    if not whole.all():
-        row, point = numpy.argwhere(~whole)[0]
-        raise BadArgument(f"{table[row, point]} is not whole, in row {row}")
-    return numpy.clip(table, -1, 999).astype(numpy.intp)
+    if table.dtype.kind == "f":
+        whole = numpy.isfinite(table) & (numpy.floor(table) == table)
+        if not whole.all():
+            row, point = numpy.argwhere(~whole)[0]
+            raise BadArgument(f"{table[row, point]} is not whole, in row {row}")
+    return table
 
 
 class Ranks:
@@ -106,9 +114,11 @@ class Ranks:
             block = table[first : first + _ROWS]
             # what a count of four bits can't hold has no rank; it is looked up as a half that
             # there isn't
-            counts = block.T.astype(numpy.intp, order="C")
+            looked_up = block
             if block.min() < 0 or block.max() > 15:
-                counts[:, ((block < 0) | (block > 15)).any(axis=1)] = 15
+                has_none = ((block < 0) | (block > 15)).any(axis=1)
+                looked_up = numpy.where(has_none[:, None], 15, block)
+            counts = looked_up.T.astype(numpy.intp, order="C")
             low, high = half_of[_bits(counts[:3])], half_of[_bits(counts[3:])]
             found = rank_of[low * (_HALVES + 1) + high]
             ranks[first : first + _ROWS] = found

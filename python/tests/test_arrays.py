@@ -181,8 +181,7 @@ class RanksOfRows(Rows):
                 )
         here, ones = database(8), numpy.eye(6, dtype=int)[:, ::-1]
         ranks_of_ones = [here.rank(row) for row in ones.tolist()]
-        for other in ("bool", "object"):
-            self.assertEqual(here.ranks(ones.astype(other)).tolist(), ranks_of_ones)
+        self.assertEqual(here.ranks(ones.astype("object")).tolist(), ranks_of_ones)
 
     @unittest.skipIf(numpy is None, "numpy is missing")
     def test_arrays_that_are_refused(self) -> None:
@@ -274,6 +273,7 @@ class RanksOfRows(Rows):
             for shape in ((2, 3, 2), (2, 5), (6,)):
                 wrong = memoryview(bytes(math.prod(shape))).cast("B", shape)
                 self.assertRaises(BadArgument, here.ranks, wrong)
+            self.assertRaises(BadArgument, here.ranks, memoryview(bytes(12)).cast("?", (2, 6)))
         self.assertIsInstance(Ranks(here.positions()), Ranks)
 
 
