@@ -342,9 +342,10 @@ class Database:
         make the recorded plays. `mine` rolls first, unless `on_roll` says ``theirs``. Where
         `theirs` is missing both sides are those of one `Race`, XGID or Position ID.
 
-        It is exact of these plays, which take the fewest rolls in the mean. In some positions
-        another play wins a little more often, so it is a bit below or above the chance of two best
-        players; and it says nothing of the cube. Raises `BadArgument` where one side isn't told.
+        It is exact of these plays, which take the fewest rolls in the mean, and are no plays for
+        the win: in most races others win more often, so it is some tenths of a point of a hundred,
+        or a point and more, below or above the chance of two best players. It says nothing of the
+        cube. Raises `BadArgument` where one side isn't told.
         """
         if on_roll not in ("mine", "theirs"):
             raise BadArgument(f"who is on roll is mine or theirs: {shown(on_roll)}")
