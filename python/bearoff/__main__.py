@@ -4,11 +4,12 @@ from __future__ import annotations
 
 import argparse
 import os
+import signal
 import sys
-from pathlib import Path
-from typing import Callable, Dict, Optional, Sequence, Tuple
+from typing import Any, Callable, Dict, NoReturn, Optional, Sequence, Tuple
 
 from . import __version__, gnubg
+from ._writing import write_whole
 from .database import Database
 from .errors import BadArgument, BadMatch, Damaged, NoLibrary, Refused
 from .grading import NOTE, grade
@@ -32,8 +33,8 @@ _GNUBG = (
 
 def main(words: Optional[Sequence[str]] = None) -> int:
     """Runs the command with its words, and gives the exit status: 0; 1 where a file can't be read
-    or written; 2 where a position, a roll or another word is none; or 3 where the database, the
-    match or the question is refused.
+    or written, or a thread or memory can't be had; 2 where a position, a roll or another word is
+    none; or 3 where the database, the match or the question is refused.
     """
     asked = _parser().parse_args(words)
     run: Callable[[argparse.Namespace], str] = asked.run
@@ -52,13 +53,41 @@ def main(words: Optional[Sequence[str]] = None) -> int:
         return _fail(2, str(bad))
     except (NoLibrary, OSError, ValueError) as error:
         return _fail(1, str(error))
+    except MemoryError:
+        return _fail(1, "there is too little memory")
     return 0
 
 
+def run() -> int:
+    """Does what `main` does, as a process of its own. A signal that asks it to end lets it take
+    away first what it has begun.
+    """
+    for number in (signal.SIGINT, signal.SIGTERM, signal.SIGHUP):
+        if signal.getsignal(number) != signal.SIG_IGN:
+            signal.signal(number, _stop)
+    try:
+        return main()
+    except _Stopped as stopped:
+        signal.signal(stopped.number, signal.SIG_DFL)
+        os.kill(os.getpid(), stopped.number)
+        return 128 + stopped.number
+
+
+class _Stopped(BaseException):
+    """A signal came."""
+
+    def __init__(self, number: int) -> None:
+        super().__init__(number)
+        self.number = number
+
+
+def _stop(number: int, _frame: Any) -> NoReturn:
+    raise _Stopped(number)
+
+
 def _parser() -> argparse.ArgumentParser:
-    parser = argparse.ArgumentParser(
-        prog="python -m bearoff", description="Exact answers of a bearoff database."
-    )
+    about = "Exact answers of a bearoff database."
+    parser = argparse.ArgumentParser(prog="python -m bearoff", description=about)
     parser.add_argument("--version", action="version", version=f"bearoff {__version__}")
     commands = parser.add_subparsers(dest="command", required=True, metavar="COMMAND")
 
@@ -195,7 +224,7 @@ def _export(asked: argparse.Namespace) -> str:
 
 def _write(asked: argparse.Namespace) -> str:
     content = gnubg.to_file(Database.open(asked.board))
-    Path(asked.file).write_bytes(content)
+    write_whole(asked.file, content)
     return f"{len(content)} bytes. {_GNUBG}\n"
 
 
@@ -218,4 +247,4 @@ def _fail(status: int, line: str) -> int:
 
 
 if __name__ == "__main__":
-    sys.exit(main())
+    sys.exit(run())

@@ -5,6 +5,7 @@ from __future__ import annotations
 
 import ctypes
 import ctypes.util
+import errno
 import os
 import threading
 from pathlib import Path
@@ -194,7 +195,7 @@ def library() -> Library:
 
 def on_stack(size: int, call: Callable[..., int], *arguments: Any) -> int:
     """The status of a call that runs in a thread of its own, with at least so much stack, whatever
-    the caller's thread has.
+    the caller's thread has. Raises OSError where no thread can be begun.
     """
     told: List[int] = []
     failed: List[BaseException] = []
@@ -210,6 +211,8 @@ def on_stack(size: int, call: Callable[..., int], *arguments: Any) -> int:
         before = threading.stack_size(size + _MORE_STACK)
         try:
             thread.start()
+        except RuntimeError as error:
+            raise OSError(errno.EAGAIN, f"no thread can be begun: {error}") from error
         finally:
             threading.stack_size(before)
     thread.join()

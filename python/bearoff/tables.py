@@ -8,13 +8,15 @@ the mean as an exact fraction in a text.
 from __future__ import annotations
 
 import csv
+import io
 import json
 import os
 import sqlite3
 import tempfile
-from contextlib import closing, suppress
+from contextlib import closing
 from typing import Any, Callable, Dict, Iterator, Tuple, Union
 
+from ._writing import write_whole
 from .database import Database
 from .errors import BadArgument
 from .exact import over_whole, wide_numbers
@@ -37,29 +39,21 @@ COLUMNS = {
 
 def export(database: Database, path: Union[str, "os.PathLike[str]"]) -> None:
     """Writes the table of all positions into a file, whose kind is the ending of its name: `.csv`,
-    `.json`, or `.sqlite`, `.sqlite3` or `.db`, where the table is called `positions`. What stood
-    there before is replaced once the new file is whole. Raises `BadArgument` where the name has
-    another ending, and OSError where the file can't be written.
+    `.json`, or `.sqlite` or `.sqlite3`, where the table is called `positions`. What stood there
+    before is replaced once the new file is whole, and keeps its owner and permissions.
+
+    Raises `BadArgument` where the name has another ending, or a database of bearoff stands there;
+    and OSError where the file can't be written, or another program has not finished its changes
+    of an SQLite file, which stand beside it.
     """
     try:
         name = os.fspath(path)
-        ending = os.path.splitext(name)[1].lower()
-        write = _KINDS[ending]
+        made = _KINDS[os.path.splitext(name)[1].lower()]
     except (TypeError, KeyError):
         what = "the name of the file ends in none of " + ", ".join(_KINDS)
         raise BadArgument(f"{what}: {shown(path)}") from None
-    handle, beside = tempfile.mkstemp(ending, ".bearoff-", os.path.dirname(name) or ".")
-    os.close(handle)
-    try:
-        write(_rows(database), beside)
-        mask = os.umask(0)
-        os.umask(mask)
-        os.chmod(beside, 0o666 & ~mask)
-        os.replace(beside, name)
-    except BaseException:
-        with suppress(OSError):
-            os.remove(beside)
-        raise
+    apart = ("-journal", "-wal") if made is _as_sqlite else ()
+    write_whole(name, made(_rows(database)), apart)
 
 
 def _rows(database: Database) -> Iterator[Tuple[Any, ...]]:
@@ -75,36 +69,38 @@ def _rows(database: Database) -> Iterator[Tuple[Any, ...]]:
         yield (rank, *position, *sums, *numbers, str(over_whole(mean, whole)))
 
 
-def _write_csv(rows: Iterator[Tuple[Any, ...]], path: str) -> None:
-    with open(path, "w", encoding="ascii", newline="") as file:
-        table = csv.writer(file, lineterminator="\n")
-        table.writerow(COLUMNS)
-        table.writerows(rows)
+def _as_csv(rows: Iterator[Tuple[Any, ...]]) -> bytes:
+    text = io.StringIO(newline="")
+    table = csv.writer(text, lineterminator="\n")
+    table.writerow(COLUMNS)
+    table.writerows(rows)
+    return text.getvalue().encode("ascii")
 
 
-def _write_json(rows: Iterator[Tuple[Any, ...]], path: str) -> None:
-    with open(path, "w", encoding="ascii") as file:
-        before = "[\n"
-        for row in rows:
-            file.write(before + json.dumps(dict(zip(COLUMNS, row))))
-            before = ",\n"
-        file.write("\n]\n")
+def _as_json(rows: Iterator[Tuple[Any, ...]]) -> bytes:
+    lines = ",\n".join(json.dumps(dict(zip(COLUMNS, row))) for row in rows)
+    return f"[\n{lines}\n]\n".encode("ascii")
 
 
-def _write_sqlite(rows: Iterator[Tuple[Any, ...]], path: str) -> None:
+def _as_sqlite(rows: Iterator[Tuple[Any, ...]]) -> bytes:
     columns = ", ".join(f"{name} {kind}" for name, kind in COLUMNS.items())
     places = ", ".join("?" * len(COLUMNS))
-    with closing(sqlite3.connect(path)) as file, file:
-        file.execute(f"CREATE TABLE positions ({columns})")
-        file.executemany(f"INSERT INTO positions VALUES ({places})", rows)
-        file.execute("CREATE INDEX positions_by_pips ON positions (pips)")
+    with tempfile.TemporaryDirectory(prefix="bearoff-") as folder:
+        path = os.path.join(folder, "table")
+        try:
+            with closing(sqlite3.connect(path)) as file, file:
+                file.execute(f"CREATE TABLE positions ({columns})")
+                file.executemany(f"INSERT INTO positions VALUES ({places})", rows)
+                file.execute("CREATE INDEX positions_by_pips ON positions (pips)")
+        except sqlite3.Error as error:
+            raise OSError(f"{path}: {error}") from error
+        with open(path, "rb") as made:
+            return made.read()
 
 
-_Write = Callable[[Iterator[Tuple[Any, ...]], str], None]
-_KINDS: Dict[str, _Write] = {
-    ".csv": _write_csv,
-    ".json": _write_json,
-    ".sqlite": _write_sqlite,
-    ".sqlite3": _write_sqlite,
-    ".db": _write_sqlite,
+_KINDS: Dict[str, Callable[[Iterator[Tuple[Any, ...]]], bytes]] = {
+    ".csv": _as_csv,
+    ".json": _as_json,
+    ".sqlite": _as_sqlite,
+    ".sqlite3": _as_sqlite,
 }
