@@ -1,11 +1,15 @@
-"""The commands of the package: ``python -m bearoff epc 0,0,0,0,0,1``, and others."""
+"""The commands of the package: ``python -m bearoff epc 0,0,0,0,0,1``, and others. Those of the
+program `bearoff`, as in ``python -m bearoff check race.db``, are handed to it.
+"""
 
 from __future__ import annotations
 
 import argparse
 import os
+import shutil
 import signal
 import sys
+import sysconfig
 from typing import Any, Callable, Dict, NoReturn, Optional, Sequence, Tuple
 
 from . import __version__, gnubg
@@ -22,21 +26,33 @@ _WHOLE_BOARD = 90
 _POSITION = "six counts, that of the ace point first, an XGID or a Position ID"
 _FILE = "a file that `bearoff build` has written; without it one is built, which takes a second"
 _WINS = (
-    "Both players make the plays that take the fewest rolls in the mean, which are not always"
-    " those that win most often; the cube is left aside."
+    "Both players make the plays that take the fewest rolls in the mean. In most races others win"
+    " more often, at times by a point of a hundred and more; the cube is left aside."
 )
 _GNUBG = (
     "Such a file has 16 bits for each share, so it can't say the exact numbers, and can't be"
     " certified."
 )
 
+PROGRAM = ("build", "check", "query", "ask", "about", "audit", "upgrade")
+"""The commands of the program `bearoff`."""
+
+_OTHERS = (
+    f"{', '.join(PROGRAM[:-1])} and {PROGRAM[-1]} are commands of the program `bearoff`, which a"
+    " wheel has in it: their words are handed to it."
+)
+
 
 def main(words: Optional[Sequence[str]] = None) -> int:
     """Runs the command with its words, and gives the exit status: 0; 1 where a file can't be read
     or written, or a thread or memory can't be had; 2 where a position, a roll or another word is
-    none; or 3 where the database, the match or the question is refused.
+    none; or 3 where the database, the match or the question is refused. With a command of the
+    program `bearoff` this process becomes that program.
     """
-    asked = _parser().parse_args(words)
+    given = sys.argv[1:] if words is None else [*words]
+    if given and given[0] in PROGRAM:
+        return _hand_on(given)
+    asked = _parser().parse_args(given)
     run: Callable[[argparse.Namespace], str] = asked.run
     try:
         sys.stdout.write(run(asked))
@@ -85,9 +101,33 @@ def _stop(number: int, _frame: Any) -> NoReturn:
     raise _Stopped(number)
 
 
+def _hand_on(words: Sequence[str]) -> int:
+    """Becomes the program `bearoff`: the one beside this Python, or the one that the system finds.
+    Gives a status only where there is none.
+    """
+    beside = os.path.join(sysconfig.get_path("scripts"), "bearoff")
+    program = beside if os.access(beside, os.X_OK) else shutil.which("bearoff")
+    if program is None:
+        return _fail(1, f"{words[0]} is a command of the program bearoff, which isn't found here")
+    # Python itself ignores these
+    for number in (signal.SIGPIPE, signal.SIGXFSZ):
+        signal.signal(number, signal.SIG_DFL)
+    try:
+        os.execv(program, [program, *words])
+    except OSError as error:
+        return _fail(1, f"{program}: {error}")
+
+
+class _Parser(argparse.ArgumentParser):
+    """A parser whose refusals can be written to a terminal."""
+
+    def error(self, message: str) -> NoReturn:
+        super().error(printable(message))
+
+
 def _parser() -> argparse.ArgumentParser:
     about = "Exact answers of a bearoff database."
-    parser = argparse.ArgumentParser(prog="python -m bearoff", description=about)
+    parser = _Parser(prog="python -m bearoff", description=about, epilog=_OTHERS)
     parser.add_argument("--version", action="version", version=f"bearoff {__version__}")
     commands = parser.add_subparsers(dest="command", required=True, metavar="COMMAND")
 

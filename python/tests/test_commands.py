@@ -1,22 +1,32 @@
 """The commands of the package, each with a file and without one."""
 
+import contextlib
+import io
+import os
 import re
 import subprocess
 import sys
+import tempfile
 import unittest
-from typing import Tuple
+from pathlib import Path
+from typing import List, Tuple
+from unittest import mock
 
-from .given import FILES, FOLDER, ROOT, database
+from bearoff import __main__
+
+from .given import FILES, FOLDER, PROGRAM, ROOT, database
 
 XGID = "XGID=-ABC--D------------a-b--c-:0:0:1:21:0:0:0:0:10"
 MINE, THEIRS = "1,2,3,0,0,4", "3,0,0,2,0,1"
 RACE = str(FOLDER / FILES[44])
 
 
-def run(*words: str) -> Tuple[int, str, str]:
+def run(*words: str, given: str = "", path: str = "") -> Tuple[int, str, str]:
     told = subprocess.run(
         [sys.executable, "-m", "bearoff", *words],
         cwd=ROOT / "python",
+        env={**os.environ, "PATH": path} if path else None,
+        input=given,
         stdout=subprocess.PIPE,
         stderr=subprocess.PIPE,
         encoding="utf-8",
@@ -64,7 +74,7 @@ class Commands(unittest.TestCase):
             status, told, errors = run("wins", *words)
             self.assertEqual((status, errors), (0, ""))
             self.assertEqual(told.split("\n")[0], f"{float(chance):.6f}, {chance}")
-            self.assertIn("not always those that win most often", told)
+            self.assertIn("In most races others win more often", told)
 
     def test_the_lines_of_the_page(self) -> None:
         page = (ROOT / "docs/embedding.md").read_text("utf-8")
@@ -102,3 +112,107 @@ class Commands(unittest.TestCase):
             self.assertEqual(told[:2], (status, ""), told)
             self.assertTrue(told[2].startswith(line), told)
             self.assertNotIn("Traceback", told[2])
+
+    def test_words_that_a_terminal_would_obey(self) -> None:
+        for words in (
+            ("\x1b[2J",),
+            ("mean", "\x1b[2J"),
+            # with a blank it would be taken as a position
+            ("mean", "1", "--\x1b[2J\nbearoff:right"),
+            ("mean", "1", "-\x1b[2J\nbearoff: right"),
+            ("mean", "0,0,0,0,0,1", "--database", "no\x1b[2J\nfile\u202e"),
+            ("export", "\x1b]0;\x07.csv\n"),
+            ("export", "no/\x1b]0;\x07\n.csv"),
+            ("grade", "\x9b2J\n"),
+            ("gnubg", "compare", "\x1b\n"),
+            ("gnubg", "write", "\x1b\n", "file"),
+        ):
+            _, told, errors = run(*words)
+            self.assertEqual(told, "")
+            *usage, last = errors.rstrip("\n").split("\n")
+            self.assertRegex(last, "^(python -m )?bearoff( [a-z]+)*: ")
+            self.assertTrue(not usage or usage[0].startswith("usage: "), errors)
+            self.assertTrue(all(map(str.isprintable, [*usage, last])), errors)
+
+
+class Program(unittest.TestCase):
+    """Commands of the program `bearoff`, whose words are handed to it."""
+
+    def setUp(self) -> None:
+        place = tempfile.TemporaryDirectory()
+        self.addCleanup(place.cleanup)
+        self.path = place.name
+        self.program = Path(place.name, "bearoff")
+
+    def test_they_are_those_of_its_help(self) -> None:
+        told = subprocess.run([PROGRAM, "--help"], stdout=subprocess.PIPE, encoding="utf-8")
+        listed = re.search(r"^Commands:\n((?:  .*\n)+)", told.stdout, re.MULTILINE)
+        assert listed
+        theirs = set(re.findall(r"^  ([a-z]+) ", listed[1], re.MULTILINE)) - {"help"}
+        self.assertEqual(theirs, {*__main__.PROGRAM})
+        status, told_here, _ = run("--help")
+        self.assertEqual(status, 0)
+        for name in theirs:
+            self.assertRegex(told_here, rf"\b{name}\b")
+
+    def test_it_answers(self) -> None:
+        self.program.symlink_to(PROGRAM)
+        eight, lines = str(FOLDER / FILES[8]), "mean 0,0,0,0,0,1\nsix\n"
+        damaged = Path(self.path, "damaged")
+        damaged.write_bytes(Path(eight).read_bytes()[:-1])
+        for words in (
+            ("check", eight),
+            ("check", "--board", eight),
+            ("query", eight),
+            ("ask", eight, "mean 0,0,0,0,0,1", "play 1,0,0,0,0,0 21"),
+            ("about", eight),
+            ("about", f"{self.path}/none"),
+            ("audit", eight),
+            ("check", str(damaged)),
+            ("upgrade", eight, "/no/such"),
+            ("build", "--pips", "99", f"{self.path}/new"),
+            ("check", "--help"),
+            ("check",),
+        ):
+            own = subprocess.run([PROGRAM, *words], input=lines.encode(), capture_output=True)
+            told = run(*words, given=lines, path=self.path)
+            wanted = (own.returncode, own.stdout.decode(), own.stderr.decode())
+            self.assertEqual(told, wanted, words)
+
+    def test_what_it_is_given(self) -> None:
+        """Each word as it is, whatever its bytes are, and the signals as they were."""
+        self.program.write_text('#!/bin/sh\nprintf "<%s>" "$@"\ngrep SigIgn /proc/self/status\n')
+        self.program.chmod(0o755)
+        words = [b"build", b"", b" a  b ", b"\xff\n", b"--help", b"-x", b"*"]
+        direct = subprocess.run([os.fsencode(self.program), *words], capture_output=True)
+        environment = {**os.environ, "PATH": f"{self.path}:/usr/bin:/bin"}
+        command: List[bytes] = [os.fsencode(sys.executable), b"-m", b"bearoff", *words]
+        here = ROOT / "python"
+        told = subprocess.run(command, cwd=here, env=environment, capture_output=True)
+        self.assertEqual((told.stdout, told.stderr), (direct.stdout, b""))
+        self.assertIn(b"<\xff\n><--help>", told.stdout)
+
+    def test_which_one(self) -> None:
+        """The one beside this Python before one that the system finds."""
+        for is_beside in (True, False):
+            if not is_beside:
+                self.program.unlink()
+            else:
+                self.program.write_text("#!/bin/sh\n")
+                self.program.chmod(0o755)
+            with mock.patch("sysconfig.get_path", return_value=self.path), mock.patch(
+                "shutil.which", return_value="/found/bearoff"
+            ), mock.patch("os.execv", side_effect=OSError("no")) as become:
+                with contextlib.redirect_stderr(io.StringIO()):
+                    self.assertEqual(__main__.main(["check", "race.db"]), 1)
+            program = str(self.program) if is_beside else "/found/bearoff"
+            become.assert_called_once_with(program, [program, "check", "race.db"])
+
+    def test_there_is_none(self) -> None:
+        status, told, errors = run("check", "race.db", path=self.path)
+        line = "bearoff: check is a command of the program bearoff, which isn't found here\n"
+        self.assertEqual((status, told, errors), (1, "", line))
+        self.program.write_bytes(b"no program")
+        self.program.chmod(0o755)
+        status, told, errors = run("check", "race.db", path=self.path)
+        self.assertEqual((status, told, errors.count("\n")), (1, "", 1))
