@@ -34,6 +34,7 @@ have:
 
 import functools
 import hashlib
+import fnmatch
 import os
 import re
 import shutil
@@ -981,3 +982,17 @@ def test_replies(program, built):
 
 def test_completions(program):
     none_wrong(compare_completions, program)
+
+
+def test_files_of_a_release_in_new_roots():
+    """What packaging/release_roots takes by a pattern is what the page of releases has: one file,
+    or both packages of the library."""
+    page = (ROOT / "docs/releases.md").read_text(encoding="utf-8")
+    rows = re.findall(r"(?m)^\| (`.*?`) \|", page)
+    names = [name for row in rows for name in re.findall(r"`([^`]*)`", row)]
+    script = (ROOT / "packaging/release_roots").read_text(encoding="utf-8")
+    patterns = re.findall(r"release/([\w.*-]*\*[\w.*-]*)", script)
+    assert len(patterns) == 4
+    for pattern in patterns:
+        taken = fnmatch.filter(names, pattern)
+        assert len(taken) == (2 if pattern == "libbearoff*.deb" else 1), (pattern, taken)
