@@ -607,6 +607,12 @@ def python(library, program, databases):
     return run_it
 
 
+def test_the_readme_in_python(python, board, room):
+    """What the README shows is what comes."""
+    os.symlink(board(90), "board.db")
+    expect(python("-m", "doctest", ROOT / "README.md", cwd=room), 0, "")
+
+
 def test_python_types():
     need("mypy")
     words = ["/usr/bin/mypy", "--strict", "--cache-dir=/dev/null", "bearoff", "tests"]

@@ -17,7 +17,7 @@ have:
 - docs/definitions.md names the files and the number of lines that `IsRight` rests on;
 - docs/crates.md draws each crate in the layer that crates.txt gives it, and its two ways go
   through crates that are there;
-- README.md has at most 950 words, no sentence of more than eight words stands twice in it and the
+- README.md has at most 700 words, no sentence of more than eight words stands twice in it and the
   pages by hand, and no figure on two of them;
 - README.md, docs/tour.md and docs/second-opinion.md quote the sources: each block of code stands
   word for word in the file that the last link to a source above the block leads to;
@@ -363,7 +363,7 @@ def compare_sentences(pages):
         if len(places) > 1:
             wrong.append(f"{', '.join(places)}: '{sentence}' stands there {len(places)} times")
     words = len(read("README.md").split())
-    if words > 950:
+    if words > 700:
         wrong.append(f"README.md: it has {words} words")
 
 
